@@ -1,4 +1,4 @@
-//! What the program does with its words, its input and its outputs.
+//! The body of the program: from its arguments, its input and its outputs to its exit status.
 ghost use Rattle.std.specs.Prelude.{◌≤◌, ◌≡◌, IsSome};
 ghost use Rattle.irtext_context.specs.Context.{operation};
 
@@ -14,7 +14,9 @@ use std::fmt;
 use std::io::{Read, Write};
 use thiserror::Error;
 
-/// Why the program could not do what its words ask.
+/// Why the program failed. Its text goes to the error output. `Usage`: the arguments are not the one word `fmt` or `dbg`. `Unreadable`:
+/// reading the input failed. `NotUtf8`: the input is not UTF-8. `Memory`: out of memory. `Refused`: the text was rejected, or its root
+/// could not be printed, with the error's text. `Unwritable`: writing the output failed; no text follows.
 #[derive(Debug, Drop, Error)]
 pub enum Fault {
     #[error("usage: irtext fmt|dbg")]
@@ -32,7 +34,7 @@ pub enum Fault {
 }
 
 impl Fault {
-    /// The status that the program ends with.
+    /// Returns the exit status for this fault: 2 for `Usage`, otherwise 1.
     fn status(&self) -> u8
         ensures { result ≤ 2 }
     {
@@ -43,16 +45,16 @@ impl Fault {
     }
 }
 
-/// How a root is written.
+/// How a root is printed.
 #[derive(Clone, Copy)]
 enum Form {
-    /// With its mark and the section.
+    /// The whole text, with its mark and the section.
     Whole,
-    /// By its concrete text, with its regions elided.
+    /// The concrete text, with its regions elided.
     Elided,
 }
 
-/// The form that the program's words ask for.
+/// Returns the form that the arguments ask for: one word, `fmt` or `dbg`. Any other arguments are `Usage`.
 fn form_of(args: &[&str]) -> Result<Form, Fault> {
     let [word] = args else {
         return Err(Fault::Usage);
@@ -64,7 +66,7 @@ fn form_of(args: &[&str]) -> Result<Form, Fault> {
     }
 }
 
-/// All that the reader has left, as text.
+/// Reads the input to its end, as text.
 fn read_text(alloc: Global, input: &mut impl Read) -> Result<String, Fault> {
     let mut bytes = Vec::new(alloc);
     if let Err(e) = input.read_to_end(&mut bytes) {
@@ -77,7 +79,8 @@ fn read_text(alloc: Global, input: &mut impl Read) -> Result<String, Fault> {
     String::from_utf8(bytes).map_err(|_| Fault::NotUtf8)
 }
 
-/// The text of an error, or that memory was refused: for the text itself, or before anything was read.
+/// Returns the fault for an error: the error's text. It is `Memory` if there is no memory for that text, or if memory ran out before
+/// anything was parsed.
 fn refusal(alloc: Global, ctx: &Context<DemoType, DemoAttr>, error: &Error<DemoAttr>) -> Fault {
     if let (Cause::Memory, ErrorKind::InvalidArgument) = (&error.err, error.kind) {
         return Fault::Memory(AllocError);
@@ -106,7 +109,7 @@ fn write_root(
     }
 }
 
-/// The root's text in this form.
+/// Returns the root's text in this form.
 fn printed(
     alloc: Global,
     ctx: &Context<DemoType, DemoAttr>,
@@ -122,7 +125,7 @@ fn printed(
     }
 }
 
-/// The text in this form of the root that `text` spells with the context.
+/// Parses `text` with this context, and returns the root's text in this form.
 fn read_and_printed(
     alloc: Global,
     ctx: &mut Context<DemoType, DemoAttr>,
@@ -135,7 +138,7 @@ fn read_and_printed(
     }
 }
 
-/// The same once the demo dialects are registered.
+/// Registers the demo dialects first, and then does the same.
 fn registered(
     alloc: Global,
     ctx: &mut Context<DemoType, DemoAttr>,
@@ -148,13 +151,13 @@ fn registered(
     }
 }
 
-/// The text in this form of the root that `text` spells.
+/// Parses `text` with a new context, and returns the root's text in this form.
 fn formatted(alloc: Global, form: Form, text: &str) -> Result<String, Fault> {
     let mut ctx = Context::new(alloc);
     registered(alloc, &mut ctx, form, text)
 }
 
-/// Writes `text`, and a newline where it does not end in one.
+/// Writes `text`, and a newline if it does not end with one.
 fn write_line(out: &mut impl Write, text: &str) -> std::io::Result<()> {
     out.write_all(text.as_bytes())?;
     if !text.ends_with('\n') {
@@ -163,7 +166,7 @@ fn write_line(out: &mut impl Write, text: &str) -> std::io::Result<()> {
     out.flush()
 }
 
-/// Writes the text in this form of the root that `text` spells.
+/// Parses `text`, and writes the root's text in this form.
 fn write_formatted(
     alloc: Global,
     form: Form,
@@ -174,7 +177,7 @@ fn write_formatted(
     write_line(output, printed.as_str()).map_err(|_| Fault::Unwritable)
 }
 
-/// The work of `run`, up to a fault.
+/// Does the work of `run`, and returns the fault if there is one.
 fn try_run(
     alloc: Global,
     args: &[&str],
@@ -186,7 +189,7 @@ fn try_run(
     write_formatted(alloc, form, text.as_str(), output)
 }
 
-/// Writes the fault's text, which takes no memory.
+/// Writes the fault's text. Allocates nothing.
 fn tell(errors: &mut impl Write, fault: &Fault) -> std::io::Result<()> {
     match fault {
         Fault::Unwritable => Ok(()),
@@ -195,7 +198,9 @@ fn tell(errors: &mut impl Write, fault: &Fault) -> std::io::Result<()> {
     }
 }
 
-/// Runs the program on its words, and answers its status.
+/// Runs the program, and returns its exit status: 0, or the status of the fault, whose text goes to `errors`. With the argument `fmt`
+/// it parses the input and prints its root in the canonical form, with marks and the section. With `dbg` it prints the root's concrete
+/// text with its regions elided: of `builtin.module @m {}` that is `builtin.module @m {..}`.
 pub fn run(
     alloc: Global,
     args: &[&str],

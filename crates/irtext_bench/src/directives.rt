@@ -1,5 +1,5 @@
-//! Formats as words, one for each directive: `operand.0`, `operands`, `successor.0`, `successors`, `attribute.KEY`, `dictionary`,
-//! `result.0`, `region.0`, `regions`, `symbol`, and `literal.TEXT`. The word `canonical` alone is the canonical form.
+//! Formats written as words, one for each directive: `operand.0`, `operands`, `successor.0`, `successors`, `attribute.KEY`,
+//! `dictionary`, `result.0`, `region.0`, `regions`, `symbol`, and `literal.TEXT`. The word `canonical` alone is the canonical form.
 
 use irtext_types::DemoAttr;
 use pliron_text::base::Identifier;
@@ -7,7 +7,7 @@ use pliron_text::format::{Directive, OpFormat};
 use pliron_text::result::Result as Answer;
 use std::alloc::{AllocError, Global};
 
-/// The directive of a word that says all of it.
+/// Returns the directive that a word without a dot denotes.
 fn whole(word: &str) -> Option<Directive> {
     match word {
         "operands" => Some(Directive::Operands),
@@ -19,7 +19,7 @@ fn whole(word: &str) -> Option<Directive> {
     }
 }
 
-/// The directive of a kind with a place.
+/// Returns the directive of this kind with an index.
 fn placed(kind: &str, place: usize) -> Option<Directive> {
     match kind {
         "operand" => Some(Directive::Operand(place)),
@@ -30,7 +30,7 @@ fn placed(kind: &str, place: usize) -> Option<Directive> {
     }
 }
 
-/// The directive of an attribute.
+/// Returns the directive of an attribute.
 fn attribute(alloc: Global, key: &str) -> Result<Directive, AllocError> {
     let name: Answer<Identifier, DemoAttr> = Identifier::try_new(alloc, key);
     match name {
@@ -39,7 +39,7 @@ fn attribute(alloc: Global, key: &str) -> Result<Directive, AllocError> {
     }
 }
 
-/// The directive of a kind with a text.
+/// Returns the directive of this kind with a text.
 fn with_text(alloc: Global, kind: &str, text: &str) -> Result<Directive, AllocError> {
     if kind == "literal" {
         return Ok(Directive::Literal(String::from_str(alloc, text)?));
@@ -53,7 +53,7 @@ fn with_text(alloc: Global, kind: &str, text: &str) -> Result<Directive, AllocEr
     }
 }
 
-/// The directive of a word.
+/// Returns the directive that a word denotes.
 fn directive(alloc: Global, word: &str) -> Result<Directive, AllocError> {
     match word.split_once('.') {
         Some((kind, text)) => with_text(alloc, kind, text),
@@ -61,7 +61,7 @@ fn directive(alloc: Global, word: &str) -> Result<Directive, AllocError> {
     }
 }
 
-/// The format of the words.
+/// Returns the format that the words denote.
 pub fn format_of(alloc: Global, words: &str) -> Result<OpFormat, AllocError> {
     if words == "canonical" {
         return Ok(OpFormat::Canonical);

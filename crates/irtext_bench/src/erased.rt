@@ -1,4 +1,4 @@
-//! Roots that are read and erased, one after the other, with one context.
+//! Roots that are parsed and erased, one after another, with one context.
 
 use crate::said::{Ctx, erase};
 use irtext_types::dialects::register_demo;
@@ -8,7 +8,8 @@ use pliron_text::location::Source;
 use pliron_text::parsable::{SourcePosition, State, StateStream, TextStream};
 use std::alloc::{AllocError, Global};
 
-/// Reads all roots of a text and erases each as soon as it is read. It answers how many there were, and where the text is refused.
+/// Parses all roots of a text, and erases each as soon as it is parsed. Returns how many there were, and the position where the text is
+/// rejected.
 fn read_and_erase(
     alloc: Global,
     ctx: &mut Ctx,
@@ -36,8 +37,8 @@ fn read_and_erase(
     Ok((count, end))
 }
 
-/// The same so many times, with a context that is lent. It tells how many roots there were, where the text is refused each time, and how
-/// many objects are left.
+/// Does the same so many times, with a context of the caller. Returns a line with the number of roots, the position where the text is
+/// rejected each time, and the number of objects that are left.
 fn repeated(alloc: Global, ctx: &mut Ctx, text: &str, times: usize) -> Result<String, AllocError> {
     if register_demo(ctx).is_err() {
         return Err(AllocError);
@@ -53,7 +54,7 @@ fn repeated(alloc: Global, ctx: &mut Ctx, text: &str, times: usize) -> Result<St
     format!(in alloc; "{roots} roots, {live} objects left, end at {last}")
 }
 
-/// The same with a context of its own.
+/// Does the same with a new context.
 pub fn erased(alloc: Global, text: &str, times: usize) -> Result<String, AllocError> {
     let mut ctx = Context::new(alloc);
     repeated(alloc, &mut ctx, text, times)

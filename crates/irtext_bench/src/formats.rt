@@ -1,5 +1,5 @@
-//! Formats of which a text says the directives, and roots with an operation in each of them: what is printed of a root has to hold the
-//! wanted text of the operation, and to come back.
+//! Formats whose directives are given as text, and roots with an operation in each format. The printed text of a root has to contain
+//! the expected text of the operation, and has to parse back.
 
 use crate::directives::format_of;
 use crate::said::{Ctx, print_of};
@@ -11,13 +11,13 @@ use pliron_text::format::OpFormat;
 use pliron_text::result::{Cause, Result as Answer};
 use std::alloc::{AllocError, Global};
 
-/// What stands between two rows.
+/// Separates two rows.
 const BETWEEN: char = '\u{2}';
 
-/// What stands between the parts of a row: the format, the text of the root, and the wanted text of the operation.
+/// Separates the parts of a row: the format, the text of the root, and the expected text of the operation.
 const PART: char = '\u{1}';
 
-/// Registers `test.z` with a format, beside the demo dialects.
+/// Registers `test.z` with a format, in addition to the demo dialects.
 fn register(alloc: Global, ctx: &mut Ctx, format: OpFormat) -> Answer<(), DemoAttr> {
     register_demo(ctx)?;
     let name: DialectName = DialectName::try_new(alloc, "test")?;
@@ -26,7 +26,7 @@ fn register(alloc: Global, ctx: &mut Ctx, format: OpFormat) -> Answer<(), DemoAt
     dialect.add_op(id, format, false)
 }
 
-/// Why the format of these words is refused, if it is; with an empty context that is lent.
+/// Returns why the format of these words is rejected, if it is; with an empty context of the caller.
 fn refused_with(alloc: Global, ctx: &mut Ctx, words: &str) -> Result<Option<String>, AllocError> {
     match register(alloc, ctx, format_of(alloc, words)?) {
         Ok(()) => Ok(None),
@@ -37,13 +37,13 @@ fn refused_with(alloc: Global, ctx: &mut Ctx, words: &str) -> Result<Option<Stri
     }
 }
 
-/// The same with a context of its own.
+/// Does the same with a new context.
 fn refused(alloc: Global, words: &str) -> Result<Option<String>, AllocError> {
     let mut ctx = Context::new(alloc);
     refused_with(alloc, &mut ctx, words)
 }
 
-/// The print of a text with an operation in the format of these words, with an empty context that is lent.
+/// Returns the printed text of a root with an operation in the format of these words, with an empty context of the caller.
 fn print_with(
     alloc: Global,
     ctx: &mut Ctx,
@@ -56,14 +56,14 @@ fn print_with(
     }
 }
 
-/// The same with a context of its own.
+/// Does the same with a new context.
 fn print(alloc: Global, words: &str, text: &str) -> Result<Option<String>, AllocError> {
     let mut ctx = Context::new(alloc);
     print_with(alloc, &mut ctx, words, text)
 }
 
-/// What becomes of a text with an operation in a format that is accepted: its print is printed as it is (`back`), or the print of that is
-/// (`filled`).
+/// Checks a text with an operation in an accepted format. Returns `back` if its printed text is printed unchanged, `filled` if the
+/// print of that is.
 fn fate(alloc: Global, words: &str, text: &str, wanted: &str) -> Result<&'static str, AllocError> {
     let Some(first) = print(alloc, words, text)? else {
         return Ok("wrong: it is not printed");
@@ -87,7 +87,7 @@ fn fate(alloc: Global, words: &str, text: &str, wanted: &str) -> Result<&'static
     })
 }
 
-/// What becomes of a row. Where it has a format alone, that may be refused.
+/// Checks a row. If it has only a format, returns why that is rejected, or `accepted`.
 fn told(alloc: Global, row: &str) -> Result<String, AllocError> {
     let Some((words, rest)) = row.split_once(PART) else {
         return match refused(alloc, row)? {
@@ -101,7 +101,7 @@ fn told(alloc: Global, row: &str) -> Result<String, AllocError> {
     }
 }
 
-/// What becomes of each row, a line for each.
+/// Checks each row, and returns a line for each.
 pub fn formats(alloc: Global, text: &str) -> Result<String, AllocError> {
     let mut lines = String::new(alloc);
     for row in text.split(BETWEEN) {

@@ -1,11 +1,11 @@
-//! Lists of tokens, read from a text.
+//! Lists of tokens, parsed from a text.
 
 use irtext_types::DemoAttr;
 use pliron_text::irfmt::parsers::{int_parse, list_parser, quoted_string_parse};
 use pliron_text::parsable::{ParseResult, TextStream};
 use std::alloc::{AllocError, Global};
 
-/// What is told of a list: how many items it has, or that the text is none.
+/// Returns the result for a list: how many items it has, or the error.
 fn told<X: Drop>(
     alloc: Global,
     items: ParseResult<Vec<X>, DemoAttr>,
@@ -17,14 +17,14 @@ fn told<X: Drop>(
     }
 }
 
-/// Reads a list of integers with commas between. It tells how many there were.
+/// Parses a list of integers with commas between. Returns a line with their number.
 pub fn numbers(alloc: Global, text: &str) -> Result<String, AllocError> {
     let mut stream = TextStream::new(alloc, text)?;
     let items: ParseResult<Vec<i64>, DemoAttr> = list_parser(&mut stream, ',', int_parse);
     told(alloc, items, text.len())
 }
 
-/// Reads a list of quoted texts with commas between. It tells how many there were.
+/// Parses a list of quoted texts with commas between. Returns a line with their number.
 pub fn strings(alloc: Global, text: &str) -> Result<String, AllocError> {
     let mut stream = TextStream::new(alloc, text)?;
     let items: ParseResult<Vec<String>, DemoAttr> = list_parser(

@@ -1,8 +1,9 @@
-//! The program of the benchmark. Its first word says what is measured on the standard input: `roots` are read from one stream, and
-//! printed once for each further word; `numbers` and `strings` are read as one list; the text is `quoted` or `copied` once for each
-//! further word; and for each the `positions` of its end are asked for, a million times. Other words try what was not written here:
-//! roots are `erased` as they are read, once for each further word; texts are read, and their `prints` read again; and so are texts with
-//! operations in given `formats`.
+//! The program of the benchmark. Its first argument selects what is measured on the text from standard input. `roots`: roots are parsed
+//! from one stream, and printed once for each further argument. `numbers`, `strings`: the text is parsed as one list. `quoted`,
+//! `copied`: the text is quoted or copied once for each further argument. `positions`: the position of its end is requested a million
+//! times for each further argument. The other words test texts from outside. `erased`: roots are erased as they are parsed, once for
+//! each further argument. `prints`: texts are parsed, and their printed texts are parsed again. `formats`: the same for texts with
+//! operations in given formats.
 #![tactic(auto)]
 
 mod directives;
@@ -20,7 +21,7 @@ use std::io::Write;
 use std::process::ExitCode;
 use std::{env, io};
 
-/// Does what the word says so many times, and tells how much there was.
+/// Does what the word selects so many times, and returns a line with the amount.
 fn measured(alloc: Global, word: &str, times: usize, text: &str) -> Result<String, AllocError> {
     if word == "numbers" {
         return lists::numbers(alloc, text);
@@ -49,7 +50,7 @@ fn measured(alloc: Global, word: &str, times: usize, text: &str) -> Result<Strin
     roots::roots(alloc, text, times)
 }
 
-/// Measures what the words say, and writes what was told.
+/// Does what the arguments select, and writes the line.
 fn measure(rt: &HostRuntime) -> io::Result<()> {
     let text = io::read_to_string(rt.alloc(), rt.reader())?;
     let mut words = env::args(rt)?.skip(1);

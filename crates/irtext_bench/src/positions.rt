@@ -5,7 +5,7 @@ use std::alloc::{AllocError, Global};
 
 const MILLION: usize = 1_000_000;
 
-/// Asks for the position of the end of a text so many million times. It tells the position.
+/// Requests the position of the end of a text so many million times. Returns that position.
 pub fn positions(alloc: Global, text: &str, times: usize) -> Result<String, AllocError> {
     let mut stream = TextStream::new(alloc, text)?;
     for _ in 0..text.len() {

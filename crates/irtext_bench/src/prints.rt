@@ -1,14 +1,15 @@
-//! Texts that are printed, and their prints printed again, each with a context of its own; and each beside a root that stands.
+//! Texts that are parsed and printed, and whose printed texts are parsed and printed again, each with a new context; and each also with
+//! a context that already contains a root.
 
 use crate::said::{Ctx, Said, erase, print_of, printed, read, refused, said_of};
 use irtext_types::dialects::register_demo;
 use pliron_text::base::{Context, Operation, Ptr};
 use std::alloc::{AllocError, Global};
 
-/// What stands between two texts.
+/// Separates two texts.
 const BETWEEN: char = '\u{1}';
 
-/// A module with a function that returns a constant, which stands before any text is read.
+/// A module with a function that returns a constant, which is in the context before any text is parsed.
 const STANDS: &str =
     "builtin.module @bar \n{\n  ^block1v1():\n    builtin.func @foo: builtin.function <()->(builtin.integer si64)> \n    {\n      ^entry_block2v1() !0:\n        c0_v0 = test.constant builtin.integer <0: si64>: builtin.integer si64 !1;\n        test.return c0_v0\n    }\n}\n\noutlined_attributes:\n!0 = [builtin_block_label = builtin.identifier entry]\n!1 = [builtin_given_names = builtin.given_names [c0]]\n";
 
@@ -20,31 +21,31 @@ fn register(ctx: &mut Ctx) -> Result<(), AllocError> {
     }
 }
 
-/// What is said of a text, with an empty context that is lent.
+/// Returns the result for a text, with an empty context of the caller.
 fn said_with(alloc: Global, ctx: &mut Ctx, text: &str) -> Result<Said, AllocError> {
     register(ctx)?;
     said_of(alloc, ctx, text)
 }
 
-/// What is said of a text, with a context of its own.
+/// Returns the result for a text, with a new context.
 fn said_alone(alloc: Global, text: &str) -> Result<Said, AllocError> {
     let mut ctx = Context::new(alloc);
     said_with(alloc, &mut ctx, text)
 }
 
-/// The print of a print, with an empty context that is lent.
+/// Prints a printed text again, with an empty context of the caller.
 fn print_with(alloc: Global, ctx: &mut Ctx, print: &str) -> Result<Option<String>, AllocError> {
     register(ctx)?;
     print_of(alloc, ctx, print)
 }
 
-/// The print of a print, with a context of its own.
+/// Prints a printed text again, with a new context.
 fn print_again(alloc: Global, print: &str) -> Result<Option<String>, AllocError> {
     let mut ctx = Context::new(alloc);
     print_with(alloc, &mut ctx, print)
 }
 
-/// What becomes of a print: it is printed as it is, or its own print is.
+/// Checks a printed text. Returns `same` if it is printed unchanged, `filled` if the print of that is.
 fn fate(alloc: Global, first: &str) -> Result<&'static str, AllocError> {
     let Some(second) = print_again(alloc, first)? else {
         return Ok("wrong: its print is not printed");
@@ -62,7 +63,7 @@ fn fate(alloc: Global, first: &str) -> Result<&'static str, AllocError> {
     })
 }
 
-/// What becomes of a text of which this is said.
+/// Returns the line for a text with this result.
 fn told(alloc: Global, said: &Said) -> Result<String, AllocError> {
     match said {
         Said::Printed(first) => String::from_str(alloc, fate(alloc, first.as_str())?),
@@ -72,7 +73,7 @@ fn told(alloc: Global, said: &Said) -> Result<String, AllocError> {
     }
 }
 
-/// Whether a text that is refused is refused so.
+/// Whether both results are rejections with the same position and the same cause.
 fn is_refusal(said: &Said, wanted: &Said) -> bool {
     match (said, wanted) {
         (Said::Refused(at, why), Said::Refused(wanted_at, wanted_why)) => {
@@ -82,7 +83,7 @@ fn is_refusal(said: &Said, wanted: &Said) -> bool {
     }
 }
 
-/// Whether the same is said of a text beside other roots. A root that is read is erased.
+/// Whether a text has the same result in a context with other roots. A root that is parsed is erased.
 fn is_said_beside(
     alloc: Global,
     ctx: &mut Ctx,
@@ -95,7 +96,7 @@ fn is_said_beside(
     }
 }
 
-/// Whether the root that stands is printed so, and so many objects stand.
+/// Whether the first root is still printed as before, and as many objects are live.
 fn is_as_it_was(alloc: Global, ctx: &Ctx, stands: Ptr<Operation>, before: &str, live: u64) -> bool {
     match printed(alloc, ctx, stands) {
         Some(text) => text.as_str() == before && ctx.num_live() == live,
@@ -103,7 +104,7 @@ fn is_as_it_was(alloc: Global, ctx: &Ctx, stands: Ptr<Operation>, before: &str, 
     }
 }
 
-/// What becomes of a text, alone and beside the root that stands.
+/// Returns the line for a text, parsed alone and next to the first root.
 fn line(
     alloc: Global,
     ctx: &mut Ctx,
@@ -122,7 +123,7 @@ fn line(
     told(alloc, &said)
 }
 
-/// What becomes of each text, a line for each.
+/// Returns a line for each text.
 fn lines(
     alloc: Global,
     ctx: &mut Ctx,
@@ -141,7 +142,7 @@ fn lines(
     Ok(lines)
 }
 
-/// The same beside a root that is read first, with an empty context that is lent.
+/// Parses the first root with an empty context of the caller, and then does the same.
 fn lines_beside(alloc: Global, ctx: &mut Ctx, texts: &str) -> Result<String, AllocError> {
     register(ctx)?;
     match read(ctx, STANDS) {
@@ -150,8 +151,8 @@ fn lines_beside(alloc: Global, ctx: &mut Ctx, texts: &str) -> Result<String, All
     }
 }
 
-/// What becomes of texts, a line for each. Of a text that is printed it tells whether its print is printed as it is (`same`) or the print of
-/// that (`filled`); of one that is refused its line and its column.
+/// Returns a line for each text. For a text that is printed, the line says whether its printed text is printed unchanged (`same`) or
+/// the print of that is (`filled`). For one that is rejected, it gives line and column, both from 1, in characters.
 pub fn prints(alloc: Global, texts: &str) -> Result<String, AllocError> {
     let mut ctx = Context::new(alloc);
     lines_beside(alloc, &mut ctx, texts)

@@ -1,9 +1,9 @@
-//! A text between quotation marks, and beside it a plain copy of the same bytes.
+//! A text between quotation marks, and for comparison a plain copy of the same bytes.
 
 use pliron_text::printable::fmt_quoted;
 use std::alloc::{AllocError, Global};
 
-/// Prints the text between quotation marks so many times. It tells how many bytes that were.
+/// Prints the text between quotation marks so many times. Returns a line with the number of bytes.
 pub fn quoted(alloc: Global, text: &str, times: usize) -> Result<String, AllocError> {
     let mut length = 0;
     for _ in 0..times {
@@ -16,7 +16,7 @@ pub fn quoted(alloc: Global, text: &str, times: usize) -> Result<String, AllocEr
     format!(in alloc; "{length} bytes printed")
 }
 
-/// Copies the text so many times. It tells how many bytes that were.
+/// Copies the text so many times. Returns a line with the number of bytes.
 pub fn copied(alloc: Global, text: &str, times: usize) -> Result<String, AllocError> {
     let mut length = 0;
     for _ in 0..times {

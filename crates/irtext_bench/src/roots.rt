@@ -1,4 +1,4 @@
-//! Roots in a row: read from one stream, and printed.
+//! Several roots, parsed from one stream, and printed.
 
 use irtext_types::dialects::register_demo;
 use irtext_types::{DemoAttr, DemoType};
@@ -13,7 +13,7 @@ use pliron_text::printable::Printable;
 use pliron_text::result::Result as Answer;
 use std::alloc::{AllocError, Global};
 
-/// All roots of a text, in a context.
+/// Parses all roots of a text, in a context.
 fn read_roots(
     alloc: Global,
     text: &str,
@@ -33,7 +33,7 @@ fn read_roots(
     Ok(roots)
 }
 
-/// The texts of roots, one behind the other.
+/// Returns the texts of roots, one after another.
 fn print_roots(
     alloc: Global,
     roots: &[Ptr<Operation>],
@@ -52,14 +52,14 @@ fn print_roots(
     Ok(text)
 }
 
-/// A dictionary.
+/// Returns a format that is a dictionary alone.
 fn note_format(alloc: Global) -> Result<OpFormat, AllocError> {
     let mut directives = Vec::new(alloc);
     directives.push(Directive::AttrDict)?;
     Ok(OpFormat::Custom(directives))
 }
 
-/// Registers `bench.note`, which is written as a dictionary of its attributes, beside the demo dialects.
+/// Registers `bench.note`, which is printed as a dictionary of its attributes, in addition to the demo dialects.
 fn register(alloc: Global, ctx: &mut Context<DemoType, DemoAttr>) -> Answer<(), DemoAttr> {
     register_demo(ctx)?;
     let name: DialectName = DialectName::try_new(alloc, "bench")?;
@@ -69,7 +69,7 @@ fn register(alloc: Global, ctx: &mut Context<DemoType, DemoAttr>) -> Answer<(), 
     dialect.add_op(id, format, false)
 }
 
-/// Reads all roots and prints them so many times. It tells how many roots and bytes there were.
+/// Parses all roots, and prints them so many times. Returns a line with the numbers of roots and bytes.
 pub fn roots(alloc: Global, text: &str, times: usize) -> Result<String, AllocError> {
     let mut ctx = Context::new(alloc);
     if register(alloc, &mut ctx).is_err() {

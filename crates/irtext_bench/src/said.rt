@@ -1,4 +1,4 @@
-//! What is said of a text that is read as a root: its print, or why there is none.
+//! The result of parsing a text as a root: its printed text, or why there is none.
 
 use irtext_types::{DemoAttr, DemoType};
 use pliron_text::base::{Context, Operation, Ptr};
@@ -12,25 +12,25 @@ use std::fmt::Write;
 /// A context of the demo types and attributes.
 pub type Ctx = Context<DemoType, DemoAttr>;
 
-/// What is said of a text.
+/// The result for a text.
 #[derive(Drop)]
 pub enum Said {
-    /// It is read, and printed so.
+    /// It is parsed, and printed as this.
     Printed(String),
-    /// It is read, and printing it is refused.
+    /// It is parsed, and printing it fails.
     Unprinted,
-    /// It is refused at this place, for this cause.
+    /// It is rejected at this position, for this cause.
     Refused(SourcePosition, String),
-    /// It is refused, and something of it is left.
+    /// It is rejected, and objects of it are left.
     Left,
 }
 
-/// The root that a text reads as, or why it is refused.
+/// Parses a text as a root.
 pub fn read(ctx: &mut Ctx, text: &str) -> Answer<Ptr<Operation>, DemoAttr> {
     parse_from_str(|stream| Operation::top_level_parse(stream), ctx, text)
 }
 
-/// The text of a root, unless it does not stand or its printing is refused.
+/// Returns the text of a root, unless it is not live or printing it fails.
 pub fn printed(alloc: Global, ctx: &Ctx, root: Ptr<Operation>) -> Option<String> {
     if !ctx.contains_operation(root) {
         return None;
@@ -42,7 +42,7 @@ pub fn printed(alloc: Global, ctx: &Ctx, root: Ptr<Operation>) -> Option<String>
     }
 }
 
-/// Erases a root, and says whether it could.
+/// Erases a root. Returns whether it could be erased.
 pub fn erase(ctx: &mut Ctx, root: Ptr<Operation>) -> bool {
     if !ctx.contains_operation(root) || !root.can_erase(ctx) {
         return false;
@@ -51,12 +51,12 @@ pub fn erase(ctx: &mut Ctx, root: Ptr<Operation>) -> bool {
     true
 }
 
-/// Whether a cause is that memory was refused.
+/// Whether a cause is out of memory.
 fn is_memory(cause: &Cause<DemoAttr>) -> bool {
     matches!(cause, Cause::Memory)
 }
 
-/// What is said of a text that is refused, unless that was for want of memory.
+/// Returns the result for a text that is rejected, unless the cause is out of memory.
 pub fn refused(alloc: Global, error: &Error<DemoAttr>) -> Result<Said, AllocError> {
     match &error.err {
         Cause::Parse { at, cause } if !is_memory(cause) => Ok(Said::Refused(
@@ -67,7 +67,7 @@ pub fn refused(alloc: Global, error: &Error<DemoAttr>) -> Result<Said, AllocErro
     }
 }
 
-/// What is said of a text, with a context that is lent.
+/// Returns the result for a text, with a context of the caller.
 pub fn said_of(alloc: Global, ctx: &mut Ctx, text: &str) -> Result<Said, AllocError> {
     let live = ctx.num_live();
     match read(ctx, text) {
@@ -80,7 +80,7 @@ pub fn said_of(alloc: Global, ctx: &mut Ctx, text: &str) -> Result<Said, AllocEr
     }
 }
 
-/// The print of a text, if it is read and printed.
+/// Returns the printed text of a text, if it is parsed and printed.
 pub fn print_of(alloc: Global, ctx: &mut Ctx, text: &str) -> Result<Option<String>, AllocError> {
     match said_of(alloc, ctx, text)? {
         Said::Printed(print) => Ok(Some(print)),

@@ -1,5 +1,5 @@
-//! The program that the bench script counts calls on graphs and names with. Its words say what is done, within how many objects or
-//! names, and how often; then come the calls that are made for each name, where names and a graph are counted together.
+//! The program with which the bench script counts calls on graphs and names. Its arguments say what is done, with how many objects or
+//! names, and how often. Then come the calls that are made for each name, if names and a graph are counted together.
 #![tactic(auto)]
 
 mod named;
@@ -11,7 +11,7 @@ use std::alloc::{AllocError, Global};
 use std::process::ExitCode;
 use std::{env, io};
 
-/// Does what the word says, and says whether each call was answered as it should be.
+/// Does what the word selects. Returns whether each call returned what it should.
 fn done(
     alloc: Global,
     word: &str,
@@ -55,7 +55,7 @@ fn done(
     names::regions(alloc, size, times)
 }
 
-/// The number that a word says.
+/// Returns the number that a word denotes.
 fn number(word: Option<String>) -> io::Result<usize> {
     let Some(word) = word else {
         return Err(io::Error::from(io::ErrorKind::InvalidInput));
@@ -66,7 +66,7 @@ fn number(word: Option<String>) -> io::Result<usize> {
     }
 }
 
-/// The call that a word says.
+/// Returns the call that a word denotes.
 fn call_of(word: &str) -> io::Result<Call> {
     match named::call_of(word) {
         Some(call) => Ok(call),
@@ -74,7 +74,7 @@ fn call_of(word: &str) -> io::Result<Call> {
     }
 }
 
-/// Does what the words say, and writes whether it was done.
+/// Does what the arguments select, and writes whether it was done.
 fn measure(rt: &HostRuntime) -> io::Result<()> {
     let mut words = env::args(rt)?.skip(1);
     let Some(word) = words.next() else {

@@ -16,8 +16,9 @@ type Names = NameTracker<Value, Ptr<BasicBlock>>;
 
 type Measured = Graph<Option<u32>, u32, Option<u8>>;
 
-/// What is done for each name: nothing, so that what the loops cost can be taken off; it is looked up; an operation or a block is
-/// made, and made and defined; a value or a label is used; and an operation is made that uses a value.
+/// What is done for each name. `Skip`: nothing, so that the cost of the loops can be subtracted. `Mention`: it is interned. `Make`,
+/// `MakeBlock`: an operation or a block is created. `Define`, `DefineLabel`: the same, and the name is defined as its result or as the
+/// block. `Use`, `UseLabel`: it is used as a value or a label. `UseBy`: an operation is created that uses it as a value.
 #[derive(Clone, Copy)]
 pub enum Call {
     Skip,
@@ -31,7 +32,7 @@ pub enum Call {
     UseLabel,
 }
 
-/// The call that a word says.
+/// Returns the call that a word denotes.
 pub fn call_of(word: &str) -> Option<Call> {
     match word {
         "skip" => Some(Call::Skip),
@@ -47,7 +48,7 @@ pub fn call_of(word: &str) -> Option<Call> {
     }
 }
 
-/// Looks up a name.
+/// Interns a name.
 fn mention(names: &mut Names, graph: &Measured, text: &str) -> bool
     requires { AreTied names.old.values names.old.labels graph.now }
     ensures { AreTied names.new.values names.new.labels graph.now }
@@ -56,7 +57,8 @@ fn mention(names: &mut Names, graph: &Measured, text: &str) -> bool
     names.intern(text).is_ok()
 }
 
-/// Makes an operation with one result, and looks whether that is there, as whoever defines a name as it does.
+/// Creates an operation with one result, and checks that the result is live, as a caller has to before it defines a name as that
+/// result.
 fn make(names: &Names, graph: &mut Measured) -> bool
     requires { AreTied names.now.values names.now.labels graph.old }
     ensures { AreTied names.now.values names.now.labels graph.new }
@@ -68,7 +70,7 @@ fn make(names: &Names, graph: &mut Measured) -> bool
     graph.contains_value(Value::Result(made, 0))
 }
 
-/// Makes an operation with one result, and defines the name of this number as that.
+/// Creates an operation with one result, and defines the name with this number as that result.
 fn define_number(names: &mut Names, graph: &mut Measured, name: usize) -> bool
     requires { AreTied names.old.values names.old.labels graph.old }
     ensures { AreTied names.new.values names.new.labels graph.new }
@@ -86,7 +88,7 @@ fn define_number(names: &mut Names, graph: &mut Measured, name: usize) -> bool
     ssa_def(names, graph, name, def).is_ok()
 }
 
-/// Makes an operation with one result, and defines a name as that.
+/// Creates an operation with one result, and defines a name as that result.
 fn define(names: &mut Names, graph: &mut Measured, text: &str) -> bool
     requires { AreTied names.old.values names.old.labels graph.old }
     ensures { AreTied names.new.values names.new.labels graph.new }
@@ -108,7 +110,7 @@ fn use_name(names: &mut Names, graph: &mut Measured, text: &str) -> bool
     names.has_value_scope() && ssa_opd(names, graph, name).is_ok()
 }
 
-/// Makes an operation that uses the name of this number.
+/// Creates an operation that uses the name with this number.
 fn use_number(names: &mut Names, graph: &mut Measured, name: usize) -> bool
     requires { AreTied names.old.values names.old.labels graph.old }
     ensures { AreTied names.new.values names.new.labels graph.new }
@@ -124,7 +126,7 @@ fn use_number(names: &mut Names, graph: &mut Measured, name: usize) -> bool
         .is_ok()
 }
 
-/// Makes an operation that uses a name.
+/// Creates an operation that uses a name.
 fn use_by(names: &mut Names, graph: &mut Measured, text: &str) -> bool
     requires { AreTied names.old.values names.old.labels graph.old }
     ensures { AreTied names.new.values names.new.labels graph.new }
@@ -135,7 +137,7 @@ fn use_by(names: &mut Names, graph: &mut Measured, text: &str) -> bool
     }
 }
 
-/// Makes a block, and looks whether it is there.
+/// Creates a block, and checks that it is live.
 fn make_block(names: &Names, graph: &mut Measured) -> bool
     requires { AreTied names.now.values names.now.labels graph.old }
     ensures { AreTied names.now.values names.now.labels graph.new }
@@ -147,7 +149,7 @@ fn make_block(names: &Names, graph: &mut Measured) -> bool
     graph.contains(Object::TheBlock(made))
 }
 
-/// Makes a block, and defines the label of this number as that.
+/// Creates a block, and defines the label with this number as that block.
 fn define_label_number(names: &mut Names, graph: &mut Measured, name: usize) -> bool
     requires { AreTied names.old.values names.old.labels graph.old }
     ensures { AreTied names.new.values names.new.labels graph.new }
@@ -164,7 +166,7 @@ fn define_label_number(names: &mut Names, graph: &mut Measured, name: usize) -> 
     block_def(names, graph, name, made).is_ok()
 }
 
-/// Makes a block, and defines a label as that.
+/// Creates a block, and defines a label as that block.
 fn define_label(names: &mut Names, graph: &mut Measured, text: &str) -> bool
     requires { AreTied names.old.values names.old.labels graph.old }
     ensures { AreTied names.new.values names.new.labels graph.new }
@@ -186,7 +188,7 @@ fn use_label(names: &mut Names, graph: &mut Measured, text: &str) -> bool
     names.has_label_scope() && block_opd(names, graph, name, 0).is_ok()
 }
 
-/// Does this for one name.
+/// Makes this call for one name.
 fn call_one(names: &mut Names, graph: &mut Measured, call: Call, text: &str) -> bool
     requires { AreTied names.old.values names.old.labels graph.old }
     ensures { AreTied names.new.values names.new.labels graph.new }
@@ -204,7 +206,7 @@ fn call_one(names: &mut Names, graph: &mut Measured, call: Call, text: &str) -> 
     }
 }
 
-/// Does this for each name.
+/// Makes this call for each name.
 fn call_all(names: &mut Names, graph: &mut Measured, call: Call, texts: &[String]) -> bool
     requires { AreTied names.old.values names.old.labels graph.old }
     ensures { AreTied names.new.values names.new.labels graph.new }
@@ -216,7 +218,7 @@ fn call_all(names: &mut Names, graph: &mut Measured, call: Call, texts: &[String
     all
 }
 
-/// Enters a region with a scope of its own, makes each of these calls for all names, and leaves it.
+/// Enters a region with its own scope, makes each of these calls for all names, and leaves the region.
 fn round(names: &mut Names, graph: &mut Measured, calls: &[Call], texts: &[String]) -> bool
     requires { AreTied names.old.values names.old.labels graph.old }
     ensures { AreTied names.new.values names.new.labels graph.new }
@@ -229,7 +231,7 @@ fn round(names: &mut Names, graph: &mut Measured, calls: &[Call], texts: &[Strin
     all
 }
 
-/// Makes so many rounds of these calls with so many names.
+/// Does so many rounds of these calls with so many names.
 pub fn rounds(
     alloc: Global,
     size: usize,
@@ -257,7 +259,7 @@ fn leave_all(names: &mut Names, graph: &Measured, size: usize) -> bool
     all
 }
 
-/// Enters so many regions, each in the one before and with a scope of its own, and makes a call for one name in each.
+/// Enters so many regions, each inside the one before and with its own scope, and makes a call for one name in each.
 fn nest(names: &mut Names, graph: &mut Measured, size: usize, call: Call) -> bool
     requires { AreTied names.old.values names.old.labels graph.old }
     ensures { AreTied names.new.values names.new.labels graph.new }
@@ -270,7 +272,7 @@ fn nest(names: &mut Names, graph: &mut Measured, size: usize, call: Call) -> boo
     all
 }
 
-/// Does the first of these calls for one name in so many regions, of which each stands in the one before, and leaves them all.
+/// Makes the first of these calls for one name in so many regions, each inside the one before, and leaves them all.
 pub fn nested(alloc: Global, size: usize, calls: &[Call]) -> bool {
     let Some(call) = calls.first() else {
         return false;
@@ -282,7 +284,7 @@ pub fn nested(alloc: Global, size: usize, calls: &[Call]) -> bool {
     entered && left
 }
 
-/// Enters a region, makes a call for one name so often, and then the last call once.
+/// Enters a region, makes a call for one name so many times, and then the last call once.
 fn repeat(names: &mut Names, graph: &mut Measured, size: usize, often: Call, last: Call) -> bool
     requires { AreTied names.old.values names.old.labels graph.old }
 {
@@ -293,7 +295,7 @@ fn repeat(names: &mut Names, graph: &mut Measured, size: usize, often: Call, las
     call_one(names, graph, last, "name") && all
 }
 
-/// Does the first of two calls for one name so often, and then the second once.
+/// Makes the first of two calls for one name so many times, and then the second once.
 pub fn repeated(alloc: Global, size: usize, calls: &[Call]) -> bool {
     let (Some(often), Some(last)) = (calls.first(), calls.get(1)) else {
         return false;

@@ -1,11 +1,11 @@
-//! Calls on the names of a reading.
+//! Calls on the names of a parse.
 
 use irtext_scopes::tracker::NameTracker;
 use std::alloc::{AllocError, Global};
 
 type Measured = NameTracker<u32, u32>;
 
-/// So many names.
+/// Returns so many names.
 pub fn texts(alloc: Global, size: usize) -> Result<Vec<String>, AllocError> {
     let mut texts = Vec::new(alloc);
     for number in 0..size {
@@ -15,13 +15,13 @@ pub fn texts(alloc: Global, size: usize) -> Result<Vec<String>, AllocError> {
     Ok(texts)
 }
 
-/// Defines a name in the innermost scope, where it is new there.
+/// Defines a name in the innermost scope, if it is new there.
 fn define(tracker: &mut Measured, text: &str) -> Result<bool, AllocError> {
     let name = tracker.intern(text)?;
     Ok(tracker.has_value_scope() && tracker.ssa_def(name, 1).is_ok())
 }
 
-/// Enters a region with a scope of its own, defines all these names in it, and leaves it.
+/// Enters a region with its own scope, defines all these names in it, and leaves it.
 fn define_all(tracker: &mut Measured, texts: &[String]) -> Result<bool, AllocError> {
     let mut all = tracker.enter_region(true).is_ok();
     for text in texts {
@@ -30,7 +30,7 @@ fn define_all(tracker: &mut Measured, texts: &[String]) -> Result<bool, AllocErr
     Ok(tracker.exit_region(true).is_none() && all)
 }
 
-/// Mentions so many names, each for the first time.
+/// Interns so many names, each for the first time.
 pub fn new_names(alloc: Global, size: usize) -> Result<bool, AllocError> {
     let texts = texts(alloc, size)?;
     let mut tracker: Measured = NameTracker::new(alloc);
@@ -40,7 +40,7 @@ pub fn new_names(alloc: Global, size: usize) -> Result<bool, AllocError> {
     Ok(tracker.num_names() == size)
 }
 
-/// Defines so many names in a region of its own, so often.
+/// Defines so many names in a region of their own, so many times.
 pub fn definitions(alloc: Global, size: usize, times: usize) -> Result<bool, AllocError> {
     let texts = texts(alloc, size)?;
     let mut tracker: Measured = NameTracker::new(alloc);
@@ -61,7 +61,7 @@ fn use_all(tracker: &mut Measured, texts: &[String]) -> Result<bool, AllocError>
     Ok(all)
 }
 
-/// Defines so many names in a region, and uses each so often.
+/// Defines so many names in a region, and uses each so many times.
 pub fn uses(alloc: Global, size: usize, times: usize) -> Result<bool, AllocError> {
     let texts = texts(alloc, size)?;
     let mut tracker: Measured = NameTracker::new(alloc);
@@ -75,7 +75,7 @@ pub fn uses(alloc: Global, size: usize, times: usize) -> Result<bool, AllocError
     Ok(all)
 }
 
-/// Enters so many regions, each in the one before, and leaves them all, so often.
+/// Enters so many regions, each inside the one before, and leaves them all, so many times.
 pub fn regions(alloc: Global, size: usize, times: usize) -> Result<bool, AllocError> {
     let mut tracker: Measured = NameTracker::new(alloc);
     let mut all = true;

@@ -7,7 +7,7 @@ use std::alloc::{AllocError, Global};
 
 type Measured = Graph<u32, u32, u8>;
 
-/// Makes an operation with one result, which uses the value where there is one.
+/// Creates an operation with one result, which uses the value if there is one.
 fn make_one(graph: &mut Measured, operand: Option<Value>) -> Result<Value, AllocError> {
     let types = Few::one(1);
     if let Some(v) = operand {
@@ -18,7 +18,7 @@ fn make_one(graph: &mut Measured, operand: Option<Value>) -> Result<Value, Alloc
     Ok(Value::Result(graph.make_operation(0, types, &[], &[])?, 0))
 }
 
-/// The operation or the block of a value.
+/// Returns the operation or the block of a value.
 fn owner(v: Value) -> Object {
     match v {
         Value::Result(p, _) => Object::TheOperation(p),
@@ -26,7 +26,7 @@ fn owner(v: Value) -> Object {
     }
 }
 
-/// Erases an object where that can be done, and says whether it could.
+/// Erases an object if that is possible. Returns whether it was.
 fn erase_one(graph: &mut Measured, o: Object) -> bool {
     if !graph.contains(o) || !graph.can_erase(o) {
         return false;
@@ -35,7 +35,7 @@ fn erase_one(graph: &mut Measured, o: Object) -> bool {
     true
 }
 
-/// Within so many operations, makes an operation with one result and one operand and erases it, so often.
+/// In a graph of so many operations, creates an operation with one result and one operand and erases it, so many times.
 pub fn make(alloc: Global, size: usize, times: usize) -> Result<bool, AllocError> {
     let mut graph = Graph::new(alloc);
     let mut last = None;
@@ -50,7 +50,7 @@ pub fn make(alloc: Global, size: usize, times: usize) -> Result<bool, AllocError
     Ok(all)
 }
 
-/// Makes each use of a value one of another, where both are there.
+/// Turns each use of a value into a use of another, if both are live.
 fn replace_all(graph: &mut Measured, v: Value, w: Value) -> bool {
     if !graph.contains_value(v) || !graph.contains_value(w) {
         return false;
@@ -59,7 +59,7 @@ fn replace_all(graph: &mut Measured, v: Value, w: Value) -> bool {
     true
 }
 
-/// Makes so many uses of a value, and moves them to another value and back, so often.
+/// Creates so many uses of a value, and moves them to another value and back, so many times.
 pub fn replace(alloc: Global, size: usize, times: usize) -> Result<bool, AllocError> {
     let mut graph = Graph::new(alloc);
     let first = make_one(&mut graph, None)?;
@@ -76,7 +76,7 @@ pub fn replace(alloc: Global, size: usize, times: usize) -> Result<bool, AllocEr
     Ok(all)
 }
 
-/// Makes a block with so many operations in it, of which each uses the one before.
+/// Creates a block that contains so many operations, each of which uses the one before.
 fn make_block(graph: &mut Measured, size: usize) -> Result<Option<Object>, AllocError> {
     let block = graph.make_block(0, Few::none())?;
     let mut last = None;
@@ -95,7 +95,7 @@ fn make_block(graph: &mut Measured, size: usize) -> Result<Option<Object>, Alloc
     Ok(Some(Object::TheBlock(block)))
 }
 
-/// Makes so many blocks of so many operations, and then erases each where that is wanted.
+/// Creates so many blocks of so many operations, and then, if `erases`, erases each.
 pub fn fill(alloc: Global, size: usize, times: usize, erases: bool) -> Result<bool, AllocError> {
     let mut graph = Graph::new(alloc);
     let mut blocks = Vec::new(alloc);

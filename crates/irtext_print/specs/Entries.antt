@@ -1,4 +1,4 @@
--- For callers: the texts of entries, piece by piece.
+-- For callers: the texts of a section's entries, piece by piece. An item is an operation or a block that carries a mark.
 use Rattle.std.specs.Prelude.{ℕ, ◌+◌, List, [], ◌∷◌, ◌++◌, map, codes, decimal, Option, ⊤}
 use Rattle.irtext_base.specs.Own.{Language}
 use Rattle.irtext_base.specs.Text.{Text}
@@ -12,12 +12,12 @@ abbrev pub label_text : Text → Text
 label_text l = codes "builtin_block_label = builtin.identifier " ++ l
 
 module _ {T A : Type 0} (C : Printing T A) (items : ℕ) (once : List A) where
-  -- the reference to an attribute that is written once
+  -- the reference to a print-once attribute
   abbrev pub reference_text : A → Text
   reference_text a = codes "!" ++ decimal (items + place_in C once a)
 
   module _ (L : Language ⊤ T A) where
-    -- a key, and the attribute under it or the reference to one that is written once
+    -- a key, and the attribute under it or the reference to a print-once one
     abbrev pub pair_text : Text × Attribute A → Text
     pair_text e = e.0 ++ (codes " = " ++ item L C items once e.1)
 
@@ -25,10 +25,10 @@ module _ {T A : Type 0} (C : Printing T A) (items : ℕ) (once : List A) where
     abbrev pub pairs_text : List (Text × Attribute A) → Text
     pairs_text es = joined comma (map pair_text es)
 
-    -- an entry with this location, where it is known, and these attributes
+    -- an entry with this location, if it is known, and these attributes
     abbrev pub entry_with : ℕ → Option Text → List (Text × Attribute A) → Text
     entry_with n location es = codes "!" ++ (decimal n ++ (codes " = " ++ (located L C location ++ (codes "[" ++ (pairs_text es ++ codes "]\n")))))
 
--- an attribute that is written once, behind its index
+-- a print-once attribute, after its index
 abbrev pub once_text : {A : Type 0} → (A → Text) → ℕ → A → Text
 once_text written n a = codes "!" ++ (decimal n ++ (codes " = " ++ (written a ++ (10 ∷ []))))

@@ -1,4 +1,4 @@
--- What printers append, and what locations are printed as
+-- What printers append, and what locations are printed as.
 pub mod Entries
 pub mod Errors
 pub mod Given

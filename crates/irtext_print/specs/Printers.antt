@@ -1,4 +1,4 @@
--- What a printer appends, and under which state.
+-- What a printer appends, and in which state.
 pub mod Shown
 pub mod Printing
 pub mod Appended

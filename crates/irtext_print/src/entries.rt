@@ -1,4 +1,5 @@
-//! The entries of a section, piece by piece. Each of these calls fails only where memory is refused; what was written until then stays.
+//! The entries of a section, piece by piece. An item is an operation or a block that carries a mark. Each of these calls fails only if
+//! out of memory; what was appended up to the error remains.
 ghost use Rattle.std.specs.Prelude.{◌≡◌, ◌++◌, ◌<◌, ◌^◌, List, [], OnOk, cond, string_bytes};
 ghost use Rattle.irtext_grammar.specs.Contexts.Held.{attribute_of};
 ghost use Rattle.irtext_grammar.specs.Grammar.Tree as tree;
@@ -21,7 +22,8 @@ use irtext_base::text::{AttrText, IrText};
 use irtext_context::base::Context;
 use std::fmt;
 
-/// Appends the reference to an attribute that is written once, which is known from then on: its index behind all items.
+/// Appends the reference to a print-once attribute: `!` and its index, which comes after those of all items. The attribute is known
+/// from then on.
 fn fmt_reference<'c, A: AttrText>(
     attr: &'c A,
     items: usize,
@@ -41,7 +43,7 @@ fn fmt_reference<'c, A: AttrText>(
     fmt_number(index as u64, f)
 }
 
-/// Appends an attribute of the caller's, or the reference to one that is written once.
+/// Appends an attribute of the caller, or the reference to a print-once one.
 fn fmt_own<'c, A: AttrText>(
     attr: &'c A,
     items: usize,
@@ -61,7 +63,7 @@ fn fmt_own<'c, A: AttrText>(
     attr.write_text(f)
 }
 
-/// Appends an attribute, or the reference to one that is written once.
+/// Appends an attribute, or the reference to a print-once one.
 fn fmt_attribute<'c, A: AttrText>(
     attr: &'c AttrObj<A>,
     items: usize,
@@ -90,7 +92,7 @@ fn fmt_label(label: &Identifier, f: &mut String) -> fmt::Result
     Ok(())
 }
 
-/// Appends what the section gives of an item under one key.
+/// Appends what the section contains for an item under one key.
 fn fmt_pair<'c, A: AttrText>(
     pair: GivenAttribute<'c, A>,
     items: usize,
@@ -114,7 +116,7 @@ fn fmt_pair<'c, A: AttrText>(
     }
 }
 
-/// Appends `, `, but not in front of the first attribute.
+/// Appends `, `, except before the first attribute.
 fn fmt_comma(first: bool, f: &mut String) -> fmt::Result
     ensures { OnOk result (string_bytes f.new ≡ string_bytes f.old ++ cond first [] comma) }
 {
@@ -124,7 +126,7 @@ fn fmt_comma(first: bool, f: &mut String) -> fmt::Result
     Ok(())
 }
 
-/// Appends what the section gives of an item beside its location, with `, ` between.
+/// Appends what the section contains for an item besides its location, with `, ` between.
 fn fmt_pairs<'c, A: AttrText>(
     given: &Given<'c, A>,
     items: usize,
@@ -147,7 +149,7 @@ fn fmt_pairs<'c, A: AttrText>(
     Ok(())
 }
 
-/// Appends the entry of an item of which the section gives this.
+/// Appends the entry of an item, from what the section contains for it: `!0 = @[<in-memory>: line: 1, column: 1], []`.
 pub(crate) fn fmt_entry<'c, T: IrText<A>, A: AttrText>(
     ctx: &Context<T, A>,
     index: usize,

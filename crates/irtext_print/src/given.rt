@@ -1,5 +1,5 @@
-//! What the section gives of an operation or a block: its location, where that is known, its label, if it is a block that has one, and its
-//! outlined attributes. Marks and entries are made of this alone.
+//! What the section contains for an operation or a block: its location, if that is known, its label, if it is a block that has one, and
+//! its outlined attributes. Marks and entries are made from this alone. An item is an operation or a block that carries a mark.
 ghost use Rattle.std.specs.Prelude.{◌≡◌, ◌++◌, [], option_copied};
 ghost use Rattle.std.specs.Iterator.{YieldsFirstBy, item_count};
 ghost use Rattle.irtext_base.specs.declared.location.Location.TheVariants.{Unknown};
@@ -15,31 +15,34 @@ use irtext_context::base::{
 use irtext_dict::base::AttributeDict;
 use irtext_dict::base::attributes::Iter;
 
-/// What the section gives of an item.
+/// What the section contains for an item.
 #[derive_where(Clone, Copy)]
 pub struct Given<'c, A> {
+    /// The item's location, which the entry contains if it is known.
     pub location: &'c Location<A>,
+    /// The label of a block; `None` for an operation.
     pub label: Option<&'c Identifier>,
+    /// All attributes of the item. The entry contains the outlined ones.
     pub attributes: &'c AttributeDict<A>,
 }
 
-/// One of the attributes that the section gives of an item.
+/// One of the attributes that the section contains for an item.
 #[derive_where(Clone, Copy)]
 pub enum GivenAttribute<'c, A> {
-    /// A block's label, which stands there as an identifier.
+    /// A block's label, which the section contains as an identifier.
     Label(&'c Identifier),
-    /// An attribute of the item's own, under its key.
+    /// An attribute of the item, under its key.
     Outlined(&'c Identifier, &'c AttrObj<A>),
 }
 
-/// The attributes that the section gives of an item: a block's label first, and then those that are outlined, in the dictionary's order.
+/// The attributes that the section contains for an item: a block's label first, then the outlined ones, in the dictionary's order.
 #[derive(Drop)]
 pub struct GivenAttributes<'c, A> {
     pub(crate) label: Option<&'c Identifier>,
     pub(crate) entries: Iter<'c, A>,
 }
 
-/// The next of these entries whose attribute is outlined.
+/// Returns the next of these entries whose attribute is outlined.
 fn next_outlined<'c, A: AttrText>(entries: &mut Iter<'c, A>) -> Option<GivenAttribute<'c, A>>
     ensures { YieldsFirstBy gives.given_pair (gives.outlined_left A.outlined) entries.old result entries.new }
 {
@@ -77,7 +80,7 @@ fn is_located<A>(location: &Location<A>) -> bool
 }
 
 impl<'c, A: AttrText> Given<'c, A> {
-    /// What the section gives of the item beside its location.
+    /// Returns an iterator over what the section contains for the item besides its location.
     pub fn attributes(&self) -> GivenAttributes<'c, A>
         ensures { gives.attributes_left A.outlined result ≡ gives.attributes_of A.outlined self.now }
     {
@@ -87,7 +90,7 @@ impl<'c, A: AttrText> Given<'c, A> {
         }
     }
 
-    /// Whether the section gives something of the item beside its location.
+    /// Whether the section contains something for the item besides its location.
     pub fn has_attributes(&self) -> bool
         ensures { result ≡ gives.marks_given Unknown (gives.attributes_of A.outlined self.now) }
     {
@@ -95,7 +98,7 @@ impl<'c, A: AttrText> Given<'c, A> {
         attributes.next().is_some()
     }
 
-    /// Whether a mark is written of the item: the section gives something of it.
+    /// Whether the item has a mark: the section contains something for it.
     pub fn is_marked(&self) -> bool
         ensures { result ≡ gives.marks_given self.now.location.now (gives.attributes_of A.outlined self.now) }
     {
@@ -103,7 +106,7 @@ impl<'c, A: AttrText> Given<'c, A> {
     }
 }
 
-/// What the section gives of an operation; nothing of one that isn't there.
+/// Returns what the section contains for an operation; `None` if it is not live.
 fn operation_given<'c, T: IrText<A>, A: AttrText>(
     ctx: &'c Context<T, A>,
     op: Ptr<Operation>,
@@ -120,7 +123,7 @@ fn operation_given<'c, T: IrText<A>, A: AttrText>(
     })
 }
 
-/// What the section gives of a block; nothing of one that isn't there.
+/// Returns what the section contains for a block; `None` if it is not live.
 fn block_given<'c, T: IrText<A>, A: AttrText>(
     ctx: &'c Context<T, A>,
     block: Ptr<BasicBlock>,
@@ -137,7 +140,7 @@ fn block_given<'c, T: IrText<A>, A: AttrText>(
     })
 }
 
-/// What the section gives of an item; nothing of one that was erased. It takes no memory.
+/// Returns what the section contains for an item; `None` if it was erased. Allocates nothing.
 pub fn given_of<'c, T: IrText<A>, A: AttrText>(
     ctx: &'c Context<T, A>,
     item: Item,
@@ -150,7 +153,7 @@ pub fn given_of<'c, T: IrText<A>, A: AttrText>(
     }
 }
 
-/// Whether a mark is written of an item: the section gives something of it. None is written of one that was erased.
+/// Whether an item has a mark: the section contains something for it. An erased item has none.
 pub fn is_marked<T: IrText<A>, A: AttrText>(ctx: &Context<T, A>, item: Item) -> bool
     ensures { result ≡ gives.is_marked_at T.IrText.own A.IrText.own A.AttrText.own A.eq ctx.now item }
 {

@@ -1,3 +1,3 @@
-//! What is written of operations by their formats.
+//! What the formats of operations print.
 
 pub mod print;

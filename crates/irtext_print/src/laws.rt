@@ -1,4 +1,4 @@
-//! Laws of the section.
+//! Laws of the section: the indices of its entries, and its text.
 ghost use Rattle.std.specs.Prelude.{◌≡◌, ◌+◌, ◌++◌, ◌∷◌, List, Option, Some, length, map, flat_map, codes};
 ghost use Rattle.irtext_base.specs.Format.{Format, Id};
 ghost use Rattle.irtext_base.specs.Own.{texts_of, unplaced};
@@ -9,9 +9,9 @@ ghost use Rattle.irtext_print.specs.Items.{entry_spelled, given_section, places_
 
 use irtext_base::text::{AttrText, IrText};
 
-/// An item's index is its place, also where one in front of it was erased, and those of the attributes that are written once are the
-/// numbers behind the places of all items. Where none was erased, as in what is printed of one root with a state of its own, the indices
-/// are thus the numbers from 0 on, without a gap.
+/// An item's index is its place among the items, even if one before it was erased. The indices of the print-once attributes follow
+/// after the places of all items. If none was erased, as when one root is printed with a state of its own, the indices are thus the
+/// numbers from 0 on, without a gap.
 pub fn indices_follow<T, A>()
     ensures kept { (C : Printing T A) (gs : List (Option (Entry C))) →
         map index_of (given_section C gs) ≡ places_there C 0 gs ++ numbers (length gs) (length (shared_by C gs)) }
@@ -19,7 +19,7 @@ pub fn indices_follow<T, A>()
         map index_of (given_section C (map (λ e. Some e) es)) ≡ numbers 0 (length es + length (shared C es)) }
 {}
 
-/// The text of a section is that of its entries, one behind the other; and where no item was erased, it is the section of a root by the
+/// The text of a section is that of its entries, one after another. If no item was erased, it is the section of a root by the
 /// definition of printing.
 pub fn section_is_its_entries<T: IrText<A>, A: AttrText>()
     ensures spelled { (C : Printing T A) (formats : Id → Option Format) (g : Option (Entry C)) (gs : List (Option (Entry C))) →

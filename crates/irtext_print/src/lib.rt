@@ -1,6 +1,6 @@
-//! What printing is made of: the printing state with its guards, the texts of attributes and of locations, what a format's directives
-//! write of an operation's attributes, and the section behind a root: what it gives of operations and blocks, of which their marks are
-//! made too, and its text.
+//! The parts of printing: the printing state with its guards, the texts of attributes and of locations, what the directives of a format
+//! print of an operation's attributes, and the section after a root: its text, and what it contains for operations and blocks, which
+//! also decides which of them are marked.
 #![tactic(auto)]
 
 mod entries;

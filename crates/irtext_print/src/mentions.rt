@@ -1,4 +1,4 @@
-//! The attributes that a section writes once: each is known from its first mention on, by a reference, and none is copied.
+//! The print-once attributes of a section: each is known from its first mention on, by a reference, and none is copied.
 ghost use Rattle.std.specs.Prelude.{◌≡◌, ◌<◌, ◌^◌, ◌++◌, List, OnOk, IfOk};
 ghost use Rattle.irtext_grammar.specs.Graphs.Graph.{place_in};
 ghost use Rattle.irtext_print.specs.Mentions as mentions;
@@ -7,11 +7,11 @@ use indexmap::IndexSet;
 use irtext_base::text::AttrText;
 use std::fmt;
 
-/// The attributes that are written once, in the order of their first mention.
+/// The print-once attributes, in the order of their first mention.
 pub(crate) type Mentions<'c, A> = IndexSet<&'c A>;
 
-/// Notes an attribute that is written once, and answers its place among those that are known, which stays as more are noted. It takes memory where the
-/// attribute is new.
+/// Records a print-once attribute, and returns its place among those that are known. The place does not change as more are recorded.
+/// Allocates if the attribute is new; fails only if out of memory.
 pub(crate) fn note<'c, A: AttrText>(
     known: &mut Mentions<'c, A>,
     attr: &'c A,

@@ -1,4 +1,4 @@
-//! The printing state with its guards, what it gathered, why a printing is refused, and the texts of attributes and of new lines.
+//! The printing state with its guards, the items that it gathered, why a printing fails, and the texts of attributes and of new lines.
 ghost use Rattle.std.specs.Prelude.{◌≡◌, ◌≤◌, [], OnOk, ◌++◌, codes, cond, string_bytes};
 ghost use Rattle.irtext_print.specs.Printers.Printing.{indent_of};
 ghost use Rattle.irtext_grammar.specs.Spelling.Spell.{newline};
@@ -25,7 +25,7 @@ const NEWLINE: &str = "\n                                                       
 /// A space, a brace on a line of its own, and as many spaces as are appended with it.
 const OPENING: &str = " \n{\n                                                                ";
 
-/// Appends the first brace of a region that stands at no indentation, as [`fmt_opening`] does.
+/// Appends the opening brace of a region at indentation 0, as [`fmt_opening`] does.
 fn fmt_outer_opening(joins: bool, inner: u16, f: &mut String) -> fmt::Result
     requires { inner ≤ 64 }
     ensures { OnOk result (string_bytes f.new ≡ string_bytes f.old ++
@@ -40,8 +40,8 @@ fn fmt_outer_opening(joins: bool, inner: u16, f: &mut String) -> fmt::Result
     Ok(())
 }
 
-/// Appends the first brace of a region, on a line of its own at this indentation, and a newline and the inner indentation; behind a space, unless the
-/// region joins what stands before it. It fails only where memory is refused.
+/// Appends the opening brace of a region on a line of its own at this indentation, then a newline and the inner indentation, both in
+/// spaces. A space comes first, unless the region joins what is before it. Fails only if out of memory.
 pub fn fmt_opening(joins: bool, indent: u16, inner: u16, f: &mut String) -> fmt::Result
     ensures { OnOk result (string_bytes f.new ≡ string_bytes f.old ++
         (cond joins [] (codes " ") ++ (newline indent ++ (codes "{" ++ newline inner)))) }
@@ -57,7 +57,7 @@ pub fn fmt_opening(joins: bool, indent: u16, inner: u16, f: &mut String) -> fmt:
     fmt_newline(inner, f)
 }
 
-/// Appends a newline and so many spaces. It fails only where memory is refused.
+/// Appends a newline and so many spaces. Fails only if out of memory.
 pub fn fmt_newline(indent: u16, f: &mut String) -> fmt::Result
     ensures { OnOk result (string_bytes f.new ≡ string_bytes f.old ++ newline indent) }
 {
@@ -68,7 +68,7 @@ pub fn fmt_newline(indent: u16, f: &mut String) -> fmt::Result
     Ok(())
 }
 
-/// Appends a newline and as many spaces as the indentation. It fails only where memory is refused.
+/// Appends a newline and as many spaces as the state's indentation. Fails only if out of memory.
 pub fn fmt_indented_newline<U>(state: &State<U>, f: &mut String) -> fmt::Result
     ensures { OnOk result (string_bytes f.new ≡ string_bytes f.old ++ newline (indent_of state.now)) }
 {

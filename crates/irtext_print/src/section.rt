@@ -1,4 +1,4 @@
-//! The section behind a root.
+//! The section after a root. An item is an operation or a block that carries a mark.
 ghost use Rattle.std.specs.Prelude.{◌≡◌, ◌++◌, ◌<◌, ◌^◌, List, [], OnOk, IfErr, codes, length, string_bytes, true, false};
 ghost use Rattle.irtext_base.specs.declared.location.Source.TheVariants as source;
 ghost use Rattle.irtext_grammar.specs.Spelling.Locations.{known_text};
@@ -24,7 +24,7 @@ use irtext_base::text::{AttrText, IrText};
 use irtext_context::base::{Context, Item};
 use std::fmt;
 
-/// Appends the entry of an item; one that was erased has none.
+/// Appends the entry of an item; an erased one has none.
 fn fmt_item<'c, T: IrText<A>, A: AttrText>(
     ctx: &'c Context<T, A>,
     index: usize,
@@ -65,7 +65,7 @@ fn fmt_items<'c, T: IrText<A>, A: AttrText>(
     Ok(())
 }
 
-/// Appends an attribute that is written once, behind its index.
+/// Appends a print-once attribute, after its index.
 fn fmt_once<A: AttrText>(index: usize, attr: &A, f: &mut String) -> fmt::Result
     ensures { OnOk result (AppendsText f.old (texts.once_text A.IrText.written index attr.now) f.new) }
 {
@@ -77,7 +77,7 @@ fn fmt_once<A: AttrText>(index: usize, attr: &A, f: &mut String) -> fmt::Result
     Ok(())
 }
 
-/// Appends the attributes that are written once, numbered on behind all items.
+/// Appends the print-once attributes, numbered on after all items.
 fn fmt_all_once<A: AttrText>(count: usize, known: &Mentions<'_, A>, f: &mut String) -> fmt::Result
     requires { count < 2 ^ 63 }
     ensures { OnOk result (AppendsText f.old (once_texts (words A.IrText.written) (mentions.asking A.print_once A.eq) count
@@ -107,11 +107,17 @@ fn fmt_section<T: IrText<A>, A: AttrText>(
     fmt_all_once(items.len(), &known, f)
 }
 
-/// Appends the section of items: the index of each is its place among them, and one that was erased has no entry and keeps its index.
-/// Behind them stands each attribute that is written once, numbered on. Nothing is written where there are no items.
+/// Appends the section of items. The index of each is its place among them; an erased one has no entry, and keeps its index. After them
+/// comes each print-once attribute, numbered on. If there are no items, nothing is appended. The text begins with two newlines:
 ///
-/// It takes memory for the attributes that are written once alone, a reference for each, and is refused only where memory is; what was
-/// written until then stays.
+/// ```text
+/// outlined_attributes:
+/// !0 = @[<in-memory>: line: 1, column: 1], [dbg = !1]
+/// !1 = test.dbg "s"
+/// ```
+///
+/// Allocates only for the print-once attributes, a reference for each. The error is always `Memory`; what was appended up to the error
+/// remains.
 pub fn print_section<T: IrText<A>, A: AttrText>(
     ctx: &Context<T, A>,
     items: &[Item],
@@ -131,8 +137,8 @@ fn is_in_memory(src: Source) -> bool
     matches!(src, Source::InMemory)
 }
 
-/// Appends the mark and the section of an item of which the section gives this location alone, where that is known. What stands in front of
-/// the line of a place in memory is appended at once.
+/// Appends the mark and the section of an item if its location is known and is all that the section contains for it. For a position in
+/// memory, everything before the line number is appended at once.
 fn fmt_located<T: IrText<A>, A: AttrText>(
     location: &Location<A>,
     ctx: &Context<T, A>,
@@ -176,10 +182,10 @@ fn fmt_alone<T: IrText<A>, A: AttrText>(
     fmt_located(given.location, ctx, f)
 }
 
-/// Appends the mark of an item and a section that has its entry alone, where a mark is written of it: so the section's words and the entry
-/// are appended together, and no list of items is asked for.
+/// Appends the mark of an item and a section with its entry alone; nothing if the item has no mark. The section's first words and the
+/// entry are appended together, and no list of items is allocated: ` !0`, and the section with the entry of `!0`.
 ///
-/// It takes memory as [`print_section`] does, and is refused only where memory is; what was written until then stays.
+/// Allocates as [`print_section`] does. The error is always `Memory`; what was appended up to the error remains.
 pub fn print_alone<T: IrText<A>, A: AttrText>(
     ctx: &Context<T, A>,
     item: Item,

@@ -1,3 +1,3 @@
--- What is printable prints as, and what errors print as
+-- What printable values print as, and what errors print as.
 pub mod Printers
 pub mod Errors

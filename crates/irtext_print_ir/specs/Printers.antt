@@ -1,4 +1,4 @@
--- What is printable, and what is printed of operations, regions and blocks.
+-- What is printable, and what is printed for operations, regions and blocks.
 pub mod Shows
 pub mod Separator
 pub mod Calls

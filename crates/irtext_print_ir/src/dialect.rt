@@ -1,4 +1,4 @@
-//! A dialect is printed by its name.
+//! A dialect is printed as its name.
 ghost use Rattle.std.specs.Prelude.{◌≡◌, Some};
 
 use crate::printable::Printable;
@@ -9,6 +9,7 @@ use irtext_context::dialect::Dialect;
 use std::convert::AsStr;
 use std::fmt;
 
+/// Prints the dialect's name, as `builtin`. Fails only if out of memory.
 impl<T: IrText<A>, A: AttrText, U> Printable<U, T, A> for Dialect {
     ghost gives = { λ dialect _ s. Some (dialect.name, s) };
 

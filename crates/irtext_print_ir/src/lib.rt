@@ -1,4 +1,5 @@
-//! Printing: what is printable, stored printers, and the texts of locations, errors, dialects, operations, regions and blocks.
+//! Printing: the trait of printable values, stored printers, and the texts of locations, errors, dialects, operations, regions and
+//! blocks.
 #![tactic(auto)]
 
 pub mod dialect;

@@ -1,4 +1,4 @@
-//! Sources, positions and locations print themselves.
+//! How sources, positions and locations are printed.
 ghost use Rattle.std.specs.Prelude.{Some};
 ghost use Rattle.std.specs.Str.{encode_utf8_all};
 ghost use Rattle.irtext_base.specs.Causes.{position_text};
@@ -13,6 +13,7 @@ use irtext_context::base::Context;
 use irtext_print::location::print::{fmt_location, fmt_source};
 use std::fmt;
 
+/// Prints the path of a file between quotation marks, or `<in-memory>`. Fails only if out of memory.
 impl<T: IrText<A>, A: AttrText, U> Printable<U, T, A> for Source {
     ghost gives = { λ src ctx s. Some (encode_utf8_all (source_text (path_of ctx.paths src)), s) };
 
@@ -21,6 +22,7 @@ impl<T: IrText<A>, A: AttrText, U> Printable<U, T, A> for Source {
     }
 }
 
+/// Prints line and column, both from 1, in characters: `line: 1, column: 21`. Fails only if out of memory.
 impl<T: IrText<A>, A: AttrText, U> Printable<U, T, A> for SourcePosition {
     ghost gives = { λ pos _ s. Some (position_text pos, s) };
 
@@ -30,6 +32,8 @@ impl<T: IrText<A>, A: AttrText, U> Printable<U, T, A> for SourcePosition {
     }
 }
 
+/// Prints the location: `"f.mlir": line: 2, column: 3` for a position, `name: "n", loc: (?)` for a named one, `?` for an unknown one.
+/// Fails only if out of memory.
 impl<T: IrText<A>, A: AttrText, U> Printable<U, T, A> for Location<A> {
     ghost gives = { λ location ctx s. Some (encode_utf8_all (location_text A.written ctx.paths location), s) };
 

@@ -1,4 +1,4 @@
-//! What prints itself with a context: the trait, the printing state with its guards, texts as a `Display`, and plain values.
+//! Printable values: the trait, the printing state with its guards, values as a `Display`, and plain values.
 ghost use Rattle.std.specs.Prelude.{List, ℕ, OnOk, None, Option, ⊤, string_bytes};
 ghost use Rattle.irtext_print.specs.Printers.Shown.{Shown};
 ghost use Rattle.irtext_print.specs.Printers.Appended.{Writes};
@@ -27,19 +27,19 @@ pub use indented::{IndentedNl, indented_nl};
 pub use irtext_read::printable::fmt_quoted;
 pub use items::fmt_iter;
 
-/// What has a text that a context and a printing state may say more of.
+/// A value with a text, which may depend on a context and a printing state.
 pub trait Printable<U, T: IrText<A>, A: AttrText> {
-    // whether it may be printed, as where it is live
+    // whether the value may be printed; for a pointer, whether its object is live
     ghost can_print: { Self → Context T A → Type 0 } = { λ _ _. ⊤ };
 
-    // the text that is appended and the state that is left; nothing where nothing is claimed
+    // the text that is appended and the state that is left; `None` if nothing is claimed
     ghost gives: { Self → Context T A → Shown U → Option (List ℕ × Shown U) } = { λ _ _ _. None };
 
     // what one printing may do: the state and the text before it, and both after it
     ghost prints: { Self → Context T A → Shown U → String Global → Shown U → String Global → Type 0 } = { λ _ _ _ _ _ _. ⊤ };
 
-    /// Appends the text. It fails where memory is refused, the indentation is too deep, an operation doesn't fit its format,
-    /// or a stored closure fails; what was written until then stays.
+    /// Appends the text. Fails if out of memory, if the indentation does not fit 16 bits, if an operation does not fit its format, or
+    /// if a stored closure fails. What was appended up to the error remains.
     fn fmt(&self, ctx: &Context<T, A>, state: &mut State<U>, f: &mut String) -> fmt::Result
         requires { can_print self.now ctx.now }
         ensures prints { OnOk result (prints self.now ctx.now state.old f.old state.new f.new) }

@@ -1,4 +1,4 @@
-//! How errors print themselves.
+//! How errors are printed.
 ghost use Rattle.std.specs.Prelude.{◌≡◌, ◌++◌, OnOk, string_bytes};
 ghost use Rattle.irtext_print.specs.Errors.Located.{located_error};
 
@@ -10,7 +10,7 @@ use irtext_context::base::Context;
 use irtext_print::location::print::fmt_known;
 use std::fmt;
 
-/// Appends an error's text behind its location, where that is known; an inner error is printed so too.
+/// Appends an error's location in brackets, if it is known, its kind, and its cause. An inner error is printed the same way.
 fn fmt_error<T: IrText<A>, A: AttrText>(
     error: &Error<A>,
     ctx: &Context<T, A>,
@@ -30,6 +30,13 @@ fn fmt_error<T: IrText<A>, A: AttrText>(
     }
 }
 
+/// Prints the location in brackets, if it is known, the kind, and the cause on the next line. Fails only if out of memory.
+///
+/// ```text
+/// [<in-memory>: line: 1, column: 3] Compilation error: invalid input program.
+/// Parse error at line: 1, column: 3
+/// Unexpected `b`, expected end of input
+/// ```
 impl<T: IrText<A>, A: AttrText, U> Printable<U, T, A> for Error<A> {
     ghost use Rattle.irtext_print_ir.specs.Errors.Printed.{given_of};
 
@@ -40,7 +47,7 @@ impl<T: IrText<A>, A: AttrText, U> Printable<U, T, A> for Error<A> {
     }
 }
 
-/// A value prints as itself, and an error as an error.
+/// Prints the value, or the error.
 impl<X: Printable<U, T, A>, T: IrText<A>, A: AttrText, U> Printable<U, T, A> for Result<X, A> {
     ghost use Rattle.irtext_print_ir.specs.Errors.Printed.{can_be, given, may_print};
 

@@ -1,4 +1,4 @@
--- For callers: why an operation does not fit its format, in the order in which it is looked for.
+-- For callers: why an operation does not fit its format, in the order in which the reasons are checked.
 use Rattle.std.specs.Prelude.{◌≡◌, ◌<◌, ◌+◌, ◌^◌, ℕ, suc, Bool, true, false, cond, not, ◌||◌, ◌==◌, nat_lt, List, [], ◌∷◌, ◌++◌, length, codes, decimal, Option, Some, None, is_none, Result, Ok, Err, ⊤}
 use Rattle.irtext_base.specs.Text.{Text}
 use Rattle.irtext_base.specs.Format as format
@@ -14,11 +14,12 @@ use Rattle.irtext_print_ops.specs.declared.fits.FitFault.{FitFault}
 use Rattle.irtext_print_ops.specs.declared.fits.FitFault.TheVariants as fault
 use Rattle.irtext_print_ops.specs.declared.fits.Places.{Places}
 
--- so many parts fit the places and the lists of directives: no more than there are places, where no list writes the others
+-- so many parts fit directives with so many places: at least as many parts as places if a list directive prints the others, otherwise
+-- exactly as many
 abbrev pub counts_fit : ℕ → ℕ → ℕ → Bool
 counts_fit places lists n = cond (lists == 0) (n == places) (not (nat_lt n places))
 
--- what is counted before the first directive
+-- the counts before the first directive
 abbrev pub no_places : Places
 no_places = record {
   operands = 0;
@@ -33,7 +34,7 @@ no_places = record {
   dictionary = false;
 }
 
--- what is counted behind one directive more
+-- the counts after one more directive
 abbrev pub counted : Places → Directive → Places
 counted p (format.word s) = p
 counted p (format.operand i) = record p { operands = p.operands + 1 }
@@ -47,12 +48,12 @@ counted p (format.region i) = record p { regions = p.regions + 1 }
 counted p format.regions = record p { all_regions = true }
 counted p format.header = record p { header = true }
 
--- the same behind more directives
+-- the counts after more directives
 abbrev pub counted_on : Places → List Directive → Places
 counted_on p [] = p
 counted_on p (d ∷ ds) = counted_on (counted p d) ds
 
--- what is counted of directives
+-- the counts of these directives
 abbrev pub places_of : List Directive → Places
 places_of ds = counted_on no_places ds
 
@@ -63,12 +64,12 @@ pub record AreFew (p : Places) : Type 0 where
   pub types : p.types + 1 < 2 ^ 64
   pub regions : p.regions + 1 < 2 ^ 64
 
--- the number of the first test that fails, where the first of them has this number
+-- the number of the first test that fails, if the first test has this number
 abbrev pub first_failed : ℕ → List Bool → Option ℕ
 first_failed k [] = None
 first_failed k (b ∷ bs) = cond b (first_failed (suc k) bs) (Some k)
 
--- the number of a reason in the order in which they are looked for
+-- the number of a reason in the order in which reasons are checked
 abbrev pub number_of : FitFault → ℕ
 number_of fault.NotRegistered = 0
 number_of (fault.OperandCount n) = 1
@@ -90,26 +91,26 @@ fault_text (fault.MissingAttribute key) = codes "The operation has no attribute 
 fault_text fault.NoSymbol = codes "The operation has no symbol"
 fault_text (fault.UnwrittenAttribute key) = codes "The format does not write the attribute " ++ key.now
 
--- the number of the reason why not, where a check answers one
+-- the number of the reason, if a check returns one
 abbrev pub refused_by : {X : Type 0} → Result X FitFault → Option ℕ
 refused_by (Ok x) = None
 refused_by (Err reason) = Some (number_of reason)
 
 module _ {A : Type 0} (is_outlined : A → Bool) (ds : List Directive) where
-  -- the attribute is written: by a directive that names its key, or in the section
+  -- the attribute is printed: by a directive that names its key, or in the section
   abbrev pub is_covered : Text × Attribute A → Bool
   is_covered e = is_key_written e.0 ds || outlined (outlining is_outlined) e.1
 
-  -- the key of the first attribute that is not written so
+  -- the key of the first attribute that is printed in neither way
   abbrev pub first_uncovered : List (Text × Attribute A) → Option Text
   first_uncovered es = first_key (λ e. not (is_covered e)) es
 
-  -- the same, where no directive writes the dictionary
+  -- the same, if no directive prints the dictionary
   abbrev pub uncovered_key : List (Text × Attribute A) → Option Text
   uncovered_key es = cond (count is_dictionary ds == 0) (first_uncovered es) None
 
   module _ (counts : Counts) (es : List (Text × Attribute A)) where
-    -- what is tested of an operation with so many parts and these attributes, in order
+    -- the tests for an operation with so many parts and these attributes, in order
     abbrev pub tests : List Bool
     tests =
         counts_fit (length (operand_places ds)) (count is_operands ds) counts.operands
@@ -121,7 +122,7 @@ module _ {A : Type 0} (is_outlined : A → Bool) (ds : List Directive) where
         ∷ is_none (uncovered_key es)
         ∷ []
 
-    -- what a reason names: how many parts there are, or the first such key
+    -- what a reason names: the number of parts, or the first such key
     abbrev pub Names : FitFault → Type 0
     Names fault.NotRegistered = ⊤
     Names (fault.OperandCount n) = n ≡ counts.operands
@@ -132,12 +133,12 @@ module _ {A : Type 0} (is_outlined : A → Bool) (ds : List Directive) where
     Names fault.NoSymbol = ⊤
     Names (fault.UnwrittenAttribute key) = uncovered_key es ≡ Some key.now
 
--- the format with these directives, and the one that any operation can have where there are none
+-- the format with these directives, or the canonical one if there are none
 abbrev pub format_by : Option (List Directive) → Format
 format_by None = format.canonical
 format_by (Some ds) = format.custom ds
 
--- how many parts an operation has, with so many regions
+-- the number of parts of an operation with so many regions
 abbrev pub counts_of : {T A : Type 0} → GraphOp T A → ℕ → Counts
 counts_of o n = record { operands = length o.operands; successors = length o.successors; results = length o.results; regions = n }
 
@@ -148,7 +149,7 @@ module _ {T A : Type 0} (C : Printing T A) (isolated : Id → Bool) (o : GraphOp
   first_reason (Some format.canonical) = None
   first_reason (Some (format.custom ds)) = first_failed 1 (tests C.own_outlined ds (counts_of o n) o.attributes)
 
-  -- what a reason names of it
+  -- what a reason names of the operation
   abbrev pub NamesIn : Option Format → FitFault → Type 0
   NamesIn None reason = ⊤
   NamesIn (Some format.canonical) reason = ⊤

@@ -1,4 +1,5 @@
--- For callers: what is written of the values and blocks that an operation or a block lists, one by one; what has no text is left out.
+-- For callers: what is printed of the values and blocks that an operation or a block lists, one by one; an item without a text is left
+-- out.
 use Rattle.std.specs.Prelude.{ℕ, Bool, true, false, cond, List, [], ◌∷◌, ◌++◌, map, drop, slice_get, Option, Some, None, codes}
 use Rattle.std.specs.Option.{option_map, option_and_then}
 use Rattle.irtext_base.specs.Text.{Text}
@@ -17,7 +18,7 @@ use Rattle.irtext_print_ops.specs.declared.lists.Facet.TheVariants as facet
 use Rattle.irtext_print_ops.specs.declared.lists.Listed.{Listed}
 use Rattle.irtext_print_ops.specs.declared.lists.Listed.TheVariants as listed
 
--- a text, behind `, ` where it is not the first; nothing where there is no text
+-- a text, after `, ` if it is not the first; nothing if there is no text
 abbrev pub next_text : Bool → Option Text → Text
 next_text first None = []
 next_text first (Some t) = cond first [] comma ++ t
@@ -27,7 +28,7 @@ abbrev pub are_none : List Text → Bool
 are_none [] = true
 are_none (t ∷ ts) = false
 
--- texts with `, ` between them and ` = `, where there are any
+-- texts with `, ` between them and ` = `, if there are any
 abbrev pub defined_text : List Text → Text
 defined_text [] = []
 defined_text (t ∷ ts) = joined comma (t ∷ ts) ++ codes " = "
@@ -42,17 +43,17 @@ owner (listed.ResultTypes p) = TheOperation p
 owner (listed.Arguments b) = TheBlock b
 
 module _ {T A : Type 0} (written : T → Text) (ctx : ContextView T A) where
-  -- what is written of a value of this number and this type
+  -- what is printed of a value of this number and this type
   abbrev pub facet_text : Facet → ℕ × T → Text
   facet_text facet.Name r = name_of ctx r.0
   facet_text facet.Type r = written r.1
   facet_text facet.Both r = name_of ctx r.0 ++ (codes ": " ++ written r.1)
 
-  -- the same of a value, where its type is known
+  -- the same for a value, if its type is known
   abbrev pub typed_text : Facet → Typed (Option T) → Option Text
   typed_text x t = option_map (facet_text x) (typed_number t)
 
-  -- the type of a value, where it is there and its type is known
+  -- the type of a value, if it is live and its type is known
   abbrev pub operand_type_text : Value → Option Text
   operand_type_text v = option_map written (option_and_then (type_of ctx) (number_of ctx v))
 
@@ -65,7 +66,7 @@ module _ {T A : Type 0} (written : T → Text) (ctx : ContextView T A) where
   texts_of (listed.ResultTypes p) = map (typed_text facet.Type) (results ctx.graph p)
   texts_of (listed.Arguments b) = map (typed_text facet.Both) (arguments ctx.graph b)
 
-  -- the text at an index, where there is one
+  -- the text at an index, if there is one
   abbrev pub text_at : Listed → ℕ → Option Text
   text_at l i = option_and_then (λ t. t) (slice_get (texts_of l) i)
 

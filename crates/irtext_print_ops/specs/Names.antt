@@ -11,11 +11,11 @@ use Rattle.irtext_grammar.specs.Contexts.Nested.{printing_over, given_to, label_
 use Rattle.irtext_grammar.specs.Graphs.Graph.{Printing}
 use Rattle.irtext_grammar.specs.Spelling.PrintedNames.{value_name, block_name}
 
--- what printing asks of this context, and of the attributes of the caller
+-- what printing needs to know of this context and of the caller's attributes
 abbrev pub printing_by : {T A : Type 0} → attr_text.Ghosts A → (A → A → Bool) → ContextView T A → Printing T A
 printing_by owns same ctx = printing_over ctx owns.outlined owns.print_once same
 
--- a text, where there is one
+-- a text, if there is one
 abbrev pub or_nothing : Option Text → Text
 or_nothing None = []
 or_nothing (Some t) = t
@@ -25,7 +25,7 @@ module _ {T A : Type 0} (ctx : ContextView T A) where
   abbrev pub name_of : ℕ → Text
   name_of n = value_name (given_to ctx n) n
 
-  -- the name of a value, where it is there
+  -- the name of a value, if it is live
   abbrev pub operand_text : Value → Option Text
   operand_text v = option_map name_of (number_of ctx v)
 

@@ -1,4 +1,4 @@
--- What single turns of the walk write, and which frames they leave.
+-- What single steps of the walk print, and which frames they leave.
 use Rattle.std.specs.Prelude.{◌+◌, ◌≤◌, ◌^◌, ◌==◌, ℕ, IsSome, true, false, cond, List, [], ◌∷◌, ◌++◌, length, slice_get, Option, Some, None, codes}
 use Rattle.irtext_base.specs.Format as format
 use Rattle.irtext_base.specs.Format.{Format, Directive}
@@ -22,57 +22,57 @@ abbrev pub custom_directives : Option Format → Option (List Directive)
 custom_directives (Some (format.custom ds)) = Some ds
 custom_directives _ = None
 
--- what stands in front of a region's blocks, or in its place where it is elided
+-- what comes before a region's blocks, or `{..}` if the region is elided
 abbrev pub region_front : ℕ → ℕ → RegionPrintDepthLimit → Text
 region_front width indent limit = elim (lowered limit) [ None ↦ codes "{..}" | Some _ ↦ opening width indent ]
 
--- the frame of a region that was begun, where it isn't elided
+-- the frame of a region that was begun, if it is not elided
 abbrev pub begun_frames : Option RegionFrame → List Frame
 begun_frames None = []
 begun_frames (Some g) = frame.Region g ∷ []
 
--- the frame of what is open innermost, where something is
+-- the innermost open frame, if there is one
 abbrev pub listed : Option Frame → List Frame
 listed None = []
 listed (Some f) = f ∷ []
 
--- the frames that a turn of an operation leaves
+-- the frames that a step of an operation leaves
 abbrev pub turn_frames : OperationFrame → Turn → List Frame
 turn_frames f turn.Stays = frame.Operation f ∷ []
 turn_frames f (turn.Enters g) = frame.Operation f ∷ frame.Region g ∷ []
 turn_frames f turn.Ends = []
 
--- the frames that are left of an operation, with a region that was begun; none where there is none
+-- the frames that are left of an operation, with a region that was begun; none if there is no such region
 abbrev pub left_frames : OperationFrame → Option RegionFrame → List Frame
 left_frames f None = []
 left_frames f (Some g) = frame.Operation f ∷ frame.Region g ∷ []
 
--- the region that is open then
+-- the frame of a region after its beginning, if it is not elided
 abbrev pub region_frames : Ptr Region → ℕ → RegionPrintDepthLimit → List Frame
 region_frames r indent limit = elim (lowered limit) [ None ↦ [] | Some inner ↦ frame.Region (record { region = r; block = 0; first = true; indent = indent; limit = inner }) ∷ [] ]
 
--- a region isn't elided, and the indentation inside does not fit 16 bits
+-- a region is not elided, and the indentation inside does not fit 16 bits
 abbrev pub IsTooDeep : ℕ → ℕ → RegionPrintDepthLimit → Type 0
 IsTooDeep width indent limit = IsSome (lowered limit) × (2 ^ 16 ≤ indent + width)
 
 module _ {T A : Type 0} (ctx : ContextView T A) where
-  -- what is written of an operation's next region in one turn, where there is one
+  -- what one step prints of an operation's next region, if there is one
   abbrev pub region_turn_text : ℕ → OperationFrame → Text
   region_turn_text width f = elim (slice_get (regions ctx.graph f.op) f.region) [ None ↦ [] | Some _ ↦ cond f.repeats [] (codes " ") ++ region_front width f.indent f.limit ]
 
-  -- what is open then
+  -- what is open after that
   abbrev pub region_turn_frames : OperationFrame → List Frame
   region_turn_frames f = elim (slice_get (regions ctx.graph f.op) f.region) [
     | None ↦ frame.Operation (record f { repeats = false }) ∷ []
     | Some r ↦ frame.Operation (record f { region = f.region + 1 }) ∷ region_frames r f.indent f.limit
   ]
 
-  -- a region that was begun is open, where it has blocks
+  -- a region that was begun is open if it has blocks
   abbrev pub ended_turn : Option RegionFrame → Turn
   ended_turn None = turn.Stays
   ended_turn (Some g) = cond (length (blocks ctx.graph g.region) == 0) turn.Stays (turn.Enters g)
 
-  -- what ends it, where it has none
+  -- what ends it if it has none
   abbrev pub ended_text : Option RegionFrame → Text
   ended_text None = []
   ended_text (Some g) = cond (length (blocks ctx.graph g.region) == 0) (closing g.indent) []

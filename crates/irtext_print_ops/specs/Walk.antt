@@ -1,4 +1,5 @@
--- For callers: what a frame of the printing loop means: what it leaves open, which items are still marked in it, and how much is left of it.
+-- For callers: what a frame of the printing loop means: what it leaves open, which items inside are still to be marked, and how much is
+-- left of it. An item is an operation or a block that carries a mark.
 use Rattle.std.specs.Prelude.{◌≡◌, ◌<◌, ◌≤◌, ◌+◌, ◌*◌, ◌-◌, ◌||◌, ◌++◌, ◌∷◌, ℕ, suc, Bool, true, false, cond, List, [], length, map, drop, filter_map, Option, Some, None, IsSome, option_map, ⊤}
 use Rattle.std.specs.Borrow.{Bor}
 use Rattle.std.specs.Str.{encode_utf8_all}
@@ -37,7 +38,7 @@ use Rattle.irtext_context.specs.declared.base.item.Item.TheVariants as item
 use Rattle.irtext_print_ops.specs.declared.step.Stop.{Stop}
 use Rattle.irtext_print_ops.specs.declared.step.Stop.TheVariants as stop
 
--- the operation is written as any operation can be
+-- the operation is printed in the canonical form
 abbrev pub is_canonical : Option Format → Bool
 is_canonical (Some format.canonical) = true
 is_canonical _ = false
@@ -47,22 +48,22 @@ abbrev pub directives_in : Option Format → List Directive
 directives_in (Some (format.custom ds)) = ds
 directives_in _ = []
 
--- what printing sees of an operation that isn't there
+-- what printing sees of an operation that is not live
 abbrev pub nothing_seen : {T A : Type 0} → GraphOp T A
 nothing_seen = record { id = record { dialect = []; name = [] }; results = []; operands = []; successors = []; attributes = []; location = None }
 
--- an operation as printing sees it, where it is there
+-- an operation as printing sees it, if it is live
 abbrev pub or_nothing : {T A : Type 0} → Option (GraphOp T A) → GraphOp T A
 or_nothing None = nothing_seen
 or_nothing (Some o) = o
 
 module _ {T A : Type 0} (L : Language ⊤ T A) where
-  -- what a part writes, where it is no region
+  -- what a part prints, if it is no region
   abbrev pub part_text : Option (Part ⊤ T A) → Text
   part_text (Some (tree.piece p)) = space L p ++ piece L p
   part_text _ = []
 
-  -- what parts write in front of the first region
+  -- what parts print before the first region
   abbrev pub pieces_text : List (Part ⊤ T A) → Text
   pieces_text [] = []
   pieces_text (tree.piece p ∷ ps) = (space L p ++ piece L p) ++ pieces_text ps
@@ -77,23 +78,24 @@ behind_pieces (tree.region i ∷ ps) = tree.region i ∷ ps
 behind_pieces (tree.regions ∷ ps) = tree.regions ∷ ps
 
 module _ {T A : Type 0} (C : Printing T A) where
-  -- what is written of an operation where a directive of its format stands
+  -- the part that a directive of an operation's format denotes
   abbrev pub part_at : GraphOp T A → Directive → Option (Part ⊤ T A)
   part_at o d = part_of C (directives_in (C.format_of o.id)) o d
 
-  -- the parts of an operation from a directive on
+  -- the parts of an operation for these directives
   abbrev pub parts_from : GraphOp T A → List Directive → List (Part ⊤ T A)
   parts_from o ds = filter_map (part_at o) ds
 
-  -- the parts of an operation from the directive of an index on
+  -- the parts of an operation from the directive at an index on
   abbrev pub parts_left : GraphOp T A → ℕ → List (Part ⊤ T A)
   parts_left o k = parts_from o (drop k (directives_in (C.format_of o.id)))
 
-  -- what was found of an operation's format: its directives, where it has some
+  -- these are the directives that were found for an operation's format, if it has directives
   abbrev pub AreDirectives : GraphOp T A → Option (Bor (List code.Directive)) → Type 0
   AreDirectives o found = option_map (λ ds. directives_of ds.now) found ≡ custom_directives (C.format_of o.id)
 
-  -- Where the pieces behind a directive end, and which parts are left then: none, or one region or all that are left, and those behind.
+  -- Where the pieces from a directive on end, and which parts are left then: none, or one region or all that are left, and what
+  -- follows.
   abbrev pub StopsBefore : GraphOp T A → ℕ → Stop → Type 0
   StopsBefore o from stop.End = behind_pieces (parts_left o from) ≡ []
   StopsBefore o from (stop.Region k) = ((i : ℕ) × (behind_pieces (parts_left o from) ≡ tree.region i ∷ parts_left o k)) × ((from < k) × (k ≤ length (directives_in (C.format_of o.id))))
@@ -104,11 +106,11 @@ module _ {T A : Type 0} (C : Printing T A) where
     abbrev pub seen_at : Ptr Operation → GraphOp T A
     seen_at p = or_nothing (seen_own L.owns.written ctx p)
 
-    -- an operation stands, and this was found of its format
+    -- an operation is live, and this was found for its format
     abbrev pub IsBegun : Ptr Operation → Option (Bor (List code.Directive)) → Type 0
     IsBegun p found = IsSome (operation ctx p) × AreDirectives (seen_at p) found
 
-    -- what stands in an operation, however deep
+    -- everything inside an operation, however deep
     abbrev pub inside_of : Ptr Operation → Regions (Ptr Operation) (Ptr BasicBlock) (Ptr Region)
     inside_of p = within ctx.graph (suc (length ctx.graph.operations.cells)) p
 
@@ -124,7 +126,7 @@ module _ {T A : Type 0} (C : Printing T A) where
     abbrev pub operations_left : Ptr BasicBlock → ℕ → Operations (Ptr Operation) (Ptr BasicBlock) (Ptr Region)
     operations_left b i = operations_by ctx.graph inside_of (drop i (operations_in ctx.graph b))
 
-    -- the operation's own, where its mark is still to be written
+    -- the operation itself, if its mark is still to be printed
     abbrev pub marked_own : Bool → Ptr Operation → Option (GraphOp T A)
     marked_own marked p = cond marked (Some (seen_at p)) None
 
@@ -134,50 +136,50 @@ module _ {T A : Type 0} (C : Printing T A) where
     open_of (frame.Region f) = a_region f.indent (levels f.limit) f.first (seen_blocks L.owns.written ctx (blocks_left f.region f.block))
     open_of (frame.Block f) = a_block f.indent (levels f.limit) f.first (seen_operations L.owns.written ctx (operations_left f.block f.operation))
 
-    -- What a frame is of stands in the context, and where the parts of an operation are still to be written, they write all its regions. The
-    -- frame of an operation has the directives of its format.
+    -- The object of a frame is live in the context. The frame of an operation has the directives of its format, and if parts of it are
+    -- still to be printed, they print all its regions.
     abbrev pub FrameFits : Frame → Type 0
     FrameFits (frame.Operation f) = IsBegun f.op f.directives
         × ((f.repeats || covers (parts_left (seen_at f.op) f.directive) (seen_regions L.owns.written ctx (regions_left f.op f.region))) ≡ true)
     FrameFits (frame.Region f) = Stands ctx.graph (TheRegion f.region)
     FrameFits (frame.Block f) = Stands ctx.graph (TheBlock f.block)
 
-    -- the same of all frames
+    -- the same for all frames
     abbrev pub AllFit : List Frame → Type 0
     AllFit [] = ⊤
     AllFit (f ∷ frames) = FrameFits f × AllFit frames
 
-    -- an operation, where it is marked
+    -- an operation, if it has a mark
     abbrev pub marked_operation : Ptr Operation → GraphOp T A → List Item
     marked_operation p o = cond (is_marked C o.location (op_outlined C o)) (item.Operation p ∷ []) []
 
-    -- a block, where it is marked
+    -- a block, if it has a mark
     abbrev pub marked_block : Ptr BasicBlock → GraphBlock T A → List Item
     marked_block b h = cond (is_marked C h.location (block_outlined C h)) (item.Block b ∷ []) []
 
     abbrev mutual
-      -- the marked items in regions, in the order of their marks
+      -- the items in regions, in the order of their marks
       pub items_in_regions : Limit → Regions (Ptr Operation) (Ptr BasicBlock) (Ptr Region) → List Item
       items_in_regions l no_regions = []
       items_in_regions l (forest.region r bs rs) = cond (is_elided C l) [] (items_in_blocks (inside C l) bs) ++ items_in_regions l rs
 
-      -- the marked items in blocks: a block before its operations
+      -- the items in blocks: a block before its operations
       pub items_in_blocks : Limit → Blocks (Ptr Operation) (Ptr BasicBlock) (Ptr Region) → List Item
       items_in_blocks l no_blocks = []
       items_in_blocks l (forest.block b os bs) = elim (block ctx b) [ Some view ↦ marked_block b (seen_block L.owns.written ctx b view) ++ (items_in_operations l os ++ items_in_blocks l bs) | None ↦ items_in_blocks l bs ]
 
-      -- the marked items among operations: an operation behind what stands in its regions
+      -- the items among operations: an operation after what its regions contain
       pub items_in_operations : Limit → Operations (Ptr Operation) (Ptr BasicBlock) (Ptr Region) → List Item
       items_in_operations l no_operations = []
       items_in_operations l (forest.operation p rs os) = elim (operation ctx p) [ Some op ↦ items_in_regions l rs ++ (marked_operation p (seen_operation L.owns.written ctx p op) ++ items_in_operations l os) | None ↦ items_in_operations l os ]
 
-    -- the items whose marks a frame still writes
+    -- the items whose marks a frame has still to print
     abbrev pub items_of : Frame → List Item
     items_of (frame.Operation f) = items_in_regions (levels f.limit) (regions_left f.op f.region) ++ cond f.marked (marked_operation f.op (seen_at f.op)) []
     items_of (frame.Region f) = items_in_blocks (levels f.limit) (blocks_left f.region f.block)
     items_of (frame.Block f) = items_in_operations (levels f.limit) (operations_left f.block f.operation)
 
-    -- the items whose marks are still to be written: the innermost frame comes first
+    -- the items whose marks are still to be printed: those of the innermost frame come first
     abbrev pub items_left : List Frame → List Item
     items_left [] = []
     items_left (f ∷ frames) = items_left frames ++ items_of f
@@ -187,34 +189,35 @@ module _ {T A : Type 0} (C : Printing T A) where
     directive_count p = length (directives_in (C.format_of (seen_at p).id))
 
     abbrev mutual
-      -- a bound on the turns that regions take
+      -- a bound on the steps that regions take
       pub turns_of_regions : Regions (Ptr Operation) (Ptr BasicBlock) (Ptr Region) → ℕ
       turns_of_regions no_regions = 0
       turns_of_regions (forest.region r bs rs) = 2 + (turns_of_blocks bs + turns_of_regions rs)
 
-      -- a bound on the turns that blocks take
+      -- a bound on the steps that blocks take
       pub turns_of_blocks : Blocks (Ptr Operation) (Ptr BasicBlock) (Ptr Region) → ℕ
       turns_of_blocks no_blocks = 0
       turns_of_blocks (forest.block b os bs) = 2 + (turns_of_operations os + turns_of_blocks bs)
 
-      -- a bound on the turns that operations take
+      -- a bound on the steps that operations take
       pub turns_of_operations : Operations (Ptr Operation) (Ptr BasicBlock) (Ptr Region) → ℕ
       turns_of_operations no_operations = 0
       turns_of_operations (forest.operation p rs os) = 3 + (2 * directive_count p + (turns_of_regions rs + turns_of_operations os))
 
-    -- a bound on the turns that a frame takes
+    -- a bound on the steps that a frame takes
     abbrev pub turns_of : Frame → ℕ
     turns_of (frame.Operation f) = 1 + (2 * (directive_count f.op - f.directive) + (cond f.repeats 1 0 + turns_of_regions (regions_left f.op f.region)))
     turns_of (frame.Region f) = 1 + turns_of_blocks (blocks_left f.region f.block)
     turns_of (frame.Block f) = 1 + turns_of_operations (operations_left f.block f.operation)
 
-    -- a bound on the turns that are left
+    -- a bound on the steps that are left
     abbrev pub turns_left : List Frame → ℕ
     turns_left [] = 0
     turns_left (f ∷ frames) = turns_of f + turns_left frames
 
-    -- What was open is replaced by frames: the text that was appended, with the marks of the items that were gathered, is what they leave
-    -- of its text; a reason to refuse them is one to refuse it, and what doesn't fit its format in it doesn't in them; and fewer turns are left.
+    -- What was open is replaced by frames. The text that was appended, with the marks of the items that were gathered, and the text
+    -- that the frames leave are together its text. A reason for the frames to fail is a reason for it; if it contains an operation that
+    -- does not fit its format, so do the frames. Fewer steps are left.
     pub record Replaces (width : ℕ) (before : Open T A) (waiting : List Item) (turns : ℕ) (items items' : List Item) (frames frames' : List Frame) (old new : List ℕ) : Type 0 where
       pub pushed : List Frame
       pub text : Text
@@ -229,6 +232,6 @@ module _ {T A : Type 0} (C : Printing T A) where
       pub misfits : OpenFault C (isolated ctx.dialects) width Misfit before → AnyFault C (isolated ctx.dialects) width Misfit (map open_of pushed)
       pub fewer : turns_left pushed < turns
 
-    -- a turn of a frame
+    -- a step from a frame
     abbrev pub Steps : ℕ → Frame → List Item → List Item → List Frame → List Frame → List ℕ → List ℕ → Type 0
     Steps width f items items' frames frames' old new = Replaces width (open_of f) (items_of f) (turns_of f) items items' frames frames' old new

@@ -1,4 +1,4 @@
--- For callers: what is written where a directive stands that writes no region.
+-- For callers: what is printed for a directive that prints no region.
 use Rattle.std.specs.Prelude.{[], ◌++◌, Option, Some, None, ⊤}
 use Rattle.irtext_base.specs.Text.{Text}
 use Rattle.irtext_base.specs.Own.{Language}
@@ -6,7 +6,7 @@ use Rattle.irtext_grammar.specs.Grammar.Tree as tree
 use Rattle.irtext_grammar.specs.Grammar.Tree.{Part}
 use Rattle.irtext_grammar.specs.Spelling.Spell.{space, piece}
 
--- what a part writes, with the space in front of it; nothing where it is a region, or where there is none
+-- what a part prints, with the space before it; nothing if it is a region, or if there is none
 abbrev pub part_text : {T A : Type 0} → Language ⊤ T A → Option (Part ⊤ T A) → Text
 part_text L None = []
 part_text L (Some (tree.piece p)) = space L p ++ piece L p

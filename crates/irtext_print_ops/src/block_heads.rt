@@ -1,4 +1,4 @@
-//! What stands in front of a block's operations: its label, its arguments and its dictionary.
+//! What comes before a block's operations: its label, its arguments and its dictionary.
 ghost use Rattle.std.specs.Prelude.{◌≡◌, ◌++◌, IsSome, IfSome, IfErr, OnOk, codes};
 ghost use Rattle.irtext_context.specs.Context as context;
 ghost use Rattle.irtext_graph.specs.Graph.{Stands};
@@ -25,7 +25,7 @@ use irtext_print::printable::Refusal;
 use irtext_print::printable::refusal::memory_alone;
 use std::fmt;
 
-/// Whether some attribute is written where it stands, and not in the section.
+/// Whether some attribute is printed in place, and not in the section.
 fn has_inline<A: AttrText>(attributes: &AttributeDict<A>) -> bool
     ensures { result ≡ has_inline A.outlined (entries_of attributes.now) }
 {
@@ -37,7 +37,7 @@ fn has_inline<A: AttrText>(attributes: &AttributeDict<A>) -> bool
     false
 }
 
-/// Appends the dictionary of the attributes that are not outlined, behind a space, where there is one.
+/// Appends the dictionary of the attributes that are not outlined, after a space, if there are such attributes.
 fn fmt_inline<A: AttrText>(attributes: &AttributeDict<A>, f: &mut String) -> fmt::Result
     ensures { OnOk result (AppendsText f.old (inline_text A.outlined A.IrText.written (entries_of attributes.now)) f.new) }
 {
@@ -47,7 +47,7 @@ fn fmt_inline<A: AttrText>(attributes: &AttributeDict<A>, f: &mut String) -> fmt
     Ok(())
 }
 
-/// Appends the arguments with their types, between their brackets.
+/// Appends the arguments with their types, in parentheses.
 fn fmt_arguments<T: IrText<A>, A: AttrText>(
     ctx: &Context<T, A>,
     block: Ptr<BasicBlock>,
@@ -77,8 +77,9 @@ fn fmt_head<T: IrText<A>, A: AttrText>(
     fmt_inline(block.attributes(ctx), f)
 }
 
-/// Appends a block's label, its arguments with their types, of those whose types are known, and its dictionary, where some attribute is
-/// not outlined; not its mark. It fails only where memory is refused.
+/// Appends a block's label, its arguments (those whose types are known) with their types, and, if some attribute is not outlined, its
+/// dictionary: `^a_block1v1(x_v0: builtin.integer si64) [k: builtin.identifier x]`. Its mark is not appended. The error is always
+/// `Memory`.
 pub fn fmt_block_head<T: IrText<A>, A: AttrText>(
     ctx: &Context<T, A>,
     block: Ptr<BasicBlock>,

@@ -1,4 +1,4 @@
-//! Printing of a region, and of a block, with all that nests in it.
+//! Printing of a region, and of a block, with everything nested in it. An item is an operation or a block that carries a mark.
 ghost use Rattle.std.specs.Prelude.{◌≡◌, ◌++◌, OnOk, IfErr, IsSome, length};
 ghost use Rattle.irtext_context.specs.Context as context;
 ghost use Rattle.irtext_graph.specs.Graph.{Stands};
@@ -17,7 +17,7 @@ use irtext_base::text::{AttrText, IrText};
 use irtext_context::base::{BasicBlock, Context, Item, Ptr, Region};
 use irtext_print::printable::{Refusal, State};
 
-/// The frame of a region that was begun, where it isn't elided.
+/// Returns the frame of a region that was begun, if it is not elided.
 fn region_frame<'c>(begun: Option<RegionFrame>) -> Option<Frame<'c>>
     ensures { listed result ≡ begun_frames begun }
 {
@@ -27,9 +27,9 @@ fn region_frame<'c>(begun: Option<RegionFrame>) -> Option<Frame<'c>>
     }
 }
 
-/// Appends the text of a region with all that nests in it, at the state's indentation and under its limit. What is marked is added to
-/// `items`, in the order of the marks, and a mark counts those before it. What was written and gathered until a refusal stays. It is
-/// refused as an operation with this region is.
+/// Appends the text of a region with everything nested in it, at the state's indentation and under its limit. Items inside are added to
+/// `items`, in the order of their marks; the index of a mark is its item's place in `items`. The errors are those of an operation with
+/// this region. What was appended and gathered up to the error remains.
 pub fn print_region_inside<H: WritesHeads<T, A>, T: IrText<A>, A: AttrText, U>(
     ctx: &Context<T, A>,
     region: Ptr<Region>,
@@ -54,12 +54,12 @@ pub fn print_region_inside<H: WritesHeads<T, A>, T: IrText<A>, A: AttrText, U>(
     print_frames::<H, T, A>(ctx, width, region_frame(begun), &mut frames, items, f)
 }
 
-/// Appends the text of a block with all that nests in it, at the state's indentation and under its limit; its mark is written where it
-/// has one. What is marked is added to `items`, in the order of the marks, and a mark counts those before it. What was written and
-/// gathered until a refusal stays.
+/// Appends the text of a block with everything nested in it, at the state's indentation and under its limit, with its mark if it has
+/// one. Items are added to `items`, in the order of their marks; the index of a mark is its item's place in `items`.
 ///
-/// It is refused with `Depth` where the spaces in front of its operations, or of a line inside of a region that is shown, do not fit 16
-/// bits, with `Misfit` where an operation that is shown inside of it does not fit its format, and with `Memory` where memory is refused.
+/// The error is `Depth` if the spaces before its operations, or before a line inside a region that is shown, do not fit 16 bits;
+/// `Misfit` if an operation that is shown inside does not fit its format; otherwise `Memory`. What was appended and gathered up to the
+/// error remains.
 pub fn print_block_inside<H: WritesHeads<T, A>, T: IrText<A>, A: AttrText, U>(
     ctx: &Context<T, A>,
     block: Ptr<BasicBlock>,

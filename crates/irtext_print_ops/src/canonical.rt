@@ -1,4 +1,4 @@
-//! The form that any operation has, but for its results, its id and its regions.
+//! The canonical form, which any operation has, except for its results, its id and its regions.
 ghost use Rattle.std.specs.Prelude.{◌≡◌, ◌++◌, Some, IsSome, IfSome, IfErr, OnOk, codes};
 ghost use Rattle.irtext_base.specs.Format as format;
 ghost use Rattle.irtext_context.specs.Context.{operation};
@@ -22,7 +22,7 @@ use irtext_print::printable::Refusal;
 use irtext_print::printable::refusal::memory_alone;
 use std::fmt;
 
-/// Appends the names of the operands and the labels of the successors, between their brackets.
+/// Appends the names of the operands in parentheses and the labels of the successors in brackets: ` (x_v1) [^a_block1v1]`.
 fn fmt_uses<T: IrText<A>, A: AttrText>(
     ctx: &Context<T, A>,
     op: Ptr<Operation>,
@@ -40,7 +40,7 @@ fn fmt_uses<T: IrText<A>, A: AttrText>(
     Ok(())
 }
 
-/// Appends the types of the operands and of the results, between their brackets.
+/// Appends the types of the operands and of the results: `: <(test.ptr ) -> ()>`.
 fn fmt_types<T: IrText<A>, A: AttrText>(
     ctx: &Context<T, A>,
     op: Ptr<Operation>,
@@ -58,7 +58,7 @@ fn fmt_types<T: IrText<A>, A: AttrText>(
     Ok(())
 }
 
-/// Appends what stands behind the id in the form that any operation has, as [`fmt_canonical_front`] does.
+/// Appends what follows the id in the canonical form, as [`fmt_canonical_front`] does.
 fn fmt_front<T: IrText<A>, A: AttrText>(
     ctx: &Context<T, A>,
     op: Ptr<Operation>,
@@ -74,8 +74,8 @@ fn fmt_front<T: IrText<A>, A: AttrText>(
     fmt_types(ctx, op, f)
 }
 
-/// Appends what stands behind the id in the form that any operation has, in front of its regions: the names of the operands, the labels
-/// of the successors, the dictionary, and the types of operands and results. It fails only where memory is refused.
+/// Appends what follows the id in the canonical form, before the regions: the names of the operands, the labels of the successors, the
+/// dictionary, and the types of operands and results: ` () [] []: <() -> (test.ptr )>`. The error is always `Memory`.
 pub fn fmt_canonical_front<T: IrText<A>, A: AttrText>(
     ctx: &Context<T, A>,
     op: Ptr<Operation>,

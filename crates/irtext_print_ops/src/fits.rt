@@ -27,25 +27,26 @@ use irtext_print::ir::print::pieces::{is_key_written, is_outlined, symbol_of};
 use std::fmt;
 use std::fmt::Display;
 
-/// Why an operation does not fit its format, in the order in which it is looked for. Keys are lent, so that it takes no memory.
+/// Why an operation does not fit its format, in the order in which the reasons are checked. Keys are borrowed, so a fault allocates
+/// nothing.
 #[non_exhaustive]
 #[derive(Clone, Copy)]
 pub enum FitFault<'c> {
-    /// The operation is not registered with a dialect of the context.
+    /// The operation is not registered with a dialect of the context. Text: `The operation is not registered`.
     NotRegistered,
-    /// The operation has so many operands, and the format writes another number.
+    /// The number of the operation's operands; the format prints another number. Text: `The format does not write 2 operands`.
     OperandCount(usize),
-    /// The operation has so many successors, and the format writes another number.
+    /// The number of the operation's successors; the format prints another number. Text: `The format does not write 2 successors`.
     SuccessorCount(usize),
-    /// The operation has so many results whose types are known, and the format writes another number of types.
+    /// The number of results with known types; the format prints another number. Text: `The format does not write 2 result types`.
     ResultCount(usize),
-    /// The operation has so many regions, and the format writes another number.
+    /// The number of the operation's regions; the format prints another number. Text: `The format does not write 2 regions`.
     RegionCount(usize),
-    /// A directive writes the attribute under this key, and the operation has none.
+    /// A directive prints the attribute under this key, and the operation has none. Text: `The operation has no attribute k`.
     MissingAttribute(&'c Identifier),
-    /// A directive writes the symbol's name, and the operation has none.
+    /// A directive prints the symbol's name, and the operation has none. Text: `The operation has no symbol`.
     NoSymbol,
-    /// Neither a directive nor the section writes the operation's attribute under this key.
+    /// Neither a directive nor the section prints this attribute. Text: `The format does not write the attribute k`.
     UnwrittenAttribute(&'c Identifier),
 }
 
@@ -76,7 +77,7 @@ impl Display for FitFault<'_> {
     }
 }
 
-/// How many operands, successors and regions an operation has, and results whose types are known.
+/// The numbers of operands, successors and regions of an operation, and of its results with known types.
 #[derive(Clone, Copy)]
 struct Counts {
     operands: usize,
@@ -85,28 +86,28 @@ struct Counts {
     regions: usize,
 }
 
-/// How many parts directives write one by one, and what else they write.
+/// How many parts the directives print one by one, and what else they print.
 #[derive(Clone, Copy)]
 struct Places {
     operands: usize,
     successors: usize,
     types: usize,
     regions: usize,
-    /// Whether a directive writes the operands that have no directive of their own.
+    /// Whether a directive prints the operands that have no directive of their own.
     all_operands: bool,
-    /// Whether a directive writes the successors that have no directive of their own.
+    /// Whether a directive prints the successors that have no directive of their own.
     all_successors: bool,
-    /// Whether a directive writes the regions that have no directive of their own.
+    /// Whether a directive prints the regions that have no directive of their own.
     all_regions: bool,
     /// Whether a directive names a key.
     keys: bool,
-    /// Whether a directive writes the symbol's name.
+    /// Whether a directive prints the symbol's name.
     header: bool,
-    /// Whether a directive writes the dictionary.
+    /// Whether a directive prints the dictionary.
     dictionary: bool,
 }
 
-/// Counts one directive more.
+/// Counts one more directive.
 fn count_directive(places: &mut Places, directive: &Directive)
     requires few { fits.AreFew places.old }
     ensures { places.new ≡ fits.counted places.old (directive_of directive.now) }
@@ -126,7 +127,7 @@ fn count_directive(places: &mut Places, directive: &Directive)
     }
 }
 
-/// What directives write, in one pass over them.
+/// Counts what directives print, in one pass over them.
 fn places_of(directives: &[Directive]) -> Places
     ensures { result ≡ fits.places_of (directives_of directives.now) }
 {
@@ -148,7 +149,7 @@ fn places_of(directives: &[Directive]) -> Places
     places
 }
 
-/// Whether directives with so many places, of which one writes all parts that have none if `all`, write so many parts.
+/// Whether directives with so many places print so many parts. If `all`, one of them prints the parts that have no place.
 fn counts_fit(places: usize, all: bool, parts: usize) -> bool
     ensures { result ≡ cond all (not (nat_lt parts places)) (parts == places) }
 {
@@ -159,7 +160,7 @@ fn counts_fit(places: usize, all: bool, parts: usize) -> bool
     }
 }
 
-/// The first key that directives name and that no attribute has, where they name one at all.
+/// Returns the first key that directives name and no attribute has. Looks only if they name a key at all.
 fn missing_named<'d, A: AttrText>(
     names_keys: bool,
     attributes: &AttributeDict<A>,
@@ -174,21 +175,21 @@ fn missing_named<'d, A: AttrText>(
     missing_key(attributes, directives)
 }
 
-/// Whether the symbol's name is there, where a directive writes it.
+/// Whether the symbol's name exists, if a directive prints it.
 fn symbol_fits<A: AttrText>(header: bool, attributes: &AttributeDict<A>) -> bool
     ensures { result ≡ (not header || has_symbol (entries_of attributes.now)) }
 {
     !header || symbol_of(attributes).is_some()
 }
 
-/// Whether an attribute is written by a directive that names its key, or in the section.
+/// Whether an attribute is printed by a directive that names its key, or in the section.
 fn is_covered<A: AttrText>(directives: &[Directive], key: &Identifier, attr: &AttrObj<A>) -> bool
     ensures { result ≡ fits.is_covered A.outlined (directives_of directives.now) (key.now, attribute_of attr.now) }
 {
     is_key_written(directives, key.as_str()) || is_outlined(attr)
 }
 
-/// The key of the first attribute that neither one of the directives nor the section writes.
+/// Returns the key of the first attribute that neither a directive that names its key nor the section prints.
 fn first_uncovered<'c, A: AttrText>(
     attributes: &'c AttributeDict<A>,
     directives: &[Directive],
@@ -203,7 +204,7 @@ fn first_uncovered<'c, A: AttrText>(
     None
 }
 
-/// The key of the first attribute that is not written at all.
+/// Returns the key of the first attribute that is not printed at all.
 fn uncovered_key<'c, A: AttrText>(
     dictionary: bool,
     attributes: &'c AttributeDict<A>,
@@ -218,7 +219,8 @@ fn uncovered_key<'c, A: AttrText>(
     first_uncovered(attributes, directives)
 }
 
-/// Whether directives write so many parts and all of these attributes, and nothing that is not there; else the first reason why not.
+/// Whether directives print so many parts and all these attributes, and name nothing that is absent; otherwise the first reason why
+/// not.
 fn check_parts<'c, A: AttrText>(
     directives: &'c [Directive],
     counts: Counts,
@@ -254,7 +256,7 @@ fn check_parts<'c, A: AttrText>(
     }
 }
 
-/// How many results of an operation have a type that is known.
+/// Counts the results of an operation with known types.
 fn count_typed<T: IrText<A>, A: AttrText>(ctx: &Context<T, A>, op: Ptr<Operation>) -> usize
     requires { Stands ctx.now.graph (TheOperation op) }
     ensures { result ≡ length (known_types (texts.texts_of T.IrText.written ctx.now (listed.ResultTypes op))) }
@@ -269,7 +271,7 @@ fn count_typed<T: IrText<A>, A: AttrText>(ctx: &Context<T, A>, op: Ptr<Operation
     typed
 }
 
-/// How many parts an operation has.
+/// Counts the parts of an operation.
 fn count_parts<T: IrText<A>, A: AttrText>(ctx: &Context<T, A>, op: Ptr<Operation>) -> Counts
     requires { IsSome (operation ctx.now op) }
     ensures { IfSome (seen_own A.IrText.written ctx.now op) (λ o. result ≡ fits.counts_of o (length (regions ctx.now.graph op))) }
@@ -283,8 +285,8 @@ fn count_parts<T: IrText<A>, A: AttrText>(ctx: &Context<T, A>, op: Ptr<Operation
     }
 }
 
-/// The directives of an operation's format, or none where the operation is written as any operation can be; else the first reason why
-/// it does not fit its format, as [`check_fits`] says. It asks for the format once, and takes no memory.
+/// Returns the directives of an operation's format, or `None` if it is printed in the canonical form. The error is the first reason why
+/// it does not fit its format, as in [`check_fits`]. Looks the format up once, and allocates nothing.
 pub fn fitting_directives<'c, T: IrText<A>, A: AttrText>(
     ctx: &'c Context<T, A>,
     op: Ptr<Operation>,
@@ -314,9 +316,9 @@ pub fn fitting_directives<'c, T: IrText<A>, A: AttrText>(
     }
 }
 
-/// Whether an operation fits its format; else the first reason why not, in the order of [`FitFault`], and of several such attributes
-/// the first: a missing one as the directives name them, one that is not written as the operation has them. An operation that is
-/// written as any operation can be always fits. It takes no memory.
+/// Checks whether an operation fits its format. The error is the first reason why not, in the order of [`FitFault`]. If several
+/// attributes are at fault, it names the first: the missing one that the directives name first, or the operation's first one that is
+/// not printed. An operation with the canonical form always fits. Allocates nothing.
 pub fn check_fits<'c, T: IrText<A>, A: AttrText>(
     ctx: &'c Context<T, A>,
     op: Ptr<Operation>,

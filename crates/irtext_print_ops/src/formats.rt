@@ -1,4 +1,4 @@
-//! The format of an operation, by its context.
+//! The format of an operation, from its context.
 ghost use Rattle.std.specs.Prelude.{◌≡◌, IsSome, option_map};
 ghost use Rattle.irtext_base.specs.Faults.{id_of};
 ghost use Rattle.irtext_context.specs.Context.{operation};
@@ -12,7 +12,7 @@ use irtext_base::format::{Directive, OpFormat};
 use irtext_base::text::{AttrText, IrText};
 use irtext_context::base::{Context, Operation, OperationAccess, Ptr};
 
-/// The directives of an operation's format, where it is registered and its format has directives.
+/// Returns the directives of an operation's format, if it is registered and its format has directives.
 pub fn directives_in<'c, T: IrText<A>, A: AttrText>(
     ctx: &'c Context<T, A>,
     id: &OpId,
@@ -26,7 +26,7 @@ pub fn directives_in<'c, T: IrText<A>, A: AttrText>(
     }
 }
 
-/// Whether an operation is written as any operation can be.
+/// Whether an operation is printed in the canonical form. An operation that is not registered is not.
 pub fn is_canonical<T: IrText<A>, A: AttrText>(ctx: &Context<T, A>, op: Ptr<Operation>) -> bool
     requires live { IsSome (operation ctx.now op) }
     ensures { result ≡ heads.is_canonical_at T.IrText.own A.IrText.own A.AttrText.own A.eq ctx.now op }

@@ -1,4 +1,5 @@
-//! What is open while an operation is printed: an operation, a region or a block that was begun, and how far it was written.
+//! The frames of what is open while an operation is printed: an operation, a region or a block that was begun, and how far it was
+//! printed.
 ghost use Rattle.std.specs.Prelude.{◌≡◌, ◌++◌, ◌∷◌, [], OnOk, IfOk, IfErr, length};
 ghost use Rattle.irtext_print.specs.declared.printable.refusal.Refusal.TheVariants as refusal;
 
@@ -6,63 +7,69 @@ use irtext_base::format::Directive;
 use irtext_context::base::{BasicBlock, Item, Operation, Ptr, Region};
 use irtext_print::printable::{Refusal, RegionPrintDepthLimit};
 
-/// An operation whose results and id were written.
+/// An operation whose results and id were printed.
 #[derive(Clone, Copy)]
 pub struct OperationFrame<'c> {
+    /// The operation.
     pub op: Ptr<Operation>,
-    /// The directives of its format, where it has some: they were found when it was begun.
+    /// The directives of its format, if it has some. They were looked up when it was begun.
     pub directives: Option<&'c [Directive]>,
-    /// The index of the directive of its format that is written next.
+    /// The index of the directive of its format that is printed next.
     pub directive: usize,
-    /// The index of the region that is written next.
+    /// The index of the region that is printed next.
     pub region: usize,
-    /// Whether all regions that are left are written before the next directive.
+    /// Whether all regions that are left are printed before the next directive.
     pub repeats: bool,
-    /// Whether its mark is written behind it.
+    /// Whether its mark is printed after it.
     pub marked: bool,
-    /// How many spaces stand at the beginning of its lines.
+    /// The number of spaces at the beginning of its lines.
     pub indent: u16,
     /// How many levels of its regions are printed.
     pub limit: RegionPrintDepthLimit,
 }
 
-/// A region whose first brace was written.
+/// A region whose opening brace was printed.
 #[derive(Clone, Copy)]
 pub struct RegionFrame {
+    /// The region.
     pub region: Ptr<Region>,
-    /// The index of the block that is written next.
+    /// The index of the block that is printed next.
     pub block: usize,
-    /// Whether no block was written so far.
+    /// Whether no block was printed so far.
     pub first: bool,
-    /// How many spaces stand in front of its braces.
+    /// The number of spaces before its braces.
     pub indent: u16,
     /// How many levels of regions are printed in it.
     pub limit: RegionPrintDepthLimit,
 }
 
-/// A block whose head was written.
+/// A block whose head was printed.
 #[derive(Clone, Copy)]
 pub struct BlockFrame {
+    /// The block.
     pub block: Ptr<BasicBlock>,
-    /// The index of the operation that is written next.
+    /// The index of the operation that is printed next.
     pub operation: usize,
-    /// Whether no operation was written so far.
+    /// Whether no operation was printed so far.
     pub first: bool,
-    /// How many spaces stand in front of its head.
+    /// The number of spaces before its head.
     pub indent: u16,
     /// How many levels of regions are printed in it.
     pub limit: RegionPrintDepthLimit,
 }
 
-/// What is open.
+/// A frame of what is open.
 #[derive(Clone, Copy)]
 pub enum Frame<'c> {
+    /// An operation, up to its mark.
     Operation(OperationFrame<'c>),
+    /// A region, up to its closing brace.
     Region(RegionFrame),
+    /// A block, up to its last operation.
     Block(BlockFrame),
 }
 
-/// What is open behind a turn of an operation.
+/// What is open after a step of an operation.
 #[derive(Clone, Copy)]
 pub(crate) enum Turn {
     /// The operation, and nothing inside of it.
@@ -73,7 +80,7 @@ pub(crate) enum Turn {
     Ends,
 }
 
-/// Opens a frame inside of those that are open.
+/// Opens a frame inside the open ones.
 pub(crate) fn open<'c>(frames: &mut Vec<Frame<'c>>, frame: Frame<'c>) -> Result<(), Refusal>
     ensures ok { OnOk result (frames.new.items ≡ frames.old.items ++ frame.entry ∷ []) }
     ensures refused { IfErr result (λ e. e ≡ refusal.Memory) }
@@ -84,7 +91,7 @@ pub(crate) fn open<'c>(frames: &mut Vec<Frame<'c>>, frame: Frame<'c>) -> Result<
     }
 }
 
-/// Gathers a marked item, and answers its index.
+/// Gathers a marked item, and returns its index.
 pub(crate) fn gather(items: &mut Vec<Item>, item: Item) -> Result<usize, Refusal>
     ensures ok { OnOk result (items.new.items ≡ items.old.items ++ item ∷ []) }
     ensures place { IfOk result (λ index. index ≡ length items.old.items) }

@@ -1,4 +1,4 @@
-//! What is written of an operation's own by its format: what stands in front of its parts, and what a directive writes.
+//! What is printed of an operation itself by its format: what comes before its parts, and what a directive prints.
 ghost use Rattle.std.specs.Prelude.{◌≡◌, ◌≢◌, OnOk, IfOk, IfErr, IsSome, is_none};
 ghost use Rattle.irtext_context.specs.Context.{operation};
 ghost use Rattle.irtext_formats.specs.Directives.{directive_of, directives_of};
@@ -16,8 +16,7 @@ use irtext_context::base::{Context, Operation, OperationAccess, Ptr};
 use irtext_print::ir::print::concrete::fmt_id;
 use irtext_print::printable::Refusal;
 
-/// Appends the names of an operation's results and its id, and all that stands in front of its regions if it is written as any operation
-/// can be.
+/// Appends the names of an operation's results and its id, and, in the canonical form, everything before its regions.
 fn fmt_front<T: IrText<A>, A: AttrText>(
     ctx: &Context<T, A>,
     op: Ptr<Operation>,
@@ -38,8 +37,8 @@ fn fmt_front<T: IrText<A>, A: AttrText>(
     fmt_canonical_front(ctx, op, f)
 }
 
-/// The directives of an operation's format, or none where it is written as any operation can be. It is refused where the operation does
-/// not fit its format.
+/// Returns the directives of an operation's format, or `None` if it is printed in the canonical form. The error is always `Misfit`: the
+/// operation does not fit its format.
 fn find_directives<'c, T: IrText<A>, A: AttrText>(
     ctx: &'c Context<T, A>,
     op: Ptr<Operation>,
@@ -57,9 +56,9 @@ fn find_directives<'c, T: IrText<A>, A: AttrText>(
     }
 }
 
-/// Checks that an operation fits its format, appends the names of its results and its id, and all that is in front of its regions where it
-/// is written as any operation can be, and answers the directives of its format, where that has some. It asks for the format once. It
-/// fails with `Misfit` where the operation does not fit its format, and else only out of memory; what was written until then stays.
+/// Checks that an operation fits its format, appends the names of its results and its id, and, in the canonical form, everything before
+/// its regions. Returns the directives of its format, if that has some. Looks the format up once. The error is `Misfit` if the
+/// operation does not fit its format, otherwise `Memory`. What was appended up to the error remains.
 pub fn begin_front<'c, T: IrText<A>, A: AttrText>(
     ctx: &'c Context<T, A>,
     op: Ptr<Operation>,
@@ -78,8 +77,9 @@ pub fn begin_front<'c, T: IrText<A>, A: AttrText>(
     Ok(directives)
 }
 
-/// Appends what a directive of the operation's format, which has these directives, writes, with the space in front of it: nothing where it
-/// writes a region, and nothing where what it names is not there. It fails only out of memory; what was written until then stays.
+/// Appends what a directive of the operation's format prints, with the space before it. `directives` are those of the format. Nothing
+/// is appended if the directive prints a region, or if what it names is absent. The error is always `Memory`; what was appended up to
+/// the error remains.
 pub fn fmt_known_piece<T: IrText<A>, A: AttrText>(
     ctx: &Context<T, A>,
     op: Ptr<Operation>,

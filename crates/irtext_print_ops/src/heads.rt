@@ -1,4 +1,4 @@
-//! What the walk asks of those who write an operation's own and a block's head.
+//! The trait through which the walk prints an operation itself and a block's head.
 ghost use Rattle.std.specs.Prelude.{◌≡◌, ◌≢◌, OnOk, IfOk, IfErr, IsSome, false};
 ghost use Rattle.irtext_base.specs.Format.{is_any_region};
 ghost use Rattle.irtext_context.specs.Context.{operation};
@@ -13,11 +13,11 @@ use irtext_base::text::{AttrText, IrText};
 use irtext_context::base::{BasicBlock, Context, Operation, Ptr};
 use irtext_print::printable::Refusal;
 
-/// What writes an operation's own and a block's head, and says of which of them a mark is written.
+/// Prints an operation itself and a block's head, and decides which of them have a mark.
 pub trait WritesHeads<T: IrText<A>, A: AttrText> {
-    /// Checks that an operation fits its format, appends its results and id, and all that stands in front of its regions where it has no
-    /// format of its own, and answers the directives of its format, where that has some. It is refused with `Misfit` where the operation
-    /// does not fit its format, and else only where memory is refused.
+    /// Checks that an operation fits its format, appends its results and id, and, in the canonical form, everything before its regions.
+    /// Returns the directives of its format, if that has some. The error is `Misfit` if the operation does not fit its format,
+    /// otherwise `Memory`.
     fn begin<'c>(
         ctx: &'c Context<T, A>,
         op: Ptr<Operation>,
@@ -31,8 +31,8 @@ pub trait WritesHeads<T: IrText<A>, A: AttrText> {
         ensures refused { IfErr result (λ e. e ≢ refusal.Memory →
             (e ≡ refusal.Misfit) × (heads.FitsAt T.IrText.own A.IrText.own A.AttrText.own A.eq ctx.now op → ⊥)) };
 
-    /// Appends what a directive of the operation's format, which has these directives, writes, where it writes no region. It fails only
-    /// where memory is refused.
+    /// Appends what a directive of the operation's format prints. The directive prints no region, and `directives` are those of the
+    /// format. The error is always `Memory`.
     fn fmt_piece(
         ctx: &Context<T, A>,
         op: Ptr<Operation>,
@@ -47,7 +47,7 @@ pub trait WritesHeads<T: IrText<A>, A: AttrText> {
             (AppendsText f.old (heads.piece_at T.IrText.own A.IrText.own A.AttrText.own A.eq ctx.now op (directive_of directive.now)) f.new) }
         ensures refused { IfErr result (λ e. e ≡ refusal.Memory) };
 
-    /// Appends a block's label, its arguments and its dictionary. It fails only where memory is refused.
+    /// Appends a block's label, its arguments and its dictionary. The error is always `Memory`.
     fn fmt_block_head(
         ctx: &Context<T, A>,
         block: Ptr<BasicBlock>,
@@ -58,12 +58,12 @@ pub trait WritesHeads<T: IrText<A>, A: AttrText> {
             (heads.block_head_at T.IrText.own A.IrText.own A.AttrText.own A.eq ctx.now block) f.new) }
         ensures refused { IfErr result (λ e. e ≡ refusal.Memory) };
 
-    /// Whether a mark is written of an operation: its location is known, or an attribute of it is outlined.
+    /// Whether an operation has a mark: its location is known, or one of its attributes is outlined.
     fn is_operation_marked(ctx: &Context<T, A>, op: Ptr<Operation>) -> bool
         requires live { IsSome (operation ctx.now op) }
         ensures { result ≡ heads.is_operation_marked T.IrText.own A.IrText.own A.AttrText.own A.eq ctx.now op };
 
-    /// Whether a mark is written of a block: it has a label, its location is known, or an attribute of it is outlined.
+    /// Whether a block has a mark: it has a label, its location is known, or one of its attributes is outlined.
     fn is_block_marked(ctx: &Context<T, A>, block: Ptr<BasicBlock>) -> bool
         requires live { IsSome (context.block ctx.now block) }
         ensures { result ≡ heads.is_block_marked T.IrText.own A.IrText.own A.AttrText.own A.eq ctx.now block };

@@ -1,7 +1,7 @@
-//! Printing of an operation, a region or a block with all that nests in it: a loop over what is open, so no text is too deep for it. What
-//! is written of an operation's own: the names of its results, the pieces of its format, and the form that any operation has; what is
-//! written of a block in front of its operations; and whether an operation fits its format. Where memory is refused, what was written
-//! until then stays.
+//! Printing of an operation, a region or a block with everything nested in it, by a loop over a stack of open frames, so no nesting is
+//! too deep for it. Also: what is printed of an operation itself (the names of its results, the pieces of its format, and the canonical
+//! form), what is printed of a block before its operations, and whether an operation fits its format. On an error, what was appended
+//! before remains.
 #![tactic(auto)]
 
 pub mod block_heads;

@@ -1,4 +1,4 @@
-//! What operations and blocks list, as it is printed: with `, ` between the items, where what has no text is left out.
+//! The lists of operations and blocks, as they are printed: with `, ` between the items, and without the items that have no text.
 ghost use Rattle.std.specs.Prelude.{◌≡◌, ◌<◌, ◌&&◌, not, [], cond, drop, is_some, length, slice_get, option_and_then, option_map, Some, IsSome, IfOk, IfSome, OnOk};
 ghost use Rattle.irtext_context.specs.Context.{block};
 ghost use Rattle.irtext_graph.specs.Graph.{Stands};
@@ -19,24 +19,24 @@ use irtext_context::base::{BasicBlock, Context, Operation, Ptr, Value};
 use irtext_graph::held::HasGraph;
 use std::fmt;
 
-/// What an operation or a block lists.
+/// A list of an operation or a block.
 #[derive(Clone, Copy)]
 pub(crate) enum Listed {
     /// The names of the values that an operation uses.
     Operands(Ptr<Operation>),
     /// The labels of the blocks that an operation uses.
     Successors(Ptr<Operation>),
-    /// The names of the values that an operation defines, of those whose types are known.
+    /// The names of an operation's results with known types.
     Results(Ptr<Operation>),
-    /// The types of the values that an operation uses, where they are known.
+    /// The types of the values that an operation uses, if they are known.
     OperandTypes(Ptr<Operation>),
-    /// The types of the values that an operation defines, where they are known.
+    /// The types of an operation's results, if they are known.
     ResultTypes(Ptr<Operation>),
-    /// The names and types of the values that a block defines, of those whose types are known.
+    /// The names and types of a block's arguments with known types.
     Arguments(Ptr<BasicBlock>),
 }
 
-/// What is written of a value whose type is known.
+/// What is printed of a value with a known type.
 #[derive(Clone, Copy)]
 enum Facet {
     Name,
@@ -44,7 +44,7 @@ enum Facet {
     Both,
 }
 
-/// Appends `, `, unless it stands in front of the first item.
+/// Appends `, `, except before the first item.
 fn fmt_between(first: bool, f: &mut String) -> fmt::Result
     ensures { OnOk result (AppendsText f.old (cond first [] comma) f.new) }
 {
@@ -54,7 +54,7 @@ fn fmt_between(first: bool, f: &mut String) -> fmt::Result
     Ok(())
 }
 
-/// The value that an operation uses at an index, which is there.
+/// Returns the value that an operation uses at an index; it is live.
 pub(crate) fn operand<T: IrText<A>, A: AttrText>(
     ctx: &Context<T, A>,
     op: Ptr<Operation>,
@@ -70,7 +70,7 @@ pub(crate) fn operand<T: IrText<A>, A: AttrText>(
     graph.get_operand(op, index)
 }
 
-/// The block that an operation uses at an index, which is there.
+/// Returns the block that an operation uses at an index; it is live.
 pub(crate) fn successor<T: IrText<A>, A: AttrText>(
     ctx: &Context<T, A>,
     op: Ptr<Operation>,
@@ -86,7 +86,7 @@ pub(crate) fn successor<T: IrText<A>, A: AttrText>(
     graph.get_successor(op, index)
 }
 
-/// Appends the name of a value, behind `, ` where it is not the first.
+/// Appends the name of a value, after `, ` if it is not the first.
 fn fmt_operand<T: IrText<A>, A: AttrText>(
     ctx: &Context<T, A>,
     value: Value,
@@ -100,7 +100,7 @@ fn fmt_operand<T: IrText<A>, A: AttrText>(
     fmt_value_name(ctx, value, f)
 }
 
-/// Appends the label of a block, behind `, ` where it is not the first.
+/// Appends the label of a block, after `, ` if it is not the first.
 fn fmt_successor<T: IrText<A>, A: AttrText>(
     ctx: &Context<T, A>,
     p: Ptr<BasicBlock>,
@@ -114,7 +114,7 @@ fn fmt_successor<T: IrText<A>, A: AttrText>(
     fmt_block_label(ctx, p, f)
 }
 
-/// Appends what is to be written of a value of this type.
+/// Appends this facet of a value of this type.
 fn fmt_facet<T: IrText<A>, A: AttrText>(
     ctx: &Context<T, A>,
     value: Value,
@@ -137,8 +137,7 @@ fn fmt_facet<T: IrText<A>, A: AttrText>(
     }
 }
 
-/// Appends what is to be written of a value whose type is known, behind `, ` where it is not the first, and answers whether still
-/// nothing was written.
+/// Appends this facet of a value if its type is known, after `, ` if it is not the first. Returns whether still nothing was printed.
 fn fmt_typed<T: IrText<A>, A: AttrText>(
     ctx: &Context<T, A>,
     value: Value,
@@ -160,7 +159,7 @@ fn fmt_typed<T: IrText<A>, A: AttrText>(
     Ok(false)
 }
 
-/// Appends the type of a value, where it is known, behind `, ` where it is not the first, and answers whether still nothing was written.
+/// Appends the type of a value if it is known, after `, ` if it is not the first. Returns whether still nothing was printed.
 fn fmt_operand_type<T: IrText<A>, A: AttrText>(
     ctx: &Context<T, A>,
     value: Value,
@@ -175,7 +174,7 @@ fn fmt_operand_type<T: IrText<A>, A: AttrText>(
     fmt_typed(ctx, value, Facet::Type, first, f)
 }
 
-/// How many items there are.
+/// Returns the number of items.
 pub(crate) fn count<T: IrText<A>, A: AttrText>(ctx: &Context<T, A>, listed: Listed) -> usize
     requires { Stands ctx.now.graph (owner listed) }
     ensures { result ≡ length (texts.texts_of T.IrText.written ctx.now listed) }
@@ -189,8 +188,7 @@ pub(crate) fn count<T: IrText<A>, A: AttrText>(ctx: &Context<T, A>, listed: List
     }
 }
 
-/// Appends the item at an index, where it has a text, behind `, ` where it is not the first, and answers whether still nothing was
-/// written.
+/// Appends the item at an index if it has a text, after `, ` if it is not the first. Returns whether still nothing was printed.
 fn fmt_item<T: IrText<A>, A: AttrText>(
     ctx: &Context<T, A>,
     listed: Listed,
@@ -221,7 +219,7 @@ fn fmt_item<T: IrText<A>, A: AttrText>(
     }
 }
 
-/// Appends the items from an index on, with `, ` between them, and answers whether there was none.
+/// Appends the items from an index on, with `, ` between them. Returns whether there was none.
 pub(crate) fn fmt_listed<T: IrText<A>, A: AttrText>(
     ctx: &Context<T, A>,
     listed: Listed,

@@ -1,4 +1,4 @@
-//! Of which operations and blocks a mark is written: of those of which the section gives something.
+//! Which operations and blocks have a mark: those for which the section contains something.
 ghost use Rattle.std.specs.Prelude.{◌≡◌, IsSome};
 ghost use Rattle.irtext_context.specs.Context.{operation};
 ghost use Rattle.irtext_context.specs.Context as context;
@@ -8,7 +8,7 @@ use irtext_base::text::{AttrText, IrText};
 use irtext_context::base::{BasicBlock, Context, Item, Operation, Ptr};
 use irtext_print::given::is_marked;
 
-/// Whether a mark is written of an operation: its location is known, or an attribute of it is outlined.
+/// Whether an operation has a mark: its location is known, or one of its attributes is outlined.
 pub fn is_operation_marked<T: IrText<A>, A: AttrText>(
     ctx: &Context<T, A>,
     op: Ptr<Operation>,
@@ -19,7 +19,7 @@ pub fn is_operation_marked<T: IrText<A>, A: AttrText>(
     is_marked(ctx, Item::Operation(op))
 }
 
-/// Whether a mark is written of a block: it has a label, its location is known, or an attribute of it is outlined.
+/// Whether a block has a mark: it has a label, its location is known, or one of its attributes is outlined.
 pub fn is_block_marked<T: IrText<A>, A: AttrText>(
     ctx: &Context<T, A>,
     block: Ptr<BasicBlock>,

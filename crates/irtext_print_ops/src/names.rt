@@ -16,8 +16,8 @@ use irtext_graph::held::HasGraph;
 use irtext_print::printable::numbers::fmt_number;
 use std::fmt;
 
-/// What printing finds in a context by a value's number is that value's, as this contract says of a call that does nothing: the name
-/// that is given to it, and its type.
+/// What printing finds in a context by a value's number belongs to that value: its given name, and its type. Does nothing: the contract
+/// hands that out.
 pub(crate) fn keeps_values<T: IrText<A>, A: AttrText>(ctx: &Context<T, A>, value: Value)
     ensures given { IfSome (value_at ctx.now.graph value) (λ t. given_to ctx.now t.number ≡ given_name ctx.now value) }
     ensures of_type { IfSome (value_at ctx.now.graph value) (λ t. type_of ctx.now t.number ≡ t.of_type) }
@@ -25,7 +25,7 @@ pub(crate) fn keeps_values<T: IrText<A>, A: AttrText>(ctx: &Context<T, A>, value
     ctx.graph().keeps_numbers();
 }
 
-/// Appends the name of a value with this given name or none, and this number.
+/// Appends the name of a value with this given name or none, and this number: `x_v1` or `v1`.
 fn fmt_numbered(given: Option<&Identifier>, number: u64, f: &mut String) -> fmt::Result
     ensures { OnOk result (AppendsText f.old (printed.value_name (option_copied given.entry) number) f.new) }
 {
@@ -42,7 +42,7 @@ fn fmt_numbered(given: Option<&Identifier>, number: u64, f: &mut String) -> fmt:
     }
 }
 
-/// Appends `^` and what stands in front of the place in the name of a block with this label or none.
+/// Appends `^` and what comes before the place in the name of a block with this label or none: `^a_block` or `^block`.
 fn fmt_block_front(label: Option<&Identifier>, f: &mut String) -> fmt::Result
     ensures { OnOk result (AppendsText f.old (codes "^" ++ printed.prefixed (option_copied label.entry) (codes "block")) f.new) }
 {
@@ -60,7 +60,7 @@ fn fmt_block_front(label: Option<&Identifier>, f: &mut String) -> fmt::Result
     }
 }
 
-/// Appends `^` and the name of a block with this label or none, and this place and generation.
+/// Appends `^` and the name of a block with this label or none, and this place and generation: `^a_block1v1` or `^block1v1`.
 fn fmt_placed(
     label: Option<&Identifier>,
     place: u64,
@@ -75,7 +75,7 @@ fn fmt_placed(
     fmt_number(generation as u64, f)
 }
 
-/// Appends the name of a value. It fails only where memory is refused.
+/// Appends the name of a value: `x_v1` if it has a given name, otherwise `v1`. Fails only if out of memory.
 pub fn fmt_value_name<T: IrText<A>, A: AttrText>(
     ctx: &Context<T, A>,
     value: Value,
@@ -88,7 +88,7 @@ pub fn fmt_value_name<T: IrText<A>, A: AttrText>(
     fmt_numbered(given_name(ctx, value), ctx.graph().number_of(value), f)
 }
 
-/// Appends `^` and the name of a block. It fails only where memory is refused.
+/// Appends `^` and the name of a block: `^a_block1v1` if it has a label, otherwise `^block1v1`. Fails only if out of memory.
 pub fn fmt_block_label<T: IrText<A>, A: AttrText>(
     ctx: &Context<T, A>,
     p: Ptr<BasicBlock>,

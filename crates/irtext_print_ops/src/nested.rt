@@ -1,4 +1,4 @@
-//! Printing of an operation, a block or a region with all that nests in it.
+//! Printing of an operation, a block or a region with everything nested in it. An item is an operation or a block that carries a mark.
 ghost use Rattle.std.specs.Prelude.{◌≡◌, ◌++◌, OnOk, IfErr, IsSome, length, true};
 ghost use Rattle.irtext_context.specs.Context.{operation};
 ghost use Rattle.irtext_context.specs.Context as context;
@@ -15,12 +15,12 @@ use irtext_base::text::{AttrText, IrText};
 use irtext_context::base::{BasicBlock, Context, Item, Operation, Ptr, Region};
 use irtext_print::printable::{Refusal, State};
 
-/// Appends the text of an operation with all that nests in it, at the state's indentation and under its limit; and behind it its mark,
-/// if `marked`. What is marked is added to `items`, in the order of the marks, and a mark counts those before it. What was written and
-/// gathered until a refusal stays. It doesn't recurse, so no text is too deep for it.
+/// Appends the text of an operation with everything nested in it, at the state's indentation and under its limit, and after it its
+/// mark, if `marked`. Items are added to `items`, in the order of their marks; the index of a mark is its item's place in `items`. Does
+/// not recurse, so no nesting is too deep for it.
 ///
-/// It is refused with `Depth` where the spaces in front of a line inside of a region that is shown do not fit 16 bits, with `Misfit` where
-/// the operation, or one that is shown inside of it, does not fit its format, and with `Memory` where memory is refused.
+/// The error is `Depth` if the spaces before a line inside a region that is shown do not fit 16 bits; `Misfit` if the operation, or one
+/// that is shown inside, does not fit its format; otherwise `Memory`. What was appended and gathered up to the error remains.
 pub fn print_nested<T: IrText<A>, A: AttrText, U>(
     ctx: &Context<T, A>,
     op: Ptr<Operation>,
@@ -40,12 +40,13 @@ pub fn print_nested<T: IrText<A>, A: AttrText, U>(
     print_inside::<Heads, T, A, U>(ctx, op, marked, state, items, f)
 }
 
-/// Appends the text of a block with all that nests in it, at the state's indentation and under its limit, with its mark where it has one.
-/// What is marked is added to `items`, in the order of the marks, and a mark counts those before it. What was written and gathered until
-/// a refusal stays. It doesn't recurse, so no text is too deep for it.
+/// Appends the text of a block with everything nested in it, at the state's indentation and under its limit, with its mark if it has
+/// one. Items are added to `items`, in the order of their marks; the index of a mark is its item's place in `items`. Does not recurse,
+/// so no nesting is too deep for it.
 ///
-/// It is refused with `Depth` where the spaces in front of its operations, or of a line inside of a region that is shown, do not fit 16
-/// bits, with `Misfit` where an operation that is shown inside of it does not fit its format, and with `Memory` where memory is refused.
+/// The error is `Depth` if the spaces before its operations, or before a line inside a region that is shown, do not fit 16 bits;
+/// `Misfit` if an operation that is shown inside does not fit its format; otherwise `Memory`. What was appended and gathered up to the
+/// error remains.
 pub fn print_nested_block<T: IrText<A>, A: AttrText, U>(
     ctx: &Context<T, A>,
     block: Ptr<BasicBlock>,
@@ -65,12 +66,12 @@ pub fn print_nested_block<T: IrText<A>, A: AttrText, U>(
     print_block_inside::<Heads, T, A, U>(ctx, block, state, items, f)
 }
 
-/// Appends the text of a region with all that nests in it, at the state's indentation and under its limit. What is marked is added to
-/// `items`, in the order of the marks, and a mark counts those before it. What was written and gathered until a refusal stays. It doesn't
-/// recurse, so no text is too deep for it.
+/// Appends the text of a region with everything nested in it, at the state's indentation and under its limit. Items are added to
+/// `items`, in the order of their marks; the index of a mark is its item's place in `items`. Does not recurse, so no nesting is too
+/// deep for it.
 ///
-/// It is refused with `Depth` where it is shown and the spaces in front of a line inside of it do not fit 16 bits, with `Misfit` where an
-/// operation that is shown inside of it does not fit its format, and with `Memory` where memory is refused.
+/// The error is `Depth` if the region is shown and the spaces before a line inside it do not fit 16 bits; `Misfit` if an operation that
+/// is shown inside does not fit its format; otherwise `Memory`. What was appended and gathered up to the error remains.
 pub fn print_nested_region<T: IrText<A>, A: AttrText, U>(
     ctx: &Context<T, A>,
     region: Ptr<Region>,
@@ -90,8 +91,8 @@ pub fn print_nested_region<T: IrText<A>, A: AttrText, U>(
     print_region_inside::<Heads, T, A, U>(ctx, region, state, items, f)
 }
 
-/// Appends the mark of an operation, where it has one, with the marks of `items` before it, and adds the operation to them. It is refused
-/// only where memory is.
+/// Appends the mark of an operation, if it has one, and adds the operation to `items`; the mark's index is its place there. The error
+/// is always `Memory`.
 pub fn print_nested_mark<T: IrText<A>, A: AttrText>(
     ctx: &Context<T, A>,
     op: Ptr<Operation>,

@@ -1,4 +1,4 @@
-//! What stands in front of regions, blocks and operations, and behind them.
+//! What comes before regions, blocks and operations, and after them.
 ghost use Rattle.std.specs.Prelude.{◌≡◌, ◌≢◌, ◌+◌, ◌≤◌, ◌^◌, ◌++◌, [], OnOk, IfOk, IfErr, codes, cond, decimal};
 ghost use Rattle.irtext_grammar.specs.Spelling.Spell.{newline};
 ghost use Rattle.irtext_print.specs.Printers.Appended.{AppendsText};
@@ -12,7 +12,7 @@ use irtext_context::base::{Ptr, Region};
 use irtext_print::printable::numbers::fmt_number;
 use irtext_print::printable::{Refusal, RegionPrintDepthLimit, fmt_newline, fmt_opening};
 
-/// One indentation more, where the spaces fit 16 bits.
+/// Returns the indentation one step deeper. The error is always `Depth`: the number of spaces does not fit 16 bits.
 pub(crate) fn deeper(indent: u16, width: u16) -> Result<u16, Refusal>
     ensures ok { IfOk result (λ inner. inner ≡ indent + width) }
     ensures refused { IfErr result (λ e. (e ≡ refusal.Depth) × (2 ^ 16 ≤ indent + width)) }
@@ -23,7 +23,7 @@ pub(crate) fn deeper(indent: u16, width: u16) -> Result<u16, Refusal>
     }
 }
 
-/// The limit inside a region; none where the region is elided.
+/// Returns the limit inside a region; `None` if the region is elided.
 pub(crate) fn inside(limit: RegionPrintDepthLimit) -> Option<RegionPrintDepthLimit>
     ensures { result ≡ lowered limit }
 {
@@ -49,7 +49,7 @@ fn fmt_line(indent: u16, f: &mut String) -> Result<(), Refusal>
     }
 }
 
-/// Appends what stands in front of the next operation of a block.
+/// Appends what comes before the next operation of a block.
 pub(crate) fn fmt_between_operations(
     first: bool,
     indent: u16,
@@ -65,7 +65,7 @@ pub(crate) fn fmt_between_operations(
     fmt_line(indent, f)
 }
 
-/// Appends what stands in front of the next block of a region.
+/// Appends what comes before the next block of a region.
 pub(crate) fn fmt_between_blocks(first: bool, indent: u16, f: &mut String) -> Result<(), Refusal>
     ensures text { OnOk result (AppendsText f.old (unless_first first (between_blocks indent)) f.new) }
     ensures refused { IfErr result (λ e. e ≡ refusal.Memory) }
@@ -77,7 +77,7 @@ pub(crate) fn fmt_between_blocks(first: bool, indent: u16, f: &mut String) -> Re
     fmt_line(indent, f)
 }
 
-/// Appends what stands behind a block's mark.
+/// Appends what comes after a block's mark.
 pub(crate) fn fmt_colon(indent: u16, f: &mut String) -> Result<(), Refusal>
     ensures text { OnOk result (AppendsText f.old (codes ":" ++ newline indent) f.new) }
     ensures refused { IfErr result (λ e. e ≡ refusal.Memory) }
@@ -86,7 +86,7 @@ pub(crate) fn fmt_colon(indent: u16, f: &mut String) -> Result<(), Refusal>
     fmt_line(indent, f)
 }
 
-/// Appends what stands behind a region's blocks.
+/// Appends what comes after a region's blocks.
 pub(crate) fn fmt_closing(indent: u16, f: &mut String) -> Result<(), Refusal>
     ensures text { OnOk result (AppendsText f.old (closing indent) f.new) }
     ensures refused { IfErr result (λ e. e ≡ refusal.Memory) }
@@ -112,7 +112,7 @@ pub(crate) fn fmt_index(index: usize, f: &mut String) -> Result<(), Refusal>
     }
 }
 
-/// Appends that a region is elided; behind a space, unless the region joins what stands before it.
+/// Appends `{..}` for an elided region, after a space unless the region joins what is before it.
 fn fmt_elided(joins: bool, f: &mut String) -> Result<(), Refusal>
     ensures text { OnOk result (AppendsText f.old (cond joins [] (codes " ") ++ codes "{..}") f.new) }
     ensures refused { IfErr result (λ e. e ≡ refusal.Memory) }
@@ -125,7 +125,7 @@ fn fmt_elided(joins: bool, f: &mut String) -> Result<(), Refusal>
     Ok(())
 }
 
-/// Appends what stands in front of a region's blocks; behind a space, unless the region joins what stands before it.
+/// Appends what comes before a region's blocks, after a space unless the region joins what is before it.
 fn fmt_begun(joins: bool, indent: u16, inner: u16, f: &mut String) -> Result<(), Refusal>
     ensures text { OnOk result (AppendsText f.old (cond joins [] (codes " ") ++ (newline indent ++ (codes "{" ++ newline inner))) f.new) }
     ensures refused { IfErr result (λ e. e ≡ refusal.Memory) }
@@ -136,7 +136,8 @@ fn fmt_begun(joins: bool, indent: u16, inner: u16, f: &mut String) -> Result<(),
     }
 }
 
-/// Begins a region, behind a space unless it stands behind another one: appends that it is elided, or what stands in front of its blocks.
+/// Begins a region: appends what comes before its blocks, or `{..}` if it is elided, after a space unless `joins`. Returns the frame of
+/// the region, if it is not elided. The error is `Depth` if the indentation inside does not fit 16 bits, otherwise `Memory`.
 pub(crate) fn begin_region(
     region: Ptr<Region>,
     joins: bool,

@@ -1,4 +1,4 @@
-//! What a directive of a format writes of an operation, where it writes no region.
+//! What a directive of a format prints of an operation, if it prints no region.
 ghost use Rattle.std.specs.Prelude.{◌≡◌, ℕ, is_some, option_map, option_and_then, length, slice_get, Some, None, IsSome, IfSome, IfErr, OnOk};
 ghost use Rattle.irtext_base.specs.Format as format;
 ghost use Rattle.irtext_base.specs.Format.{operand_places, successor_places};
@@ -33,14 +33,14 @@ use irtext_print::printable::Refusal;
 use irtext_print::printable::refusal::memory_alone;
 use std::fmt;
 
-/// What an operation uses is there, as this contract says of a call that does nothing.
+/// What an operation uses is live. Does nothing: the contract hands that out.
 pub(crate) fn keeps_operands<T: IrText<A>, A: AttrText>(ctx: &Context<T, A>, op: Ptr<Operation>)
     ensures { (i : ℕ) (v : code.Value) → slice_get (operands ctx.now.graph op) i ≡ Some v → ValueStands ctx.now.graph v }
 {
     ctx.graph().keeps_nesting();
 }
 
-/// Appends the name of the operand at an index, behind a space, where it is there.
+/// Appends the name of the operand at an index, after a space, if there is one.
 fn fmt_operand_at<T: IrText<A>, A: AttrText>(
     ctx: &Context<T, A>,
     op: Ptr<Operation>,
@@ -58,7 +58,7 @@ fn fmt_operand_at<T: IrText<A>, A: AttrText>(
     fmt_value_name(ctx, value, f)
 }
 
-/// Appends the label of the successor at an index, behind a space, where it is there.
+/// Appends the label of the successor at an index, after a space, if there is one.
 fn fmt_successor_at<T: IrText<A>, A: AttrText>(
     ctx: &Context<T, A>,
     op: Ptr<Operation>,
@@ -76,7 +76,7 @@ fn fmt_successor_at<T: IrText<A>, A: AttrText>(
     fmt_block_label(ctx, block, f)
 }
 
-/// The type of a value, where it is known.
+/// Returns the type of a value, if it is known.
 pub(crate) fn known_type<T: IrText<A>, A: AttrText>(ctx: &Context<T, A>, value: Value) -> Option<&T>
     requires { ValueStands ctx.now.graph value }
     ensures { option_map (λ t. T.IrText.written t.now) result ≡
@@ -88,7 +88,7 @@ pub(crate) fn known_type<T: IrText<A>, A: AttrText>(ctx: &Context<T, A>, value: 
     }
 }
 
-/// Appends the type at an index among those of the results whose types are known, behind a space, where it is there.
+/// Appends the type at an index among the known types of the results, after a space, if there is one.
 fn fmt_result_type_at<T: IrText<A>, A: AttrText>(
     ctx: &Context<T, A>,
     op: Ptr<Operation>,
@@ -113,7 +113,7 @@ fn fmt_result_type_at<T: IrText<A>, A: AttrText>(
     Ok(())
 }
 
-/// Appends the items of a list from an index on, behind a space.
+/// Appends the items of a list from an index on, after a space.
 fn fmt_spaced<T: IrText<A>, A: AttrText>(
     ctx: &Context<T, A>,
     list: Listed,
@@ -140,21 +140,21 @@ fn writes_successor(directive: &Directive) -> bool
     matches!(directive, Directive::Successor(_))
 }
 
-/// How many operands have a directive of their own.
+/// Counts the operands that have a directive of their own.
 pub(crate) fn count_operands(directives: &[Directive]) -> usize
     ensures { result ≡ length (operand_places (directives_of directives.now)) }
 {
     directives.iter().filter(|d| writes_operand(*d)).count()
 }
 
-/// How many successors have a directive of their own.
+/// Counts the successors that have a directive of their own.
 pub(crate) fn count_successors(directives: &[Directive]) -> usize
     ensures { result ≡ length (successor_places (directives_of directives.now)) }
 {
     directives.iter().filter(|d| writes_successor(*d)).count()
 }
 
-/// Appends what one of a format's directives writes of an operation, as [`fmt_piece`] does.
+/// Appends what one of a format's directives prints of an operation, as [`fmt_piece`] does.
 fn fmt_part<T: IrText<A>, A: AttrText>(
     ctx: &Context<T, A>,
     op: Ptr<Operation>,
@@ -188,8 +188,8 @@ fn fmt_part<T: IrText<A>, A: AttrText>(
     }
 }
 
-/// Appends what one of a format's directives writes of an operation, with the space in front of it: nothing where it writes a region,
-/// and nothing where what it names is not there. It fails only where memory is refused.
+/// Appends what one of a format's directives prints of an operation, with the space before it. Nothing is appended if the directive
+/// prints a region, or if what it names is absent. The error is always `Memory`.
 pub fn fmt_piece<T: IrText<A>, A: AttrText>(
     ctx: &Context<T, A>,
     op: Ptr<Operation>,

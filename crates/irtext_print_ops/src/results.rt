@@ -1,4 +1,4 @@
-//! The names of an operation's results, as they stand in front of its id.
+//! The names of an operation's results, which come before its id.
 ghost use Rattle.std.specs.Prelude.{◌≡◌, map, IsSome, IfSome, IfErr, OnOk};
 ghost use Rattle.irtext_context.specs.Context.{operation};
 ghost use Rattle.irtext_graph.specs.Graph.{Stands};
@@ -21,7 +21,7 @@ use irtext_print::printable::Refusal;
 use irtext_print::printable::refusal::memory_alone;
 use std::fmt;
 
-/// Appends the names of an operation's results and ` = `, or nothing where there is none.
+/// Appends the names of an operation's results and ` = `, or nothing if there are none.
 fn fmt_defined<T: IrText<A>, A: AttrText>(
     ctx: &Context<T, A>,
     op: Ptr<Operation>,
@@ -38,8 +38,8 @@ fn fmt_defined<T: IrText<A>, A: AttrText>(
     Ok(())
 }
 
-/// Appends the names of an operation's results with `, ` between them, and ` = `; nothing where there is none. It fails only where
-/// memory is refused.
+/// Appends the names of an operation's results with `, ` between them, and ` = `: `x_v0, y_v1 = `. Nothing is appended if it has no
+/// result with a known type. The error is always `Memory`.
 pub fn fmt_results<T: IrText<A>, A: AttrText>(
     ctx: &Context<T, A>,
     op: Ptr<Operation>,

@@ -1,4 +1,4 @@
-//! The turns of the walk: what is written next of what is open innermost, and what is open then.
+//! The steps of the walk: what is printed next of the innermost open frame, and what is open after that.
 ghost use Rattle.std.specs.Prelude.{◌≡◌, ◌≢◌, ◌++◌, ◌∷◌, [], OnOk, IfOk, IfErr, IsSome, length};
 ghost use Rattle.irtext_context.specs.Context.{operation};
 ghost use Rattle.irtext_context.specs.Context as context;
@@ -25,15 +25,15 @@ use irtext_print::printable::{Refusal, RegionPrintDepthLimit};
 /// Where the pieces of an operation end.
 #[derive(Clone, Copy)]
 pub(crate) enum Stop {
-    /// Behind the last directive.
+    /// After the last directive.
     End,
-    /// At a region; the directive behind it has this index.
+    /// At a region; the directive after it has this index.
     Region(usize),
-    /// At all regions that are left; the directive behind them has this index.
+    /// At all regions that are left; the directive after them has this index.
     Regions(usize),
 }
 
-/// Appends what the directives that were found of an operation write from one of them on, in front of the first that writes a region.
+/// Appends what the directives that were found for an operation print from this one on, before the first that prints a region.
 fn fmt_pieces<H: WritesHeads<T, A>, T: IrText<A>, A: AttrText>(
     ctx: &Context<T, A>,
     op: Ptr<Operation>,
@@ -63,7 +63,7 @@ fn fmt_pieces<H: WritesHeads<T, A>, T: IrText<A>, A: AttrText>(
     Ok(Stop::End)
 }
 
-/// Checks that an operation fits its format, and appends what stands in front of its parts, which are then open.
+/// Checks that an operation fits its format, and appends what comes before its parts. Returns the frame with its parts open.
 pub(crate) fn begin_operation<'c, H: WritesHeads<T, A>, T: IrText<A>, A: AttrText>(
     ctx: &'c Context<T, A>,
     op: Ptr<Operation>,
@@ -95,7 +95,7 @@ pub(crate) fn begin_operation<'c, H: WritesHeads<T, A>, T: IrText<A>, A: AttrTex
     })
 }
 
-/// Begins the next region of an operation, where one is left: appends that it is elided, or what stands in front of its blocks.
+/// Begins the next region of an operation, if one is left: appends what comes before its blocks, or `{..}` if it is elided.
 fn region_turn<'c, T: IrText<A>, A: AttrText>(
     ctx: &'c Context<T, A>,
     width: u16,
@@ -118,7 +118,7 @@ fn region_turn<'c, T: IrText<A>, A: AttrText>(
     Ok(begun)
 }
 
-/// Ends a region that was begun, where it has no block, and says what is open then.
+/// Ends a region that was begun if it has no block, and returns what is open after that.
 fn entered<T: IrText<A>, A: AttrText>(
     ctx: &Context<T, A>,
     begun: Option<RegionFrame>,
@@ -139,7 +139,7 @@ fn entered<T: IrText<A>, A: AttrText>(
     Ok(Turn::Enters(inside))
 }
 
-/// Appends the mark of an operation that was written, where it has one and it is to be written.
+/// Appends the mark of an operation after its text, if it has one and it is to be printed.
 pub(crate) fn end_operation<H: WritesHeads<T, A>, T: IrText<A>, A: AttrText>(
     ctx: &Context<T, A>,
     op: Ptr<Operation>,
@@ -164,7 +164,7 @@ pub(crate) fn end_operation<H: WritesHeads<T, A>, T: IrText<A>, A: AttrText>(
     fmt_index(index, f)
 }
 
-/// Appends the mark of a block, where it has one.
+/// Appends the mark of a block, if it has one.
 pub(crate) fn fmt_block_mark<H: WritesHeads<T, A>, T: IrText<A>, A: AttrText>(
     ctx: &Context<T, A>,
     block: Ptr<BasicBlock>,
@@ -185,7 +185,7 @@ pub(crate) fn fmt_block_mark<H: WritesHeads<T, A>, T: IrText<A>, A: AttrText>(
     fmt_index(index, f)
 }
 
-/// Writes what is next of an operation: its pieces up to a region, and that; or its mark behind the last.
+/// Prints what comes next of an operation: its pieces up to a region, and the beginning of that; or its mark after the last piece.
 fn operation_turn<'c, H: WritesHeads<T, A>, T: IrText<A>, A: AttrText>(
     ctx: &'c Context<T, A>,
     width: u16,
@@ -224,7 +224,7 @@ fn operation_turn<'c, H: WritesHeads<T, A>, T: IrText<A>, A: AttrText>(
     }
 }
 
-/// Writes what is left of an operation, up to the first of its regions that has blocks: that one is begun.
+/// Prints the rest of an operation, up to the first of its regions that has blocks. That region is begun, and its frame returned.
 pub(crate) fn operation_turns<'c, H: WritesHeads<T, A>, T: IrText<A>, A: AttrText>(
     ctx: &'c Context<T, A>,
     width: u16,
@@ -248,7 +248,7 @@ pub(crate) fn operation_turns<'c, H: WritesHeads<T, A>, T: IrText<A>, A: AttrTex
     }
 }
 
-/// Writes what is next of an operation.
+/// Prints what comes next of an operation.
 fn operation_step<'c, H: WritesHeads<T, A>, T: IrText<A>, A: AttrText>(
     ctx: &'c Context<T, A>,
     width: u16,
@@ -272,7 +272,7 @@ fn operation_step<'c, H: WritesHeads<T, A>, T: IrText<A>, A: AttrText>(
     Ok(Some(Frame::Region(inside)))
 }
 
-/// Writes what is next of a region: its next block's head, or its last brace.
+/// Prints what comes next of a region: the head of its next block, or its closing brace.
 fn region_step<'c, H: WritesHeads<T, A>, T: IrText<A>, A: AttrText>(
     ctx: &'c Context<T, A>,
     width: u16,
@@ -316,8 +316,8 @@ fn region_step<'c, H: WritesHeads<T, A>, T: IrText<A>, A: AttrText>(
     })))
 }
 
-/// Writes what is next of a block: its next operation, up to the first region of that one that has blocks, or nothing behind the last. A
-/// placeholder is left out.
+/// Prints what comes next of a block: its next operation, up to the first region of that one that has blocks, or nothing after the
+/// last. A placeholder is skipped.
 fn block_step<'c, H: WritesHeads<T, A>, T: IrText<A>, A: AttrText>(
     ctx: &'c Context<T, A>,
     width: u16,
@@ -359,7 +359,7 @@ fn block_step<'c, H: WritesHeads<T, A>, T: IrText<A>, A: AttrText>(
     Ok(Some(Frame::Region(inside)))
 }
 
-/// Writes what is next of what is open innermost.
+/// Prints what comes next of the innermost open frame. Returns the frame that is innermost after that, if one was opened.
 pub(crate) fn step<'c, H: WritesHeads<T, A>, T: IrText<A>, A: AttrText>(
     ctx: &'c Context<T, A>,
     width: u16,

@@ -1,4 +1,4 @@
-//! Printing of an operation with all that nests in it.
+//! Printing of an operation with everything nested in it. An item is an operation or a block that carries a mark.
 ghost use Rattle.std.specs.Prelude.{◌≡◌, ◌≢◌, ◌++◌, ◌∷◌, [], OnOk, IfErr, IfNone, IsSome, length, true};
 ghost use Rattle.irtext_context.specs.Context.{operation};
 ghost use Rattle.irtext_print.specs.Printers.Appended.{AppendsText};
@@ -14,7 +14,7 @@ use irtext_base::text::{AttrText, IrText};
 use irtext_context::base::{Context, Item, Operation, Ptr};
 use irtext_print::printable::{Refusal, State};
 
-/// What is open innermost, which is taken out of the frames where nothing was opened inside of them.
+/// Returns the innermost open frame. It is popped from the frames if nothing was opened inside them.
 fn innermost<'c>(inner: Option<Frame<'c>>, frames: &mut Vec<Frame<'c>>) -> Option<Frame<'c>>
     ensures all { frames.new.items ++ listed result ≡ frames.old.items ++ listed inner.entry }
     ensures none { IfNone result (frames.new.items ≡ []) }
@@ -25,8 +25,8 @@ fn innermost<'c>(inner: Option<Frame<'c>>, frames: &mut Vec<Frame<'c>>) -> Optio
     }
 }
 
-/// Appends the text that is left of what is open, the innermost first, until nothing is open. What is marked in it is added to `items`, in
-/// the order of the marks, and a mark counts those before it. What was written and gathered until a refusal stays.
+/// Appends the text that is left of the open frames, the innermost first, until nothing is open. Items in it are added to `items`, in
+/// the order of their marks; the index of a mark is its item's place in `items`. What was appended and gathered up to an error remains.
 pub(crate) fn print_frames<'c, H: WritesHeads<T, A>, T: IrText<A>, A: AttrText>(
     ctx: &'c Context<T, A>,
     width: u16,
@@ -56,8 +56,8 @@ pub(crate) fn print_frames<'c, H: WritesHeads<T, A>, T: IrText<A>, A: AttrText>(
     Ok(())
 }
 
-/// Appends the text that is left of an operation. What is marked in it is added to `items`, in the order of the marks, and a mark counts
-/// those before it. What was written and gathered until a refusal stays. It takes no memory of its own where no region has blocks.
+/// Appends the text that is left of an operation. Items in it are added to `items`, in the order of their marks; the index of a mark is
+/// its item's place in `items`. What was appended and gathered up to an error remains. Allocates no stack if no region has blocks.
 fn print_operation<'c, H: WritesHeads<T, A>, T: IrText<A>, A: AttrText>(
     ctx: &'c Context<T, A>,
     width: u16,
@@ -93,12 +93,11 @@ fn print_operation<'c, H: WritesHeads<T, A>, T: IrText<A>, A: AttrText>(
     )
 }
 
-/// Appends the text of an operation with all that nests in it, at the state's indentation and under its limit; and behind it its mark,
-/// if `marked`. What is marked is added to `items`, in the order of the marks, and a mark counts those before it. What was written and
-/// gathered until a refusal stays.
+/// Appends the text of an operation with everything nested in it, at the state's indentation and under its limit, and after it its
+/// mark, if `marked`. Items are added to `items`, in the order of their marks; the index of a mark is its item's place in `items`.
 ///
-/// It is refused with `Depth` where the spaces in front of a line inside of a region that is shown do not fit 16 bits, with `Misfit` where
-/// the operation, or one that is shown inside of it, does not fit its format, and with `Memory` where memory is refused.
+/// The error is `Depth` if the spaces before a line inside a region that is shown do not fit 16 bits; `Misfit` if the operation, or one
+/// that is shown inside, does not fit its format; otherwise `Memory`. What was appended and gathered up to the error remains.
 pub fn print_inside<H: WritesHeads<T, A>, T: IrText<A>, A: AttrText, U>(
     ctx: &Context<T, A>,
     op: Ptr<Operation>,
@@ -122,8 +121,8 @@ pub fn print_inside<H: WritesHeads<T, A>, T: IrText<A>, A: AttrText, U>(
     print_operation::<H, T, A>(ctx, width, begun, items, f)
 }
 
-/// Appends the mark of an operation, where it has one, with the marks of `items` before it, and adds the operation to them. It is refused
-/// only where memory is.
+/// Appends the mark of an operation, if it has one, and adds the operation to `items`; the mark's index is its place there. The error
+/// is always `Memory`.
 pub fn print_mark<H: WritesHeads<T, A>, T: IrText<A>, A: AttrText>(
     ctx: &Context<T, A>,
     op: Ptr<Operation>,

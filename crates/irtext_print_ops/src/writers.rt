@@ -1,4 +1,4 @@
-//! Who writes an operation's own and a block's head for the walk.
+//! Prints an operation itself and a block's head for the walk, by the formats of a context.
 use crate::block_heads::fmt_block_head;
 use crate::front::{begin_front, fmt_known_piece};
 use crate::heads::WritesHeads;
@@ -8,7 +8,7 @@ use irtext_base::text::{AttrText, IrText};
 use irtext_context::base::{BasicBlock, Context, Operation, Ptr};
 use irtext_print::printable::Refusal;
 
-/// What writes the heads of all operations and blocks, by the formats of their context.
+/// Prints the heads of all operations and blocks, by the formats of their context.
 pub struct Heads;
 
 impl<T: IrText<A>, A: AttrText> WritesHeads<T, A> for Heads {

@@ -1,4 +1,4 @@
-//! Reading a location where a request for memory is refused: the fault says so.
+//! Parsing a location while an allocation fails: the fault says so.
 
 use crate::{Ctx, Fault};
 use irtext_types::{DemoAttr, DemoType};
@@ -8,13 +8,13 @@ use pliron_text::parsable::{Parsable, parse_from_str};
 use pliron_text::printable::Disp;
 use std::alloc::{AllocError, Global};
 
-/// The printed text of the location that stands in the text.
+/// Parses the text as a location, and returns its printed text.
 pub fn read(alloc: Global, text: &str) -> Result<String, Fault> {
     let mut ctx: Ctx = Context::new(alloc);
     read_with(alloc, &mut ctx, text)
 }
 
-/// The same with a context that is lent.
+/// Does the same with a context of the caller.
 fn read_with(alloc: Global, ctx: &mut Ctx, text: &str) -> Result<String, Fault> {
     let answer = parse_from_str(
         |s| <Location<DemoAttr> as Parsable<DemoType, DemoAttr, ()>>::parse(s, ()),
@@ -27,7 +27,7 @@ fn read_with(alloc: Global, ctx: &mut Ctx, text: &str) -> Result<String, Fault> 
     }
 }
 
-/// The text of a location.
+/// Returns the text of a location.
 fn printed(alloc: Global, ctx: &Ctx, location: &Location<DemoAttr>) -> Result<String, AllocError> {
     format!(in alloc; "{}", location.disp(ctx))
 }

@@ -1,6 +1,6 @@
-//! The program of the refused requests: one call for each word, in which a request for memory is refused from outside, and what
-//! its caller sees then. It ends with status 0 and the call's text, with 1 where memory was refused, and with 3 where anything
-//! else came of it.
+//! The program of the failing allocations. Each word selects one call, in which an allocation is made to fail from outside; the program
+//! checks what the caller sees then. It ends with status 0 and the call's text, with 1 if out of memory, and with 3 if anything else
+//! happened.
 #![tactic(auto)]
 
 mod locating;
@@ -24,9 +24,9 @@ pub type Ctx = Context<DemoType, DemoAttr>;
 /// Why there is no text.
 #[derive(Clone, Copy, Drop)]
 pub enum Fault {
-    /// Memory was refused.
+    /// Out of memory.
     Memory,
-    /// The call answered what it may not answer.
+    /// The call returned something that it must not return.
     Wrong,
 }
 
@@ -46,7 +46,7 @@ impl From<io::Error> for Fault {
 }
 
 impl Fault {
-    /// The fault of an error: whether its cause is that memory was refused, to the reading or to its fault.
+    /// Returns the fault for an error: `Memory` if its cause is out of memory, in parsing or for its text; otherwise `Wrong`.
     pub fn of(error: &Error<DemoAttr>) -> Fault {
         match &error.err {
             Cause::Memory => Fault::Memory,
@@ -55,7 +55,7 @@ impl Fault {
         }
     }
 
-    /// The fault of a reading's cause.
+    /// Returns the fault for the cause of a parse error.
     fn of_reading(cause: &Cause<DemoAttr>) -> Fault {
         match cause {
             Cause::Memory => Fault::Memory,
@@ -64,7 +64,7 @@ impl Fault {
     }
 }
 
-/// The calls that a word can name.
+/// The calls that a word can select.
 #[derive(Clone, Copy)]
 enum Call {
     Again,
@@ -76,7 +76,7 @@ enum Call {
 }
 
 impl Call {
-    /// The call that a word names.
+    /// Returns the call that a word selects.
     fn of(word: &str) -> Option<Call> {
         match word {
             "again" => Some(Call::Again),
@@ -89,7 +89,7 @@ impl Call {
         }
     }
 
-    /// The text of the call.
+    /// Makes the call, and returns its text.
     fn answer(self, alloc: Global, text: &str) -> Result<String, Fault> {
         match self {
             Call::Again => reading::again(alloc, text),
@@ -102,7 +102,7 @@ impl Call {
     }
 }
 
-/// The call that the first word names that names one.
+/// Returns the call that is selected by the first argument that selects one.
 fn named_call(rt: &HostRuntime) -> io::Result<Option<Call>> {
     for word in env::args(rt)?.skip(1) {
         if let Some(call) = Call::of(word.as_str()) {
@@ -112,7 +112,7 @@ fn named_call(rt: &HostRuntime) -> io::Result<Option<Call>> {
     Ok(None)
 }
 
-/// The text of the call that the words name.
+/// Makes the call that the arguments select, and returns its text.
 fn answer(rt: &HostRuntime) -> Result<String, Fault> {
     let text = io::read_to_string(rt.alloc(), rt.reader())?;
     match named_call(rt)? {

@@ -1,5 +1,5 @@
-//! Printing a root where a request for memory is refused: the first printing fails, and a second one writes the text. A state that is lent
-//! keeps its layout through either.
+//! Printing a root while an allocation fails: the first printing fails, and a second one prints the text. A state that is passed as
+//! `&mut` keeps its layout in both cases.
 ghost use Rattle.std.specs.Prelude.{IsSome};
 ghost use Rattle.irtext_context.specs.Context.{operation};
 
@@ -13,7 +13,7 @@ use pliron_text::printable::{Disp, Printable, RegionPrintDepthLimit, State};
 use std::alloc::Global;
 use std::fmt::Write;
 
-/// The text of a root, unless its printing is refused.
+/// Returns the text of a root, unless printing it fails.
 fn printed(alloc: Global, ctx: &Ctx, root: Ptr<Operation>) -> Option<String>
     requires { IsSome (operation ctx.now root) }
 {
@@ -24,7 +24,7 @@ fn printed(alloc: Global, ctx: &Ctx, root: Ptr<Operation>) -> Option<String>
     }
 }
 
-/// The text of a second printing, which has to be that of the first one where that was written.
+/// Returns the text of a second printing, which has to be equal to that of the first.
 fn compared(first: &str, second: String) -> Result<String, Fault> {
     if first == second.as_str() {
         return Ok(second);
@@ -32,7 +32,7 @@ fn compared(first: &str, second: String) -> Result<String, Fault> {
     Err(Fault::Wrong)
 }
 
-/// The text of a root that is printed once more.
+/// Prints a root once more, and returns its text.
 fn again(alloc: Global, ctx: &Ctx, root: Ptr<Operation>, first: &str) -> Result<String, Fault>
     requires { IsSome (operation ctx.now root) }
 {
@@ -42,7 +42,7 @@ fn again(alloc: Global, ctx: &Ctx, root: Ptr<Operation>, first: &str) -> Result<
     }
 }
 
-/// The text of a root. It is printed twice; where the first printing is refused the second has to write it.
+/// Returns the text of a root. It is printed twice. If the first printing fails, the second has to succeed.
 fn twice(alloc: Global, ctx: &Ctx, root: Ptr<Operation>) -> Result<String, Fault>
     requires { IsSome (operation ctx.now root) }
 {
@@ -52,10 +52,10 @@ fn twice(alloc: Global, ctx: &Ctx, root: Ptr<Operation>) -> Result<String, Fault
     }
 }
 
-/// The limit of a state that is lent.
+/// The limit of the state that is passed as `&mut`.
 const LIMIT: RegionPrintDepthLimit = RegionPrintDepthLimit::Max(3);
 
-/// A state of another layout than a new one has.
+/// Returns a state with another layout than that of a new one.
 fn layout(alloc: Global) -> State<()> {
     State::with_layout(alloc, 4, 1, LIMIT, ())
 }
@@ -67,7 +67,7 @@ fn has_layout(state: &State<()>) -> bool {
         && state.current_region_print_depth_limit() == LIMIT
 }
 
-/// The text of a root in that layout, unless its printing is refused. The state that is lent keeps the layout.
+/// Returns the text of a root in that layout, or `None` if printing it fails. The state has to keep the layout.
 fn appended(alloc: Global, ctx: &Ctx, root: Ptr<Operation>) -> Result<Option<String>, Fault>
     requires { IsSome (operation ctx.now root) }
 {
@@ -80,7 +80,7 @@ fn appended(alloc: Global, ctx: &Ctx, root: Ptr<Operation>) -> Result<Option<Str
     Ok(if is_written { Some(text) } else { None })
 }
 
-/// The text of a root in that layout, which is printed twice; where the first printing is refused the second has to write it.
+/// Returns the text of a root in that layout. It is printed twice. If the first printing fails, the second has to succeed.
 fn twice_lent(alloc: Global, ctx: &Ctx, root: Ptr<Operation>) -> Result<String, Fault>
     requires { IsSome (operation ctx.now root) }
 {
@@ -94,16 +94,16 @@ fn twice_lent(alloc: Global, ctx: &Ctx, root: Ptr<Operation>) -> Result<String, 
     }
 }
 
-/// What is printed of a root's locations.
+/// Which locations are printed.
 #[derive(Clone, Copy)]
 pub enum Located {
-    /// Those that its text gives it.
+    /// Those that the root's text gives it.
     AsRead,
     /// None: they are erased first.
     Nowhere,
 }
 
-/// The text of a root, which is printed twice as it is displayed, and twice with a state that is lent.
+/// Returns the text of a root, which is printed twice by `disp`, and twice with a state that is passed as `&mut`.
 fn printed_ways(
     alloc: Global,
     ctx: &mut Ctx,
@@ -124,7 +124,7 @@ fn printed_ways(
     Ok(format!(in alloc; "{displayed}{lent}")?)
 }
 
-/// The same of the root that stands in the text.
+/// Parses the text as a root, and then does the same.
 fn read(alloc: Global, ctx: &mut Ctx, text: &str, located: Located) -> Result<String, Fault> {
     match parse_from_str(|stream| Operation::top_level_parse(stream), ctx, text) {
         Ok(root) => printed_ways(alloc, ctx, root, located),
@@ -132,7 +132,7 @@ fn read(alloc: Global, ctx: &mut Ctx, text: &str, located: Located) -> Result<St
     }
 }
 
-/// The same once the demo dialects are registered.
+/// Registers the demo dialects first, and then does the same.
 fn registered(alloc: Global, ctx: &mut Ctx, text: &str, located: Located) -> Result<String, Fault> {
     match register_demo(ctx) {
         Ok(()) => read(alloc, ctx, text, located),
@@ -140,7 +140,7 @@ fn registered(alloc: Global, ctx: &mut Ctx, text: &str, located: Located) -> Res
     }
 }
 
-/// The same with a context of its own.
+/// Does the same with a new context.
 pub fn displayed(alloc: Global, text: &str, located: Located) -> Result<String, Fault> {
     let mut ctx: Ctx = Context::new(alloc);
     registered(alloc, &mut ctx, text, located)

@@ -1,5 +1,5 @@
-//! Reading a root where a request for memory is refused, beside a root that stands: nothing of it is left, the stream has failed, and the
-//! same text is then read as it is where there is memory.
+//! Parsing a root while an allocation fails, in a context that already contains a root: no object of it is left, the stream has failed,
+//! and the same text then parses as it does with enough memory.
 
 use crate::{Ctx, Fault};
 use irtext_types::dialects::register_demo;
@@ -14,17 +14,17 @@ use pliron_text::printable::Disp;
 use pliron_text::result::Cause;
 use std::alloc::Global;
 
-/// A root that stands before the text is read.
+/// A root that is in the context before the text is parsed.
 const STANDS: &str = "builtin.module @stands { ^a(x: test.ptr): test.use x; test.br ^a }";
 
-/// What came of a reading: what is said of its answer, or that it found no memory.
+/// The result of parsing a text: a line about it, or out of memory.
 #[derive(Drop)]
 enum Said {
     Text(String),
     Starved,
 }
 
-/// Whether one more call on the stream says that it has failed.
+/// Whether one more call on the stream returns that it has failed.
 fn has_failed(answer: &ParseResult<Ptr<Operation>, DemoAttr>) -> bool {
     match answer {
         Ok(_) => false,
@@ -32,7 +32,7 @@ fn has_failed(answer: &ParseResult<Ptr<Operation>, DemoAttr>) -> bool {
     }
 }
 
-/// What is said of a fault. Behind want of memory the stream has to have failed.
+/// Returns the result for a fault. If it is out of memory, the stream has to have failed.
 fn refused(
     alloc: Global,
     s: &mut StateStream<'_, DemoType, DemoAttr, ()>,
@@ -49,7 +49,7 @@ fn refused(
     Err(Fault::Wrong)
 }
 
-/// What comes of reading a root from a stream.
+/// Parses a root from a stream.
 fn answered(alloc: Global, s: &mut StateStream<'_, DemoType, DemoAttr, ()>) -> Result<Said, Fault> {
     match Operation::top_level_parse(s) {
         Ok(_) => Ok(Said::Text(String::from_str(alloc, "read")?)),
@@ -57,7 +57,7 @@ fn answered(alloc: Global, s: &mut StateStream<'_, DemoType, DemoAttr, ()>) -> R
     }
 }
 
-/// What comes of reading a text, and how many objects came.
+/// Parses a text. Returns the result, and how many objects are new.
 fn read(alloc: Global, ctx: &mut Ctx, text: &str) -> Result<(Said, u64), Fault> {
     let before = ctx.num_live();
     let stream = TextStream::new(alloc, text)?;
@@ -68,7 +68,8 @@ fn read(alloc: Global, ctx: &mut Ctx, text: &str) -> Result<(Said, u64), Fault> 
     Ok((said?, live.wrapping_sub(before)))
 }
 
-/// What is said of a text. Where its first reading finds no memory nothing of it may be left, and a second one has to find it.
+/// Returns the line about a text. If memory runs out when it is parsed first, nothing of it may be left, and a second parse has to
+/// succeed.
 fn twice(alloc: Global, ctx: &mut Ctx, text: &str) -> Result<String, Fault> {
     let (first, came) = read(alloc, ctx, text)?;
     if let Said::Text(said) = first {
@@ -84,7 +85,7 @@ fn twice(alloc: Global, ctx: &mut Ctx, text: &str) -> Result<String, Fault> {
     }
 }
 
-/// The text of the root that stands.
+/// Returns the text of the first root.
 fn printed(alloc: Global, ctx: &Ctx, root: Ptr<Operation>) -> Result<String, Fault> {
     if !ctx.contains_operation(root) {
         return Err(Fault::Wrong);
@@ -95,7 +96,7 @@ fn printed(alloc: Global, ctx: &Ctx, root: Ptr<Operation>) -> Result<String, Fau
     }
 }
 
-/// What is said of a text beside a root that stands, which has to be as it was.
+/// Returns the line about a text that is parsed next to the first root, which has to be unchanged, and then the text of that root.
 fn beside(alloc: Global, ctx: &mut Ctx, root: Ptr<Operation>, text: &str) -> Result<String, Fault> {
     let before = printed(alloc, ctx, root)?;
     let said = twice(alloc, ctx, text)?;
@@ -106,7 +107,7 @@ fn beside(alloc: Global, ctx: &mut Ctx, root: Ptr<Operation>, text: &str) -> Res
     Ok(format!(in alloc; "{said}\n{behind}")?)
 }
 
-/// The same once the root is read.
+/// Parses the first root, and then does the same.
 fn standing(alloc: Global, ctx: &mut Ctx, text: &str) -> Result<String, Fault> {
     match parse_from_str(|s| Operation::top_level_parse(s), ctx, STANDS) {
         Ok(root) => beside(alloc, ctx, root, text),
@@ -114,7 +115,7 @@ fn standing(alloc: Global, ctx: &mut Ctx, text: &str) -> Result<String, Fault> {
     }
 }
 
-/// The same once the demo dialects are registered.
+/// Registers the demo dialects first, and then does the same.
 fn registered(alloc: Global, ctx: &mut Ctx, text: &str) -> Result<String, Fault> {
     match register_demo(ctx) {
         Ok(()) => standing(alloc, ctx, text),
@@ -122,7 +123,7 @@ fn registered(alloc: Global, ctx: &mut Ctx, text: &str) -> Result<String, Fault>
     }
 }
 
-/// What is said of the root that stands in the text, which is read until there is memory for it.
+/// Returns the line about a text that is parsed as a root, again if memory runs out, and then the text of the first root.
 pub fn again(alloc: Global, text: &str) -> Result<String, Fault> {
     let mut ctx: Ctx = Context::new(alloc);
     registered(alloc, &mut ctx, text)

@@ -1,4 +1,4 @@
-//! Reading a list of texts where a request for memory is refused: the fault says so, and the stream has failed from then on.
+//! Parsing a list of texts while an allocation fails: the fault says so, and the stream has failed from then on.
 
 use crate::Fault;
 use irtext_types::DemoAttr;
@@ -7,7 +7,7 @@ use pliron_text::parsable::{ParseFault, ParseResult, TextStream};
 use pliron_text::result::Cause;
 use std::alloc::{AllocError, Global};
 
-/// The list of quoted texts in brackets that stands where the stream stands.
+/// Parses a list of quoted texts in brackets.
 fn list(stream: &mut TextStream) -> ParseResult<Vec<String>, DemoAttr> {
     delimited_list_parser(
         stream,
@@ -18,7 +18,7 @@ fn list(stream: &mut TextStream) -> ParseResult<Vec<String>, DemoAttr> {
     )
 }
 
-/// The texts, a line each.
+/// Returns the texts, a line each.
 fn lines(alloc: Global, texts: &[String]) -> Result<String, AllocError> {
     let mut lines = String::new(alloc);
     for text in texts {
@@ -28,7 +28,7 @@ fn lines(alloc: Global, texts: &[String]) -> Result<String, AllocError> {
     Ok(lines)
 }
 
-/// Whether the stream refuses another reading because it has failed.
+/// Whether the stream rejects another parse because it has failed.
 fn has_failed(stream: &mut TextStream) -> bool {
     match list(stream) {
         Err(fault) => fault.committed && matches!(&fault.cause, Cause::StreamFailed),
@@ -36,7 +36,7 @@ fn has_failed(stream: &mut TextStream) -> bool {
     }
 }
 
-/// The fault of a reading: want of memory, where the stream has failed from then on.
+/// Returns the fault for a parse fault: `Memory` if it is out of memory and the stream has failed from then on.
 fn fault_of(stream: &mut TextStream, fault: &ParseFault<DemoAttr>) -> Fault {
     match &fault.cause {
         Cause::Memory if fault.committed && has_failed(stream) => Fault::Memory,
@@ -44,7 +44,7 @@ fn fault_of(stream: &mut TextStream, fault: &ParseFault<DemoAttr>) -> Fault {
     }
 }
 
-/// The texts of the list that stands where the stream stands, a line each.
+/// Parses the list of quoted texts that comes next in the stream, and returns the texts, a line each.
 fn read_lines(alloc: Global, stream: &mut TextStream) -> Result<String, Fault> {
     match list(stream) {
         Ok(texts) => Ok(lines(alloc, texts.as_slice())?),
@@ -52,7 +52,7 @@ fn read_lines(alloc: Global, stream: &mut TextStream) -> Result<String, Fault> {
     }
 }
 
-/// The texts of the list that stands in the text, a line each.
+/// Parses the text as a list of quoted texts, and returns the texts, a line each.
 pub fn read(alloc: Global, text: &str) -> Result<String, Fault> {
     let mut stream = TextStream::new(alloc, text)?;
     read_lines(alloc, &mut stream)

@@ -1,4 +1,4 @@
--- For callers: what is promised of a root that is printed and read again.
+-- For callers: the promises about a root that is printed and parsed again.
 use Rattle.std.specs.Prelude.{◌≡◌, ℕ, Bool, true, List, [], Some, None}
 use Rattle.std.specs.Str.{chars, encode_utf8_all}
 use Rattle.irtext_base.specs.Answers.{Outcome}
@@ -37,9 +37,9 @@ use Rattle.pliron_text.specs.declared.calls.NotAgain.TheVariants.{Refused, Lost}
 use Rattle.pliron_text.specs.declared.calls.NotBack.{NotBack}
 use Rattle.pliron_text.specs.declared.calls.NotBack.TheVariants.{Unprinted, Unread}
 
--- A closed root of a context, as printing sees it: it stands in no block, and has no result, operand or successor; it is isolated, or has
--- no region; each operand inside is a value that its isolated scope defines, and each successor a block that its region defines; and no
--- label stands in the dictionary of a block.
+-- A closed root of a context, as printing sees it: it is in no block, and has no results, operands or successors. It is isolated, or
+-- has no region. Each operand inside is a value that its isolated scope defines, and each successor a block that its region defines. No
+-- dictionary of a block contains a label.
 pub record IsClosed {T A : Type 0} (written : A → Text) (C : Printing T A) (ctx : ContextView T A) (p : Ptr Operation) (g : Graph T A) : Type 0 where
   pub sees : seen_root written ctx p ≡ Some g
   pub nowhere : block_round ctx p ≡ None
@@ -51,35 +51,36 @@ pub record IsClosed {T A : Type 0} (written : A → Text) (C : Printing T A) (ct
   pub unlabelled : HoldsNoLabels g
 
 module _ {T A : Type 0} (types : ir_text.Ghosts T A) (owns : ir_text.Ghosts A A) (attributes : attr_text.Ghosts A) (same : A → A → Bool) (ctx : ContextView T A) (p : Ptr Operation) where
-  -- The bytes are those of a root's text in this layout, as the definitions of printing give it of what is seen under it; and all that was
-  -- written fits its format.
+  -- The bytes are the text of a root in this layout, as the definitions of printing give it for the root's graph; and every printed
+  -- operation fits its format.
   pub record IsPrinted (layout : Shown (Unit {0})) (bytes : List ℕ) : Type 0 where
     pub is_text : (g : Graph T A) → seen_root owns.written ctx p ≡ Some g → block_round ctx p ≡ None
         → bytes ≡ encode_utf8_all (text (heads.language_of types owns attributes same ctx) (heads.printing_of types owns attributes same ctx) g layout.indent layout.width (levels layout.limit))
     pub fits : heads.MisfitsUnder types owns attributes same ctx p layout → ⊥
 
-  -- why a root's text is not read back: it is not printed in this layout, or memory was refused to the reading
+  -- why a root's text is not parsed back: the root is not printed in this layout, or parsing ran out of memory
   abbrev pub IsExcused : Shown (Unit {0}) → NotBack A → Type 0
   IsExcused layout (Unprinted refusal) = heads.RefusesUnder types owns attributes same ctx p layout refusal
   IsExcused layout (Unread refused) = fault_of refused.cause ≡ fault.Memory
 
 module _ {T A : Type 0} (types : Texts T) (owns : Texts A) (attr : Text → Outcome (AttrView A)) where
   module _ (C : Printing T A) (dialects : List (Text × Table)) (g : Graph T A) (q : Ptr Operation) (ctx : ContextView T A) where
-    -- what stands under the pointer is equal to the root up to fillings, uses inside too, and only white space was left of the text
+    -- the operation that the pointer refers to is equal to the root up to fillings, uses inside included, and only white space of the
+    -- text is left
     abbrev pub ComesBack : Type 0
     ComesBack = (rest : Text) × HeldBack types owns attr C (isolated dialects) g rest (held_root ctx q)
 
-    -- the same where nothing was filled in but positions
+    -- the same if nothing was filled in but positions
     abbrev pub ComesBackWhole : Type 0
     ComesBackWhole = (rest : Text) × HeldWhole types owns attr C (isolated dialects) g rest (held_root ctx q)
 
   module _ (bytes : List ℕ) (ctx : ContextView T A) where
-    -- a stream of the text stands over the context
+    -- a stream that is at the start of the text, over this context
     pub record Starts (old : StateStream T A (Unit {0})) : Type 0 where
       pub text : old.stream.rest ≡ chars bytes
       pub context : old.state.ctx.now ≡ ctx
 
-    -- a root was read from a stream of the text over the context, which it left so
+    -- a root was parsed from a stream of the text over this context, and left the context as `after`
     pub record ReadsText (op : Ptr Operation) (after : ContextView T A) : Type 0 where
       pub old : StateStream T A (Unit {0})
       pub new : StateStream T A (Unit {0})
@@ -87,14 +88,14 @@ module _ {T A : Type 0} (types : Texts T) (owns : Texts A) (attr : Text → Outc
       pub ends : new.state.ctx.now ≡ after
       pub builds : BuildsRoot types owns attr op old new
 
-    -- none was read from a stream of the text over the context, since the text is none of a root
+    -- no root was parsed from a stream of the text over this context, since the text is not that of a root
     pub record RefusesText (types_at : Text → Outcome T) (refused : ParseFault A) : Type 0 where
       pub old : StateStream T A (Unit {0})
       pub starts : Starts old
       pub refuses : RefusesRoot types owns types_at attr old.state.ctx.now.dialects old.stream refused
 
-  -- A text was read as a root, and what was printed of it as another: which stands there as the first did, with nothing filled in but
-  -- positions; and only that is new.
+  -- A text was parsed as a root, and the printed text of that root as another one. The second is equal to the first, with nothing
+  -- filled in but positions, and nothing else in the second context is new.
   pub record IsAgain (C : Printing T A) (bytes : List ℕ) (ctx : ContextView T A) (p : Ptr Operation) (after : ContextView T A) (other : ContextView T A) (q : Ptr Operation) (left : ContextView T A) : Type 0 where
     pub reads : ReadsText bytes ctx p after
     pub graph : Graph T A
@@ -102,7 +103,7 @@ module _ {T A : Type 0} (types : Texts T) (owns : Texts A) (attr : Text → Outc
     pub whole : ComesBackWhole C after.dialects graph q left
     pub only : OnlyNew q other left
 
--- why a text's root is not read again: the text was refused, or its root was not printed in this layout, or memory was refused
+-- why a text's root is not parsed again: the text was rejected, its root was not printed in this layout, or memory ran out
 abbrev pub IsExcusedAgain : {T A : Type 0} → ir_text.Ghosts T A → ir_text.Ghosts A A → attr_text.Ghosts A → (A → A → Bool) → List ℕ → ContextView T A → ContextView T A → Shown (Unit {0}) → NotAgain A → Type 0
 IsExcusedAgain types owns attributes same bytes ctx after layout (Refused f) = UnlessMemory (RefusesText (texts_of types.reading types.written) (texts_of owns.reading owns.written) (attr_at owns.reading) bytes ctx types.reading) f
 IsExcusedAgain {T} {A} types owns attributes same bytes ctx after layout (Lost lost) =

@@ -1,6 +1,6 @@
--- What the law that a printed root is read back rests on, in reading order: texts and readings, trees, names, graphs, what is
--- written of them, what a context holds, and what a caller is told.
--- What functions promise one another: streams, faults and answers, what a reader answers, what a printer appends.
+-- The definitions that the law "a printed root parses back" rests on, in reading order: texts and what they parse as, trees, names,
+-- graphs, what is printed of them, what a context holds, and the promises to a caller. Then what functions promise one another:
+-- streams, faults and causes, what a parser returns, what a printer appends.
 pub mod Calls
 pub mod Promises
 pub use Rattle.irtext_base.specs.Answers

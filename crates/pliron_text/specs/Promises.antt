@@ -1,4 +1,4 @@
--- What a caller is told of a root, of an operation in it, and of its section.
+-- The promises to a caller about a root, an operation in it, and its section.
 pub use Rattle.irtext_outcomes.specs.Promises.Supported
 pub use Rattle.irtext_outcomes.specs.Promises.Section
 pub use Rattle.irtext_outcomes.specs.Promises.Root

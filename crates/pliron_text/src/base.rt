@@ -1,4 +1,4 @@
-//! The objects of a context.
+//! The objects of a context, and access to them.
 
 pub use irtext_base::base::{AttrObj, GIVEN_NAMES_KEY, Identifier, OpId, Refusal, SYM_NAME_KEY};
 pub use irtext_context::base::{

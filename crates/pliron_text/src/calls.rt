@@ -1,4 +1,4 @@
-//! The laws of the two calls, with bodies that make them: a root is printed, and its text is read in another context.
+//! The laws of printing and parsing, with bodies that make the calls: a root is printed, and its text is parsed in another context.
 ghost use Rattle.std.specs.Prelude.{◌≡◌, ◌<◌, ◌^◌, None, Some, IsSome, IfErr, IfOk, OnErr, length, string_bytes};
 ghost use Rattle.irtext_base.specs.Own.{texts_of};
 ghost use Rattle.irtext_context.specs.Context.{operation};
@@ -33,25 +33,25 @@ use irtext_print::printable::{Refusal, State as PrintState};
 use irtext_print_ir::ir::print::print_root;
 use irtext_state::parsable::{State, StateStream};
 
-/// Why a root's text was not read back.
+/// Why a root's text was not parsed back.
 #[derive(Drop)]
 pub enum NotBack<A> {
     /// The root was not printed.
     Unprinted(Refusal),
-    /// Its text was refused.
+    /// Its text was rejected, or there was no memory to parse it.
     Unread(ParseFault<A>),
 }
 
-/// Why a text's root was not read a second time.
+/// Why a text's root was not parsed a second time.
 #[derive(Drop)]
 pub enum NotAgain<A> {
-    /// The text was refused.
+    /// The text was rejected, or there was no memory to parse it.
     Refused(ParseFault<A>),
-    /// Its root was not read back.
+    /// Its root was not printed, or was not parsed back.
     Lost(NotBack<A>),
 }
 
-/// The text of a root in a layout.
+/// Returns the text of a root in this layout.
 fn text_of_root<T: IrText<A>, A: AttrText>(
     ctx: &Context<T, A>,
     op: Ptr<Operation>,
@@ -78,14 +78,14 @@ fn text_of_root<T: IrText<A>, A: AttrText>(
     }
 }
 
-/// A number counts the bytes of a text.
+/// The length of a text in bytes fits 64 bits. Does nothing: the contract hands that out.
 fn bytes_counted(text: &str)
     ensures { length text.now < 2 ^ 64 }
 {
     let _size = text.len();
 }
 
-/// The fault where there is no memory for the text.
+/// The fault that says that there was no memory to copy the text: committed, at line 1, column 1.
 fn no_memory<A>() -> ParseFault<A>
     ensures { IsStarved result }
 {
@@ -96,7 +96,7 @@ fn no_memory<A>() -> ParseFault<A>
     }
 }
 
-/// The root that stands where a fresh state's stream stands.
+/// Parses a root from a stream that has not failed, in a state without recorded marks.
 fn fresh_parse<T: IrText<A>, A: AttrText, U>(
     s: &mut StateStream<'_, T, A, U>,
 ) -> ParseResult<Ptr<Operation>, A>
@@ -112,7 +112,7 @@ fn fresh_parse<T: IrText<A>, A: AttrText, U>(
     root_parse(s)
 }
 
-/// The root that a text reads as.
+/// Parses a text as a root, in this context.
 fn read_text<T: IrText<A>, A: AttrText>(
     ctx: &mut Context<T, A>,
     text: &str,
@@ -139,7 +139,7 @@ fn read_text<T: IrText<A>, A: AttrText>(
     answer
 }
 
-/// Prints a root and reads the text, as `printed_and_read` does; what is said of it asks that the root is closed where its operations fit
+/// Prints a root and parses the text, as `printed_and_read` does. The clauses assume that the root is closed only if its operations fit
 /// their formats.
 fn there_and_back<T: IrText<A>, A: AttrText>(
     ctx: &Context<T, A>,
@@ -183,12 +183,16 @@ fn there_and_back<T: IrText<A>, A: AttrText>(
     }
 }
 
-/// Prints a root as `print` does with a state of this layout, or as `disp` does where the layout is a new state's; and reads the text as
-/// `top_level_parse` does, in another context with the same dialects. A closed root is read back where the layout leaves no regions out:
-/// what stands under the answer, however deep, is equal to it up to fillings, uses inside too, and only that is new; nothing but positions
-/// is filled in where each block has a label and all that has results or arguments holds given names. It is refused only where memory is,
-/// or where an operation doesn't fit its format or the indentation is too deep, and then the other context's objects are as they were.
-/// Nothing is read of a root of which the layout left a region out.
+/// Prints a root, and parses the text in another context with the same dialects. It prints as `print` does with a state of this layout
+/// (as `disp` does if the layout is that of a new state), and parses as `top_level_parse` does.
+///
+/// If the root is closed and the layout leaves no region out, the returned operation, however deep, is equal to the root up to
+/// fillings, uses inside included. If in addition each block has a label, and everything that has results or arguments holds given
+/// names, only positions are filled in. In both cases an error is one of these: out of memory, an operation does not fit its format, or
+/// an indentation does not fit 16 bits.
+///
+/// On success only the returned operation and what is inside it is new in the other context. On an error the objects of the other
+/// context are unchanged. If the root is closed, its operations fit and the layout leaves a region out, the call never succeeds.
 pub fn printed_and_read<T: IrText<A>, A: AttrText>(
     ctx: &Context<T, A>,
     op: Ptr<Operation>,
@@ -223,9 +227,10 @@ pub fn printed_and_read<T: IrText<A>, A: AttrText>(
     there_and_back(ctx, op, layout, other)
 }
 
-/// Reads a text, prints the root that it reads as, and reads what was printed in another context with the same dialects. What is read then
-/// is the first root whole: with a position where its location was unknown, and with no name and no label filled in. Nothing but want of
-/// memory, an operation that doesn't fit its format or an indentation that is too deep comes between.
+/// Parses a text, prints the root, and parses the printed text in another context with the same dialects. The layout must not limit the
+/// depth of regions. On success returns both roots. The second is equal to the first, with a position if a location was unknown, and
+/// with no name and no label filled in. An error is one of these: the text is rejected, out of memory, an operation does not fit its
+/// format, or an indentation does not fit 16 bits.
 pub fn read_printed_and_read<T: IrText<A>, A: AttrText>(
     text: &str,
     ctx: &mut Context<T, A>,

@@ -1,3 +1,3 @@
-//! Dialects: their names, and their operations with the formats by which these are written. A name is read, and a dialect printed.
+//! Dialects: their names, and their operations with their formats. A dialect's name can be parsed, and a dialect can be printed.
 
 pub use irtext_context::dialect::{Dialect, DialectName, OpInfo};

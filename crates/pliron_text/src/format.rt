@@ -1,4 +1,4 @@
-//! The formats of operations, and which of them read uniquely.
+//! The formats of operations, and the check that a format parses uniquely.
 
 pub use irtext_base::format::{Directive, FormatFault, OpFormat};
 pub use irtext_formats::format::check_format;

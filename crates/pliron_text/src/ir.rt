@@ -1,4 +1,4 @@
-//! Operations and regions as text.
+//! Operations, blocks and regions as text.
 
 mod text;
 

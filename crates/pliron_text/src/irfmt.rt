@@ -1,9 +1,9 @@
-//! Readers of tokens, stored printers, and the section of marked items.
+//! Parsers of tokens, stored printers, and the section of marked items.
 
 pub use irtext_parse_root::irfmt::outlined;
 pub use irtext_print_ir::irfmt::printers;
-/// Readers of tokens, lists, types and attributes. Each takes the stream first and answers what stands there, or a fault with its cause
-/// and place.
+/// Parsers of tokens, lists, types and attributes. Each takes the stream as its first argument. It returns the value that it parsed
+/// there, or a fault with its cause and position.
 pub mod parsers {
     pub use irtext_parse_root::names::{block_opd_parse, ssa_opd_parse};
     pub use irtext_parse_root::results::process_parsed_ssa_defs;

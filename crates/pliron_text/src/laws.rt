@@ -1,5 +1,5 @@
-//! Laws of the definitions that the reader's and the printer's contracts speak of. Each function does nothing: its contract is
-//! a theorem about every text, tree and graph, proved from the definitions alone and from the laws of the caller's types.
+//! Laws of the definitions that the contracts of the parser and the printer use. Each function does nothing: its contract is a theorem
+//! about all texts, trees and graphs. It is proved from the definitions and from the laws of the caller's types and attributes.
 ghost use Rattle.std.specs.Prelude.{◌≡◌, ◌<◌, ◌^◌, ℕ, Bool, List, [], ◌++◌, ◌↔◌, Option, None, Some, ⊤};
 ghost use Rattle.irtext_base.specs.Format.{Accepted, Format, Id, same_text};
 ghost use Rattle.irtext_base.specs.Own.{language, unplaced, texts_of};
@@ -39,14 +39,14 @@ pub mod places;
 pub mod section;
 pub mod two_calls;
 
-/// A text reads as one tree at most, and leaves one rest.
+/// A text parses as at most one tree, with one rest.
 pub fn one_tree<T: IrText<A>, A: AttrText>()
     ensures { (formats : Id → Option Format) (x y : Tree ℕ T A) (t u v : List ℕ) →
         let l = language (texts_of T.reading T.written) (texts_of A.reading A.written) formats in
         reads l x t u → reads l y t v → (x ≡ y) × (u ≡ v) }
 {}
 
-/// What is written of a tree reads as that tree, before whatever printed IR has behind it.
+/// The printed text of a tree parses back to that tree, if it is followed by what may follow an operation in printed IR (`Behind`).
 pub fn reads_back<T: IrText<A>, A: AttrText>()
     ensures { (formats : Id → Option Format) (width n : ℕ) (t : Tree ⊤ T A) (f : List ℕ) →
         let l = unplaced (texts_of T.reading T.written) (texts_of A.reading A.written) formats in
@@ -57,21 +57,21 @@ pub fn reads_back<T: IrText<A>, A: AttrText>()
         × (bare read ≡ t) × (after_space u ≡ after_space f) }
 {}
 
-/// One pass with placeholders over a root and its section refuses exactly where the two passes do, by the same first failure,
-/// and else each operand and successor holds the definition that the two passes look up.
+/// One pass with placeholders over a root and its section fails exactly if the two passes do, with the same first failure. If it does
+/// not fail, each operand and each successor holds the definition that the two passes look up.
 pub fn placeholders_are_two_passes<T, A, X>()
     ensures { (isolated : Id → Bool) (t : Tree ℕ T A) (es : List (Entry ℕ A X)) →
         AgreesWith (failures_of isolated t es) (bound same_text [] [] (root_script isolated t es))
         (read (Ok fresh_tracker) (events (root_script isolated t es))) }
 {}
 
-/// The same of any part that is read by itself, as of regions under a parent.
+/// The same for each part that is parsed alone, such as the regions of an operation.
 pub fn parts_alone()
     ensures { (x : Script) → AgreesWith (failures same_text no_scope x) (bound same_text [] [] x) (read (Ok fresh_tracker) (events x)) }
 {}
 
-/// A use means a definition, in a tree that a text reads as and its section, exactly where the operation that is built there has
-/// that definition as that operand or successor. Formats are accepted.
+/// In a tree that a text parses as, with its section, a use refers to a definition exactly if the operation that is built there has
+/// that definition as that operand or successor. Formats have to be accepted.
 pub fn uses_are_built<T: IrText<A>, A: AttrText, X>()
     ensures { (formats : Id → Option Format) (isolated : Id → Bool) (first : ℕ → X)
         (es : List (Entry ℕ A X)) (t : Tree ℕ T A) (text rest : List ℕ) →
@@ -81,8 +81,8 @@ pub fn uses_are_built<T: IrText<A>, A: AttrText, X>()
         In (u, p) (links (build isolated first es t)) }
 {}
 
-/// Where nothing is wrong with a tree that a text reads as and its section, each operand and each successor that is built holds a
-/// definition. Formats are accepted.
+/// If a tree that a text parses as, with its section, has no failure, each operand and each successor that is built holds a definition.
+/// Formats have to be accepted.
 pub fn operands_are_there<T: IrText<A>, A: AttrText, X>()
     ensures { (formats : Id → Option Format) (isolated : Id → Bool) (first : ℕ → X)
         (es : List (Entry ℕ A X)) (t : Tree ℕ T A) (text rest : List ℕ) →
@@ -91,7 +91,8 @@ pub fn operands_are_there<T: IrText<A>, A: AttrText, X>()
         failures_of isolated t es ≡ [] → Linked (build isolated first es t) }
 {}
 
-/// Printed names of distinct values differ, and of distinct blocks, whatever their given names and labels.
+/// Distinct values have distinct printed names, and so do distinct blocks, whatever their given names and labels. A value and a block
+/// never have the same printed name.
 pub fn printed_names_differ()
     ensures values { (g h : Option (List ℕ)) (m n : ℕ) → m < 2 ^ 64 → n < 2 ^ 64 → value_name g m ≡ value_name h n → m ≡ n }
     ensures blocks { (l k : Option (List ℕ)) (b c : ℕ × ℕ) → b.0 < 2 ^ 64 → b.1 < 2 ^ 64 → c.0 < 2 ^ 64 →
@@ -100,8 +101,8 @@ pub fn printed_names_differ()
         b.1 < 2 ^ 64 → value_name g n ≡ block_name l b → ⊥ }
 {}
 
-/// Whatever tree reads as what is written of a closed root, places aside: it resolves, and what it builds has the root's ids,
-/// types, operands, successors and printed labels, place by place.
+/// Take a tree that, apart from places, is what is printed of a closed root. It resolves (`resolves`), and what it builds has the
+/// root's ids, types, operands, successors and printed labels at each place (`shapes`).
 pub fn names_come_back<T, A, X>()
     ensures resolves { (C : Printing T A) (isolated : Id → Bool) (g : Graph T A) (t : Tree ℕ T A) →
         Fit C isolated g → SmallGraph C isolated g → GraphKeepsKeys g → Closed C isolated g →
@@ -111,8 +112,9 @@ pub fn names_come_back<T, A, X>()
         bare t ≡ written C None g → SameShapes (stood C isolated g) (build isolated first es t) }
 {}
 
-/// The text of a closed root whose operations fit accepted formats reads, before whatever printed IR has behind it, as a
-/// tree that resolves, and what that tree builds has the root's ids, types, operands, successors and printed labels, place by place.
+/// The printed text of a closed root whose operations fit accepted formats parses as a tree that resolves, if it is followed by what
+/// may follow an operation in printed IR. What that tree builds has the root's ids, types, operands, successors and printed labels at
+/// each place.
 pub fn round_trip<T: IrText<A>, A: AttrText, X>()
     ensures { (C : Printing T A) (isolated : Id → Bool) (first : ℕ → X) (es : List (Entry ℕ A X))
         (g : Graph T A) (width n : ℕ) (f : List ℕ) →
@@ -127,7 +129,7 @@ pub fn round_trip<T: IrText<A>, A: AttrText, X>()
         × (failures same_text no_scope (tree_script isolated t done) ≡ []) × SameShapes (stood C isolated g) (build isolated first es t) }
 {}
 
-/// What is written of a root reads as that tree before a section too.
+/// The printed text of a tree also parses back to that tree if a section follows.
 pub fn root_reads_back<T: IrText<A>, A: AttrText>()
     ensures { (formats : Id → Option Format) (width n : ℕ) (t : Tree ⊤ T A) (f : List ℕ) →
         let l = unplaced (texts_of T.reading T.written) (texts_of A.reading A.written) formats in
@@ -138,8 +140,8 @@ pub fn root_reads_back<T: IrText<A>, A: AttrText>()
         × (bare read ≡ t) × (after_space u ≡ after_space f) }
 {}
 
-/// The root of a text with its section reads as what was written of it, and what is left is the section. Where nothing was
-/// marked there is no section, and what is left is what stands behind the text.
+/// The root of a text with its section parses back to what was printed of it, and the rest is the section. If nothing is marked, there
+/// is no section, and the rest is what follows the text.
 pub fn root_before_section<T: IrText<A>, A: AttrText>()
     ensures { (C : Printing T A) (isolated : Id → Bool) (g : Graph T A) (width n : ℕ) (f : List ℕ) →
         let types = texts_of T.reading T.written in
@@ -150,7 +152,7 @@ pub fn root_before_section<T: IrText<A>, A: AttrText>()
         × (bare t ≡ written C None g) × (after_space u ≡ after_space (section l C (entries_of C None g) ++ f)) }
 {}
 
-/// The text of a root that was printed under a limit reads as no tree where a region was left out, whatever printed IR has behind it.
+/// If a root is printed under a limit that leaves a region out, its text parses as no tree, whatever follows it in printed IR.
 pub fn left_out_is_refused<T: IrText<A>, A: AttrText>()
     ensures { (C : Printing T A) (isolated : Id → Bool) (g : Graph T A) (limit : Option ℕ) (width n : ℕ)
         (f : List ℕ) (t : Tree ℕ T A) (u : List ℕ) →
@@ -161,10 +163,10 @@ pub fn left_out_is_refused<T: IrText<A>, A: AttrText>()
         reads (language types owns C.format_of) t (text (unplaced types owns C.format_of) C g n width limit ++ f) u → ⊥ }
 {}
 
-/// A root that a text reads as, with its section, is refused by nothing exactly where it resolves: each operation has as many
-/// names as result types; reserved keys have given names; nothing is used or defined outside of every region; a root with
-/// regions is isolated; no scope defines a name twice, and each defines what is used in it; no two items have one mark; and
-/// each entry is of a mark of its own, with references to attributes that are there.
+/// A root that a text parses as, with its section, has no failure exactly if it resolves. That means: each operation has as many names
+/// as result types; reserved keys hold given names; nothing is used or defined outside of every region; a root with regions is
+/// isolated; no scope defines a name twice, and each scope defines what is used in it; no two items have the same mark; and each entry
+/// belongs to a mark of its own, and refers only to attributes that the section contains.
 pub fn what_resolves<T: IrText<A>, A: AttrText, X>()
     ensures is_needed { (formats : Id → Option Format) (isolated : Id → Bool) (t : Tree ℕ T A)
         (es : List (Entry ℕ A X)) (source rest : List ℕ) →

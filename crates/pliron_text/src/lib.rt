@@ -1,5 +1,5 @@
-//! The text of IR, as a caller names it: what the crates below offer, the calls of operations that are about their text, the macros
-//! that make errors, and the laws.
+//! The text layer of the IR, and the one crate that a user names. It re-exports what the crates below offer to a caller, and has the
+//! calls that parse and print operations, the macros that create errors, and the laws.
 #![tactic(auto)]
 
 pub mod base;

@@ -1,4 +1,4 @@
-//! Where operations and errors come from.
+//! Locations: where operations and errors come from.
 
 pub use irtext_base::location::{CloneIntoContext, Location, PathKey, Source};
 pub use irtext_base::parsable::SourcePosition;

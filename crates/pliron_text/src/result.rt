@@ -1,4 +1,4 @@
-//! Why a call was refused, and the macros that make errors.
+//! Errors and their causes, and the macros that create errors.
 
 pub use irtext_base::result::{Cause, Error, ErrorKind, Expected, Result, StringError};
 

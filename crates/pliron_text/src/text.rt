@@ -1,3 +1,3 @@
-//! The law of the caller's types and attributes.
+//! The traits that the caller implements for its types and attributes.
 
 pub use irtext_base::text::{AttrText, IrText};

@@ -1,4 +1,4 @@
-//! The worked rows, and inputs and outputs that fail.
+//! Worked rows, and inputs and outputs that fail.
 mod blocks;
 
 use super::run;
@@ -35,7 +35,7 @@ const ACCEPTED: &[(&[u8], &[u8])] = &[
     ),
 ];
 
-/// Inputs of `irtext fmt` that are refused, and what is said of each.
+/// Inputs of `irtext fmt` that are rejected, and the error of each.
 const REFUSED: &[(&[u8], &[u8])] = &[
     (
         b"builtin.module @m {",
@@ -94,13 +94,13 @@ const ELIDED: &[(&[u8], &[u8])] = &[
     (FIRST, b"builtin.module @m {..}\n"),
 ];
 
-/// A text with an elided region, and why it is refused.
+/// A text with an elided region, and the error with which it is rejected.
 const UNREADABLE: (&[u8], &[u8]) = (
     b"builtin.module @bar {..}\n",
     b"[<in-memory>: line: 1, column: 22] Compilation error: invalid input program.\nParse error at line: 1, column: 22\nUnexpected `.`, expected `}`\n",
 );
 
-/// Words that the program doesn't know.
+/// Arguments that the program does not know.
 const UNKNOWN: &[&[&str]] = &[
     &[],
     &["show"],
@@ -110,7 +110,7 @@ const UNKNOWN: &[&[&str]] = &[
     &[""],
 ];
 
-/// Runs the program on these words and this input, which has to end with this status, output and errors.
+/// Runs the program with these arguments and this input, and checks its exit status, output and errors.
 fn check(
     rt: &(impl Abort + AllocGlobal),
     words: &[&str],
@@ -166,7 +166,7 @@ fn other_words_are_told_the_usage(rt: HostRuntime) {
     }
 }
 
-/// A writer that takes `room` bytes, and then refuses.
+/// A writer that takes `room` bytes, and then fails.
 #[derive(Drop)]
 struct Bounded {
     got: Vec<u8>,
@@ -188,7 +188,7 @@ impl Write for Bounded {
     }
 }
 
-/// A reader that gives its text, and then fails.
+/// A reader that yields its text, and then fails.
 #[derive(Drop)]
 struct Failing<'a> {
     text: &'a [u8],

@@ -1,4 +1,4 @@
--- For callers: what errors print as, in bytes, with the locations of theirs that are known in front.
+-- For callers: what errors print as, in bytes, each with its location in front if it is known.
 use Rattle.std.specs.Prelude.{List, ℕ, [], ◌++◌, Option, Some, None, codes}
 use Rattle.std.specs.Option.{option_map}
 use Rattle.std.specs.Str.{encode_utf8_all}
@@ -10,21 +10,21 @@ use Rattle.irtext_base.specs.declared.result.Error.{Error}
 use Rattle.irtext_base.specs.declared.result.ErrorKind.{ErrorKind}
 use Rattle.irtext_grammar.specs.Spelling.Locations.{known_text}
 
--- a text between two others, where there is one
+-- a text between two others, if there is one
 abbrev pub between : List ℕ → List ℕ → Option (List ℕ) → List ℕ
 between before after None = []
 between before after (Some text) = before ++ (text ++ after)
 
--- the bytes of a text between two others, where there is one
+-- the bytes of a text between two others, if there is one
 abbrev pub framed : List ℕ → List ℕ → Option Text → List ℕ
 framed before after text = between before after (option_map encode_utf8_all text)
 
 module _ {A : Type 0} (written : A → Text) (paths : List (List ℕ)) where
-  -- an error's text behind its location, where that is known
+  -- an error's text after its location, if that is known
   abbrev pub located : Location A → ErrorKind → List ℕ → List ℕ
   located location kind cause = framed (codes "[") (codes "] ") (known_text written paths location) ++ headed kind cause
 
-  -- the text of a cause; an inner error's has its location in front
+  -- the text of a cause; that of an inner error has its location in front
   abbrev pub located_cause : Cause A → List ℕ
   located_cause (Nested' p kind err loc) = located loc kind (located_cause err)
   located_cause cause = cause_text cause

@@ -12,7 +12,7 @@ pub record Appends {U : Type 0} (p : List ℕ × Shown U) (after : Shown U) (old
   pub text : new ≡ old ++ p.0
   pub state : after ≡ p.1
 
--- the same, where a text is claimed
+-- the same, if a text is claimed
 abbrev pub Writes : {U : Type 0} → Option (List ℕ × Shown U) → Shown U → List ℕ → List ℕ → Type 0
 Writes o after old new = IfSome o (λ p. Appends p after old new)
 

@@ -1,4 +1,4 @@
--- For callers: keys that are looked for as it is tested whether an operation fits its format.
+-- For callers: keys that are looked up by the check whether an operation fits its format.
 use Rattle.std.specs.Prelude.{Bool, cond, not, List, [], ◌∷◌, Option, Some, None, is_some}
 use Rattle.std.specs.List.{find}
 use Rattle.irtext_base.specs.Text.{Text}
@@ -13,7 +13,7 @@ first_key test [] = None
 first_key test (e ∷ es) = cond (test e) (Some e.0) (first_key test es)
 
 module _ {A : Type 0} where
-  -- the key that a directive names, where no attribute has it
+  -- the key that a directive names, if no attribute has it
   abbrev pub lacking_key : List (Text × Attribute A) → Directive → Option Text
   lacking_key es (format.attribute k) = cond (is_some (lookup k es)) None (Some k)
   lacking_key es _ = None

@@ -1,4 +1,4 @@
--- What is still to be written of a location's text while it is written, and how much that is.
+-- What is still to be printed of a location's text, and how much that is.
 use Rattle.std.specs.Prelude.{◌≡◌, ◌<◌, ◌+◌, ◌*◌, ℕ, Bool, true, false, Option, Some, None, List, [], ◌∷◌, ◌++◌, map, codes, string_bytes, Vec}
 use Rattle.std.specs.Str.{encode_utf8_all}
 use Rattle.std.specs.declared.alloc.Global.{Global}
@@ -13,11 +13,11 @@ use Rattle.irtext_grammar.specs.Spelling.Spell.{joined, joined_from, comma}
 use Rattle.irtext_print.specs.declared.location.parts.Part.{Part}
 use Rattle.irtext_print.specs.declared.location.parts.Part.TheVariants.{Whole, Row, Caller, Closing}
 
--- how much a location is to write: at least one for each of its parts
+-- how much a location has to print: at least one for each of its parts
 abbrev pub text_weight : {A : Type 0} → Location A → ℕ
 text_weight l = 1 + 2 * weight_of l
 
--- the weight of what is left of a row, with its bracket
+-- the weight of the rest of a row, with its bracket
 abbrev pub list_weight : {A : Type 0} → List (Location A) → ℕ
 list_weight ls = 1 + 2 * weight_all ls
 
@@ -33,7 +33,7 @@ abbrev pub waiting_weight : {A : Type 0} → List (Part A) → ℕ
 waiting_weight [] = 0
 waiting_weight (p ∷ ps) = part_weight p + waiting_weight ps
 
--- the weight of what is left: the next part and those that wait
+-- the weight of the rest: the next part and those that wait
 abbrev pub left_weight : {A : Type 0} → Option (Part A) → List (Part A) → ℕ
 left_weight None waiting = 0
 left_weight (Some p) waiting = part_weight p + waiting_weight waiting
@@ -43,7 +43,7 @@ module _ {A : Type 0} (written : A → Text) (paths : List (List ℕ)) where
   abbrev pub list_texts : List (Location A) → List Text
   list_texts ls = row_texts written (row_sourced (path_of paths) (in_row (map location_view ls)))
 
-  -- what is left of a row, with the bracket behind it; a comma stands in front of each location but the first
+  -- the rest of a row, with the bracket after it; a comma is before each location but the first
   abbrev pub row_text : Bool → List (Location A) → Text
   row_text true ls = joined comma (list_texts ls) ++ codes "]"
   row_text false ls = joined_from comma (list_texts ls) ++ codes "]"
@@ -55,22 +55,22 @@ module _ {A : Type 0} (written : A → Text) (paths : List (List ℕ)) where
   part_text (Caller l) = codes " at " ++ (location_text written paths l.now ++ codes ")")
   part_text Closing = codes ")"
 
-  -- the text of the parts that wait: the one that came last is written first
+  -- the text of the parts that wait: the last one that was added is printed first
   abbrev pub waiting_text : List (Part A) → Text
   waiting_text [] = []
   waiting_text (p ∷ ps) = waiting_text ps ++ part_text p
 
-  -- the text that is left: the next part's, and that of those that wait
+  -- the text that is left: that of the next part, and that of those that wait
   abbrev pub left_text : Option (Part A) → List (Part A) → Text
   left_text None waiting = []
   left_text (Some p) waiting = part_text p ++ waiting_text waiting
 
-  -- a text of this weight, and then the parts that wait: what was written of them and what is left are the same text, and less is left
+  -- a text of this weight, and then the parts that wait: what was printed of them and what is left are the same text, and less is left
   pub record Continues (text : Text) (size : ℕ) (before : List (Part A)) (old : String Global) (after : List (Part A)) (new : String Global)
       (next : Option (Part A)) : Type 0 where
     pub text_left : string_bytes new ++ encode_utf8_all (left_text next after) ≡ string_bytes old ++ encode_utf8_all (text ++ waiting_text before)
     pub less : left_weight next after < size + waiting_weight before
 
-  -- the same of a part
+  -- the same for a part
   abbrev pub WritesPart : Part A → Vec (Part A) Global → String Global → Vec (Part A) Global → String Global → Option (Part A) → Type 0
   WritesPart part before old after new = Continues (part_text part) (part_weight part) before.items old after.items new

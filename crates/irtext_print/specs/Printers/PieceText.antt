@@ -1,4 +1,4 @@
--- For callers: what is written of an operation's attributes by the directives of its format.
+-- For callers: what the directives of an operation's format print of its attributes.
 use Rattle.std.specs.Prelude.{ℕ, zero, suc, ◌-◌, ◌==◌, ◌&&◌, Bool, false, cond, not, List, [], ◌∷◌, ◌++◌, map, filter, Option, Some, None, codes, ⊤}
 use Rattle.std.specs.List.{list_any}
 use Rattle.irtext_base.specs.Text.{Text, begins}
@@ -9,70 +9,70 @@ use Rattle.irtext_grammar.specs.Graphs.Graph.{Printing, lookup, outlined, inline
 use Rattle.irtext_grammar.specs.Spelling.Spell.{joins_left, attribute, joined, comma}
 use Rattle.irtext_grammar.specs.Grammar.Tree.{Attribute, ident, given_names, own}
 
--- what printing asks of the caller's attributes, where it is only whether one is outlined
+-- what printing needs to know of the caller's attributes if it is only whether one is outlined
 abbrev pub outlining : {A : Type 0} → (A → Bool) → Printing ⊤ A
 outlining outlined = record { given = λ v. None; label = λ b. None; type_of = λ v. None; own_outlined = outlined; own_once = λ a. false; same_own = λ a b. false; format_of = λ id. None }
 
--- what is written of the caller's attributes, and of nothing else
+-- the texts of the caller's attributes, and of nothing else
 abbrev pub words : {A : Type 0} → (A → Text) → Language ⊤ ⊤ A
 words written = unplaced (record { outcome = λ t. missing; written = λ t. [] }) (record { outcome = λ t. missing; written = written }) (λ id. None)
 
--- a text behind a space
+-- a text after a space
 abbrev pub spaced : Text → Text
 spaced text = codes " " ++ text
 
--- the same, where there is a text
+-- the same, if there is a text
 abbrev pub spaced_if : Option Text → Text
 spaced_if None = []
 spaced_if (Some text) = spaced text
 
--- a fixed word, behind a space unless it joins what stands before it
+-- a fixed word, after a space unless it joins what is before it
 abbrev pub word_text : Text → Text
 word_text s = cond (begins joins_left s) [] (codes " ") ++ s
 
--- a text so many times
+-- a text, so many times
 abbrev pub repeated : ℕ → Text → Text
 repeated zero text = []
 repeated (suc n) text = text ++ repeated n text
 
--- how many regions are left behind a directive
+-- how many regions are left after a directive
 abbrev pub left_behind : ℕ → Directive → ℕ
 left_behind n (format.region i) = n - 1
 left_behind n format.regions = 0
 left_behind n _ = n
 
--- the directive writes the attribute under a key
+-- the directive prints the attribute under a key
 abbrev pub names_key : Text → Directive → Bool
 names_key key (format.attribute named) = same_text key named
 names_key key format.header = same_text key sym_name_key
 names_key key _ = false
 
--- one of the directives writes the attribute under a key
+-- one of the directives prints the attribute under a key
 abbrev pub is_key_written : Text → List Directive → Bool
 is_key_written key ds = list_any (names_key key) ds
 
--- a symbol's name behind `@`, where there is one
+-- a symbol's name after `@`, if there is one
 abbrev pub symbol_text : Option Text → Text
 symbol_text None = []
 symbol_text (Some n) = spaced (codes "@" ++ n)
 
 module _ {A : Type 0} where
-  -- the symbol's name of an attribute that is an identifier
+  -- the symbol's name in an attribute that is an identifier
   abbrev pub symbol_in : Option (Attribute A) → Option Text
   symbol_in None = None
   symbol_in (Some (ident n)) = Some n
   symbol_in (Some (given_names ns)) = None
   symbol_in (Some (own a)) = None
 
-  -- the symbol's name behind `@`, where the attribute under its key is an identifier
+  -- the symbol's name after `@`, if the attribute under its key is an identifier
   abbrev pub header_text : List (Text × Attribute A) → Text
   header_text es = symbol_text (symbol_in (lookup sym_name_key es))
 
-  -- the dictionary writes this entry: no other directive does, and it is not outlined
+  -- the dictionary prints this entry: no other directive does, and it is not outlined
   abbrev pub is_listed : (A → Bool) → List Directive → Text × Attribute A → Bool
   is_listed is_outlined ds e = not (outlined (outlining is_outlined) e.1) && not (is_key_written e.0 ds)
 
-  -- the entries that the dictionary writes: those that no other directive writes and that are not outlined
+  -- the entries that the dictionary prints: those that no other directive prints and that are not outlined
   abbrev pub dictionary_entries : (A → Bool) → List Directive → List (Text × Attribute A) → List (Text × Attribute A)
   dictionary_entries is_outlined ds es = filter (λ e. not (is_key_written e.0 ds)) (inline (outlining is_outlined) es)
 
@@ -81,7 +81,7 @@ module _ {A : Type 0} where
     abbrev pub entry_text : Text × Attribute A → Text
     entry_text e = e.0 ++ (codes ": " ++ attribute (words written) e.1)
 
-    -- an entry, behind `, ` where it is not the first
+    -- an entry, after `, ` if it is not the first
     abbrev pub next_text : Bool → Text × Attribute A → Text
     next_text first e = cond first [] comma ++ entry_text e
 
@@ -90,16 +90,16 @@ module _ {A : Type 0} where
     rows_text es = joined comma (map entry_text es)
 
     module _ (is_outlined : A → Bool) where
-      -- the text of an attribute, or in its place that it is outlined
+      -- the text of an attribute, or `!outlined` if it is outlined
       abbrev pub inline_text : Attribute A → Text
       inline_text a = cond (outlined (outlining is_outlined) a) (codes "!outlined") (attribute (words written) a)
 
-      -- the same, where there is an attribute
+      -- the same, if there is an attribute
       abbrev pub inline_text_in : Option (Attribute A) → Option Text
       inline_text_in None = None
       inline_text_in (Some a) = Some (inline_text a)
 
-      -- what is written of the attribute under a key, behind a space, where it is there
+      -- what is printed of the attribute under a key, after a space, if there is one
       abbrev pub keyed_text : Text → List (Text × Attribute A) → Text
       keyed_text k es = spaced_if (inline_text_in (lookup k es))
 
@@ -107,11 +107,11 @@ module _ {A : Type 0} where
       abbrev pub listed_text : List Directive → List (Text × Attribute A) → Text
       listed_text ds es = rows_text (dictionary_entries is_outlined ds es)
 
-      -- the dictionary, behind a space
+      -- the dictionary, after a space
       abbrev pub dictionary_text : List Directive → List (Text × Attribute A) → Text
       dictionary_text ds es = codes " [" ++ (listed_text ds es ++ codes "]")
 
-      -- what a directive writes, where so many regions with this text are left
+      -- what a directive prints if so many regions with this text are left
       abbrev pub directive_text : List Directive → List (Text × Attribute A) → Text → ℕ → Directive → Text
       directive_text ds es r n (format.word s) = word_text s
       directive_text ds es r n (format.attribute k) = keyed_text k es
@@ -121,7 +121,7 @@ module _ {A : Type 0} where
       directive_text ds es r n format.regions = spaced (repeated n r)
       directive_text ds es r n _ = []
 
-      -- what directives write, with that of the regions that are left of each
+      -- what directives print, each with the regions that are left
       abbrev pub directives_text : List Directive → List (Text × Attribute A) → Text → ℕ → List Directive → Text
       directives_text ds es r n [] = []
       directives_text ds es r n (d ∷ rest) = directive_text ds es r n d ++ directives_text ds es r (left_behind n d) rest

@@ -1,5 +1,5 @@
--- For callers: what is asked of operations and of formats as they are printed: what the caller's types mean, how deep regions are printed, and
--- whether directives write the regions and the keys that are there.
+-- For callers: words for the printing of operations: what the caller's types mean, how deep regions are printed, and whether directives
+-- print all regions and only keys that exist.
 use Rattle.std.specs.Prelude.{ℕ, Bool, true, false, cond, not, ◌||◌, ◌==◌, nat_lt, List, length, Some, None, is_some, ⊤}
 use Rattle.std.specs.List.{list_all}
 use Rattle.irtext_base.specs.Text.{Text}
@@ -24,12 +24,12 @@ is_supported (format.region i) = true
 is_supported format.regions = true
 is_supported _ = false
 
--- the directives write so many regions: no more than have a directive of their own, where none writes those that are left
+-- the directives print so many regions: at least one for each directive of a single region, and exactly those if none prints the rest
 abbrev pub regions_fit : List Directive → ℕ → Bool
 regions_fit ds n = cond (count is_regions ds == 0) (n == length (region_places ds)) (not (nat_lt n (length (region_places ds))))
 
 module _ {A : Type 0} (es : List (Text × Attribute A)) where
-  -- each key that a directive names is there
+  -- each key that a directive names has an attribute
   abbrev pub has_named_keys : List Directive → Bool
   has_named_keys ds = list_all (λ k. is_some (lookup k es)) (keys ds)
 
@@ -37,15 +37,15 @@ module _ {A : Type 0} (es : List (Text × Attribute A)) where
   abbrev pub has_symbol : Bool
   has_symbol = elim (lookup sym_name_key es) [ Some a ↦ elim a [ ident n ↦ true | _ ↦ false ] | None ↦ false ]
 
-  -- the symbol's name is there, where a directive writes it
+  -- the symbol's name exists, if a directive prints it
   abbrev pub symbol_fits : List Directive → Bool
   symbol_fits ds = (count is_header ds == 0) || has_symbol
 
--- what the caller's types and attributes mean by their texts, and the formats of this context
+-- what the texts of the caller's types and attributes mean, and the formats of this context
 abbrev pub language_in : {T A : Type 0} → ir_text.Ghosts T A → ir_text.Ghosts A A → ContextView T A → Language ⊤ T A
 language_in types owns ctx = unplaced (texts_of types.reading types.written) (texts_of owns.reading owns.written) (format_of ctx.dialects)
 
--- how many levels of regions are printed, where that is limited
+-- how many levels of regions are printed, if that is limited
 abbrev pub levels : RegionPrintDepthLimit → Limit
 levels Unlimited = None
 levels (Max n) = Some n

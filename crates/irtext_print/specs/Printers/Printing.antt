@@ -1,4 +1,4 @@
--- For callers: words on the printing state and its guards.
+-- For callers: words for the printing state and its guards.
 use Rattle.std.specs.Prelude.{ℕ, zero, suc, List, Option, Some, None}
 use Rattle.std.specs.Borrow.{GName}
 use Rattle.irtext_context.specs.declared.base.item.Item.{Item}
@@ -8,18 +8,18 @@ use Rattle.irtext_print.specs.declared.printable.guards.RegionDepthGuard.{Region
 use Rattle.irtext_print.specs.declared.printable.state.RegionPrintDepthLimit.{RegionPrintDepthLimit}
 use Rattle.irtext_print.specs.declared.printable.state.RegionPrintDepthLimit.TheVariants.{Unlimited, Max}
 
--- the limit in a region, unless this one elides it
+-- the limit inside a region, unless this limit elides it
 abbrev pub lowered : RegionPrintDepthLimit → Option RegionPrintDepthLimit
 lowered Unlimited = Some Unlimited
 lowered (Max zero) = None
 lowered (Max (suc n)) = Some (Max n)
 
 module _ {U : Type 0} where
-  -- the spaces of one more indentation
+  -- the number of spaces of one indentation step
   abbrev pub width_of : Shown U → ℕ
   width_of s = s.width
 
-  -- the indentation
+  -- the indentation, in spaces
   abbrev pub indent_of : Shown U → ℕ
   indent_of s = s.indent
 
@@ -27,7 +27,7 @@ module _ {U : Type 0} where
   abbrev pub limit_of : Shown U → RegionPrintDepthLimit
   limit_of s = s.limit
 
-  -- the items that were gathered, in their order
+  -- the gathered items, in their order
   abbrev pub gathered_of : Shown U → List Item
   gathered_of s = s.gathered
 
@@ -35,11 +35,11 @@ module _ {U : Type 0} where
   abbrev pub data_of : Shown U → U
   data_of s = s.aux
 
-  -- the state at another indentation
+  -- the state with another indentation
   abbrev pub with_indent : Shown U → ℕ → Shown U
   with_indent s n = record s { indent = n }
 
-  -- the state under another limit
+  -- the state with another limit
   abbrev pub with_limit : Shown U → RegionPrintDepthLimit → Shown U
   with_limit s l = record s { limit = l }
 
@@ -51,10 +51,10 @@ module _ {U : Type 0} where
   abbrev pub with_gathered : Shown U → List Item → Shown U
   with_gathered s xs = record s { gathered = xs }
 
-  -- the name of the reference in an indentation's guard
+  -- the name of the reference in an indentation guard
   abbrev pub guard_name : IndentGuard U → GName
   guard_name g = g.state.ghost_name
 
-  -- the name of the reference in a region's guard
+  -- the name of the reference in a region guard
   abbrev pub depth_name : RegionDepthGuard U → GName
   depth_name g = g.state.ghost_name

@@ -1,4 +1,4 @@
-//! The id of an operation, what directives write of its attributes, and whether they do.
+//! The id of an operation, what directives print of its attributes, and which keys are missing.
 
 pub mod concrete;
 pub mod fits;

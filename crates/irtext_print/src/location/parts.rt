@@ -1,5 +1,5 @@
-//! The text of a location, part by part: what stands behind a location inside of another waits until that one is written. So one
-//! loop writes them all, however deep they are nested.
+//! The text of a location, part by part: what follows after an inner location waits on a stack until that one is printed. So one loop
+//! prints them all, however deep they are nested.
 ghost use Rattle.std.specs.Prelude.{◌≡◌, ◌++◌, IfOk, OnOk, Some, cond, [], ◌∷◌, string_bytes};
 ghost use Rattle.irtext_grammar.specs.Spelling.Spell.{comma};
 ghost use Rattle.irtext_print.specs.declared.location.parts.Part.TheVariants.{Whole};
@@ -13,23 +13,23 @@ use irtext_read::printable::fmt_quoted;
 use std::alloc::AllocError;
 use std::fmt;
 
-/// What is still to be written of a location's text.
+/// What is still to be printed of a location's text.
 #[derive_where(Clone, Copy)]
 pub(super) enum Part<'l, A> {
     /// A location.
     Whole(&'l Location<A>),
-    /// The locations of a row from here on, and its bracket.
+    /// The rest of a row of locations, and its bracket.
     Row {
         left: &'l [Location<A>],
         first: bool,
     },
-    /// The caller of a callee that was written.
+    /// The caller, after its callee was printed.
     Caller(&'l Location<A>),
-    /// A parenthesis.
+    /// A closing parenthesis.
     Closing,
 }
 
-/// Appends `, `, but not in front of the first item.
+/// Appends `, `, except before the first item.
 fn fmt_comma(first: bool, f: &mut String) -> fmt::Result
     ensures { OnOk result (string_bytes f.new ≡ string_bytes f.old ++ cond first [] comma) }
 {
@@ -39,7 +39,7 @@ fn fmt_comma(first: bool, f: &mut String) -> fmt::Result
     Ok(())
 }
 
-/// Keeps a part until this location is written, which comes next.
+/// Puts a part on the stack until this location, which comes next, is printed.
 fn inside<'l, A>(
     location: &'l Location<A>,
     behind: Part<'l, A>,
@@ -54,7 +54,7 @@ fn inside<'l, A>(
     }
 }
 
-/// Appends a location up to the first one inside of it, and says what comes next.
+/// Appends a location up to its first inner location, and returns what comes next.
 fn fmt_whole<'l, T: IrText<A>, A: AttrText>(
     location: &'l Location<A>,
     ctx: &Context<T, A>,
@@ -97,8 +97,8 @@ fn fmt_whole<'l, T: IrText<A>, A: AttrText>(
     }
 }
 
-/// Appends a part up to the first location inside of it, which is then the next part, and keeps what waits behind that. Where there
-/// is none, the part that waited last is the next. It fails only where memory is refused.
+/// Appends a part up to its first inner location, which is then the next part, and puts what follows after that on the stack. If there
+/// is no inner location, the next part is popped from the stack. Fails only if out of memory.
 pub(super) fn fmt_part<'l, T: IrText<A>, A: AttrText>(
     part: Part<'l, A>,
     ctx: &Context<T, A>,

@@ -1,4 +1,4 @@
-//! Printing of locations: files by the paths that a context keeps for them.
+//! Printing of locations: files are printed as the paths that the context keeps for them.
 ghost use Rattle.std.specs.Prelude.{◌≡◌, ◌++◌, FitsSigned, OnOk, codes, option_copied, string_bytes};
 ghost use Rattle.std.specs.Fmt.{signed_decimal};
 ghost use Rattle.std.specs.Int.{w32};
@@ -20,7 +20,7 @@ use irtext_context::base::Context;
 use irtext_read::printable::fmt_quoted;
 use std::fmt;
 
-/// The path of a file that the context keeps.
+/// Returns the path of a file, if the context keeps it.
 fn path_of<'c, T: IrText<A>, A: AttrText>(src: Source, ctx: &'c Context<T, A>) -> Option<&'c str>
     ensures { option_copied result ≡ path_of ctx.now.paths src }
 {
@@ -50,14 +50,14 @@ pub fn fmt_source<T: IrText<A>, A: AttrText>(
     }
 }
 
-/// A number fits its type.
+/// A number fits its type. Does nothing: the contract hands that out.
 fn number_fits(number: &i32)
     ensures { FitsSigned w32 number.now }
 {
     let _number = *number;
 }
 
-/// Appends a source and the word in front of a line.
+/// Appends a source and the word before a line: `<in-memory>: line: `.
 fn fmt_front<T: IrText<A>, A: AttrText>(
     src: Source,
     ctx: &Context<T, A>,
@@ -75,7 +75,7 @@ fn fmt_front<T: IrText<A>, A: AttrText>(
     Ok(())
 }
 
-/// Appends the numbers of the line and the column. It fails only where memory is refused.
+/// Appends the numbers of line and column, in characters from 1: `1, column: 21`. Fails only if out of memory.
 pub fn fmt_numbers(pos: &SourcePosition, f: &mut String) -> fmt::Result
     ensures { OnOk result (AppendsText f.old (signed_decimal pos.now.line ++ (codes ", column: " ++ signed_decimal pos.now.column)) f.new) }
 {
@@ -101,7 +101,7 @@ pub(super) fn fmt_metadata<A: AttrText>(
     Ok(())
 }
 
-/// Appends a source, a line and a column.
+/// Appends a source, a line and a column: `<in-memory>: line: 1, column: 21`.
 pub(super) fn fmt_place<T: IrText<A>, A: AttrText>(
     src: Source,
     pos: &SourcePosition,
@@ -114,8 +114,8 @@ pub(super) fn fmt_place<T: IrText<A>, A: AttrText>(
     fmt_numbers(pos, f)
 }
 
-/// Appends the text of a location. It fails only where memory is refused; what was written until then stays. It doesn't recurse:
-/// what surrounds a location that stands inside waits in memory of the context's allocator.
+/// Appends the text of a location. Fails only if out of memory; what was appended up to the error remains. Does not recurse: what
+/// follows after inner locations waits on a stack in memory of the context's allocator.
 pub fn fmt_location<T: IrText<A>, A: AttrText>(
     location: &Location<A>,
     ctx: &Context<T, A>,
@@ -131,7 +131,7 @@ pub fn fmt_location<T: IrText<A>, A: AttrText>(
     Ok(())
 }
 
-/// Appends the text of a location between these two, where the location is known. It fails only where memory is refused.
+/// Appends the text of a location between these two texts, if the location is known. Fails only if out of memory.
 pub fn fmt_known<T: IrText<A>, A: AttrText>(
     location: &Location<A>,
     before: &str,

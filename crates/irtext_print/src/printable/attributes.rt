@@ -9,7 +9,7 @@ use irtext_base::base::{AttrObj, Identifier};
 use irtext_base::text::AttrText;
 use std::fmt;
 
-/// Appends a given name, or `?` where there is none.
+/// Appends a given name, or `?` if there is none.
 fn fmt_name(name: &Option<Identifier>, f: &mut String) -> fmt::Result
     ensures { OnOk result (AppendsText f.old (or_question name.now) f.new) }
 {
@@ -35,7 +35,8 @@ fn fmt_names(names: &[Option<Identifier>], f: &mut String) -> fmt::Result
     Ok(())
 }
 
-/// Appends the text of an attribute. It fails only where memory is refused; what was written until then stays.
+/// Appends the text of an attribute: `builtin.identifier b`, `builtin.given_names [x, ?]`, or the caller's text. Fails only if out of
+/// memory; what was appended up to the error remains.
 pub fn fmt_attr<A: AttrText>(attr: &AttrObj<A>, f: &mut String) -> fmt::Result
     ensures { OnOk result (AppendsText f.old (attr_text A.IrText.written (attr_view attr.now)) f.new) }
 {

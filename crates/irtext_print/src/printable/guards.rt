@@ -1,4 +1,4 @@
-//! Guards: what lends a printing state for writing, and gives back what it had as they are dropped.
+//! Guards: each holds a printing state as `&mut`, and restores its indentation or its limit when it is dropped.
 ghost use Rattle.std.specs.Prelude.{◌≡◌, []};
 ghost use Rattle.std.specs.Borrow.{sem, follows};
 ghost use mir.Syntax.{named};
@@ -10,16 +10,16 @@ ghost use Rattle.irtext_print.specs.Printers.Printing.{with_indent, with_limit};
 use crate::printable::state::{RegionPrintDepthLimit, State};
 use std::ops::{Deref, DerefMut};
 
-/// The indentation of its making comes back as it is dropped.
+/// Restores the state's indentation when it is dropped.
 pub struct IndentGuard<'a, U> {
-    /// The state, at its deeper indentation.
+    /// The state, at the deeper indentation.
     pub state: &'a mut State<U>,
     pub(crate) saved: u16,
 }
 
-/// The limit of its making comes back as it is dropped.
+/// Restores the state's depth limit when it is dropped.
 pub struct RegionDepthGuard<'a, U> {
-    /// The state, under its lower limit.
+    /// The state, with the lower limit.
     pub state: &'a mut State<U>,
     pub(crate) saved: RegionPrintDepthLimit,
 }

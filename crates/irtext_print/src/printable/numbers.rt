@@ -1,4 +1,4 @@
-//! Numbers in decimal digits. These calls fail only where memory is refused; what was written until then stays.
+//! Numbers in decimal digits. These calls fail only if out of memory; what was appended up to the error remains.
 ghost use Rattle.std.specs.Prelude.{OnOk, decimal};
 ghost use Rattle.std.specs.Fmt.{signed_decimal};
 ghost use Rattle.irtext_print.specs.Printers.Appended.{AppendsText};

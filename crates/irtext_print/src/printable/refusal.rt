@@ -1,4 +1,4 @@
-//! Why a printing was refused.
+//! Why a printing fails.
 
 ghost use Rattle.std.specs.Prelude.{◌≡◌, OnOk, IfErr, IsOk};
 ghost use Rattle.irtext_print.specs.declared.printable.refusal.Refusal.TheVariants as refusal;
@@ -6,18 +6,18 @@ ghost use Rattle.irtext_print.specs.declared.printable.refusal.Refusal.TheVarian
 use std::alloc::AllocError;
 use std::fmt;
 
-/// Why a printing was refused.
+/// Why a printing fails.
 #[derive(Clone, Copy, PartialEq, Eq, Debug)]
 pub enum Refusal {
-    /// Memory was refused.
+    /// Out of memory.
     Memory,
-    /// The indentation is too deep: it doesn't fit 16 bits.
+    /// An indentation is too deep: its spaces do not fit 16 bits.
     Depth,
-    /// The operation doesn't fit its format.
+    /// An operation does not fit its format.
     Misfit,
 }
 
-/// The answer of a call that fails only where memory is refused.
+/// Turns the result of a call that fails only if out of memory into one with the error `Memory`.
 pub fn memory_alone(answer: fmt::Result) -> Result<(), Refusal>
     ensures ok { OnOk result (IsOk answer) }
     ensures refused { IfErr result (λ e. e ≡ refusal.Memory) }

@@ -1,4 +1,4 @@
-//! The printing state: its layout, how deep regions are printed, what was gathered, and the caller's data.
+//! The printing state: its layout, how deep regions are printed, the gathered items, and the caller's data.
 ghost use Rattle.std.specs.Prelude.{◌≡◌, ◌+◌, ◌-◌, ◌<◌, ◌≤◌, ◌^◌, [], IfOk, IfSome, OnSome, IfNone, Some, None, IsOk, ◌↔◌};
 ghost use Rattle.std.specs.Borrow.{sem, Lends, RestsIfErr, RestsIfNone};
 ghost use Rattle.irtext_print.specs.contracts.printable.state.State.{the_row};
@@ -10,17 +10,17 @@ use std::alloc::Global;
 use std::fmt;
 use std::marker::Model;
 
-/// How many levels of regions are printed.
+/// How many levels of nested regions are printed.
 #[derive(Clone, Copy, Debug, Default, PartialEq, Eq)]
 pub enum RegionPrintDepthLimit {
     /// All levels.
     #[default]
     Unlimited,
-    /// At most so many levels; deeper regions are elided.
+    /// At most so many levels; deeper regions are elided, as `{..}`.
     Max(u32),
 }
 
-/// What printers share while they print.
+/// The state that printers share while they print.
 #[derive(Drop)]
 pub struct State<U> {
     pub(crate) indent_width: u16,
@@ -45,7 +45,8 @@ impl<U> Model for State<U> {
 }
 
 impl<U> State<U> {
-    /// Two spaces an indentation, no indentation, all levels of regions, and nothing gathered. It takes no memory yet.
+    /// Returns a state with two spaces per indentation step, indentation 0, no depth limit, and nothing gathered. Allocates nothing
+    /// yet.
     pub fn new(alloc: Global, aux_data: U) -> State<U>
         ensures { result ≡ record { width = 2; indent = 0; limit = RegionPrintDepthLimit.Unlimited; gathered = []; aux = aux_data } }
     {
@@ -58,7 +59,7 @@ impl<U> State<U> {
         }
     }
 
-    /// With a layout and nothing gathered.
+    /// Returns a state with this layout and nothing gathered. Width and indentation are in spaces.
     pub fn with_layout(
         alloc: Global,
         indent_width: u16,
@@ -77,28 +78,28 @@ impl<U> State<U> {
         }
     }
 
-    /// From now on at most so many levels of regions are printed.
+    /// Sets the limit: from now on at most so many levels of regions are printed.
     pub fn set_region_print_depth_limit(&mut self, limit: RegionPrintDepthLimit)
         ensures { self.new ≡ with_limit self.old limit }
     {
         self.limit = limit;
     }
 
-    /// How many levels of regions are printed from here on.
+    /// Returns how many levels of regions are printed from here on.
     pub fn current_region_print_depth_limit(&self) -> RegionPrintDepthLimit
         ensures { result ≡ limit_of self.now }
     {
         self.limit
     }
 
-    /// The caller's data.
+    /// Returns the caller's data.
     pub fn aux_data_ref(&self) -> &U
         ensures { result.now ≡ data_of self.now }
     {
         &self.aux_data
     }
 
-    /// The caller's data, to be written.
+    /// Returns the caller's data as `&mut`.
     pub fn aux_data_mut(&mut self) -> &mut U
         ensures* writes_back { sem 𝓛 (Lends (the_row U.row) U.row self.entry result (with_data self.old)) }
         ensures value { result.now ≡ data_of self.old }
@@ -106,7 +107,8 @@ impl<U> State<U> {
         &mut self.aux_data
     }
 
-    /// One level of regions deeper, until the guard is dropped. `None` where the region must be elided; then nothing changes.
+    /// Enters a region: the limit is one level lower until the guard is dropped. `None` if the region has to be elided; then the state
+    /// is unchanged.
     pub fn enter_region(&mut self) -> Option<RegionDepthGuard<'_, U>>
         ensures* unchanged_at_none { sem 𝓛 (RestsIfNone (the_row U.row) self.entry depth_name result (λ n. n ≡ self.old)) }
         ensures same_reference { IfSome result (λ g. g.state.ghost_name ≡ self.entry.ghost_name) }
@@ -128,28 +130,28 @@ impl<U> State<U> {
         Some(RegionDepthGuard { state: self, saved })
     }
 
-    /// How many spaces one indentation is wide.
+    /// Returns the width of one indentation step, in spaces.
     pub fn indent_width(&self) -> u16
         ensures { result ≡ width_of self.now }
     {
         self.indent_width
     }
 
-    /// From now on one indentation is so many spaces wide. Indentations that were begun stay as they are.
+    /// Sets the width of one indentation step, in spaces. The current indentation, and those that guards restore, are unchanged.
     pub fn set_indent_width(&mut self, width: u16)
         ensures { self.new ≡ record self.old { width = width } }
     {
         self.indent_width = width;
     }
 
-    /// How many spaces stand at the beginning of a line.
+    /// Returns the current indentation: the number of spaces at the beginning of a line.
     pub fn current_indent(&self) -> u16
         ensures { result ≡ indent_of self.now }
     {
         self.current_indent
     }
 
-    /// One indentation more, until the guard is dropped. It fails where the spaces don't fit 16 bits, and then changes nothing.
+    /// Indents by one step until the guard is dropped. Fails if the number of spaces does not fit 16 bits; then the state is unchanged.
     pub fn indent(&mut self) -> Result<IndentGuard<'_, U>, fmt::Error>
         ensures* unchanged_at_err { sem 𝓛 (RestsIfErr (the_row U.row) self.entry guard_name result (λ n. n ≡ self.old)) }
         ensures same_reference { IfOk result (λ g. g.state.ghost_name ≡ self.entry.ghost_name) }

@@ -1,4 +1,4 @@
--- For callers: what errors and answers print as.
+-- For callers: what errors and results print as.
 use Rattle.std.specs.Prelude.{List, ℕ, Option, Some, Result, Ok, Err, string_bytes, ⊤}
 use Rattle.irtext_base.specs.Text.{Text}
 use Rattle.irtext_context.specs.declared.base.context.Context.{Context}
@@ -9,22 +9,22 @@ use Rattle.std.specs.declared.alloc.Global.{Global}
 use Rattle.irtext_print.specs.Printers.Appended.{Appends}
 use Rattle.irtext_print.specs.Printers.Shown.{Shown}
 
--- an error's text over these paths, which leaves the printing state as it is
+-- an error's text with these paths; the printing state is unchanged
 abbrev pub given_of : {A U : Type 0} → (A → Text) → List (List ℕ) → Error A → Shown U → Option (List ℕ × Shown U)
 given_of written paths error s = Some (located_error written paths error, s)
 
 module _ {X T A : Type 0} where
-  -- an answer may be printed where its value may, and where it is an error
+  -- a result may be printed if its value may; an error always may
   abbrev pub can_be : (X → Context T A → Type 0) → Result X (Error A) → Context T A → Type 0
   can_be can (Ok x) ctx = can x ctx
   can_be can (Err error) ctx = ⊤
 
-  -- an answer gives what its value gives, or its error's text
+  -- a result gives what its value gives, or its error's text
   abbrev pub given : {U : Type 0} → (A → Text) → (X → Context T A → Shown U → Option (List ℕ × Shown U)) → Result X (Error A) → Context T A → Shown U → Option (List ℕ × Shown U)
   given written gives (Ok x) ctx s = gives x ctx s
   given written gives (Err error) ctx s = given_of written ctx.paths error s
 
-  -- what one printing of an answer has done: what its value's may do, or its error's text was appended
+  -- what one printing of a result has done: what printing its value may do, or its error's text was appended
   abbrev pub may_print : {U : Type 0} → (A → Text) → (X → Context T A → Shown U → String Global → Shown U → String Global → Type 0) → Result X (Error A) → Context T A → Shown U → String Global → Shown U → String Global → Type 0
   may_print written prints (Ok x) ctx s b t d = prints x ctx s b t d
   may_print written prints (Err error) ctx s b t d = Appends (located_error written ctx.paths error, s) t (string_bytes b) (string_bytes d)

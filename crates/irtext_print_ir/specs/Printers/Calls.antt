@@ -3,7 +3,7 @@ use Rattle.std.specs.Prelude.{◌≡◌, Result, Ok}
 use Rattle.std.specs.Borrow.{Bor, MutBor}
 use Rattle.std.specs.Fn.{Shared}
 
--- a call of f, as an `Fn` is called, at a context, a state and a text, may give r and leave s' and b'
+-- a call of the closure f as an `Fn`, with this context, state and text, may return r and leave s' and b'
 pub record FnWrites {F C S B R : Type 0} (g : Shared F (Bor C × (MutBor S × (MutBor B × Unit {0}))) (R × (MutBor S × (MutBor B × Unit {0})))) (f : F) (c : C) (s : S) (b : B) (r : R) (s' : S) (b' : B) : Type 0 where
   pub context : Bor C
   pub state : MutBor S
@@ -13,7 +13,7 @@ pub record FnWrites {F C S B R : Type 0} (g : Shared F (Bor C × (MutBor S × (M
   pub met : g.post f (context, (state, (text, tt))) (r, left)
   pub leaves : (left.0.now ≡ s') × (left.1.0.now ≡ b')
 
--- a call of f, as an `Fn` is called, at an item, a context, a state and a text, may succeed and leave s' and b'
+-- a call of the closure f as an `Fn`, with this item, context, state and text, may succeed and leave s' and b'
 pub record FnWritesItem {F X C S B E : Type 0} (g : Shared F (X × (Bor C × (MutBor S × (MutBor B × Unit {0})))) (Result (Unit {0}) E × (MutBor S × (MutBor B × Unit {0})))) (f : F) (c : C) (x : X) (s : S) (b : B) (s' : S) (b' : B) : Type 0 where
   pub context : Bor C
   pub state : MutBor S

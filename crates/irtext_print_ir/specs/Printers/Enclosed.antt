@@ -4,12 +4,12 @@ use Rattle.std.specs.declared.string.String.{String}
 use Rattle.std.specs.declared.alloc.Global.{Global}
 use Rattle.irtext_print.specs.Printers.Shown.{Shown}
 
--- a text that is claimed, between two others
+-- the claimed text between two others, if a text is claimed
 abbrev pub around : {U : Type 0} → List ℕ → List ℕ → Option (List ℕ × Shown U) → Option (List ℕ × Shown U)
 around left right None = None
 around left right (Some p) = Some (left ++ (p.0 ++ right), p.1)
 
--- three steps: the left text, a call, and the right text
+-- three steps: the left text is appended, then the call prints, then the right text is appended
 pub record Encloses {U : Type 0} (call : Shown U → String Global → Shown U → String Global → Type 0) (left right : List ℕ) (s : Shown U) (b : String Global) (t : Shown U) (d : String Global) : Type 0 where
   pub begun : String Global
   pub filled : String Global

@@ -1,4 +1,4 @@
--- For callers: the texts of an operation's parts: its header, with a type too, and its one region.
+-- For callers: the texts of an operation's parts: its header, the header with a type, and its only region.
 use Rattle.std.specs.Prelude.{◌≡◌, ◌≢◌, ◌⊎◌, ℕ, Bool, List, [], ◌∷◌, ◌++◌, Option, Some, None, IsSomeAnd, codes, string_bytes, ⊤}
 use Rattle.std.specs.Option.{option_map, option_and_then}
 use Rattle.std.specs.Str.{encode_utf8_all}
@@ -24,61 +24,63 @@ use Rattle.irtext_print_ir.specs.Printers.Printed.{PrintsRegion, region_gives}
 use Rattle.irtext_print_ops.specs.Heads as heads
 
 module _ {T A : Type 0} where
-  -- an operation's id, and `@` with its symbol's name, where it has one
+  -- an operation's id, and `@` with its symbol's name, if it has one
   abbrev pub header_of : OperationView T A → Option Text
   header_of op = option_map (λ name. id_text op.id ++ (codes " @" ++ name)) (symbol_in (lookup sym_name_key (entries_of op.attributes)))
 
-  -- the same with a type's text behind `: `
+  -- the same with a type's text after `: `
   abbrev pub typed_header_of : Text → OperationView T A → Option Text
   typed_header_of ty op = option_map (λ header. header ++ (codes ": " ++ ty)) (header_of op)
 
-  -- what is appended for what a context holds under a pointer, where it has this text; the state stays
+  -- what is appended for the operation that the pointer refers to, if it has this text; the state is unchanged
   abbrev pub printed_part : {U : Type 0} → (OperationView T A → Option Text) → ContextView T A → Ptr Operation → Shown U → Option (List ℕ × Shown U)
   printed_part part ctx p s = option_map (λ t. (encode_utf8_all t, s)) (option_and_then part (operation ctx p))
 
-  -- what a refusal to write a part says: memory may be refused at any time, but all else only for this reason
+  -- the reason of an error when a part is printed: out of memory is possible at any time; `Misfit` only if the operation has no such
+  -- part
   abbrev pub RefusesPart : (OperationView T A → Option Text) → ContextView T A → Ptr Operation → Refusal → Type 0
   RefusesPart part ctx p Memory = ⊤
   RefusesPart part ctx p Depth = ⊥
   RefusesPart part ctx p Misfit = option_and_then part (operation ctx p) ≡ None
 
--- a part of an operation that stands was written, and so the operation has it
+-- a part of a live operation was appended, and so the operation has it
 pub record PartWritten {T A : Type 0} (part : OperationView T A → Option Text) (ctx : ContextView T A) (p : Ptr Operation) (old new : List ℕ) : Type 0 where
   pub view : OperationView T A
   pub stands : operation ctx p ≡ Some view
   pub text : IsSomeAnd (part view) (λ text. new ≡ old ++ encode_utf8_all text)
 
--- the same, and the state stays
+-- the same, and the state is unchanged
 pub record PartPrinted {T A U : Type 0} (part : OperationView T A → Option Text) (ctx : ContextView T A) (p : Ptr Operation) (s : Shown U) (old : List ℕ) (t : Shown U) (new : List ℕ) : Type 0 where
   pub written : PartWritten part ctx p old new
   pub state : t ≡ s
 
--- a part of an operation that stands was appended, and so the operation has it
+-- the same for the bytes of strings
 abbrev pub WritesPart : {T A : Type 0} → (OperationView T A → Option Text) → ContextView T A → Ptr Operation → String Global → String Global → Type 0
 WritesPart part ctx p old new = PartWritten part ctx p (string_bytes old) (string_bytes new)
 
--- the same, and the state stays
+-- the same for the bytes of strings, and the state is unchanged
 abbrev pub PrintsPart : {T A U : Type 0} → (OperationView T A → Option Text) → ContextView T A → Ptr Operation → Shown U → String Global → Shown U → String Global → Type 0
 PrintsPart part ctx p s old t new = PartPrinted part ctx p s (string_bytes old) t (string_bytes new)
 
--- the one region of a list
+-- the only region of a list, if it has exactly one
 abbrev pub sole : List (Ptr Region) → Option (Ptr Region)
 sole (r ∷ []) = Some r
 sole _ = None
 
--- the region of an operation that has one alone
+-- the only region of an operation, if it has exactly one
 abbrev pub sole_region : {T A : Type 0} → ContextView T A → Ptr Operation → Option (Ptr Region)
 sole_region ctx p = sole (regions ctx.graph p)
 
 module _ {T A : Type 0} (types : ir_text.Ghosts T A) (owns : ir_text.Ghosts A A) (attributes : attr_text.Ghosts A) (same : A → A → Bool) (ctx : ContextView T A) (p : Ptr Operation) where
-  -- what is appended of the one region of an operation, and the state that is left
+  -- what is appended for the only region of an operation, and the state after that
   abbrev pub one_gives : {U : Type 0} → Shown U → Option (List ℕ × Shown U)
   one_gives s = option_and_then (λ r. region_gives types owns attributes same ctx r s) (sole_region ctx p)
 
-  -- the one region of an operation was printed, and so the operation has it
+  -- the only region of an operation was printed, and so the operation has it
   abbrev pub PrintsOne : {U : Type 0} → Shown U → String Global → Shown U → String Global → Type 0
   PrintsOne s old t new = (r : Ptr Region) × (sole_region ctx p ≡ Some r) × PrintsRegion types owns attributes same ctx r s old t new
 
-  -- what a refusal to print it says: memory may be refused at any time, but all else only where there is no such region, or where the region gives the reason
+  -- the reason of an error when it is printed: out of memory is possible at any time; otherwise there is no such region, or printing
+  -- the region fails with this reason
   abbrev pub RefusesOne : {U : Type 0} → Shown U → Refusal → Type 0
   RefusesOne s e = e ≢ Memory → ((e ≡ Misfit) × (sole_region ctx p ≡ None)) ⊎ ((r : Ptr Region) × (sole_region ctx p ≡ Some r) × heads.RegionFaultUnder types owns attributes same ctx r s e)

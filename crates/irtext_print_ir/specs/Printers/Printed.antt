@@ -1,5 +1,6 @@
--- For callers: what one printing of an operation, a block or a region has done, with all that nests in it, whatever was gathered before. It names
--- the context, the pointer, the state and the bytes before, and the state and the bytes behind.
+-- For callers: what one printing of an operation, a block or a region has done, with everything nested in it, whatever was gathered
+-- before. Its arguments are the context, the pointer, the state and the bytes before, and the state and the bytes after. An item is an
+-- operation or a block that carries a mark.
 use Rattle.std.specs.Prelude.{◌≡◌, ℕ, Bool, true, false, List, [], ◌++◌, length, Option, Some, None, IfSome, string_bytes}
 use Rattle.std.specs.Str.{encode_utf8_all}
 use Rattle.std.specs.declared.string.String.{String}
@@ -27,11 +28,11 @@ use Rattle.irtext_print.specs.declared.printable.state.RegionPrintDepthLimit.The
 use Rattle.irtext_print.specs.Items.{section_at}
 use Rattle.irtext_print_ops.specs.Heads as heads
 
--- the block that an operation stands in, if it stands in one
+-- the block that contains an operation, if it is in one
 abbrev pub block_round : {T A : Type 0} → ContextView T A → Ptr Operation → Option (Ptr BasicBlock)
 block_round ctx p = parent_of (get ctx.graph.operations p)
 
--- a printing state that gathered these items besides
+-- the printing state with these items gathered in addition
 abbrev pub gathers : {U : Type 0} → Shown U → List Item → Shown U
 gathers s items = with_gathered s (s.gathered ++ items)
 
@@ -39,7 +40,7 @@ gathers s items = with_gathered s (s.gathered ++ items)
 abbrev pub debugging : Shown (Unit {0})
 debugging = fresh 2 0 (Max 0)
 
--- what nests was printed: this text was appended, this state is left, and all that was written fits its format
+-- nested text was printed: this text was appended, this state is left, and every printed operation fits its format
 pub record Printed {U : Type 0} (whole : Text) (left : Shown U) (misfits : Type 0) (old : List ℕ) (t : Shown U) (new : List ℕ) : Type 0 where
   pub text : new ≡ old ++ encode_utf8_all whole
   pub state : t ≡ left
@@ -52,28 +53,28 @@ module _ {T A : Type 0} (types : ir_text.Ghosts T A) (owns : ir_text.Ghosts A A)
   abbrev pub concrete_text : {U : Type 0} → Ptr Operation → Shown U → Text
   concrete_text p s = heads.text_under types owns attributes same ctx p s false (length s.gathered)
 
-  -- the state that is left then
+  -- the state after that
   abbrev pub concrete_left : {U : Type 0} → Ptr Operation → Shown U → Shown U
   concrete_left p s = gathers s (heads.items_under types owns attributes same ctx p s false)
 
-  -- all that is gathered behind an operation with its mark
+  -- all items that are gathered after an operation is printed with its mark
   abbrev pub root_items : {U : Type 0} → Ptr Operation → Shown U → List Item
   root_items p s = s.gathered ++ heads.items_under types owns attributes same ctx p s true
 
-  -- its text with its mark; and where it stands in no block, the section of all that was gathered
+  -- its text with its mark; and if it is in no block, the section of all gathered items
   abbrev pub root_text : {U : Type 0} → Ptr Operation → Shown U → Text
   root_text p s = heads.text_under types owns attributes same ctx p s true (length s.gathered)
       ++ elim (block_round ctx p) [ Some b ↦ [] | None ↦ section_at types owns attributes same ctx (root_items p s) ]
 
-  -- the state that is left then: nothing is gathered where the section was written
+  -- the state after that: nothing is gathered if the section was printed
   abbrev pub root_left : {U : Type 0} → Ptr Operation → Shown U → Shown U
   root_left p s = with_gathered s (elim (block_round ctx p) [ Some b ↦ root_items p s | None ↦ [] ])
 
-  -- what stands behind the concrete text of an operation in no block, where these items were gathered: its mark, and the section
+  -- what follows the concrete text of an operation in no block, if these items were gathered: its mark, and the section
   abbrev pub end_text : Ptr Operation → List Item → Text
   end_text p gs = heads.own_mark_at types owns attributes same ctx p true (length gs) ++ section_at types owns attributes same ctx (gs ++ heads.own_items_at types owns attributes same ctx p true)
 
-  -- with nothing gathered before, the text of a root in no block is the one that the definitions of printing give of what is seen under it
+  -- if nothing was gathered before, the text of a root in no block is the text that the definitions of printing give for its graph
   abbrev pub IsDefined : Ptr Operation → Type 0
   IsDefined p = (s : Shown (Unit {0})) (g : Graph T A) → seen_root owns.written ctx p ≡ Some g → block_round ctx p ≡ None → s.gathered ≡ []
       → root_text p s ≡ text (heads.language_of types owns attributes same ctx) (heads.printing_of types owns attributes same ctx) g s.indent s.width (levels s.limit)
@@ -84,23 +85,23 @@ module _ {T A : Type 0} (types : ir_text.Ghosts T A) (owns : ir_text.Ghosts A A)
 
   -- ---- what is appended, and the state that is left
 
-  -- a root's
+  -- of a root
   abbrev pub root_gives : {U : Type 0} → Ptr Operation → Shown U → Option (List ℕ × Shown U)
   root_gives p s = Some (encode_utf8_all (root_text p s), root_left p s)
 
-  -- a concrete text's
+  -- of a concrete text
   abbrev pub concrete_gives : {U : Type 0} → Ptr Operation → Shown U → Option (List ℕ × Shown U)
   concrete_gives p s = Some (encode_utf8_all (concrete_text p s), concrete_left p s)
 
-  -- the same of a concrete text with all regions elided
+  -- the bytes of a concrete text with all regions elided
   abbrev pub elided_gives : Ptr Operation → Option (List ℕ)
   elided_gives p = Some (encode_utf8_all (debug_text p))
 
-  -- a block's
+  -- of a block
   abbrev pub block_gives : {U : Type 0} → Ptr BasicBlock → Shown U → Option (List ℕ × Shown U)
   block_gives b s = Some (encode_utf8_all (heads.block_text_under types owns attributes same ctx b s (length s.gathered)), gathers s (heads.block_items_under types owns attributes same ctx b s))
 
-  -- a region's
+  -- of a region
   abbrev pub region_gives : {U : Type 0} → Ptr Region → Shown U → Option (List ℕ × Shown U)
   region_gives r s = Some (encode_utf8_all (heads.region_text_under types owns attributes same ctx r s (length s.gathered)), gathers s (heads.region_items_under types owns attributes same ctx r s))
 
@@ -111,15 +112,15 @@ module _ {T A : Type 0} (types : ir_text.Ghosts T A) (owns : ir_text.Ghosts A A)
     abbrev pub PrintsConcrete : Type 0
     PrintsConcrete = Printed (concrete_text p s) (concrete_left p s) (heads.MisfitsUnder types owns attributes same ctx p s) (string_bytes old) t (string_bytes new)
 
-    -- a root was printed, with its mark, counted behind what was gathered before
+    -- a root was printed, with its mark, numbered after what was gathered before
     abbrev pub PrintsRoot : Type 0
     PrintsRoot = Printed (root_text p s) (root_left p s) (heads.MisfitsUnder types owns attributes same ctx p s) (string_bytes old) t (string_bytes new)
 
-    -- the same, as what is given was appended
+    -- the text and the state that a root gives were appended and left
     abbrev pub WritesRoot : Type 0
     WritesRoot = Writes (root_gives p s) t (string_bytes old) (string_bytes new)
 
-    -- where nothing was gathered before, the text of a root in no block is the one that the definitions of printing give of what is seen under it
+    -- if nothing was gathered before, the text of a root in no block is the text that the definitions of printing give for its graph
     abbrev pub DefinesRoot : Type 0
     DefinesRoot = (g : Graph T A) → seen_root owns.written ctx p ≡ Some g → block_round ctx p ≡ None → s.gathered ≡ []
         → string_bytes new ≡ string_bytes old ++ encode_utf8_all (text (heads.language_of types owns attributes same ctx) (heads.printing_of types owns attributes same ctx) g s.indent s.width (levels s.limit))

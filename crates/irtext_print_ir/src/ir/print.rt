@@ -1,4 +1,5 @@
-//! Printing of roots.
+//! Printing of roots. The printing state gathers the items, the operations and blocks that carry a mark; the section has an entry for
+//! each.
 ghost use Rattle.std.specs.Prelude.{◌≡◌, ◌++◌, [], OnOk, IfErr, IsSome};
 ghost use Rattle.irtext_context.specs.Context.{operation};
 ghost use Rattle.irtext_print.specs.Printers.Appended.{AppendsText};
@@ -22,7 +23,7 @@ pub mod debug;
 pub(crate) mod gathering;
 pub mod parts;
 
-/// Appends the section of all that was gathered, and takes it out.
+/// Appends the section of all gathered items, and clears them.
 fn fmt_section<T: IrText<A>, A: AttrText, U>(
     ctx: &Context<T, A>,
     state: &mut State<U>,
@@ -37,8 +38,8 @@ fn fmt_section<T: IrText<A>, A: AttrText, U>(
     print_section(ctx, &gathered, f)
 }
 
-/// Appends what stands behind the concrete text of an operation in no block: its mark, and the section of all that was gathered, which is
-/// taken out. Where nothing was gathered, no list is made of the operation alone.
+/// Appends what follows the concrete text of an operation in no block: its mark, and the section of all gathered items, which are
+/// cleared. If nothing was gathered, no list is allocated for the operation alone.
 fn fmt_end<T: IrText<A>, A: AttrText, U>(
     ctx: &Context<T, A>,
     op: Ptr<Operation>,
@@ -59,9 +60,21 @@ fn fmt_end<T: IrText<A>, A: AttrText, U>(
     fmt_section(ctx, state, f)
 }
 
-/// Appends the text of an operation with all that nests in it, with its mark behind those that were gathered before; and where it stands
-/// in no block, the section of all that was gathered, which is taken out. What `Printable` appends of it is the same; this call says why
-/// it was refused. What was written and gathered until then stays.
+/// Appends the text of an operation with everything nested in it, and its mark, numbered after the marks that were gathered before. If
+/// the operation is in no block, the section of all gathered items follows, and the state's list of them is cleared. `Printable`
+/// appends the same; this call also returns why it failed.
+///
+/// The error is `Memory`, `Misfit` (the operation, or one that is shown inside, does not fit its format) or `Depth` (an indentation
+/// inside does not fit 16 bits). What was appended and gathered up to the error remains. Nothing else of the state changes.
+///
+/// For example, an operation in no block:
+///
+/// ```text
+/// test.nop !0
+///
+/// outlined_attributes:
+/// !0 = @[<in-memory>: line: 1, column: 1], []
+/// ```
 pub fn print_root<T: IrText<A>, A: AttrText, U>(
     ctx: &Context<T, A>,
     op: Ptr<Operation>,
@@ -87,8 +100,8 @@ pub fn print_root<T: IrText<A>, A: AttrText, U>(
     }
 }
 
-/// What `disp` and `print` write of an operation in no block is the text that the definitions of printing give of what is seen under it.
-/// It does nothing: its contract hands that out.
+/// The text that `disp` and `print` show for an operation in no block is the text that the definitions of printing give for its graph.
+/// Does nothing: the contract hands that out.
 pub fn keeps_text<T: IrText<A>, A: AttrText>(ctx: &Context<T, A>, op: Ptr<Operation>)
     requires live { IsSome (operation ctx.now op) }
     ensures { printed.IsDefined T.IrText.own A.IrText.own A.AttrText.own A.eq ctx.now op }
@@ -96,6 +109,7 @@ pub fn keeps_text<T: IrText<A>, A: AttrText>(ctx: &Context<T, A>, op: Ptr<Operat
     ctx.graph().keeps_nesting();
 }
 
+/// Prints the operation as [`print_root`] does. The operation has to be live.
 impl<T: IrText<A>, A: AttrText, U> Printable<U, T, A> for Ptr<Operation> {
     ghost can_print = { λ op ctx. IsSome (operation ctx op) };
 

@@ -1,4 +1,4 @@
-//! What the verification of blocks and of uses refuses, with its texts. Nothing here verifies: other crates answer these.
+//! The errors of the verification of blocks and of uses, with their texts. Nothing here verifies: other crates return these errors.
 ghost use Rattle.std.specs.Prelude.{Some};
 ghost use Rattle.irtext_print_ir.specs.Errors.Verification.{block_text, use_text};
 
@@ -6,23 +6,23 @@ use irtext_base::base::Identifier;
 use std::fmt;
 use std::fmt::Display;
 
-/// Why a block, given by its name, is refused.
+/// Why a block is invalid. The text is the block's name.
 #[derive(Debug, Drop)]
 pub enum BasicBlockVerifyErr {
-    /// No operation of the block ends it.
+    /// The block has no terminator. Text: `Basic block "b" is missing a terminator`.
     MissingTerminator(String),
-    /// An operation that ends the block is not its last one.
+    /// A terminator is not last. Text: `Basic block "b" has a terminator that is not the last operation in the block`.
     TerminatorNotLast(String),
-    /// The block stands in no operation.
+    /// The block is in no operation. Text: `Basic block "b" has no parent operation`.
     NoParent(String),
 }
 
-/// Why a use of a value is refused.
+/// Why a use of a value is invalid.
 #[derive(Debug, Drop)]
 pub enum DefUseVerifyErr {
-    /// The value doesn't know of this operand as a use.
+    /// The operand is not in the value's list of uses. Text: `Operand is not a use of its def`.
     OperandNotUseOfDef,
-    /// The value of this name is used where its definition doesn't dominate.
+    /// The value of this name is used where its definition does not dominate. Text: `Use of x not dominated by definition`.
     UseNotDominatedByDef(Identifier),
 }
 

@@ -1,5 +1,5 @@
-//! Stored printers: values that print a closure's text, a quoted text, the items of an iterator, a text between two others, or parts
-//! of an operation.
+//! Stored printers: values that print what a closure prints, a quoted text, the items of an iterator, a text between two others, or
+//! parts of an operation.
 ghost use Rattle.std.specs.Prelude.{◌≡◌};
 ghost use Rattle.std.specs.Slice.Iter.{iter_rest};
 
@@ -18,7 +18,8 @@ pub use closures::PrinterFn;
 pub use lists::{IterWithSep, IterWithSepBy};
 pub use texts::{Enclosed, Quoted};
 
-/// A printer that writes what its closure writes, and leaves the state that the closure leaves. It fails where the closure does.
+/// Returns a printer that calls its closure: it appends what the closure appends, and leaves the state that the closure leaves. It
+/// fails if the closure does.
 pub fn printable_from_fn<
     T: IrText<A>,
     A: AttrText,
@@ -30,14 +31,16 @@ pub fn printable_from_fn<
     PrinterFn { print }
 }
 
-/// A printer that writes the text as [`fmt_quoted`](crate::printable::fmt_quoted) does. It fails only where memory is refused.
+/// Returns a printer that appends the text as [`fmt_quoted`](crate::printable::fmt_quoted) does, between quotation marks: `"s"`. It
+/// fails only if out of memory.
 pub fn quoted(text: &str) -> Quoted<'_>
     ensures { result.text.now ≡ text.now }
 {
     Quoted { text }
 }
 
-/// A printer that writes the items of a slice, with a separator between each two. It fails where a separator or an item does.
+/// Returns a printer that appends the items of a slice, with a separator between each two: of two items with the separator
+/// `CharSpace(',')` that is `a, b`. It fails if a separator or an item does.
 pub fn list_with_sep<X>(
     items: &[X],
     separator: ListSeparator,
@@ -51,8 +54,8 @@ pub fn list_with_sep<X>(
     }
 }
 
-/// A printer that writes the items of a finite iterator, with a separator between each two; the iterator is cloned at each
-/// printing. It fails where the clone, a separator or an item does.
+/// Returns a printer that appends the items of a finite iterator, with a separator between each two. The iterator is cloned at each
+/// printing. It fails if the clone, a separator or an item does.
 pub fn iter_with_sep<I: Iterator + Clone>(iter: I, separator: ListSeparator) -> IterWithSep<I>
     ensures iter { result.iter ≡ iter }
     ensures separator { result.separator ≡ separator }
@@ -60,8 +63,8 @@ pub fn iter_with_sep<I: Iterator + Clone>(iter: I, separator: ListSeparator) -> 
     IterWithSep { iter, separator }
 }
 
-/// A printer that writes what its closure writes of each item of a finite iterator, with a separator between each two; the
-/// iterator is cloned at each printing. It fails where the clone, a separator or the closure does.
+/// Returns a printer that appends what its closure appends for each item of a finite iterator, with a separator between each two. The
+/// iterator is cloned at each printing. It fails if the clone, a separator or the closure does.
 pub fn iter_with_sep_by<
     T: IrText<A>,
     A: AttrText,
@@ -80,8 +83,8 @@ pub fn iter_with_sep_by<
     }
 }
 
-/// A printer that writes the left text, what is inside and the right text. It fails where memory is refused or what is inside
-/// fails.
+/// Returns a printer that appends the left text, the inner value and the right text: with `(` and `)` that is `(x)`. It fails if out of
+/// memory, or if the inner value fails.
 pub fn enclosed<'a, P>(left: &'a str, right: &'a str, inside: P) -> Enclosed<'a, P>
     ensures left { result.left.now ≡ left.now }
     ensures right { result.right.now ≡ right.now }

@@ -1,4 +1,4 @@
-//! Attributes print themselves.
+//! How attributes are printed.
 ghost use Rattle.std.specs.Prelude.{Some};
 ghost use Rattle.std.specs.Str.{encode_utf8_all};
 ghost use Rattle.irtext_base.specs.Locations.{attr_view};
@@ -11,6 +11,8 @@ use irtext_context::base::Context;
 use irtext_print::printable::attributes::fmt_attr;
 use std::fmt;
 
+/// Prints an identifier as `builtin.identifier b`, given names as `builtin.given_names [x, ?]`, and a caller's attribute as its own
+/// text. Fails only if out of memory.
 impl<T: IrText<A>, A: AttrText, U> Printable<U, T, A> for AttrObj<A> {
     ghost gives = { λ x _ s. Some (encode_utf8_all (attr_text A.IrText.written (attr_view x)), s) };
 

@@ -1,4 +1,4 @@
-//! A value with its context as a `Display`.
+//! A printable value with its context as a `Display`.
 ghost use Rattle.std.specs.Prelude.{◌≡◌, ◌++◌, List, ℕ, Some, None, Option, OnOk, IfSome, string_bytes};
 ghost use Rattle.irtext_print.specs.Printers.Appended.{fresh, text_of};
 ghost use Rattle.irtext_print.specs.Printers.Shown.{Shown};
@@ -10,7 +10,8 @@ use irtext_context::base::Context;
 use std::alloc::Global;
 use std::fmt;
 
-/// A value with its context, as a `Display`: each formatting begins with a state of this layout, and nothing gathered.
+/// A value with its context, as a `Display`. Each formatting begins with a new state of this layout, with nothing gathered. Created by
+/// [`Disp::disp`] and [`Disp::print`].
 #[derive(Drop)]
 pub struct Displayable<'a, X: Printable<(), T, A>, T: IrText<A>, A: AttrText> {
     value: &'a X,
@@ -25,13 +26,14 @@ pub struct Displayable<'a, X: Printable<(), T, A>, T: IrText<A>, A: AttrText> {
 impl<'a, X: Printable<(), T, A>, T: IrText<A>, A: AttrText> Displayable<'a, X, T, A> {
     ghost use Rattle.irtext_print_ir.specs.Printers.Shows.{shown_by, ShownOnce};
 
-    /// The field says only that a proof exists; this hands it out.
+    /// Returns nothing: hands out the proof that the value may be printed. The field states only that such a proof exists.
     fn can_be_printed(&self)
         ensures { X.can_print self.now.value.now self.now.ctx.now }
     {}
 
-    /// Appends the text. A `Display` can promise no more than a text that its value gives; this call promises what the value's
-    /// printing may do as well, as where a closure prints. It fails where that printing does; what was written until then stays.
+    /// Appends the text. The contract of `Display` covers no more than a text that the value claims; this call also promises what the
+    /// value's printing may do, for example if it calls a closure. Fails if that printing does. What was appended up to the error
+    /// remains.
     pub fn append_to(&self, f: &mut String) -> fmt::Result
         ensures prints { OnOk result (ShownOnce X.prints self.now f.old f.new) }
         ensures text { OnOk result (IfSome (shown_by X.gives self.now) (λ text. string_bytes f.new ≡ string_bytes f.old ++ text)) }
@@ -58,11 +60,12 @@ impl<X: Printable<(), T, A>, T: IrText<A>, A: AttrText> fmt::Display for Display
     }
 }
 
-/// The text of what is printable, as a `Display`.
+/// The text of a printable value, as a `Display`.
 pub trait Disp<T: IrText<A>, A: AttrText>: Printable<(), T, A> {
     ghost use Rattle.irtext_print_ir.specs.Printers.Shows.{shown_by, Displays};
 
-    /// The text with a new printing state at each formatting.
+    /// Returns the value as a `Display` that uses a new printing state at each formatting: two spaces per level, indentation 0, no
+    /// limit on the depth of regions.
     fn disp<'a>(&'a self, ctx: &'a Context<T, A>) -> Displayable<'a, Self, T, A>
     where
         Self: Sized,
@@ -70,7 +73,8 @@ pub trait Disp<T: IrText<A>, A: AttrText>: Printable<(), T, A> {
         ensures text { shown_by Self.gives result ≡ text_of (Self.gives self.now ctx.now (fresh 2 0 RegionPrintDepthLimit.Unlimited)) }
         ensures shows { Displays result self.now ctx.now (fresh 2 0 RegionPrintDepthLimit.Unlimited) };
 
-    /// The text with a state of the same width, indentation and limit, and nothing gathered, at each formatting.
+    /// Returns the value as a `Display` that uses, at each formatting, a state of the same indent width, indentation and depth limit as
+    /// this state, with nothing gathered.
     fn print<'a>(&'a self, ctx: &'a Context<T, A>, state: &State<()>) -> Displayable<'a, Self, T, A>
     where
         Self: Sized,

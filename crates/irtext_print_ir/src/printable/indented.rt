@@ -9,13 +9,13 @@ use irtext_base::text::{AttrText, IrText};
 use irtext_context::base::Context;
 use std::fmt;
 
-/// A newline and an indentation. Made by [`indented_nl`].
+/// A newline and an indentation. Created by [`indented_nl`].
 #[derive(Clone, Copy, Debug)]
 pub struct IndentedNl {
     indent: u16,
 }
 
-/// A newline and as many spaces as the state's indentation is at this call.
+/// Returns a newline and as many spaces as the state's indentation has at this call.
 pub fn indented_nl<U>(state: &State<U>) -> IndentedNl
     ensures { result.indent ≡ indent_of state.now }
 {

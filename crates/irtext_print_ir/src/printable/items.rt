@@ -10,7 +10,7 @@ use irtext_base::text::{AttrText, IrText};
 use irtext_context::base::Context;
 use std::fmt;
 
-/// Appends what stands in front of an item: the separator, unless the item is the first.
+/// Appends what is before an item: the separator, unless the item is the first.
 pub(crate) fn fmt_between<T: IrText<A>, A: AttrText, U>(
     first: bool,
     sep: ListSeparator,
@@ -27,8 +27,8 @@ pub(crate) fn fmt_between<T: IrText<A>, A: AttrText, U>(
     sep.fmt(ctx, state, f)
 }
 
-/// Appends the texts of the items that an iterator gives, with a separator between each two. It fails where a separator or an
-/// item does; what was written until then stays.
+/// Appends the texts of the items that an iterator yields, with a separator between each two: `a, b` with the separator
+/// `CharSpace(',')`. Fails if a separator or an item does. What was appended up to the error remains.
 pub fn fmt_iter<T: IrText<A>, A: AttrText, U, I: Iterator + Drop>(
     iter: I,
     ctx: &Context<T, A>,

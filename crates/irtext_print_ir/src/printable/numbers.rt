@@ -1,4 +1,4 @@
-//! Numbers print themselves in decimal digits.
+//! Numbers are printed in decimal digits, negative ones with a `-`.
 ghost use Rattle.std.specs.Prelude.{◌≡◌, Some};
 ghost use Rattle.std.specs.Fmt.{decimal, signed_decimal};
 

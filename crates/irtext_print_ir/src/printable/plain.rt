@@ -1,4 +1,4 @@
-//! References, texts, truth values, characters and separators print themselves.
+//! How references, texts, Booleans, characters and list separators are printed.
 ghost use Rattle.std.specs.Prelude.{◌≡◌, Some, List, ℕ};
 ghost use Rattle.std.specs.Char.{encode_utf8};
 ghost use Rattle.std.specs.String.{string_bytes};
@@ -12,6 +12,7 @@ use irtext_context::base::Context;
 use irtext_read::printable::fmt_quoted;
 use std::fmt;
 
+/// Prints what the value behind the reference prints.
 impl<T: IrText<A>, A: AttrText, U, X: Printable<U, T, A>> Printable<U, T, A> for &X {
     ghost can_print = { λ x. X.can_print x.now };
 
@@ -24,6 +25,7 @@ impl<T: IrText<A>, A: AttrText, U, X: Printable<U, T, A>> Printable<U, T, A> for
     }
 }
 
+/// Prints the text unchanged, without quotation marks.
 impl<T: IrText<A>, A: AttrText, U> Printable<U, T, A> for &str {
     ghost gives = { λ x _ s. Some (x.now, s) };
 
@@ -33,6 +35,7 @@ impl<T: IrText<A>, A: AttrText, U> Printable<U, T, A> for &str {
     }
 }
 
+/// Prints the text between quotation marks, as `fmt_quoted` does.
 impl<T: IrText<A>, A: AttrText, U> Printable<U, T, A> for String {
     ghost gives = { λ x _ s. Some (quoted_bytes (string_bytes x), s) };
 
@@ -41,6 +44,7 @@ impl<T: IrText<A>, A: AttrText, U> Printable<U, T, A> for String {
     }
 }
 
+/// Prints `true` or `false`.
 impl<T: IrText<A>, A: AttrText, U> Printable<U, T, A> for bool {
     ghost gives = { λ b _ s. Some (bool_text b, s) };
 
@@ -50,6 +54,7 @@ impl<T: IrText<A>, A: AttrText, U> Printable<U, T, A> for bool {
     }
 }
 
+/// Prints the character unchanged.
 impl<T: IrText<A>, A: AttrText, U> Printable<U, T, A> for char {
     ghost gives = { λ c _ s. Some (encode_utf8 c, s) };
 
@@ -59,6 +64,8 @@ impl<T: IrText<A>, A: AttrText, U> Printable<U, T, A> for char {
     }
 }
 
+/// Prints nothing for `None`; a newline and the state's indentation for `Newline`; the character, a newline and the indentation for
+/// `CharNewline`; the character for `Char`; the character and a space for `CharSpace`.
 impl<T: IrText<A>, A: AttrText, U> Printable<U, T, A> for ListSeparator {
     ghost use Rattle.irtext_print_ir.specs.Printers.Separator.{separator_text};
 

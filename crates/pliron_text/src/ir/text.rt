@@ -1,4 +1,4 @@
-//! The calls of operations that are about their text.
+//! The calls that parse an operation, and that give it as a printable value.
 ghost use Rattle.std.specs.Prelude.{◌≡◌, true, false, [], IfOk, IfErr, OnErr};
 ghost use Rattle.irtext_context.specs.Made.{SameObjects};
 ghost use Rattle.irtext_base.specs.Own.{texts_of};
@@ -19,16 +19,20 @@ use irtext_parse_root::whole::whole_parse;
 use irtext_print_ir::ir::print::concrete::OpObj;
 use irtext_state::parsable::StateStream;
 
-/// Calls of operations that are about their text.
+/// Parsing of operations, and an operation as a printable value.
 pub trait OperationText {
-    /// Reads an operation with all that nests in it and, where it has a mark, the section after it. The text after that is not looked at,
-    /// so one stream may hold several such operations, one after the other.
+    /// Parses an operation with everything nested in it. If a mark is recorded then (of this operation, of something nested in it, or
+    /// from an earlier call), the section of the recorded marks has to follow; it is parsed too. The text after that is not looked at,
+    /// so one stream may contain several such operations, one after the other.
     ///
-    /// The operation's location is the place where it begins, unless its entry in the section gives another. An error says why the text
-    /// is refused, and at which line and column, both counted from 1, in characters. It is uncommitted where nothing was read, and the
-    /// stream is unchanged; else the stream has failed, and each later call on it answers that. Whatever the error, out of memory too,
-    /// all objects of the context, the marks that are noted, the source and the caller's data are unchanged; the context may keep more
-    /// paths of files. This text is a module with a region of one block, which holds one operation:
+    /// The operation's location is the position where it begins, unless its entry in the section gives another.
+    ///
+    /// An error holds its cause and its position: line and column, both from 1, in characters. An uncommitted error means that nothing
+    /// was parsed; the stream is unchanged. After a committed error the stream has failed, and each later call on it returns a
+    /// committed error with the cause `StreamFailed`. After any error, including out of memory, all objects of the context, the
+    /// recorded marks, the source and the caller's data are unchanged; the context may hold more file paths than before.
+    ///
+    /// This text is a module with a region of one block, which contains one operation:
     ///
     /// ```text
     /// builtin.module @m {
@@ -56,9 +60,9 @@ pub trait OperationText {
         ensures objects { OnErr result (SameObjects stream.old.state.ctx.now stream.new.state.ctx.now) }
         ensures marks { OnErr result (marks_of stream.new.state ≡ marks_of stream.old.state) };
 
-    /// Reads an operation as `top_level_parse` does, after which only white space may be left up to the end of the text. Where something
-    /// else is left, the error is committed, at its place: ``Unexpected `b`, expected end of input``. On a state in which no mark is
-    /// noted, an error leaves the context's objects and the marks unchanged.
+    /// Parses an operation as `top_level_parse` does; only white space may follow it up to the end of the text. If something else
+    /// follows, the error is committed and its position is there: ``Unexpected `b`, expected end of input``. If the stream has not
+    /// failed and the state has no recorded marks, an error leaves the context's objects and the marks unchanged.
     fn whole_text_parse<T: IrText<A>, A: AttrText, U>(
         stream: &mut StateStream<'_, T, A, U>,
     ) -> ParseResult<Ptr<Operation>, A>
@@ -76,7 +80,7 @@ pub trait OperationText {
         ensures objects { IsFresh stream.old → OnErr result (SameObjects stream.old.state.ctx.now stream.new.state.ctx.now) }
         ensures marks { IsFresh stream.old → OnErr result (marks_of stream.new.state ≡ []) };
 
-    /// The operation as a plain value that prints its concrete text: its id and its pieces, without its mark and without a
+    /// Returns the operation as a plain value that prints its concrete text: its id and its pieces, without its mark and without a
     /// section.
     fn get_op_dyn<T: IrText<A>, A: AttrText>(op: Ptr<Operation>, ctx: &Context<T, A>) -> OpObj
         ensures { result ≡ record { op = op } };

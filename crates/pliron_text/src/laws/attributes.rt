@@ -1,4 +1,4 @@
-//! Laws of the texts of attributes.
+//! Laws of the text of attributes.
 ghost use Rattle.std.specs.Prelude.{◌≡◌, ℕ, false, List, ◌++◌, Option};
 ghost use Rattle.irtext_base.specs.Format.{Format, Id};
 ghost use Rattle.irtext_base.specs.Answers.{Read, Missing};
@@ -12,20 +12,20 @@ ghost use Rattle.irtext_grammar.specs.Grammar.Reads.{attribute};
 
 use irtext_base::text::{AttrText, IrText};
 
-/// What is written of an attribute whose names are identifiers is read back as that attribute, before every end of a text, and what
-/// is left is what stands behind it, white space aside.
+/// The printed text of an attribute whose names are identifiers parses back to that attribute, if it is followed by something that ends
+/// a text (`Ends`). The rest is what followed, up to white space.
 pub fn attribute_comes_back<A: AttrText>()
     ensures { (v : AttrView A) (rest : List ℕ) → IsSpellableAttr v → Ends rest →
         (taken left : List ℕ) × (attr_at A.reading (attr_text A.written v ++ rest) ≡ Read v taken left) ×
         (after_space left ≡ after_space rest) }
 {}
 
-/// Where no letter and no `_` stands, an attribute is missing.
+/// If a text does not begin with a letter or `_`, the parser finds no attribute there.
 pub fn attributes_are_missing<A: AttrText>()
     ensures { (text : List ℕ) → begins begins_word text ≡ false → (cause : Fault) × (attr_at A.reading text ≡ Missing cause) }
 {}
 
-/// A text is read as an attribute exactly where it reads as that attribute in a tree, and the same is left.
+/// The parser of attributes accepts a text with a value and a rest exactly if the grammar of trees does, with the same value and rest.
 pub fn attributes_are_the_trees<T: IrText<A>, A: AttrText>()
     ensures read { (formats : Id → Option Format) (v : AttrView A) (text taken rest : List ℕ) →
         attr_at A.reading text ≡ Read v taken rest →

@@ -1,4 +1,6 @@
-//! Laws of the whole round trip: what is read of a written root and its section is equal to it up to fillings.
+//! Laws of the whole round trip: what is built from the printed text of a root and its section is equal to the root up to fillings. "Up
+//! to fillings" means: an unknown location may become a position, and printed names are filled in if there were no given names or no
+//! label.
 ghost use Rattle.std.specs.Prelude.{◌≡◌, ℕ, Bool, List, [], Option, None, Some, true};
 ghost use Rattle.irtext_base.specs.Format.{Accepted, Format, Id};
 ghost use Rattle.irtext_base.specs.Own.{Standing, language, texts_of, unplaced};
@@ -24,8 +26,8 @@ ghost use Rattle.irtext_grammar.specs.Spelling.SectionEntries.{SmallSection};
 
 use irtext_base::text::{AttrText, IrText};
 
-/// Whatever is read of a written root, places aside, and resolves, with a section in which each item finds its own location and
-/// outlined attributes, builds a graph that is equal to the root up to fillings.
+/// Take a tree that, apart from places, is what is printed of a root. If it parses from some text and resolves, with a section in which
+/// each item finds its own location and outlined attributes, it builds a graph that is equal to the root up to fillings.
 pub fn equal_up_to_fillings<T: IrText<A>, A: AttrText, X>()
     ensures { (C : Printing T A) (isolated : Id → Bool) (K : Locations X) (first : ℕ → X)
         (es : List (Entry ℕ A X)) (g : Graph T A) (t : Tree ℕ T A) (text rest : List ℕ) →
@@ -34,9 +36,9 @@ pub fn equal_up_to_fillings<T: IrText<A>, A: AttrText, X>()
         failures_of isolated t es ≡ [] → Contents C K.text es g t → UpToFillings K (stood C isolated g) (build isolated first es t) }
 {}
 
-/// The printed text of a closed root whose operations fit accepted formats, with its section, reads as a tree and entries that
-/// resolve, and what they build is equal to the root up to fillings: a position stands where a location was unknown, and
-/// printed names where there were no given names and no label.
+/// The printed text of a closed root whose operations fit accepted formats, with its section, parses as a tree and entries that
+/// resolve. They build a graph that is equal to the root up to fillings: positions are filled in for unknown locations, and printed
+/// names for missing given names and labels.
 pub fn text_comes_back<T: IrText<A>, A: AttrText, X>()
     ensures { (location_at : List ℕ → Standing X) (K : Locations X) (first : ℕ → X) (C : Printing T A)
         (isolated : Id → Bool) (g : Graph T A) (width n : ℕ) →
@@ -46,7 +48,7 @@ pub fn text_comes_back<T: IrText<A>, A: AttrText, X>()
         ComesBack (texts_of T.reading T.written) (texts_of A.reading A.written) location_at K first C isolated g width n }
 {}
 
-/// Whatever the printed text of such a root reads as, with its section, takes all of it but white space, resolves, and builds a
+/// Every way to parse the printed text of such a root with its section takes all of the text except white space, resolves, and builds a
 /// graph that is equal to the root up to fillings.
 pub fn each_reading_comes_back<T: IrText<A>, A: AttrText, X>()
     ensures { (location_at : List ℕ → Standing X) (K : Locations X) (first : ℕ → X) (C : Printing T A)
@@ -61,8 +63,8 @@ pub fn each_reading_comes_back<T: IrText<A>, A: AttrText, X>()
         (after_space rest ≡ []) × (failures_of isolated t es ≡ []) × UpToFillings K (stood C isolated g) (build isolated first es t) }
 {}
 
-/// Where each block of such a root has a label, and all that has results or arguments holds given names, nothing is filled in but
-/// a position in place of an unknown location. So it is with whatever the text reads as.
+/// If each block of such a root has a label, and everything that has results or arguments holds given names, nothing is filled in but
+/// positions for unknown locations. That holds for every way to parse the text.
 pub fn named_root_comes_back<T: IrText<A>, A: AttrText, X>()
     ensures { (location_at : List ℕ → Standing X) (K : Locations X) (first : ℕ → X) (C : Printing T A)
         (isolated : Id → Bool) (g : Graph T A) (width n : ℕ) →
@@ -72,9 +74,9 @@ pub fn named_root_comes_back<T: IrText<A>, A: AttrText, X>()
         ComesBackWhole (texts_of T.reading T.written) (texts_of A.reading A.written) location_at K first C isolated g width n }
 {}
 
-/// A root of the arenas that stands for what a tree and its section build, where these were read and resolve, is closed; its blocks
-/// have labels, and all that has results or arguments holds given names; and no label stands in a block's dictionary. Formats are
-/// accepted, and no two values or blocks of the root are one.
+/// Take a root in a context's arenas that agrees with what a parsed and resolved tree and its section build. It is closed; its blocks
+/// have labels; everything that has results or arguments holds given names; and no block's dictionary contains a label. Formats have to
+/// be accepted, and the values and blocks of the root have to be distinct.
 pub fn built_root_is_closed<T: IrText<A>, A: AttrText, X>()
     ensures { (first : ℕ → X) (C : Printing T A) (isolated : Id → Bool) (t : Tree ℕ T A)
         (es : List (Entry ℕ A X)) (g : Graph T A) (source rest : List ℕ) →
@@ -85,8 +87,8 @@ pub fn built_root_is_closed<T: IrText<A>, A: AttrText, X>()
         Closed C isolated g × GraphKeepsKeys g × Named C g }
 {}
 
-/// So what was read comes back whole: where its operations fit, such a root is printed as a text that reads as an equal one, with a
-/// position where the location was unknown.
+/// What was parsed survives printing unchanged: if its operations fit, such a root is printed as a text that parses as an equal root,
+/// with a position for each unknown location.
 pub fn read_root_comes_back<T: IrText<A>, A: AttrText, X>()
     ensures { (location_at : List ℕ → Standing X) (K : Locations X) (before first : ℕ → X)
         (C : Printing T A) (isolated : Id → Bool) (t : Tree ℕ T A) (es : List (Entry ℕ A X)) (g : Graph T A)
@@ -100,7 +102,7 @@ pub fn read_root_comes_back<T: IrText<A>, A: AttrText, X>()
         ComesBackWhole (texts_of T.reading T.written) (texts_of A.reading A.written) location_at K first C isolated g width n }
 {}
 
-/// A text reads as one root with its section at most, and leaves one rest.
+/// A text parses as at most one root with its section, with one rest.
 pub fn one_root<T: IrText<A>, A: AttrText, X>()
     ensures { (location_at : List ℕ → Standing X) (formats : Id → Option Format) (x y : Tree ℕ T A)
         (es fs : List (Entry ℕ A X)) (t u v : List ℕ) →

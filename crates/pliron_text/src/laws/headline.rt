@@ -1,4 +1,5 @@
-//! The laws that tie printing to reading, over what the two calls promise: what is written of a root, however deep, is read back.
+//! The laws that connect printing and parsing, stated over the contracts of the two calls: the printed text of a root parses back to an
+//! equal root, however deep its regions are nested.
 
 pub use irtext_promises::laws::{
     limited_root_is_refused, printed_names_differ, printed_root_comes_back, read_root_comes_back,

@@ -1,5 +1,5 @@
-//! Laws of the texts of locations: what is written of a location is read back, and a bound on the nesting that the text meets
-//! changes nothing.
+//! Laws of the text of locations. The printed text of a location parses back to that location. A bound on the nesting depth that is at
+//! least the length of the text does not change the result.
 ghost use Rattle.std.specs.Prelude.{◌≡◌, ◌≤◌, ℕ, List, ◌++◌, false, length};
 ghost use Rattle.std.specs.Char.{is_whitespace};
 ghost use Rattle.irtext_base.specs.Answers.{Outcome};
@@ -11,9 +11,10 @@ ghost use Rattle.irtext_outcomes.specs.Readers.Locations.{location_at, location_
 ghost use Rattle.irtext_grammar.specs.Spelling.Locations.{written_text};
 ghost use Rattle.irtext_outcomes.specs.Promises.LocationsBack.{AllFit, AllRead, EndsLocation, GivesBack, left_behind};
 
-/// What is written of a location of any kind is read back as this location before whatever is no digit, if its metadata is read
-/// back and its paths, names, lines and columns fit: also under each bound on the nesting that the text's length meets. Of what
-/// follows, a call site takes the white space, and every other location nothing.
+/// The printed text of a location of any kind parses back to that location, if no digit follows it, its metadata parses back, and its
+/// paths, names, lines and columns fit: paths and names are UTF-8, lines and columns fit their type. `within` says the same under each
+/// bound on the nesting that is at least the length of the text. A call site also takes the white space that follows it; every other
+/// location takes nothing of what follows.
 pub fn location_comes_back<A>()
     ensures reads { (attr : List ℕ → Outcome (AttrView A)) (text_of : A → List ℕ) (l : Written A)
         (rest : List ℕ) → AllRead attr text_of l → AllFit l → EndsLocation rest →
@@ -25,15 +26,16 @@ pub fn location_comes_back<A>()
     ensures leaves_all { (l : Written A) (rest : List ℕ) → begins is_whitespace rest ≡ false → left_behind l rest ≡ rest }
 {}
 
-/// Two locations with one text are one location, if each is read back.
+/// Two locations with the same text are the same location, if the text of each parses back.
 pub fn location_texts_differ<A>()
     ensures { (attr : List ℕ → Outcome (AttrView A)) (text_of : A → List ℕ) (l k : Written A) →
         AllRead attr text_of l → AllFit l → AllRead attr text_of k → AllFit k →
         written_text text_of l ≡ written_text text_of k → l ≡ k }
 {}
 
-/// A bound on the nesting that is no less than the text's length changes nothing of what the text reads as, and what is read
-/// leaves no more than the text, if so does the reader of attributes.
+/// Assumes that the parser of attributes never leaves more text than it was given. Then two bounds on the nesting that are both at
+/// least the length of the text give the same result for that text, and the parser of locations never leaves more text than it was
+/// given.
 pub fn bound_is_enough<A>()
     ensures locations { (attr : List ℕ → Outcome (AttrView A)) (m n : ℕ) (text : List ℕ) →
         LeavesNoMore attr → length text ≤ m → length text ≤ n →

@@ -1,5 +1,5 @@
-//! Laws of the places of labels: where a label that is used and a block's label stand in the text that they are read from, and
-//! that their failures stand there. A place is the number of characters from it to the end of the text.
+//! Laws of the places of labels: the place of a used label and of a block's label in the text that they were parsed from, and the place
+//! of their errors. A place is the number of characters from there to the end of the text.
 ghost use Rattle.std.specs.Prelude.{◌≡◌, ℕ, suc, Bool, List, ◌++◌, codes, length, None, Option, Some, true};
 ghost use Rattle.irtext_base.specs.Format.{Format, Id};
 ghost use Rattle.irtext_base.specs.Own.{language, Texts};
@@ -16,8 +16,8 @@ ghost use Rattle.irtext_grammar.specs.Names.Script.{NoActiveScope, Place, Unreso
 ghost use Rattle.irtext_grammar.specs.Names.TextScopes.{facts, failures, left_open, Fact, Failure, Scopes, Script};
 ghost use Rattle.irtext_grammar.specs.Grammar.Tree.{shown, Brace, Head, Name, Op};
 
-/// A label that is used stands at its name, which goes on behind the `^`. Outside of every region it fails there; in a region
-/// the use itself fails by nothing.
+/// The place of a used label is after its `^`, where its name begins. Outside of every region the use fails, with that place. Inside a
+/// region the use itself never fails.
 pub fn used_labels<T, A>()
     ensures at_name { (types : Texts T) (owns : Texts A) (formats : Id → Option Format) (n : Name ℕ) (text rest : List ℕ) →
         target (language types owns formats) n text rest →
@@ -30,8 +30,8 @@ pub fn used_labels<T, A>()
         scopes.labels ≡ Some scope → Passes scopes (use_label (word_of n) user) }
 {}
 
-/// A label that is used in a region, and that no block of the region has, fails at the region's `{`, and not at the use. So does
-/// all else that the region leaves open.
+/// If a label is used in a region and no block of the region defines it, the error is at the region's `{`, not at the use. All other
+/// names that are unresolved at the end of the region have their error at the same place.
 pub fn labels_left_open<T, A>()
     ensures at_brace { (types : Texts T) (owns : Texts A) (formats : Id → Option Format) (place : ℕ)
         (blocks : Blocks (Op ℕ T A) (Head ℕ T A) (Brace ℕ)) (text rest : List ℕ) →
@@ -44,7 +44,8 @@ pub fn labels_left_open<T, A>()
         In failure (left_open place isolated (facts body)) → failure.at ≡ Some place }
 {}
 
-/// A block's label stands at its `^`. Where its scope has it already it fails there, and else by nothing.
+/// The place of a block's label is its `^`. If its scope has a label of that name already, the definition fails, with that place.
+/// Otherwise it does not fail.
 pub fn block_labels<T, A>()
     ensures at_caret { (types : Texts T) (owns : Texts A) (formats : Id → Option Format) (n : Name ℕ) (text rest : List ℕ) →
         label (language types owns formats) n text rest → (begins (the 94) text ≡ true) × (n.place ≡ length text) }
@@ -57,7 +58,8 @@ pub fn block_labels<T, A>()
         Passes scopes (define_label (word_of n) place) }
 {}
 
-/// One text is a block's label one character before it is a label that is used, and both have one name.
+/// If one text is parsed as a block's label and also as a used label, both have the same name, and the place of the block's label is
+/// one character before the place of the used label.
 pub fn one_character_apart<T, A>()
     ensures { (types : Texts T) (owns : Texts A) (formats : Id → Option Format) (block used : Name ℕ) (text t u : List ℕ) →
         let l = language types owns formats in

@@ -1,4 +1,5 @@
-//! Laws of the section behind a root: what is written of a root with its section is read back whole.
+//! Laws of the section after a root: the printed text of a root with its section parses back completely. An item is an operation or a
+//! block that carries a mark.
 ghost use Rattle.std.specs.Prelude.{◌≡◌, ℕ, ◌+◌, Bool, true, List, [], length, map, None, Option, Some};
 ghost use Rattle.irtext_base.specs.Format.{distinct, same_text, Id};
 ghost use Rattle.irtext_base.specs.Own.{language, texts_of, unplaced, Standing};
@@ -22,9 +23,9 @@ ghost use Rattle.irtext_grammar.specs.Spelling.SectionEntries.{bare_section, ind
 
 use irtext_base::text::{AttrText, IrText};
 
-/// The text of a closed root whose operations fit accepted formats, with its section, reads as a tree and entries, which
-/// are the written ones but for their places. They resolve; each item's mark leads to the item's own location and outlined
-/// attributes; and what they build has the root's ids, types, operands, successors and printed labels, place by place.
+/// The printed text of a closed root whose operations fit accepted formats, with its section, parses as a tree and entries that are
+/// equal to the printed ones apart from places. They resolve. Each item's mark leads to the item's own location and outlined
+/// attributes. What they build has the root's ids, types, operands, successors and printed labels at each place.
 pub fn section_comes_back<T: IrText<A>, A: AttrText, X>()
     ensures { (location_at : List ℕ → Standing X) (K : Locations X) (first : ℕ → X) (C : Printing T A)
         (isolated : Id → Bool) (g : Graph T A) (width n : ℕ) →
@@ -39,9 +40,9 @@ pub fn section_comes_back<T: IrText<A>, A: AttrText, X>()
         × (failures_of isolated t es ≡ []) × Contents C K.text es g t × SameShapes (stood C isolated g) (build isolated first es t) }
 {}
 
-/// The marks of what is written of a graph, however many regions deep, are 0, 1 and so on in reading order, as many as its section
-/// has items. So are the indices of the section's entries, where what is written once follows the items without a gap, each
-/// attribute in one entry.
+/// The marks in the printed tree of a graph are 0, 1 and so on in the order of the text, however deep its regions are nested; there are
+/// as many as the section has items. The indices of the section's entries are in order too: the items' entries come first, and the
+/// print-once attributes follow without a gap, each in one entry.
 pub fn indices_in_order<T, A>()
     ensures marks { (C : Printing T A) (isolated : Id → Bool) (l : Option ℕ) (g : Graph T A) → HasIdentifiers C g → Fit C isolated g →
         (facts same_text (tree_script isolated (written C l g) done)).marks ≡ numbers 0 (length (entries_of C l g)) }

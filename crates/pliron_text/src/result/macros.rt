@@ -1,9 +1,9 @@
-//! Macros that make errors, for those who use this crate alone: `create_error!` takes a location and a kind, those named by a kind a
-//! location, and those that end in `_noloc` neither. Behind that each takes a cause, or `in`, an allocator, `;` and a format text,
-//! which becomes the cause; where there is no memory for that text, the cause is want of memory. Those named `.._err` answer the
-//! error as an `Err`.
+//! Macros that create errors, for users of this crate alone. `create_error!` takes a location and a kind. A macro that is named after a
+//! kind takes a location; one whose name ends in `_noloc` takes neither. After that each takes a cause, or `in`, an allocator, `;` and
+//! a format text, whose text becomes the cause. If there is no memory for that text, the cause is `Cause::Memory`. The macros named
+//! `.._err` give the error as an `Err`.
 
-/// The error at a location, of a kind: of a cause, or `in alloc;` of a format text.
+/// Creates an error with this location and this kind. The cause is given as a value, or as `in alloc;` and a format text.
 #[macro_export]
 macro_rules! create_error {
     ($loc:expr, $kind:expr, in $alloc:expr; $($format:tt)+) => {
@@ -26,7 +26,7 @@ macro_rules! create_err {
     };
 }
 
-/// A refused verification, as an error at a location: of a cause, or `in alloc;` of a format text.
+/// Creates a `VerificationFailed` error at this location. The cause is given as a value, or as `in alloc;` and a format text.
 #[macro_export]
 macro_rules! verify_error {
     ($loc:expr, $($rest:tt)+) => {
@@ -42,7 +42,7 @@ macro_rules! verify_err {
     };
 }
 
-/// As `verify_error!`, at no known location.
+/// As `verify_error!`, with the location `Unknown`.
 #[macro_export]
 macro_rules! verify_error_noloc {
     ($($rest:tt)+) => {
@@ -58,7 +58,7 @@ macro_rules! verify_err_noloc {
     };
 }
 
-/// Invalid input, as an error at a location: of a cause, or `in alloc;` of a format text.
+/// Creates an `InvalidInput` error at this location. The cause is given as a value, or as `in alloc;` and a format text.
 #[macro_export]
 macro_rules! input_error {
     ($loc:expr, $($rest:tt)+) => {
@@ -74,7 +74,7 @@ macro_rules! input_err {
     };
 }
 
-/// As `input_error!`, at no known location.
+/// As `input_error!`, with the location `Unknown`.
 #[macro_export]
 macro_rules! input_error_noloc {
     ($($rest:tt)+) => {
@@ -90,7 +90,7 @@ macro_rules! input_err_noloc {
     };
 }
 
-/// An invalid argument, as an error at a location: of a cause, or `in alloc;` of a format text.
+/// Creates an `InvalidArgument` error at this location. The cause is given as a value, or as `in alloc;` and a format text.
 #[macro_export]
 macro_rules! arg_error {
     ($loc:expr, $($rest:tt)+) => {
@@ -106,7 +106,7 @@ macro_rules! arg_err {
     };
 }
 
-/// As `arg_error!`, at no known location.
+/// As `arg_error!`, with the location `Unknown`.
 #[macro_export]
 macro_rules! arg_error_noloc {
     ($($rest:tt)+) => {

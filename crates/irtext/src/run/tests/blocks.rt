@@ -1,8 +1,8 @@
-//! Roots with blocks, values, labels and marks: the worked rows.
+//! Worked rows: roots with blocks, values, labels and marks.
 use super::check;
 use std::test::Fail;
 
-/// Inputs of `irtext fmt`, and the output of each, which is printed as it is when it is read again.
+/// Inputs of `irtext fmt`, and the output of each. `irtext fmt` prints that output unchanged.
 const ACCEPTED: &[(&[u8], &[u8])] = &[
     // a use before its definition
     (
@@ -14,7 +14,7 @@ const ACCEPTED: &[(&[u8], &[u8])] = &[
         b"builtin.module @m { ^a(): test.br ^b ^b(): test.br ^a }",
         b"builtin.module @m \n{\n  ^a_block1v1() !0:\n    test.br ^b_block3v1 !1\n\n  ^b_block3v1() !2:\n    test.br ^a_block1v1 !3\n} !4\n\noutlined_attributes:\n!0 = @[<in-memory>: line: 1, column: 21], [builtin_block_label = builtin.identifier a]\n!1 = @[<in-memory>: line: 1, column: 27], []\n!2 = @[<in-memory>: line: 1, column: 38], [builtin_block_label = builtin.identifier b]\n!3 = @[<in-memory>: line: 1, column: 44], []\n!4 = @[<in-memory>: line: 1, column: 1], []\n",
     ),
-    // a definition in a nested region that is shared
+    // a definition in a nested region that is not isolated
     (
         b"builtin.module @m { ^a(): test.use x; test.scope { ^c(): x = test.make: builtin.integer si64 } }",
         b"builtin.module @m \n{\n  ^a_block1v1() !0:\n    test.use x_v1 !1;\n    test.scope \n    {\n      ^c_block2v1() !2:\n        x_v1 = test.make: builtin.integer si64 !3\n    } !4\n} !5\n\noutlined_attributes:\n!0 = @[<in-memory>: line: 1, column: 21], [builtin_block_label = builtin.identifier a]\n!1 = @[<in-memory>: line: 1, column: 27], []\n!2 = @[<in-memory>: line: 1, column: 52], [builtin_block_label = builtin.identifier c]\n!3 = @[<in-memory>: line: 1, column: 58], [builtin_given_names = builtin.given_names [x]]\n!4 = @[<in-memory>: line: 1, column: 39], []\n!5 = @[<in-memory>: line: 1, column: 1], []\n",
@@ -24,7 +24,7 @@ const ACCEPTED: &[(&[u8], &[u8])] = &[
         b"builtin.module @m { ^b(x: builtin.integer si64): test.use x }",
         b"builtin.module @m \n{\n  ^b_block1v1(x_v0: builtin.integer si64) !0:\n    test.use x_v0 !1\n} !2\n\noutlined_attributes:\n!0 = @[<in-memory>: line: 1, column: 21], [builtin_block_label = builtin.identifier b, builtin_given_names = builtin.given_names [x]]\n!1 = @[<in-memory>: line: 1, column: 50], []\n!2 = @[<in-memory>: line: 1, column: 1], []\n",
     ),
-    // notes in a section
+    // debug notes in a section
     (
         b"builtin.module @m {} !3 outlined_attributes: !3 = [dbg = !9] !9 = test.dbg \"s\"",
         b"builtin.module @m \n{\n  \n} !0\n\noutlined_attributes:\n!0 = @[<in-memory>: line: 1, column: 1], [dbg = !1]\n!1 = test.dbg \"s\"\n",
@@ -39,7 +39,7 @@ const ACCEPTED: &[(&[u8], &[u8])] = &[
         b"builtin.module @m { ^a() !0: test.nop } outlined_attributes: !0 = [builtin_block_label = builtin.identifier z]",
         b"builtin.module @m \n{\n  ^z_block1v1() !0:\n    test.nop !1\n} !2\n\noutlined_attributes:\n!0 = @[<in-memory>: line: 1, column: 21], [builtin_block_label = builtin.identifier z]\n!1 = @[<in-memory>: line: 1, column: 30], []\n!2 = @[<in-memory>: line: 1, column: 1], []\n",
     ),
-    // names in an isolated region and round it
+    // names in an isolated region and around it
     (
         b"builtin.module @m { ^a(): x = test.make: builtin.integer si64; builtin.func @f: builtin.function <()->()> { ^b(): x = test.make: builtin.integer si64; test.use x }; test.use x }",
         b"builtin.module @m \n{\n  ^a_block1v1() !0:\n    x_v0 = test.make: builtin.integer si64 !1;\n    builtin.func @f: builtin.function <()->()> \n    {\n      ^b_block2v1() !2:\n        x_v1 = test.make: builtin.integer si64 !3;\n        test.use x_v1 !4\n    } !5;\n    test.use x_v0 !6\n} !7\n\noutlined_attributes:\n!0 = @[<in-memory>: line: 1, column: 21], [builtin_block_label = builtin.identifier a]\n!1 = @[<in-memory>: line: 1, column: 27], [builtin_given_names = builtin.given_names [x]]\n!2 = @[<in-memory>: line: 1, column: 109], [builtin_block_label = builtin.identifier b]\n!3 = @[<in-memory>: line: 1, column: 115], [builtin_given_names = builtin.given_names [x]]\n!4 = @[<in-memory>: line: 1, column: 152], []\n!5 = @[<in-memory>: line: 1, column: 64], []\n!6 = @[<in-memory>: line: 1, column: 166], []\n!7 = @[<in-memory>: line: 1, column: 1], []\n",
@@ -49,7 +49,7 @@ const ACCEPTED: &[(&[u8], &[u8])] = &[
         b"builtin.module @bar \n{\n  ^block1v1():\n    builtin.func @foo: builtin.function <()->(builtin.integer si64)> \n    {\n      ^entry_block2v1() !0:\n        c0_v0 = test.constant builtin.integer <0: si64>: builtin.integer si64 !1;\n        test.return c0_v0\n    }\n}\n\noutlined_attributes:\n!0 = [builtin_block_label = builtin.identifier entry]\n!1 = [builtin_given_names = builtin.given_names [c0]]\n",
         b"builtin.module @bar \n{\n  ^block1v1_block1v1() !0:\n    builtin.func @foo: builtin.function <()->(builtin.integer si64)> \n    {\n      ^entry_block2v1() !1:\n        c0_v0 = test.constant builtin.integer <0: si64>: builtin.integer si64 !2;\n        test.return c0_v0 !3\n    } !4\n} !5\n\noutlined_attributes:\n!0 = @[<in-memory>: line: 3, column: 3], [builtin_block_label = builtin.identifier block1v1]\n!1 = @[<in-memory>: line: 6, column: 7], [builtin_block_label = builtin.identifier entry]\n!2 = @[<in-memory>: line: 7, column: 9], [builtin_given_names = builtin.given_names [c0]]\n!3 = @[<in-memory>: line: 8, column: 9], []\n!4 = @[<in-memory>: line: 4, column: 5], []\n!5 = @[<in-memory>: line: 1, column: 1], []\n",
     ),
-    // two notes that are one
+    // two equal notes
     (
         b"builtin.module @m \n{\n  ^block1v1():\n    test.nop !0;\n    test.nop !1\n}\n\noutlined_attributes:\n!0 = [dbg = !2]\n!1 = [dbg = !2]\n!2 = test.dbg \"s\"\n",
         b"builtin.module @m \n{\n  ^block1v1_block1v1() !0:\n    test.nop !1;\n    test.nop !2\n} !3\n\noutlined_attributes:\n!0 = @[<in-memory>: line: 3, column: 3], [builtin_block_label = builtin.identifier block1v1]\n!1 = @[<in-memory>: line: 4, column: 5], [dbg = !4]\n!2 = @[<in-memory>: line: 5, column: 5], [dbg = !4]\n!3 = @[<in-memory>: line: 1, column: 1], []\n!4 = test.dbg \"s\"\n",
@@ -59,7 +59,7 @@ const ACCEPTED: &[(&[u8], &[u8])] = &[
         b"builtin.module @bar \n{\n  ^block1v1():\n    \n}",
         b"builtin.module @bar \n{\n  ^block1v1_block1v1() !0:\n    \n} !1\n\noutlined_attributes:\n!0 = @[<in-memory>: line: 3, column: 3], [builtin_block_label = builtin.identifier block1v1]\n!1 = @[<in-memory>: line: 1, column: 1], []\n",
     ),
-    // the form that any operation has
+    // the canonical form, which any operation has
     (
         b"builtin.module @m { ^a(): v1 = test.global () [] [builtin_sym_name: builtin.identifier global_0, test_global_op_const_val: builtin.integer <0: si64>]: <() -> (test.ptr )> }",
         b"builtin.module @m \n{\n  ^a_block1v1() !0:\n    v1_v0 = test.global () [] [builtin_sym_name: builtin.identifier global_0, test_global_op_const_val: builtin.integer <0: si64>]: <() -> (test.ptr )> !1\n} !2\n\noutlined_attributes:\n!0 = @[<in-memory>: line: 1, column: 21], [builtin_block_label = builtin.identifier a]\n!1 = @[<in-memory>: line: 1, column: 27], [builtin_given_names = builtin.given_names [v1]]\n!2 = @[<in-memory>: line: 1, column: 1], []\n",
@@ -74,17 +74,17 @@ const ACCEPTED: &[(&[u8], &[u8])] = &[
         b"builtin.module @m { ^a(): test.scope { ^b(): test.scope { ^c(): test.use x }; test.use x } ^d(): x = test.make: builtin.integer si64; test.return x, x }",
         b"builtin.module @m \n{\n  ^a_block1v1() !0:\n    test.scope \n    {\n      ^b_block2v1() !1:\n        test.scope \n        {\n          ^c_block3v1() !2:\n            test.use x_v1 !3\n        } !4;\n        test.use x_v1 !5\n    } !6\n\n  ^d_block4v1() !7:\n    x_v1 = test.make: builtin.integer si64 !8;\n    test.return x_v1, x_v1 !9\n} !10\n\noutlined_attributes:\n!0 = @[<in-memory>: line: 1, column: 21], [builtin_block_label = builtin.identifier a]\n!1 = @[<in-memory>: line: 1, column: 40], [builtin_block_label = builtin.identifier b]\n!2 = @[<in-memory>: line: 1, column: 59], [builtin_block_label = builtin.identifier c]\n!3 = @[<in-memory>: line: 1, column: 65], []\n!4 = @[<in-memory>: line: 1, column: 46], []\n!5 = @[<in-memory>: line: 1, column: 79], []\n!6 = @[<in-memory>: line: 1, column: 27], []\n!7 = @[<in-memory>: line: 1, column: 92], [builtin_block_label = builtin.identifier d]\n!8 = @[<in-memory>: line: 1, column: 98], [builtin_given_names = builtin.given_names [x]]\n!9 = @[<in-memory>: line: 1, column: 135], []\n!10 = @[<in-memory>: line: 1, column: 1], []\n",
     ),
-    // one label in regions side by side and round them
+    // one label in sibling regions and around them
     (
         b"builtin.module @m { ^a(): test.scope { ^a(): test.br ^a }; test.scope { ^a(): test.br ^b ^b(): test.br ^a }; test.br ^a }",
         b"builtin.module @m \n{\n  ^a_block1v1() !0:\n    test.scope \n    {\n      ^a_block2v1() !1:\n        test.br ^a_block2v1 !2\n    } !3;\n    test.scope \n    {\n      ^a_block3v1() !4:\n        test.br ^b_block5v1 !5\n\n      ^b_block5v1() !6:\n        test.br ^a_block3v1 !7\n    } !8;\n    test.br ^a_block1v1 !9\n} !10\n\noutlined_attributes:\n!0 = @[<in-memory>: line: 1, column: 21], [builtin_block_label = builtin.identifier a]\n!1 = @[<in-memory>: line: 1, column: 40], [builtin_block_label = builtin.identifier a]\n!2 = @[<in-memory>: line: 1, column: 46], []\n!3 = @[<in-memory>: line: 1, column: 27], []\n!4 = @[<in-memory>: line: 1, column: 73], [builtin_block_label = builtin.identifier a]\n!5 = @[<in-memory>: line: 1, column: 79], []\n!6 = @[<in-memory>: line: 1, column: 90], [builtin_block_label = builtin.identifier b]\n!7 = @[<in-memory>: line: 1, column: 96], []\n!8 = @[<in-memory>: line: 1, column: 60], []\n!9 = @[<in-memory>: line: 1, column: 110], []\n!10 = @[<in-memory>: line: 1, column: 1], []\n",
     ),
-    // a branch to itself and to what comes last
+    // a branch to its own block and to the last one
     (
         b"builtin.module @m { ^a(): test.br ^c ^b(): test.br ^b ^c(): test.br ^a }",
         b"builtin.module @m \n{\n  ^a_block1v1() !0:\n    test.br ^c_block4v1 !1\n\n  ^b_block3v1() !2:\n    test.br ^b_block3v1 !3\n\n  ^c_block4v1() !4:\n    test.br ^a_block1v1 !5\n} !6\n\noutlined_attributes:\n!0 = @[<in-memory>: line: 1, column: 21], [builtin_block_label = builtin.identifier a]\n!1 = @[<in-memory>: line: 1, column: 27], []\n!2 = @[<in-memory>: line: 1, column: 38], [builtin_block_label = builtin.identifier b]\n!3 = @[<in-memory>: line: 1, column: 44], []\n!4 = @[<in-memory>: line: 1, column: 55], [builtin_block_label = builtin.identifier c]\n!5 = @[<in-memory>: line: 1, column: 61], []\n!6 = @[<in-memory>: line: 1, column: 1], []\n",
     ),
-    // an isolated region in a shared one, and a shared one in it
+    // an isolated region in a region that is not, and the reverse
     (
         b"builtin.module @m { ^a(): x = test.make: builtin.integer si64; test.scope { ^b(): test.use x; builtin.func @f: builtin.function <()->()> { ^c(): test.use y; test.scope { ^d(): y = test.make: builtin.integer si64 } }; y = test.make: builtin.integer si64 }; test.use y }",
         b"builtin.module @m \n{\n  ^a_block1v1() !0:\n    x_v0 = test.make: builtin.integer si64 !1;\n    test.scope \n    {\n      ^b_block2v1() !2:\n        test.use x_v0 !3;\n        builtin.func @f: builtin.function <()->()> \n        {\n          ^c_block3v1() !4:\n            test.use y_v2 !5;\n            test.scope \n            {\n              ^d_block4v1() !6:\n                y_v2 = test.make: builtin.integer si64 !7\n            } !8\n        } !9;\n        y_v3 = test.make: builtin.integer si64 !10\n    } !11;\n    test.use y_v3 !12\n} !13\n\noutlined_attributes:\n!0 = @[<in-memory>: line: 1, column: 21], [builtin_block_label = builtin.identifier a]\n!1 = @[<in-memory>: line: 1, column: 27], [builtin_given_names = builtin.given_names [x]]\n!2 = @[<in-memory>: line: 1, column: 77], [builtin_block_label = builtin.identifier b]\n!3 = @[<in-memory>: line: 1, column: 83], []\n!4 = @[<in-memory>: line: 1, column: 140], [builtin_block_label = builtin.identifier c]\n!5 = @[<in-memory>: line: 1, column: 146], []\n!6 = @[<in-memory>: line: 1, column: 171], [builtin_block_label = builtin.identifier d]\n!7 = @[<in-memory>: line: 1, column: 177], [builtin_given_names = builtin.given_names [y]]\n!8 = @[<in-memory>: line: 1, column: 158], []\n!9 = @[<in-memory>: line: 1, column: 95], []\n!10 = @[<in-memory>: line: 1, column: 218], [builtin_given_names = builtin.given_names [y]]\n!11 = @[<in-memory>: line: 1, column: 64], []\n!12 = @[<in-memory>: line: 1, column: 257], []\n!13 = @[<in-memory>: line: 1, column: 1], []\n",
@@ -94,7 +94,7 @@ const ACCEPTED: &[(&[u8], &[u8])] = &[
         b"builtin.module @m { ^a(): builtin.module @n { ^a(): builtin.module @o {} } }",
         b"builtin.module @m \n{\n  ^a_block1v1() !0:\n    builtin.module @n \n    {\n      ^a_block2v1() !1:\n        builtin.module @o \n        {\n          \n        } !2\n    } !3\n} !4\n\noutlined_attributes:\n!0 = @[<in-memory>: line: 1, column: 21], [builtin_block_label = builtin.identifier a]\n!1 = @[<in-memory>: line: 1, column: 47], [builtin_block_label = builtin.identifier a]\n!2 = @[<in-memory>: line: 1, column: 53], []\n!3 = @[<in-memory>: line: 1, column: 27], []\n!4 = @[<in-memory>: line: 1, column: 1], []\n",
     ),
-    // names that other names are fronts of
+    // names that are prefixes of other names
     (
         b"builtin.module @m { ^a(): test.return a, ab, abc; abc = test.make: builtin.integer si64; ab = test.make: builtin.integer si64; a = test.make: builtin.integer si64 }",
         b"builtin.module @m \n{\n  ^a_block1v1() !0:\n    test.return a_v5, ab_v4, abc_v3 !1;\n    abc_v3 = test.make: builtin.integer si64 !2;\n    ab_v4 = test.make: builtin.integer si64 !3;\n    a_v5 = test.make: builtin.integer si64 !4\n} !5\n\noutlined_attributes:\n!0 = @[<in-memory>: line: 1, column: 21], [builtin_block_label = builtin.identifier a]\n!1 = @[<in-memory>: line: 1, column: 27], []\n!2 = @[<in-memory>: line: 1, column: 51], [builtin_given_names = builtin.given_names [abc]]\n!3 = @[<in-memory>: line: 1, column: 90], [builtin_given_names = builtin.given_names [ab]]\n!4 = @[<in-memory>: line: 1, column: 128], [builtin_given_names = builtin.given_names [a]]\n!5 = @[<in-memory>: line: 1, column: 1], []\n",
@@ -104,17 +104,17 @@ const ACCEPTED: &[(&[u8], &[u8])] = &[
         b"builtin.module @m { ^a() [k: builtin.identifier x, n: test.dbg \"s\"]: test.nop }",
         b"builtin.module @m \n{\n  ^a_block1v1() [k: builtin.identifier x] !0:\n    test.nop !1\n} !2\n\noutlined_attributes:\n!0 = @[<in-memory>: line: 1, column: 21], [builtin_block_label = builtin.identifier a, n = !3]\n!1 = @[<in-memory>: line: 1, column: 70], []\n!2 = @[<in-memory>: line: 1, column: 1], []\n!3 = test.dbg \"s\"\n",
     ),
-    // given names that are not given
+    // given names that are absent
     (
         b"builtin.module @m { ^a(): x, y = test.global () [] []: <() -> (test.ptr, test.ptr)> !0 } outlined_attributes: !0 = [builtin_given_names = builtin.given_names [?, z]]",
         b"builtin.module @m \n{\n  ^a_block1v1() !0:\n    v0, z_v1 = test.global () [] []: <() -> (test.ptr , test.ptr )> !1\n} !2\n\noutlined_attributes:\n!0 = @[<in-memory>: line: 1, column: 21], [builtin_block_label = builtin.identifier a]\n!1 = @[<in-memory>: line: 1, column: 27], [builtin_given_names = builtin.given_names [?, z]]\n!2 = @[<in-memory>: line: 1, column: 1], []\n",
     ),
-    // no names for no results
+    // an empty list of names for no results
     (
         b"builtin.module @m { ^a(): = test.nop; test.nop }",
         b"builtin.module @m \n{\n  ^a_block1v1() !0:\n    test.nop !1;\n    test.nop !2\n} !3\n\noutlined_attributes:\n!0 = @[<in-memory>: line: 1, column: 21], [builtin_block_label = builtin.identifier a]\n!1 = @[<in-memory>: line: 1, column: 27], []\n!2 = @[<in-memory>: line: 1, column: 39], []\n!3 = @[<in-memory>: line: 1, column: 1], []\n",
     ),
-    // white space where it may stand
+    // white space wherever it is allowed
     (
         b"\n builtin.module\t@m\r\n{\xe2\x80\xa8^a ( x\xc2\xa0:\n builtin.integer\nsi64 ) : y\n=\ntest.make\n:\ntest.ptr ;\n test.return x\n,\ny ^b():test.br\n^a}",
         b"builtin.module @m \n{\n  ^a_block1v1(x_v0: builtin.integer si64) !0:\n    y_v1 = test.make: test.ptr  !1;\n    test.return x_v0, y_v1 !2\n\n  ^b_block2v1() !3:\n    test.br ^a_block1v1 !4\n} !5\n\noutlined_attributes:\n!0 = @[<in-memory>: line: 3, column: 3], [builtin_block_label = builtin.identifier a, builtin_given_names = builtin.given_names [x]]\n!1 = @[<in-memory>: line: 5, column: 10], [builtin_given_names = builtin.given_names [y]]\n!2 = @[<in-memory>: line: 10, column: 2], []\n!3 = @[<in-memory>: line: 12, column: 3], [builtin_block_label = builtin.identifier b]\n!4 = @[<in-memory>: line: 12, column: 8], []\n!5 = @[<in-memory>: line: 1, column: 1], []\n",
@@ -131,7 +131,7 @@ const ACCEPTED: &[(&[u8], &[u8])] = &[
     ),
 ];
 
-/// Inputs of `irtext fmt` of one line that are refused, at which column, and what is said of each.
+/// Inputs of `irtext fmt` of one line that are rejected, the column of the error, and its text.
 const REFUSED: &[(&str, u32, &str)] = &[
     (
         "builtin.module @m { ^a(): test.scope { ^c(): x = test.make: builtin.integer si64 }; test.scope { ^d(): x = test.make: builtin.integer si64 } }",
@@ -352,13 +352,13 @@ const REFUSED: &[(&str, u32, &str)] = &[
     ),
 ];
 
-/// A text that is read, though an operation in it does not fit its format: its value was to come from the section.
+/// A text that parses, though an operation in it does not fit its format: its value was to come from the section.
 const MISFIT: (&[u8], &[u8]) = (
     b"builtin.module @m { ^a(): x = test.constant !outlined: builtin.integer si64 !0 } !1 outlined_attributes:",
     b"Compilation error: invalid argument.\nan error occurred when formatting an argument\n",
 );
 
-/// A root whose entry takes its location away: what is printed of it, and of that again, where the position is filled in.
+/// A root whose entry removes its location: what is printed of it, and what is printed of that again, with the position filled in.
 const FILLED: &[(&[u8], &[u8])] = &[
     (
         b"builtin.module @m {} !0 outlined_attributes: !0 = @[?], []",

@@ -7,7 +7,7 @@ ghost use Rattle.irtext_print.specs.declared.printable.refusal.Refusal.TheVarian
 use crate::printable::Refusal;
 use irtext_base::base::OpId;
 
-/// Appends an id.
+/// Appends an id: `builtin.module`. The error is always `Memory`.
 pub fn fmt_id(id: &OpId, f: &mut String) -> Result<(), Refusal>
     ensures text { OnOk result (AppendsText f.old (id_text id.now) f.new) }
     ensures refused { IfErr result (λ e. e ≡ refusal.Memory) }

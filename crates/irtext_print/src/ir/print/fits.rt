@@ -1,4 +1,4 @@
-//! Which keys that the directives of an operation's format name are missing.
+//! Which of the keys that the directives of a format name have no attribute in the operation.
 ghost use Rattle.std.specs.Prelude.{◌≡◌, option_copied};
 ghost use Rattle.irtext_formats.specs.Directives.{directive_of, directives_of};
 ghost use Rattle.irtext_print.specs.Printers.FitFaults as faults;
@@ -10,7 +10,7 @@ use irtext_base::format::Directive;
 use irtext_base::text::AttrText;
 use irtext_dict::base::AttributeDict;
 
-/// The key that a directive names, where no attribute has it.
+/// Returns the key that a directive names, if no attribute has it.
 fn lacking_key<'d, A: AttrText>(
     attributes: &AttributeDict<A>,
     directive: &'d Directive,
@@ -26,7 +26,7 @@ fn lacking_key<'d, A: AttrText>(
     }
 }
 
-/// The first key that a directive names and that no attribute has.
+/// Returns the first key that a directive names and no attribute has.
 pub fn missing_key<'d, A: AttrText>(
     attributes: &AttributeDict<A>,
     directives: &'d [Directive],

@@ -1,4 +1,4 @@
-//! What a format's directives write of an operation's attributes. Each of these calls fails only where memory is refused.
+//! What the directives of a format print of an operation's attributes. Each of these calls fails only if out of memory.
 ghost use Rattle.std.specs.Prelude.{◌≡◌, ◌++◌, ◌&&◌, [], Some, OnOk, codes, cond, not, option_copied};
 ghost use Rattle.std.specs.Map.{lookup};
 ghost use Rattle.std.specs.Str.{bytes_eq, chars};
@@ -18,14 +18,14 @@ use irtext_base::text::AttrText;
 use irtext_dict::base::AttributeDict;
 use std::fmt;
 
-/// Whether no space stands before a word that begins with this character.
+/// Whether there is no space before a word that begins with this character.
 fn joins_left(c: char) -> bool
     ensures { result ≡ spell.joins_left c }
 {
     matches!(c, ',' | ':' | ';' | ')' | ']' | '>')
 }
 
-/// Whether no space stands before a word.
+/// Whether there is no space before a word.
 fn word_joins_left(word: &str) -> bool
     ensures { result ≡ begins spell.joins_left (chars word.now) }
 {
@@ -35,7 +35,7 @@ fn word_joins_left(word: &str) -> bool
     }
 }
 
-/// Appends a fixed word, behind a space unless it joins what stands before it.
+/// Appends a fixed word, after a space unless it joins what is before it.
 pub fn fmt_word(word: &str, f: &mut String) -> fmt::Result
     ensures { OnOk result (AppendsText f.old (pieces.word_text (chars word.now)) f.new) }
 {
@@ -46,7 +46,7 @@ pub fn fmt_word(word: &str, f: &mut String) -> fmt::Result
     Ok(())
 }
 
-/// Whether an attribute is written in the section, and not where it stands.
+/// Whether an attribute is printed in the section, and not in place.
 pub fn is_outlined<A: AttrText>(attr: &AttrObj<A>) -> bool
     ensures { result ≡ graph.outlined (pieces.outlining A.outlined) (attribute_of attr.now) }
 {
@@ -57,7 +57,7 @@ pub fn is_outlined<A: AttrText>(attr: &AttrObj<A>) -> bool
     }
 }
 
-/// Appends the text of an attribute, or in its place that it is outlined.
+/// Appends the text of an attribute, or `!outlined` if it is outlined.
 fn fmt_inline<A: AttrText>(attr: &AttrObj<A>, f: &mut String) -> fmt::Result
     ensures { OnOk result (AppendsText f.old (pieces.inline_text A.IrText.written A.outlined (attribute_of attr.now)) f.new) }
 {
@@ -68,7 +68,7 @@ fn fmt_inline<A: AttrText>(attr: &AttrObj<A>, f: &mut String) -> fmt::Result
     fmt_attr(attr, f)
 }
 
-/// Appends the attribute under a key, behind a space, where it is there.
+/// Appends the attribute under a key, after a space, if there is one.
 pub fn fmt_keyed<A: AttrText>(
     attributes: &AttributeDict<A>,
     key: &Identifier,
@@ -83,7 +83,7 @@ pub fn fmt_keyed<A: AttrText>(
     fmt_inline(attr, f)
 }
 
-/// The identifier that an attribute is, if it is one.
+/// Returns the identifier that an attribute contains, if it is one.
 fn ident_of<A: AttrText>(attr: &AttrObj<A>) -> Option<&Identifier>
     ensures { option_copied result ≡ pieces.symbol_in (Some (attribute_of attr.now)) }
 {
@@ -93,7 +93,7 @@ fn ident_of<A: AttrText>(attr: &AttrObj<A>) -> Option<&Identifier>
     }
 }
 
-/// The attribute under a key. An operation's first attribute is the one that is asked for most, so it is looked at before all others.
+/// Returns the attribute under a key. An operation's first attribute is the one that is asked for most, so it is compared first.
 #[inline(always)]
 pub(crate) fn attribute_under<'a, A: AttrText>(
     attributes: &'a AttributeDict<A>,
@@ -109,7 +109,7 @@ pub(crate) fn attribute_under<'a, A: AttrText>(
     attributes.get_str(key)
 }
 
-/// The symbol's name, where the attribute under its key is an identifier.
+/// Returns the symbol's name, if the attribute under its key is an identifier.
 pub fn symbol_of<A: AttrText>(attributes: &AttributeDict<A>) -> Option<&Identifier>
     ensures { option_copied result ≡ pieces.symbol_in (graph.lookup sym_name_key (entries_of attributes.now)) }
 {
@@ -119,7 +119,7 @@ pub fn symbol_of<A: AttrText>(attributes: &AttributeDict<A>) -> Option<&Identifi
     }
 }
 
-/// Appends the symbol's name behind a space and `@`, where it is there.
+/// Appends the symbol's name after a space and `@`, if there is one.
 pub fn fmt_symbol<A: AttrText>(attributes: &AttributeDict<A>, f: &mut String) -> fmt::Result
     ensures { OnOk result (AppendsText f.old (pieces.header_text (entries_of attributes.now)) f.new) }
 {
@@ -131,7 +131,7 @@ pub fn fmt_symbol<A: AttrText>(attributes: &AttributeDict<A>, f: &mut String) ->
     Ok(())
 }
 
-/// Whether a directive writes the attribute under a key.
+/// Whether a directive prints the attribute under a key.
 fn names_key(directive: &Directive, key: &str) -> bool
     ensures { result ≡ pieces.names_key key.now (directive_of directive.now) }
 {
@@ -142,21 +142,21 @@ fn names_key(directive: &Directive, key: &str) -> bool
     }
 }
 
-/// Whether one of the directives writes the attribute under a key.
+/// Whether one of the directives prints the attribute under a key.
 pub fn is_key_written(directives: &[Directive], key: &str) -> bool
     ensures { result ≡ pieces.is_key_written key.now (directives_of directives.now) }
 {
     directives.iter().any(|d| names_key(d, key))
 }
 
-/// Whether the dictionary writes an entry: no other directive does, and it is not outlined.
+/// Whether the dictionary prints an entry: no other directive does, and it is not outlined.
 fn is_listed<A: AttrText>(directives: &[Directive], key: &Identifier, attr: &AttrObj<A>) -> bool
     ensures { result ≡ pieces.is_listed A.outlined (directives_of directives.now) (key.now, attribute_of attr.now) }
 {
     !is_outlined(attr) && !is_key_written(directives, key.as_str())
 }
 
-/// Appends an entry, behind `, ` where it is not the first.
+/// Appends an entry, after `, ` if it is not the first.
 fn fmt_entry<A: AttrText>(
     first: bool,
     key: &Identifier,
@@ -173,7 +173,7 @@ fn fmt_entry<A: AttrText>(
     fmt_attr(attr, f)
 }
 
-/// Appends the entries that the dictionary writes, with `, ` between them.
+/// Appends the entries that the dictionary prints, with `, ` between them.
 fn fmt_entries<A: AttrText>(
     attributes: &AttributeDict<A>,
     directives: &[Directive],
@@ -192,7 +192,7 @@ fn fmt_entries<A: AttrText>(
     Ok(())
 }
 
-/// Appends the dictionary of the attributes that no other directive writes, behind a space.
+/// Appends the dictionary of the attributes that no other directive prints, after a space: ` [k: builtin.identifier x]`.
 pub fn fmt_dictionary<A: AttrText>(
     attributes: &AttributeDict<A>,
     directives: &[Directive],

@@ -1,4 +1,4 @@
-//! The concrete text of operations: their results, their id and their pieces, without mark and section.
+//! The concrete text of operations: their results, id and pieces, without a mark and without a section.
 ghost use Rattle.std.specs.Prelude.{◌≡◌, OnOk, IfErr, IsSome};
 ghost use Rattle.irtext_context.specs.Context.{operation};
 ghost use Rattle.irtext_print.specs.Printers.Printing.{gathered_of, with_gathered};
@@ -11,8 +11,13 @@ use irtext_base::text::{AttrText, IrText};
 use irtext_context::base::{Context, Operation, Ptr};
 use std::fmt;
 
-/// Appends the concrete text of an operation with all that nests in it, as [`OpObj`] prints it, and says why it was refused. What is
-/// marked inside of it is gathered, and what was written and gathered until a refusal stays.
+/// Appends the concrete text of an operation with everything nested in it, as [`OpObj`] prints it. Items inside are gathered in the
+/// state.
+///
+/// The error is `Memory`, `Misfit` (the operation, or one that is shown inside, does not fit its format) or `Depth` (an indentation
+/// inside does not fit 16 bits). What was appended and gathered up to the error remains. Nothing else of the state changes.
+///
+/// For example: `x_v1 = test.make: builtin.integer si64`.
 pub fn print_concrete<T: IrText<A>, A: AttrText, U>(
     ctx: &Context<T, A>,
     op: Ptr<Operation>,
@@ -28,10 +33,11 @@ pub fn print_concrete<T: IrText<A>, A: AttrText, U>(
     gather_operation(ctx, op, false, state, f)
 }
 
-/// An operation as a plain value, whose text is its concrete text: without its mark, and without a section. It prints
-/// where the operation is live; why it is refused is said by [`print_concrete`].
+/// An operation as a plain value, which prints its concrete text: without its mark, and without a section. The operation has to be
+/// live. [`print_concrete`] prints the same, and returns why it failed.
 #[derive(Clone, Copy, Debug, PartialEq, Eq)]
 pub struct OpObj {
+    /// The operation.
     pub op: Ptr<Operation>,
 }
 

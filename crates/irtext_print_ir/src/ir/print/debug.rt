@@ -1,4 +1,4 @@
-//! An operation's text for those who debug: regions are elided, and nothing is told of marks.
+//! An operation's text for debugging: regions are elided, and there is no mark and no section.
 ghost use Rattle.std.specs.Prelude.{OnOk, IfErr, IsSome};
 ghost use Rattle.irtext_context.specs.Context.{operation};
 ghost use Rattle.irtext_print_ir.specs.Printers.Printed as printed;
@@ -10,7 +10,7 @@ use irtext_base::text::{AttrText, IrText};
 use irtext_context::base::{Context, Operation, Ptr};
 use std::fmt;
 
-/// Appends the concrete text of an operation, its regions elided.
+/// Appends the concrete text of an operation with its regions elided.
 fn fmt_dbg<T: IrText<A>, A: AttrText>(
     ctx: &Context<T, A>,
     op: Ptr<Operation>,
@@ -25,8 +25,9 @@ fn fmt_dbg<T: IrText<A>, A: AttrText>(
     print_concrete(ctx, op, &mut state, f)
 }
 
-/// Appends the concrete text of an operation, without its mark and without a section, with `{..}` for each of its regions.
-/// It fails where memory is refused or the operation doesn't fit its format; what was written until then stays.
+/// Appends the concrete text of an operation, without its mark and without a section, with `{..}` for each of its regions: of a module
+/// that is `builtin.module @m {..}`. Fails if out of memory or if the operation does not fit its format. What was appended up to the
+/// error remains.
 pub fn print_dbg<T: IrText<A>, A: AttrText>(
     ctx: &Context<T, A>,
     op: Ptr<Operation>,
@@ -40,8 +41,8 @@ pub fn print_dbg<T: IrText<A>, A: AttrText>(
     Ok(())
 }
 
-/// An operation with its context, as a `Display` and a `Debug` of what `print_dbg` appends. Where the operation is not live,
-/// formatting fails. A `Display` can promise no more than a text that is defined; `print_dbg` promises the same of any operation.
+/// An operation with its context, as a `Display` and a `Debug` of what `print_dbg` appends. If the operation is not live, formatting
+/// fails. The contract of `Display` states the text alone; that of `print_dbg` states in addition that the operation fits its format.
 #[derive(Drop)]
 pub struct OpDbg<'a, T: IrText<A>, A: AttrText> {
     /// The operation.

@@ -1,4 +1,4 @@
-//! Printing of what nests, where the printing state gathers what is marked.
+//! Printing of nested text, where the printing state gathers the items: the operations and blocks that carry a mark.
 ghost use Rattle.std.specs.Prelude.{◌≡◌, ◌++◌, OnOk, IfErr, IsSome, length, true};
 ghost use Rattle.irtext_context.specs.Context.{operation};
 ghost use Rattle.irtext_context.specs.Context as context;
@@ -18,7 +18,7 @@ use irtext_print_ops::nested::{
     print_nested, print_nested_block, print_nested_mark, print_nested_region,
 };
 
-/// Appends the text of an operation with all that nests in it, and behind it its mark, if `marked`. What is marked is gathered.
+/// Appends the text of an operation with everything nested in it, and its mark after that, if `marked`. Items are gathered.
 pub(crate) fn gather_operation<T: IrText<A>, A: AttrText, U>(
     ctx: &Context<T, A>,
     op: Ptr<Operation>,
@@ -41,7 +41,7 @@ pub(crate) fn gather_operation<T: IrText<A>, A: AttrText, U>(
     answer
 }
 
-/// Appends the mark of an operation, where it has one, behind those that were gathered, and gathers the operation.
+/// Appends the mark of an operation, if it has one, numbered after the gathered items, and gathers the operation.
 pub(crate) fn gather_mark<T: IrText<A>, A: AttrText, U>(
     ctx: &Context<T, A>,
     op: Ptr<Operation>,
@@ -62,7 +62,7 @@ pub(crate) fn gather_mark<T: IrText<A>, A: AttrText, U>(
     answer
 }
 
-/// Appends the text of a block with all that nests in it. What is marked is gathered.
+/// Appends the text of a block with everything nested in it. Items are gathered.
 pub(crate) fn gather_block<T: IrText<A>, A: AttrText, U>(
     ctx: &Context<T, A>,
     block: Ptr<BasicBlock>,
@@ -85,7 +85,7 @@ pub(crate) fn gather_block<T: IrText<A>, A: AttrText, U>(
     answer
 }
 
-/// Appends the text of a region with all that nests in it. What is marked is gathered.
+/// Appends the text of a region with everything nested in it. Items are gathered.
 pub(crate) fn gather_region<T: IrText<A>, A: AttrText, U>(
     ctx: &Context<T, A>,
     region: Ptr<Region>,

@@ -1,4 +1,4 @@
-//! The text of blocks and of regions, with all that nests in them, without a section.
+//! The text of blocks and of regions, with everything nested in them, without a section.
 ghost use Rattle.std.specs.Prelude.{◌≡◌, OnOk, IfErr, IsSome};
 ghost use Rattle.irtext_context.specs.Context as context;
 ghost use Rattle.irtext_graph.specs.Graph.{Stands};
@@ -13,8 +13,18 @@ use irtext_base::text::{AttrText, IrText};
 use irtext_context::base::{BasicBlock, Context, Ptr, Region};
 use std::fmt;
 
-/// Appends the text of a block with all that nests in it, at the state's indentation, with its mark, and says why it was refused. What
-/// is marked is gathered, and what was written and gathered until a refusal stays.
+/// Appends the text of a block with everything nested in it, at the state's indentation, with its mark. The items, the block and those
+/// inside that carry a mark, are gathered in the state.
+///
+/// The error is `Memory`, `Misfit` (an operation that is shown inside does not fit its format) or `Depth` (an indentation inside does
+/// not fit 16 bits). What was appended and gathered up to the error remains. Nothing else of the state changes.
+///
+/// For example, at indentation 0:
+///
+/// ```text
+/// ^a_block1v1() !0:
+///   test.nop !1
+/// ```
 pub fn print_block<T: IrText<A>, A: AttrText, U>(
     ctx: &Context<T, A>,
     block: Ptr<BasicBlock>,
@@ -30,8 +40,11 @@ pub fn print_block<T: IrText<A>, A: AttrText, U>(
     gather_block(ctx, block, state, f)
 }
 
-/// Appends the text of a region with all that nests in it, at the state's indentation, and says why it was refused. What is marked is
-/// gathered, and what was written and gathered until a refusal stays.
+/// Appends the text of a region with everything nested in it, at the state's indentation: `{..}` if the state's limit elides it,
+/// otherwise a newline, its blocks between braces on lines of their own. Items inside are gathered in the state.
+///
+/// The error is `Memory`, `Misfit` (an operation that is shown inside does not fit its format) or `Depth` (the region is shown and an
+/// indentation inside does not fit 16 bits). What was appended and gathered up to the error remains. Nothing else of the state changes.
 pub fn print_region<T: IrText<A>, A: AttrText, U>(
     ctx: &Context<T, A>,
     region: Ptr<Region>,
@@ -47,6 +60,7 @@ pub fn print_region<T: IrText<A>, A: AttrText, U>(
     gather_region(ctx, region, state, f)
 }
 
+/// Prints the block as [`print_block`] does. The block has to be live.
 impl<T: IrText<A>, A: AttrText, U> Printable<U, T, A> for Ptr<BasicBlock> {
     ghost can_print = { λ block ctx. IsSome (context.block ctx block) };
 
@@ -60,6 +74,7 @@ impl<T: IrText<A>, A: AttrText, U> Printable<U, T, A> for Ptr<BasicBlock> {
     }
 }
 
+/// Prints the region as [`print_region`] does. The region has to be live.
 impl<T: IrText<A>, A: AttrText, U> Printable<U, T, A> for Ptr<Region> {
     ghost can_print = { λ region ctx. Stands ctx.graph (TheRegion region) };
 

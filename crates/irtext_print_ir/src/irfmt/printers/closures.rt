@@ -1,4 +1,4 @@
-//! What prints by a closure.
+//! A printer that calls a closure.
 ghost use Rattle.std.specs.Prelude.{◌≡◌, Ok};
 ghost use Rattle.irtext_print_ir.specs.Printers.Calls.{FnWrites};
 
@@ -8,7 +8,7 @@ use irtext_base::text::{AttrText, IrText};
 use irtext_context::base::Context;
 use std::fmt;
 
-/// Prints by its closure. Made by [`printable_from_fn`](crate::irfmt::printers::printable_from_fn).
+/// Prints by calling its closure. Created by [`printable_from_fn`](crate::irfmt::printers::printable_from_fn).
 #[derive(Drop)]
 pub struct PrinterFn<F> {
     pub(crate) print: F,

@@ -12,7 +12,7 @@ use irtext_base::text::{AttrText, IrText};
 use irtext_context::base::Context;
 use std::fmt;
 
-/// Prints the items that a clone of its iterator gives. Made by [`list_with_sep`](crate::irfmt::printers::list_with_sep) and
+/// Prints the items that a clone of its iterator yields. Created by [`list_with_sep`](crate::irfmt::printers::list_with_sep) and
 /// [`iter_with_sep`](crate::irfmt::printers::iter_with_sep).
 #[derive(Drop)]
 pub struct IterWithSep<I> {
@@ -35,7 +35,7 @@ where
     }
 }
 
-/// Prints the items that a clone of its iterator gives, each by its closure. Made by
+/// Prints the items that a clone of its iterator yields, each with its closure. Created by
 /// [`iter_with_sep_by`](crate::irfmt::printers::iter_with_sep_by).
 #[derive(Drop)]
 pub struct IterWithSepBy<I, F> {

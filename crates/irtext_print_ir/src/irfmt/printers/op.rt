@@ -1,4 +1,4 @@
-//! Printers of an operation's parts: its header, with a type too, and its one region.
+//! Printers of an operation's parts: its header, the header with a type, and its only region.
 ghost use Rattle.std.specs.Prelude.{◌≡◌, OnOk, IfErr, IsSome};
 ghost use Rattle.irtext_context.specs.Context.{operation};
 ghost use Rattle.irtext_print_ir.specs.Printers.OpPrinters.{PrintsPart, WritesPart};
@@ -15,36 +15,36 @@ use irtext_print::ir::print::pieces::symbol_of;
 use irtext_print::printable::refusal::memory_alone;
 use std::fmt;
 
-/// Prints an operation's id and its symbol's name. Made by [`symb_op_header`].
+/// Prints an operation's id and its symbol's name. Created by [`symb_op_header`].
 #[derive(Clone, Copy, Debug)]
 pub struct SymbHeader {
     op: Ptr<Operation>,
 }
 
-/// Prints an operation's id, its symbol's name and a type. Made by [`typed_symb_op_header`].
+/// Prints an operation's id, its symbol's name and a type. Created by [`typed_symb_op_header`].
 #[derive(Clone, Copy)]
 pub struct TypedSymbHeader<'a, T> {
     op: Ptr<Operation>,
     ty: &'a T,
 }
 
-/// Prints an operation's one region. Made by [`region`].
+/// Prints an operation's only region. Created by [`region`].
 #[derive(Clone, Copy, Debug)]
 pub struct OneRegion {
     op: Ptr<Operation>,
 }
 
-/// A printer that writes an operation's id, a space, and `@` with its symbol's name: the identifier under the key
-/// `builtin_sym_name`. It prints where the operation is live, and fails where there is no such name or memory is refused;
-/// [`print_symb_op_header`] writes the same and says which.
+/// Returns a printer that appends an operation's id, a space, and `@` with its symbol's name, the identifier under the key
+/// `builtin_sym_name`: `builtin.module @m`. The operation has to be live. Printing fails if there is no such name, or if out of memory;
+/// [`print_symb_op_header`] appends the same and returns which.
 pub fn symb_op_header(op: Ptr<Operation>) -> SymbHeader
     ensures { result.op ≡ op }
 {
     SymbHeader { op }
 }
 
-/// A printer that writes what [`symb_op_header`] does, and the type behind `: `. It fails as that one does;
-/// [`print_typed_symb_op_header`] writes the same and says why.
+/// Returns a printer that appends what [`symb_op_header`] appends, then `: ` and the type: `builtin.func @f: builtin.integer si64`. It
+/// fails as that one does; [`print_typed_symb_op_header`] appends the same and returns why.
 pub fn typed_symb_op_header<T>(op: Ptr<Operation>, ty: &T) -> TypedSymbHeader<'_, T>
     ensures op { result.op ≡ op }
     ensures ty { result.ty.now ≡ ty.now }
@@ -52,17 +52,17 @@ pub fn typed_symb_op_header<T>(op: Ptr<Operation>, ty: &T) -> TypedSymbHeader<'_
     TypedSymbHeader { op, ty }
 }
 
-/// A printer that writes the one region of an operation, with all that nests in it. It prints where the operation is live, and fails
-/// where it has no region or several, an operation that is shown inside doesn't fit its format, an indentation is too deep, or memory
-/// is refused; [`print_region`] writes the same and says which.
+/// Returns a printer that appends the only region of an operation, with everything nested in it. The operation has to be live. Printing
+/// fails if it has no region or several, if an operation that is shown inside does not fit its format, if an indentation inside does
+/// not fit 16 bits, or if out of memory; [`print_region`] appends the same and returns which.
 pub fn region(op: Ptr<Operation>) -> OneRegion
     ensures { result.op ≡ op }
 {
     OneRegion { op }
 }
 
-/// Appends what [`symb_op_header`] writes, and says why it is refused: [`Refusal::Misfit`] where the operation has no symbol's name,
-/// else for want of memory. What was written until then stays.
+/// Appends what [`symb_op_header`] appends. The error is [`Refusal::Misfit`] if the operation has no symbol's name, otherwise
+/// [`Refusal::Memory`]. What was appended up to the error remains.
 pub fn print_symb_op_header<T: IrText<A>, A: AttrText>(
     ctx: &Context<T, A>,
     op: Ptr<Operation>,
@@ -83,7 +83,7 @@ pub fn print_symb_op_header<T: IrText<A>, A: AttrText>(
     Ok(())
 }
 
-/// Appends what [`typed_symb_op_header`] writes, and says why it is refused, as [`print_symb_op_header`] does.
+/// Appends what [`typed_symb_op_header`] appends. The errors are those of [`print_symb_op_header`].
 pub fn print_typed_symb_op_header<T: IrText<A>, A: AttrText>(
     ctx: &Context<T, A>,
     op: Ptr<Operation>,
@@ -99,9 +99,10 @@ pub fn print_typed_symb_op_header<T: IrText<A>, A: AttrText>(
     memory_alone(ty.write_text(f))
 }
 
-/// Appends what [`region`] writes, and says why it is refused: [`Refusal::Misfit`] where the operation has no region or several, or an
-/// operation that is shown inside doesn't fit its format, [`Refusal::Depth`] where its region isn't elided and an indentation inside is
-/// too deep, else for want of memory. What is marked inside is gathered, and what was written until then stays.
+/// Appends what [`region`] appends. The error is [`Refusal::Misfit`] if the operation has no region or several, or if an operation that
+/// is shown inside does not fit its format; [`Refusal::Depth`] if the region is not elided and an indentation inside does not fit 16
+/// bits; otherwise [`Refusal::Memory`]. Items inside are gathered in the state. What was appended and gathered up to the error remains.
+/// Nothing else of the state changes.
 pub fn print_region<T: IrText<A>, A: AttrText, U>(
     ctx: &Context<T, A>,
     op: Ptr<Operation>,
@@ -120,6 +121,7 @@ pub fn print_region<T: IrText<A>, A: AttrText, U>(
     gather_region(ctx, op.get_region(ctx, 0), state, f)
 }
 
+/// Prints the header as [`print_symb_op_header`] does. The operation has to be live.
 impl<T: IrText<A>, A: AttrText, U> Printable<U, T, A> for SymbHeader {
     ghost can_print = { λ h ctx. IsSome (operation ctx h.op) };
 
@@ -133,6 +135,7 @@ impl<T: IrText<A>, A: AttrText, U> Printable<U, T, A> for SymbHeader {
     }
 }
 
+/// Prints the header as [`print_typed_symb_op_header`] does. The operation has to be live.
 impl<T: IrText<A>, A: AttrText, U> Printable<U, T, A> for TypedSymbHeader<'_, T> {
     ghost can_print = { λ h ctx. IsSome (operation ctx h.op) };
 
@@ -146,6 +149,7 @@ impl<T: IrText<A>, A: AttrText, U> Printable<U, T, A> for TypedSymbHeader<'_, T>
     }
 }
 
+/// Prints the region as [`print_region`] does. The operation has to be live.
 impl<T: IrText<A>, A: AttrText, U> Printable<U, T, A> for OneRegion {
     ghost can_print = { λ r ctx. IsSome (operation ctx r.op) };
 

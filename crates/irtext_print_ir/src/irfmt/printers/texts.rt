@@ -9,7 +9,7 @@ use irtext_base::text::{AttrText, IrText};
 use irtext_context::base::Context;
 use std::fmt;
 
-/// Prints a text between quotation marks. Made by [`quoted`](crate::irfmt::printers::quoted).
+/// Prints a text between quotation marks. Created by [`quoted`](crate::irfmt::printers::quoted).
 #[derive(Clone, Copy)]
 pub struct Quoted<'a> {
     pub(crate) text: &'a str,
@@ -23,7 +23,7 @@ impl<T: IrText<A>, A: AttrText, U> Printable<U, T, A> for Quoted<'_> {
     }
 }
 
-/// Prints a value between two texts. Made by [`enclosed`](crate::irfmt::printers::enclosed).
+/// Prints a value between two texts. Created by [`enclosed`](crate::irfmt::printers::enclosed).
 #[derive(Drop)]
 pub struct Enclosed<'a, P> {
     pub(crate) left: &'a str,
