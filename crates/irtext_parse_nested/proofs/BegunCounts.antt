@@ -10,10 +10,10 @@ use Rattle.irtext_grammar.proofs.Lists.InOrder.{firsts}
 use Rattle.irtext_grammar.proofs.Lists.Numbering.{in_order_length}
 use Rattle.irtext_nesting.specs.Heads.{Step, flat, types, one, all, step_of, steps_of, canonical_steps, front_steps, region_steps}
 use Rattle.irtext_nesting.specs.Naming.{body_of, canonical_of, unmarked}
-use Rattle.irtext_parse_heads.specs.declared.pieces.ReadPiece.{ReadPiece}
-use Rattle.irtext_parse_heads.specs.declared.pieces.ReadPiece.TheVariants as read
-use Rattle.irtext_parse_heads.specs.Named.{StandsFor, Each}
-use Rattle.irtext_parse_heads.specs.Pieces.{IsPiece}
+use Rattle.irtext_parse_pieces.specs.declared.pieces.ReadPiece.{ReadPiece}
+use Rattle.irtext_parse_pieces.specs.declared.pieces.ReadPiece.TheVariants as read
+use Rattle.irtext_parse_pieces.specs.Named.{StandsFor, Each}
+use Rattle.irtext_parse_pieces.specs.Pieces.{IsPiece}
 use Rattle.irtext_parse_nested.specs.Beginning.{ArePartsOf}
 use Rattle.irtext_parse_nested.specs.Begun.{ReadNeither}
 use Rattle.irtext_parse_nested.specs.Gathered.{operand_place, successor_place, operand_list, successor_list, type_list}

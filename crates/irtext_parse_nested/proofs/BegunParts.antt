@@ -16,14 +16,14 @@ use Rattle.irtext_nesting.specs.Exact.{IsOfStep}
 use Rattle.irtext_nesting.specs.Heads.{Step, flat, types, one, all, step_of, steps_of, canonical_steps, front_steps, region_steps}
 use Rattle.irtext_nesting.specs.Naming.{body_of, canonical_of, single_operands, single_successors}
 use Rattle.irtext_names.specs.Rows.{AreKnown}
-use Rattle.irtext_parse_heads.specs.declared.entries.Key.{Key}
-use Rattle.irtext_parse_heads.specs.declared.names.ReadName.{ReadName}
-use Rattle.irtext_parse_heads.specs.declared.pieces.ReadPiece.{ReadPiece}
-use Rattle.irtext_parse_heads.specs.declared.pieces.ReadPiece.TheVariants as read
-use Rattle.irtext_parse_heads.specs.Entries.{IsEntry}
-use Rattle.irtext_parse_heads.specs.Fronts.{IsPart}
-use Rattle.irtext_parse_heads.specs.Named.{StandsFor, Each}
-use Rattle.irtext_parse_heads.specs.Pieces.{IsPiece}
+use Rattle.irtext_parse_pieces.specs.declared.entries.Key.{Key}
+use Rattle.irtext_parse_pieces.specs.declared.names.ReadName.{ReadName}
+use Rattle.irtext_parse_pieces.specs.declared.pieces.ReadPiece.{ReadPiece}
+use Rattle.irtext_parse_pieces.specs.declared.pieces.ReadPiece.TheVariants as read
+use Rattle.irtext_parse_pieces.specs.Entries.{IsEntry}
+use Rattle.irtext_parse_pieces.specs.Fronts.{IsPart}
+use Rattle.irtext_parse_pieces.specs.Named.{StandsFor, Each}
+use Rattle.irtext_parse_pieces.specs.Pieces.{IsPiece}
 use Rattle.irtext_parse_nested.specs.Beginning.{types_made, IsPartOf, ArePartsOf}
 use Rattle.irtext_parse_nested.specs.Begun.{HasNoType, ReadsNeither, ReadNeither}
 use Rattle.irtext_parse_nested.specs.Gathered.{entry_read, operand_place, successor_place, placed_type, type_list, stored_of, last_list, CanUse, CanUseAll, LackOperands, LackSuccessors, OperandsOnce, SuccessorsOnce, CanGather}

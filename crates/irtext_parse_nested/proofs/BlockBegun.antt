@@ -27,11 +27,11 @@ use Rattle.irtext_nesting.specs.Grows.{with_last_block, BlockCame, RegionGains}
 use Rattle.irtext_nesting.specs.Stands.{HasHead, IsThere, Spares}
 use Rattle.irtext_nesting.proofs.Edits.{spares_then, spares_fewer, made_head, block_was_new, block_came, block_came_last, block_came_spares}
 use Rattle.irtext_context.specs.Made.{made_block}
-use Rattle.irtext_parse_heads.specs.declared.entries.Key.{Key}
-use Rattle.irtext_parse_heads.specs.declared.headers.BlockHead.{BlockHead}
-use Rattle.irtext_parse_heads.specs.Entries.{IsEntry}
-use Rattle.irtext_parse_heads.specs.Headers.{IsHead}
-use Rattle.irtext_parse_heads.specs.Named.{Leaves, Each}
+use Rattle.irtext_parse_pieces.specs.declared.entries.Key.{Key}
+use Rattle.irtext_parse_pieces.specs.declared.headers.BlockHead.{BlockHead}
+use Rattle.irtext_parse_pieces.specs.Entries.{IsEntry}
+use Rattle.irtext_parse_pieces.specs.Headers.{IsHead}
+use Rattle.irtext_parse_pieces.specs.Named.{Leaves, Each}
 use Rattle.irtext_parse_nested.specs.Blocks.{entries_in, MakesHead}
 use Rattle.irtext_parse_nested.specs.Definitions.{LosesPlaceholders}
 use Rattle.irtext_parse_nested.specs.Gathered.{entry_read}

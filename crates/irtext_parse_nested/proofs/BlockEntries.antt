@@ -11,10 +11,10 @@ use Rattle.irtext_grammar.specs.Names.Acts.{Rule, may_hold, block_may_hold}
 use Rattle.irtext_grammar.proofs.Lists.SameText.{same_text-bytes_eq}
 use Rattle.irtext_names.specs.Rows.{AreNamed}
 use Rattle.irtext_parse_nested.proofs.Stores.{same_text_sym}
-use Rattle.irtext_parse_heads.specs.declared.entries.Key.{Key}
-use Rattle.irtext_parse_heads.specs.declared.names.ReadName.{ReadName}
-use Rattle.irtext_parse_nested.specs.declared.gathering.NotGathered.{NotGathered}
-use Rattle.irtext_parse_nested.specs.declared.gathering.NotGathered.TheVariants as refusal
+use Rattle.irtext_parse_pieces.specs.declared.entries.Key.{Key}
+use Rattle.irtext_parse_pieces.specs.declared.names.ReadName.{ReadName}
+use Rattle.irtext_parse_nested.specs.declared.operation_parts.NotGathered.{NotGathered}
+use Rattle.irtext_parse_nested.specs.declared.operation_parts.NotGathered.TheVariants as refusal
 use Rattle.irtext_parse_nested.specs.Blocks.{AreAllowed, Forbids}
 use Rattle.irtext_parse_nested.specs.Ends.{numbers_of}
 use Rattle.irtext_parse_nested.specs.Gathered.{MayAllHold, RefusesEntries}

@@ -29,10 +29,10 @@ use Rattle.irtext_nesting.specs.Heads.{head_at}
 use Rattle.irtext_nesting.specs.Grows.{BlockCame, RegionGains}
 use Rattle.irtext_nesting.specs.Stands.{Spares}
 use Rattle.irtext_names.specs.Rows.{AreKnown}
-use Rattle.irtext_parse_heads.specs.declared.headers.BlockHead.{BlockHead}
-use Rattle.irtext_parse_heads.specs.declared.names.ReadName.{ReadName}
-use Rattle.irtext_parse_heads.specs.Headers.{MustHead}
-use Rattle.irtext_parse_heads.specs.Named.{NamesRead}
+use Rattle.irtext_parse_pieces.specs.declared.headers.BlockHead.{BlockHead}
+use Rattle.irtext_parse_pieces.specs.declared.names.ReadName.{ReadName}
+use Rattle.irtext_parse_pieces.specs.Headers.{MustHead}
+use Rattle.irtext_parse_pieces.specs.Named.{NamesRead}
 use Rattle.irtext_parse_nested.specs.Blocks.{entries_in, MakesHead, NamesHead, RefusesHead}
 use Rattle.irtext_parse_nested.specs.Definitions.{ValuesReady, LosesPlaceholders}
 use Rattle.irtext_parse_nested.specs.Ends.{numbers_of, noted_as}

@@ -26,8 +26,8 @@ use Rattle.irtext_grammar.specs.Grammar.Tree.{Name}
 use Rattle.irtext_grammar.specs.Names.Acts.{block_may_hold}
 use Rattle.irtext_names.specs.Tied.{AreTied, AreWaiting}
 use Rattle.irtext_names.specs.Rows.{AreNamed, AreKnown}
-use Rattle.irtext_parse_heads.specs.declared.entries.Key.{Key}
-use Rattle.irtext_parse_heads.specs.declared.names.ReadName.{ReadName}
+use Rattle.irtext_parse_pieces.specs.declared.entries.Key.{Key}
+use Rattle.irtext_parse_pieces.specs.declared.names.ReadName.{ReadName}
 use Rattle.irtext_parse_nested.specs.Blocks.{AreAllowed, PlacesLabelled, MakesHead}
 use Rattle.irtext_parse_nested.specs.Definitions.{ValuesReady}
 use Rattle.irtext_parse_nested.specs.Ends.{numbers_of}

@@ -33,10 +33,10 @@ use Rattle.irtext_outcomes.specs.Readers.Streams.{itself, replaced}
 use Rattle.irtext_outcomes.proofs.Readers.Answered.{Answered, answered}
 use Rattle.irtext_outcomes.proofs.Readers.Honest.{honest_nothing}
 use Rattle.irtext_nesting.specs.Heads.{name_at, name_of, label_at, pair_at, dictionary_at, argument_at, head_at}
-use Rattle.irtext_parse_heads.specs.declared.headers.BlockHead.{BlockHead}
-use Rattle.irtext_parse_heads.specs.Headers.{IsHead, MustHead}
-use Rattle.irtext_parse_heads.specs.Named.{NamesRead}
-use Rattle.irtext_parse_heads.proofs.Meanings.{must_whole}
+use Rattle.irtext_parse_pieces.specs.declared.headers.BlockHead.{BlockHead}
+use Rattle.irtext_parse_pieces.specs.Headers.{IsHead, MustHead}
+use Rattle.irtext_parse_pieces.specs.Named.{NamesRead}
+use Rattle.irtext_parse_pieces.proofs.Meanings.{must_whole}
 use Rattle.irtext_parse_nested.specs.declared.frame.BegunBlock.{BegunBlock}
 use Rattle.irtext_parse_nested.specs.Blocks.{entries_in, RefusesKeys, MakesHead, NamesHead, RefusesHead}
 use Rattle.irtext_parse_nested.specs.Ends.{noted_as}

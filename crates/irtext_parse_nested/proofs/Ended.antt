@@ -25,10 +25,10 @@ use Rattle.irtext_outcomes.proofs.Readers.Answered.{Answered, answered}
 use Rattle.irtext_outcomes.proofs.Readers.Honest.{honest_nothing}
 use Rattle.irtext_nesting.specs.Heads.{mark_at, mark_if_at}
 use Rattle.irtext_nesting.specs.Resume.{Begun}
-use Rattle.irtext_parse_heads.specs.declared.marks.ReadMark.{ReadMark}
-use Rattle.irtext_parse_heads.specs.Marks.{IsMarkIf}
-use Rattle.irtext_parse_heads.specs.Named.{MustMean}
-use Rattle.irtext_parse_heads.proofs.Meanings.{must_whole}
+use Rattle.irtext_parse_pieces.specs.declared.marks.ReadMark.{ReadMark}
+use Rattle.irtext_parse_pieces.specs.Marks.{IsMarkIf}
+use Rattle.irtext_parse_pieces.specs.Named.{MustMean}
+use Rattle.irtext_parse_pieces.proofs.Meanings.{must_whole}
 use Rattle.irtext_parse_nested.specs.declared.frame.BegunOperation.{BegunOperation}
 use Rattle.irtext_parse_nested.specs.Begun.{pledge_of}
 use Rattle.irtext_parse_nested.specs.Ends.{closes_at, NotesMark, noted_as, RefusesMark}

@@ -29,8 +29,8 @@ use Rattle.irtext_nesting.specs.Naming.{body_of}
 use Rattle.irtext_nesting.specs.Resume.{Begun}
 use Rattle.irtext_names.specs.Rows.{AreNamed}
 use Rattle.irtext_names.proofs.Rows.{rest_fails}
-use Rattle.irtext_parse_heads.specs.declared.names.ReadName.{ReadName}
-use Rattle.irtext_parse_heads.specs.Named.{StandsFor}
+use Rattle.irtext_parse_pieces.specs.declared.names.ReadName.{ReadName}
+use Rattle.irtext_parse_pieces.specs.Named.{StandsFor}
 use Rattle.irtext_parse_nested.specs.declared.frame.BegunOperation.{BegunOperation}
 use Rattle.irtext_parse_nested.specs.Begun.{IsBegun, pledge_of}
 use Rattle.irtext_parse_nested.specs.Definitions.{definitions_from, AreMadeAs, DefinesRow, FailsRow, IsFaultOf}

@@ -26,12 +26,12 @@ use Rattle.irtext_outcomes.proofs.Readers.Answered.{Answered, answered, may_answ
 use Rattle.irtext_nesting.specs.Heads.{steps_of, front_steps, led_at}
 use Rattle.irtext_nesting.specs.Reached.{steps_in}
 use Rattle.irtext_nesting.specs.Resume.{front_at}
-use Rattle.irtext_parse_heads.specs.declared.names.ReadName.{ReadName}
-use Rattle.irtext_parse_heads.specs.declared.pieces.ReadPiece.{ReadPiece}
-use Rattle.irtext_parse_heads.specs.Fronts.{IsPart, MustFront, front_of}
-use Rattle.irtext_parse_heads.specs.Ids.{IsLed, IsKnown}
-use Rattle.irtext_parse_heads.specs.Named.{StandsFor, Each, MayMean}
-use Rattle.irtext_parse_heads.proofs.Meanings.{stands_on, may_whole}
+use Rattle.irtext_parse_pieces.specs.declared.names.ReadName.{ReadName}
+use Rattle.irtext_parse_pieces.specs.declared.pieces.ReadPiece.{ReadPiece}
+use Rattle.irtext_parse_pieces.specs.Fronts.{IsPart, MustFront, front_of}
+use Rattle.irtext_parse_pieces.specs.Ids.{IsLed, IsKnown}
+use Rattle.irtext_parse_pieces.specs.Named.{StandsFor, Each, MayMean}
+use Rattle.irtext_parse_pieces.proofs.Meanings.{stands_on, may_whole}
 use Rattle.irtext_parse_nested.specs.Beginning.{FrontStands, LacksFront, lacks_lead, lacks_piece}
 use Rattle.irtext_parse_nested.specs.Read.{Demands}
 use Rattle.irtext_parse_nested.proofs.Ended.{must_commit}

@@ -34,12 +34,12 @@ use Rattle.irtext_names.proofs.Linked.Interned.{interned}
 use Rattle.irtext_outcomes.specs.Promises.Section.{indices_of}
 use Rattle.irtext_names.specs.Rows.{AreNamed}
 use Rattle.irtext_names.proofs.Rows.{rest_fails}
-use Rattle.irtext_parse_heads.specs.declared.headers.BlockHead.{BlockHead}
-use Rattle.irtext_parse_heads.specs.declared.marks.ReadMark.{ReadMark}
-use Rattle.irtext_parse_heads.specs.declared.names.ReadName.{ReadName}
-use Rattle.irtext_parse_heads.specs.Headers.{IsHead}
-use Rattle.irtext_parse_heads.specs.Marks.{IsMarkIf}
-use Rattle.irtext_parse_heads.specs.Named.{StandsFor, Each, NamesRead}
+use Rattle.irtext_parse_pieces.specs.declared.headers.BlockHead.{BlockHead}
+use Rattle.irtext_parse_pieces.specs.declared.marks.ReadMark.{ReadMark}
+use Rattle.irtext_parse_pieces.specs.declared.names.ReadName.{ReadName}
+use Rattle.irtext_parse_pieces.specs.Headers.{IsHead}
+use Rattle.irtext_parse_pieces.specs.Marks.{IsMarkIf}
+use Rattle.irtext_parse_pieces.specs.Named.{StandsFor, Each, NamesRead}
 use Rattle.irtext_parse_nested.specs.Blocks.{entries_in, RefusesKeys, MakesHead, RefusesArguments, DefinesArguments, NamesHead, RefusesHead, same_argument, same_mark, same_label}
 use Rattle.irtext_parse_nested.specs.Definitions.{IsFaultOf}
 use Rattle.irtext_parse_nested.specs.Ends.{numbers_of, NotesMark, RefusesMark}

@@ -21,8 +21,8 @@ use Rattle.irtext_grammar.specs.Names.TextScopes.{Word}
 use Rattle.irtext_names.specs.Linked.{TakesDefinition}
 use Rattle.irtext_names.specs.Tied.{AreTied, AreWaiting, IsNoPlaceholder}
 use Rattle.irtext_outcomes.specs.Promises.Root.{UnlessMemory}
-use Rattle.irtext_parse_heads.specs.declared.marks.ReadMark.{ReadMark}
-use Rattle.irtext_parse_heads.specs.declared.names.ReadName.{ReadName}
+use Rattle.irtext_parse_pieces.specs.declared.marks.ReadMark.{ReadMark}
+use Rattle.irtext_parse_pieces.specs.declared.names.ReadName.{ReadName}
 use Rattle.irtext_parse_nested.specs.Blocks.{DefinesArguments, NamesHead, RefusesHead, same_mark, same_label}
 use Rattle.irtext_parse_nested.specs.Definitions.{LosesPlaceholders}
 use Rattle.irtext_parse_nested.specs.Ends.{NotesMark, RefusesMark}

@@ -26,13 +26,13 @@ use Rattle.irtext_grammar.specs.Names.TextScopes.{Act, Failure}
 use Rattle.irtext_names.specs.Linked.{Known, StandsAt}
 use Rattle.irtext_outcomes.specs.Promises.Section.{indices_of}
 use Rattle.irtext_names.proofs.Rows.{rest_fails, map-through}
-use Rattle.irtext_parse_heads.specs.declared.entries.Key.{Key}
-use Rattle.irtext_parse_heads.specs.declared.marks.ReadMark.{ReadMark}
-use Rattle.irtext_parse_heads.specs.declared.names.ReadName.{ReadName}
-use Rattle.irtext_parse_heads.specs.Arguments.{IsArgument}
-use Rattle.irtext_parse_heads.specs.Entries.{IsKey, IsEntry, AreEntries}
-use Rattle.irtext_parse_heads.specs.Marks.{IsMarkIf}
-use Rattle.irtext_parse_heads.specs.Named.{StandsFor, Each, Optional}
+use Rattle.irtext_parse_pieces.specs.declared.entries.Key.{Key}
+use Rattle.irtext_parse_pieces.specs.declared.marks.ReadMark.{ReadMark}
+use Rattle.irtext_parse_pieces.specs.declared.names.ReadName.{ReadName}
+use Rattle.irtext_parse_pieces.specs.Arguments.{IsArgument}
+use Rattle.irtext_parse_pieces.specs.Entries.{IsKey, IsEntry, AreEntries}
+use Rattle.irtext_parse_pieces.specs.Marks.{IsMarkIf}
+use Rattle.irtext_parse_pieces.specs.Named.{StandsFor, Each, Optional}
 use Rattle.irtext_parse_nested.specs.Blocks.{entries_in, AreAllowed, IsFirstForbidden}
 use Rattle.irtext_parse_nested.specs.Definitions.{definitions_from, AreMadeAs}
 use Rattle.irtext_parse_nested.specs.Ends.{NotesMark}

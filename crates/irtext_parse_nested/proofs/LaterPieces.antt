@@ -10,7 +10,7 @@ use Rattle.irtext_base.specs.Stream.{StreamView}
 use Rattle.irtext_base.specs.declared.parsable.fault.ParseFault.{ParseFault}
 use Rattle.irtext_outcomes.specs.Readers.Streams.{itself, replaced}
 use Rattle.irtext_read.proofs.Steps.{alone, starts, spaced, last}
-use Rattle.irtext_parse_heads.proofs.Meanings.{passed_whole}
+use Rattle.irtext_parse_pieces.proofs.Meanings.{passed_whole}
 use Rattle.irtext_base.specs.Format as format
 use Rattle.irtext_base.specs.Format.{Directive}
 use Rattle.irtext_base.specs.Answers.{Outcome, Read, Takes}
@@ -35,15 +35,15 @@ use Rattle.irtext_outcomes.proofs.Joins.Answers.{followed_read}
 use Rattle.irtext_nesting.specs.Exact.{IsOfStep}
 use Rattle.irtext_nesting.specs.Heads.{Step, flat, types, one, all, steps_of, directive_at, piece_at}
 use Rattle.irtext_names.specs.Rows.{TakesUses}
-use Rattle.irtext_parse_heads.specs.declared.entries.Key.{Key}
-use Rattle.irtext_parse_heads.specs.declared.names.ReadName.{ReadName}
-use Rattle.irtext_parse_heads.specs.declared.pieces.ReadPiece.{ReadPiece}
-use Rattle.irtext_parse_heads.specs.declared.pieces.ReadPiece.TheVariants as read
-use Rattle.irtext_parse_heads.specs.Entries.{IsKey}
-use Rattle.irtext_parse_heads.specs.Pieces.{IsPiece, MustPiece, seen_attribute}
+use Rattle.irtext_parse_pieces.specs.declared.entries.Key.{Key}
+use Rattle.irtext_parse_pieces.specs.declared.names.ReadName.{ReadName}
+use Rattle.irtext_parse_pieces.specs.declared.pieces.ReadPiece.{ReadPiece}
+use Rattle.irtext_parse_pieces.specs.declared.pieces.ReadPiece.TheVariants as read
+use Rattle.irtext_parse_pieces.specs.Entries.{IsKey}
+use Rattle.irtext_parse_pieces.specs.Pieces.{IsPiece, MustPiece, seen_attribute}
 use Rattle.irtext_base.specs.declared.base.attributes.AttrObj.{AttrObj}
-use Rattle.irtext_parse_nested.specs.declared.gathering.NotGathered.{NotGathered}
-use Rattle.irtext_parse_nested.specs.declared.gathering.NotGathered.TheVariants as refusal
+use Rattle.irtext_parse_nested.specs.declared.operation_parts.NotGathered.{NotGathered}
+use Rattle.irtext_parse_nested.specs.declared.operation_parts.NotGathered.TheVariants as refusal
 use Rattle.irtext_parse_nested.specs.Beginning.{IsKnownIn, IsPartOf}
 use Rattle.irtext_parse_nested.specs.Begun.{ReadsNeither}
 use Rattle.irtext_parse_nested.specs.Gathered.{FailsUses, IsFirstReserved, stored_of}

@@ -46,13 +46,13 @@ use Rattle.irtext_nesting.specs.Heads.{Step, piece_at}
 use Rattle.irtext_nesting.specs.Naming.{body_of, single_operands, single_successors}
 use Rattle.irtext_nesting.specs.Reached.{steps_in}
 use Rattle.irtext_nesting.specs.Resume.{Begun, with_steps}
-use Rattle.irtext_parse_heads.specs.declared.pieces.ReadPiece.{ReadPiece}
-use Rattle.irtext_parse_heads.specs.Named.{NamesRead}
-use Rattle.irtext_parse_heads.specs.Pieces.{IsPiece, MustPiece}
-use Rattle.irtext_parse_heads.proofs.Meanings.{takes_whole}
+use Rattle.irtext_parse_pieces.specs.declared.pieces.ReadPiece.{ReadPiece}
+use Rattle.irtext_parse_pieces.specs.Named.{NamesRead}
+use Rattle.irtext_parse_pieces.specs.Pieces.{IsPiece, MustPiece}
+use Rattle.irtext_parse_pieces.proofs.Meanings.{takes_whole}
 use Rattle.irtext_parse_nested.specs.declared.frame.BegunOperation.{BegunOperation}
-use Rattle.irtext_parse_nested.specs.declared.gathering.NotGathered.{NotGathered}
-use Rattle.irtext_parse_nested.specs.declared.gathering.NotGathered.TheVariants as refusal
+use Rattle.irtext_parse_nested.specs.declared.operation_parts.NotGathered.{NotGathered}
+use Rattle.irtext_parse_nested.specs.declared.operation_parts.NotGathered.TheVariants as refusal
 use Rattle.irtext_parse_nested.specs.Beginning.{HasBegun, SaysGather}
 use Rattle.irtext_parse_nested.specs.Begun.{IsBegun, HasNoType, ReadNeither}
 use Rattle.irtext_parse_nested.specs.Ends.{WritesAttributes}

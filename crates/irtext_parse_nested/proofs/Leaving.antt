@@ -19,8 +19,8 @@ use Rattle.irtext_names.specs.Linked.{Takes}
 use Rattle.irtext_outcomes.specs.Promises.Root.{UnlessMemory}
 use Rattle.irtext_outcomes.specs.Readers.Streams.{itself, replaced}
 use Rattle.irtext_outcomes.proofs.Readers.Answered.{answered}
-use Rattle.irtext_parse_heads.specs.Named.{Leaves}
-use Rattle.irtext_parse_heads.proofs.Meanings.{must_whole}
+use Rattle.irtext_parse_pieces.specs.Named.{Leaves}
+use Rattle.irtext_parse_pieces.proofs.Meanings.{must_whole}
 use Rattle.irtext_parse_nested.specs.declared.frame.BegunRegion.{BegunRegion}
 use Rattle.irtext_parse_nested.specs.Definitions.{IsFaultOf}
 use Rattle.irtext_parse_nested.specs.Items.{Names}

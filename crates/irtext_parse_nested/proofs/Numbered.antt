@@ -2,7 +2,7 @@
 use Rattle.std.proofs.Common.{◌≡◌, ◌<◌, ◌≤◌, ◌+◌, ℕ, zero, suc, List, [], ◌∷◌, ◌++◌, length, take, drop, Some, refl, sym, ap, subst, arith, slice_get, slice_index_or}
 use Rattle.irtext_names.specs.Rows.{AreKnown}
 use Rattle.irtext_parse_nested.specs.Ends.{numbers_of}
-use Rattle.irtext_parse_heads.specs.declared.names.ReadName.{ReadName}
+use Rattle.irtext_parse_pieces.specs.declared.names.ReadName.{ReadName}
 
 -- each number is known
 pub known_at : (count : ℕ) (ns : List ℕ) (i n : ℕ) → slice_get ns i ≡ Some n → AreKnown count ns → n < count

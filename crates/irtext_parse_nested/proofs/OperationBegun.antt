@@ -51,15 +51,15 @@ use Rattle.irtext_names.specs.Rows.{made_results, with_operation}
 use Rattle.irtext_names.proofs.Made.{made_stands}
 use Rattle.irtext_nesting.specs.Stands.{OwnSoFar, IsThere}
 use Rattle.irtext_nesting.proofs.Edits.{made_own}
-use Rattle.irtext_parse_heads.specs.declared.names.ReadName.{ReadName}
-use Rattle.irtext_parse_heads.specs.declared.pieces.ReadPiece.{ReadPiece}
-use Rattle.irtext_parse_heads.specs.Fronts.{IsPart}
-use Rattle.irtext_parse_heads.specs.Named.{Leaves, StandsFor, Each, NamesRead}
-use Rattle.irtext_parse_heads.specs.Pieces.{IsPiece}
+use Rattle.irtext_parse_pieces.specs.declared.names.ReadName.{ReadName}
+use Rattle.irtext_parse_pieces.specs.declared.pieces.ReadPiece.{ReadPiece}
+use Rattle.irtext_parse_pieces.specs.Fronts.{IsPart}
+use Rattle.irtext_parse_pieces.specs.Named.{Leaves, StandsFor, Each, NamesRead}
+use Rattle.irtext_parse_pieces.specs.Pieces.{IsPiece}
 use Rattle.irtext_parse_nested.specs.declared.beginning.ReadFront.{ReadFront}
 use Rattle.irtext_parse_nested.specs.declared.frame.BegunOperation.{BegunOperation}
-use Rattle.irtext_parse_nested.specs.declared.gathering.NotGathered.{NotGathered}
-use Rattle.irtext_parse_nested.specs.declared.gathering.NotGathered.TheVariants as refusal
+use Rattle.irtext_parse_nested.specs.declared.operation_parts.NotGathered.{NotGathered}
+use Rattle.irtext_parse_nested.specs.declared.operation_parts.NotGathered.TheVariants as refusal
 use Rattle.irtext_parse_nested.specs.Beginning.{FrontStands, LacksFront, lacks_lead, lacks_piece, SaysGather, NotGatheredAs, starved, refused, types_made, PlacedIn, MakesOf, ArePartsOf, HasBegun, ComesInto}
 use Rattle.irtext_parse_nested.specs.Begun.{HasNoType, ReadNeither, IsBegun, pledge_of}
 use Rattle.irtext_parse_nested.specs.Gathered.{FailsUses, operand_place, operand_list, successor_place, successor_list, placed_type, type_list, stored_of, last_list, CanGather, RefusesGathering, FailsAt}

@@ -21,10 +21,10 @@ use Rattle.irtext_nesting.proofs.Edits.{spares_then, spares_fewer, attributes_wr
 use Rattle.irtext_nesting.proofs.Kept.{uses_kept}
 use Rattle.irtext_names.specs.Tied.{AreTied}
 use Rattle.irtext_nesting.specs.Resume.{Begun}
-use Rattle.irtext_parse_heads.specs.declared.marks.ReadMark.{ReadMark}
-use Rattle.irtext_parse_heads.specs.declared.names.ReadName.{ReadName}
-use Rattle.irtext_parse_heads.specs.Marks.{IsMarkIf}
-use Rattle.irtext_parse_heads.specs.Named.{StandsFor, Each}
+use Rattle.irtext_parse_pieces.specs.declared.marks.ReadMark.{ReadMark}
+use Rattle.irtext_parse_pieces.specs.declared.names.ReadName.{ReadName}
+use Rattle.irtext_parse_pieces.specs.Marks.{IsMarkIf}
+use Rattle.irtext_parse_pieces.specs.Named.{StandsFor, Each}
 use Rattle.irtext_parse_nested.specs.declared.frame.BegunOperation.{BegunOperation}
 use Rattle.irtext_parse_nested.specs.Begun.{pledge_of}
 use Rattle.irtext_parse_nested.specs.Ends.{closes_at, NotesMark, noted_as, WritesAttributes, GivesNames, BecomesNamed}

@@ -30,18 +30,18 @@ use Rattle.irtext_names.proofs.Linked.Outside.{value_use_outside, label_use_outs
 use Rattle.irtext_scopes.specs.Scopes.{is_open}
 use Rattle.irtext_names.proofs.Linked.Moving.{among_split, onto_nothing}
 use Rattle.irtext_names.specs.Rows.{AreNamed, uses_from, in_hand_from, TakesUses, UsesRow}
-use Rattle.irtext_parse_heads.specs.declared.entries.Key.{Key}
-use Rattle.irtext_parse_heads.specs.declared.names.ReadName.{ReadName}
-use Rattle.irtext_parse_heads.specs.declared.names.Symbol.{Symbol}
-use Rattle.irtext_parse_heads.specs.declared.pieces.ReadPiece.{ReadPiece}
-use Rattle.irtext_parse_heads.specs.declared.pieces.ReadPiece.TheVariants as read
-use Rattle.irtext_parse_heads.specs.Entries.{IsEntry, IsKey}
-use Rattle.irtext_parse_heads.specs.Fronts.{IsPart}
-use Rattle.irtext_parse_heads.specs.Named.{Each, StandsFor}
-use Rattle.irtext_parse_heads.specs.Pieces.{IsPiece}
-use Rattle.irtext_parse_nested.specs.declared.gathering.Gathered.{Gathered}
-use Rattle.irtext_parse_nested.specs.declared.gathering.NotGathered.{NotGathered}
-use Rattle.irtext_parse_nested.specs.declared.gathering.NotGathered.TheVariants as refusal
+use Rattle.irtext_parse_pieces.specs.declared.entries.Key.{Key}
+use Rattle.irtext_parse_pieces.specs.declared.names.ReadName.{ReadName}
+use Rattle.irtext_parse_pieces.specs.declared.names.Symbol.{Symbol}
+use Rattle.irtext_parse_pieces.specs.declared.pieces.ReadPiece.{ReadPiece}
+use Rattle.irtext_parse_pieces.specs.declared.pieces.ReadPiece.TheVariants as read
+use Rattle.irtext_parse_pieces.specs.Entries.{IsEntry, IsKey}
+use Rattle.irtext_parse_pieces.specs.Fronts.{IsPart}
+use Rattle.irtext_parse_pieces.specs.Named.{Each, StandsFor}
+use Rattle.irtext_parse_pieces.specs.Pieces.{IsPiece}
+use Rattle.irtext_parse_nested.specs.declared.operation_parts.Gathered.{Gathered}
+use Rattle.irtext_parse_nested.specs.declared.operation_parts.NotGathered.{NotGathered}
+use Rattle.irtext_parse_nested.specs.declared.operation_parts.NotGathered.TheVariants as refusal
 use Rattle.irtext_parse_nested.specs.Items.{Names}
 use Rattle.irtext_parse_nested.specs.Gathered.{entry_read, operand_place, successor_place, operand_list, successor_list, placed_type, type_list, stored_of, last_list, IsInHand, Grows, FailsUses, TakesParts, TakesName, AllStand, MayAllHold, IsFirstReserved, RefusesEntries, GathersAlone, RefusesAlone, RefusesGathering, Gathers, FailsAt, GatherFails, GatherOutside}
 use Rattle.irtext_parse_nested.proofs.Steady.{length_names}

@@ -16,9 +16,9 @@ use Rattle.irtext_grammar.specs.Contexts.Held.{attribute_of, entries_of}
 use Rattle.irtext_grammar.specs.Graphs.Build.{put, put_all}
 use Rattle.irtext_grammar.specs.Grammar.Tree.{Attribute}
 use Rattle.irtext_grammar.specs.Names.Acts.{is_given, may_hold}
-use Rattle.irtext_parse_heads.specs.declared.entries.Key.{Key}
-use Rattle.irtext_parse_nested.specs.declared.gathering.NotGathered.{NotGathered}
-use Rattle.irtext_parse_nested.specs.declared.gathering.NotGathered.TheVariants as refusal
+use Rattle.irtext_parse_pieces.specs.declared.entries.Key.{Key}
+use Rattle.irtext_parse_nested.specs.declared.operation_parts.NotGathered.{NotGathered}
+use Rattle.irtext_parse_nested.specs.declared.operation_parts.NotGathered.TheVariants as refusal
 use Rattle.irtext_parse_nested.specs.Gathered.{MayAllHold, RefusesEntries, refused_at}
 use Rattle.irtext_grammar.proofs.Lists.SameText.{same_itself, same_character, same_text-bytes_eq, same_text_true}
 

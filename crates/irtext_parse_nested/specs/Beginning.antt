@@ -37,15 +37,15 @@ use Rattle.irtext_nesting.specs.Reached.{steps_in}
 use Rattle.irtext_nesting.specs.Resume.{Begun, front_at}
 use Rattle.irtext_nesting.specs.Grows.{BlockGains, OperationCame}
 use Rattle.irtext_nesting.specs.Stands.{OwnSoFar, Spares}
-use Rattle.irtext_parse_heads.specs.declared.names.ReadName.{ReadName}
-use Rattle.irtext_parse_heads.specs.declared.pieces.ReadPiece.{ReadPiece}
-use Rattle.irtext_parse_heads.specs.Fronts.{IsPart}
-use Rattle.irtext_parse_heads.specs.Named.{StandsFor, Each}
+use Rattle.irtext_parse_pieces.specs.declared.names.ReadName.{ReadName}
+use Rattle.irtext_parse_pieces.specs.declared.pieces.ReadPiece.{ReadPiece}
+use Rattle.irtext_parse_pieces.specs.Fronts.{IsPart}
+use Rattle.irtext_parse_pieces.specs.Named.{StandsFor, Each}
 use Rattle.irtext_parse_nested.specs.declared.beginning.ReadFront.{ReadFront}
 use Rattle.irtext_parse_nested.specs.declared.frame.BegunOperation.{BegunOperation}
-use Rattle.irtext_parse_nested.specs.declared.gathering.Gathered.{Gathered}
-use Rattle.irtext_parse_nested.specs.declared.gathering.NotGathered.{NotGathered}
-use Rattle.irtext_parse_nested.specs.declared.gathering.NotGathered.TheVariants as refusal
+use Rattle.irtext_parse_nested.specs.declared.operation_parts.Gathered.{Gathered}
+use Rattle.irtext_parse_nested.specs.declared.operation_parts.NotGathered.{NotGathered}
+use Rattle.irtext_parse_nested.specs.declared.operation_parts.NotGathered.TheVariants as refusal
 use Rattle.irtext_parse_nested.specs.Definitions.{IsFaultOf}
 use Rattle.irtext_parse_nested.specs.Gathered.{IsNothing, IsSteady, Gathers, RefusesGathering}
 use Rattle.irtext_parse_nested.specs.Items.{Names}

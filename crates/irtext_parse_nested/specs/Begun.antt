@@ -16,7 +16,7 @@ use Rattle.irtext_nesting.specs.Heads.{Step, flat, types}
 use Rattle.irtext_nesting.specs.Naming.{body_of}
 use Rattle.irtext_nesting.specs.Reached.{steps_in}
 use Rattle.irtext_nesting.specs.Resume.{Begun}
-use Rattle.irtext_parse_heads.specs.Named.{Leaves, StandsFor, Each}
+use Rattle.irtext_parse_pieces.specs.Named.{Leaves, StandsFor, Each}
 use Rattle.irtext_parse_nested.specs.declared.frame.BegunOperation.{BegunOperation}
 use Rattle.irtext_parse_nested.specs.declared.frame.BegunRegion.{BegunRegion}
 use Rattle.irtext_parse_nested.specs.declared.frame.BegunBlock.{BegunBlock}

@@ -31,14 +31,14 @@ use Rattle.irtext_grammar.specs.Names.History.{act, State, going, failed, run}
 use Rattle.irtext_names.specs.Linked.{Known, StandsAt}
 use Rattle.irtext_names.specs.Tied.{IsNoPlaceholder}
 use Rattle.irtext_names.specs.Rows.{AreNamed}
-use Rattle.irtext_parse_heads.specs.declared.names.ReadName.{ReadName}
-use Rattle.irtext_parse_nested.specs.declared.rows.Row.{Row}
-use Rattle.irtext_parse_nested.specs.declared.rows.Row.TheVariants.{Results, Arguments}
+use Rattle.irtext_parse_pieces.specs.declared.names.ReadName.{ReadName}
+use Rattle.irtext_parse_nested.specs.declared.definitions.Definer.{Definer}
+use Rattle.irtext_parse_nested.specs.declared.definitions.Definer.TheVariants.{Results, Arguments}
 
 -- the value of a row that has this index
-abbrev pub row_value : Row → ℕ → Value
-row_value (Results op) i = Result op i
-row_value (Arguments b) i = Argument b i
+abbrev pub defined_value : Definer → ℕ → Value
+defined_value (Results op) i = Result op i
+defined_value (Arguments b) i = Argument b i
 
 -- names are defined as the places from i on
 abbrev pub definitions_from : (ℕ → Place) → ℕ → List (Name ℕ) → List Act

@@ -13,8 +13,8 @@ use Rattle.irtext_scopes.specs.Scopes.{is_open}
 use Rattle.irtext_scopes.specs.declared.scopes.DefineFault.{DefineFault}
 use Rattle.irtext_names.specs.declared.definitions.UndefinedName.{UndefinedName}
 use Rattle.irtext_state.specs.States.{same_index, Notes}
-use Rattle.irtext_parse_heads.specs.declared.marks.ReadMark.{ReadMark}
-use Rattle.irtext_parse_heads.specs.declared.names.ReadName.{ReadName}
+use Rattle.irtext_parse_pieces.specs.declared.marks.ReadMark.{ReadMark}
+use Rattle.irtext_parse_pieces.specs.declared.names.ReadName.{ReadName}
 use Rattle.irtext_parse_nested.specs.declared.frame.BegunOperation.{BegunOperation}
 use Rattle.irtext_parse_nested.specs.Definitions.{FailsRow, IsFaultOf}
 use Rattle.irtext_state.specs.declared.parsable.state.State as code
@@ -26,7 +26,7 @@ use Rattle.irtext_grammar.specs.Graphs.Build.{put_all, read_names}
 use Rattle.irtext_nesting.specs.Grows.{OwnBecame}
 use Rattle.irtext_nesting.specs.Stands.{OwnSoFar, HasOwn, HasUses}
 use Rattle.irtext_names.specs.Rows.{AreNamed}
-use Rattle.irtext_parse_heads.specs.Named.{StandsFor, Each}
+use Rattle.irtext_parse_pieces.specs.Named.{StandsFor, Each}
 use Rattle.irtext_context.specs.Context.{ContextView, OperationView, operation, EditsOperation, with_attributes}
 use Rattle.irtext_graph.specs.declared.arena.Ptr.{Ptr}
 use Rattle.irtext_graph.specs.declared.object.Operation.{Operation}

@@ -32,16 +32,16 @@ use Rattle.irtext_grammar.specs.Names.TextScopes.{Act, Word, Failure}
 use Rattle.irtext_names.specs.Linked.{Known, StandsAt, TakesUse}
 use Rattle.irtext_names.specs.Tied.{AreTied, AreWaiting}
 use Rattle.irtext_names.specs.Rows.{AreKnown, TakesUses}
-use Rattle.irtext_parse_heads.specs.declared.entries.Key.{Key}
-use Rattle.irtext_parse_heads.specs.declared.names.ReadName.{ReadName}
-use Rattle.irtext_parse_heads.specs.declared.pieces.ReadPiece.{ReadPiece}
-use Rattle.irtext_parse_heads.specs.declared.pieces.ReadPiece.TheVariants as read
-use Rattle.irtext_parse_heads.specs.Entries.{IsKey}
-use Rattle.irtext_parse_heads.specs.Fronts.{IsPart}
-use Rattle.irtext_parse_heads.specs.Named.{StandsFor, Each}
-use Rattle.irtext_parse_nested.specs.declared.gathering.Gathered.{Gathered}
-use Rattle.irtext_parse_nested.specs.declared.gathering.NotGathered.{NotGathered}
-use Rattle.irtext_parse_nested.specs.declared.gathering.NotGathered.TheVariants as refusal
+use Rattle.irtext_parse_pieces.specs.declared.entries.Key.{Key}
+use Rattle.irtext_parse_pieces.specs.declared.names.ReadName.{ReadName}
+use Rattle.irtext_parse_pieces.specs.declared.pieces.ReadPiece.{ReadPiece}
+use Rattle.irtext_parse_pieces.specs.declared.pieces.ReadPiece.TheVariants as read
+use Rattle.irtext_parse_pieces.specs.Entries.{IsKey}
+use Rattle.irtext_parse_pieces.specs.Fronts.{IsPart}
+use Rattle.irtext_parse_pieces.specs.Named.{StandsFor, Each}
+use Rattle.irtext_parse_nested.specs.declared.operation_parts.Gathered.{Gathered}
+use Rattle.irtext_parse_nested.specs.declared.operation_parts.NotGathered.{NotGathered}
+use Rattle.irtext_parse_nested.specs.declared.operation_parts.NotGathered.TheVariants as refusal
 use Rattle.irtext_parse_nested.specs.declared.uses.Placed.{Placed}
 use Rattle.irtext_parse_nested.specs.Definitions.{BlanksHaveResults}
 use Rattle.irtext_parse_nested.specs.Items.{Names}

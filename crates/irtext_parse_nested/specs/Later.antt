@@ -18,11 +18,11 @@ use Rattle.irtext_nesting.specs.Heads.{Step}
 use Rattle.irtext_nesting.specs.Resume.{Begun, is_flat, with_steps}
 use Rattle.irtext_nesting.specs.Grows.{OwnBecame}
 use Rattle.irtext_nesting.specs.Stands.{OwnSoFar, HasOwn, HasUses}
-use Rattle.irtext_parse_heads.specs.declared.pieces.ReadPiece.{ReadPiece}
-use Rattle.irtext_parse_heads.specs.declared.pieces.ReadPiece.TheVariants as read
+use Rattle.irtext_parse_pieces.specs.declared.pieces.ReadPiece.{ReadPiece}
+use Rattle.irtext_parse_pieces.specs.declared.pieces.ReadPiece.TheVariants as read
 use Rattle.irtext_parse_nested.specs.declared.frame.BegunOperation.{BegunOperation}
-use Rattle.irtext_parse_nested.specs.declared.gathering.NotGathered.{NotGathered}
-use Rattle.irtext_parse_nested.specs.declared.gathering.NotGathered.TheVariants as refusal
+use Rattle.irtext_parse_nested.specs.declared.operation_parts.NotGathered.{NotGathered}
+use Rattle.irtext_parse_nested.specs.declared.operation_parts.NotGathered.TheVariants as refusal
 use Rattle.irtext_parse_nested.specs.Beginning.{HasBegun, SaysGather}
 use Rattle.irtext_parse_nested.specs.Begun.{IsBegun}
 use Rattle.irtext_parse_nested.specs.Gathered.{MayAllHold, RefusesEntries, stored_of}

@@ -14,7 +14,7 @@ use Rattle.irtext_grammar.specs.Names.History.{act}
 use Rattle.irtext_grammar.specs.Names.Script.{Place, define_label, MultipleDefinitions}
 use Rattle.irtext_grammar.specs.Names.TextScopes.{Word}
 use Rattle.irtext_names.specs.Linked.{FailsBy}
-use Rattle.irtext_parse_heads.specs.declared.names.ReadName.{ReadName}
+use Rattle.irtext_parse_pieces.specs.declared.names.ReadName.{ReadName}
 use Rattle.irtext_parse_nested.specs.Definitions.{IsFaultOf}
 use Rattle.irtext_parse_nested.specs.Items.{Names}
 

@@ -20,8 +20,8 @@ ghost use Rattle.irtext_outcomes.specs.Readers.Streams.{itself, replaced, KeepsR
 ghost use Rattle.irtext_outcomes.specs.Promises.Root.{UnlessMemory};
 ghost use Rattle.irtext_outcomes.specs.Promises.Section.{IsStarved};
 ghost use Rattle.irtext_nesting.specs.Stands.{OwnSoFar};
-ghost use Rattle.irtext_parse_heads.specs.Fronts.{IsPart};
-ghost use Rattle.irtext_parse_heads.specs.Named.{Each, NamesRead};
+ghost use Rattle.irtext_parse_pieces.specs.Fronts.{IsPart};
+ghost use Rattle.irtext_parse_pieces.specs.Named.{Each, NamesRead};
 ghost use Rattle.irtext_parse_nested.specs.Beginning.{FrontStands, LacksFront, IsKnownIn, SaysGather, NotGatheredAs, types_made, PlacedIn, MakesOf, HasBegun, ComesInto};
 ghost use Rattle.irtext_parse_nested.specs.Gathered.{AllStand, CanGather, Gathers, IsNothing, IsSteady};
 ghost use Rattle.irtext_parse_nested.specs.Items.{IsSound, Lasts};
@@ -32,9 +32,9 @@ ghost use Rattle.irtext_parse_nested.specs.Read.{ReadsFront, begun_by, BeginsOpe
 
 use crate::counting::step_count;
 use crate::frame::{BegunOperation, Names};
-use crate::gathering::{Gathered, NotGathered, gather, nothing};
 use crate::making::make_gathered;
-use crate::naming::outside_fault;
+use crate::name_errors::no_scope_error;
+use crate::operation_parts::{Gathered, NotGathered, gather, nothing};
 use irtext_base::base::{Identifier, OpId};
 use irtext_base::location::Location;
 use irtext_base::parsable::{CharStream, ParseFault, ParseResult, Place, TextStream};
@@ -45,10 +45,10 @@ use irtext_context::base::{BasicBlock, Context, Operation, Ptr};
 use irtext_context::dialect::OpInfo;
 use irtext_few::Few;
 use irtext_graph::held::HasGraph;
-use irtext_parse_heads::found::Pieces;
-use irtext_parse_heads::fronts::front_parse;
-use irtext_parse_heads::ids::led_parse;
-use irtext_parse_heads::names::ReadName;
+use irtext_parse_pieces::found::Pieces;
+use irtext_parse_pieces::fronts::front_parse;
+use irtext_parse_pieces::ids::results_and_id_parse;
+use irtext_parse_pieces::names::ReadName;
 use irtext_read::irfmt::faults::{commit, out_of_memory, refuse_at};
 use irtext_state::parsable::StateStream;
 use irtext_state::parsable::state::StreamLocation;
@@ -101,7 +101,7 @@ fn front_read<T: IrText<A>, A: AttrText>(
     ensures names { NamesRead names.old names.new }
     ensures distinct { OnOk result (AreDistinct names.new.names) }
 {
-    let (results, id, info) = match led_parse(stream, ctx, names) {
+    let (results, id, info) = match results_and_id_parse(stream, ctx, names) {
         Ok(led) => led,
         Err(fault) => return Err(commit_if(stream, wanted, fault)),
     };
@@ -129,7 +129,7 @@ pub(crate) fn gather_fault<A>(
     match refusal {
         NotGathered::Memory => out_of_memory(stream),
         NotGathered::ReservedKey(key) => { refuse_at(stream, key.at, Cause::ReservedKey(key.name)) }
-        NotGathered::NoActiveScope(name) => outside_fault(stream, names, name),
+        NotGathered::NoActiveScope(name) => no_scope_error(stream, names, name),
     }
 }
 

@@ -30,8 +30,8 @@ ghost use Rattle.irtext_nesting.specs.Heads.{head_at};
 ghost use Rattle.irtext_nesting.specs.Grows.{BlockCame, RegionGains};
 ghost use Rattle.irtext_nesting.specs.Stands.{Spares};
 ghost use Rattle.irtext_names.specs.Rows.{AreKnown};
-ghost use Rattle.irtext_parse_heads.specs.Headers.{MustHead};
-ghost use Rattle.irtext_parse_heads.specs.Named.{AreWords, NamesRead};
+ghost use Rattle.irtext_parse_pieces.specs.Headers.{MustHead};
+ghost use Rattle.irtext_parse_pieces.specs.Named.{AreWords, NamesRead};
 ghost use Rattle.irtext_parse_nested.specs.Blocks.{entries_in, PlacesLabelled, IsOfEntries, IsRefusalFault, RefusesKeys, MakesHead, RefusesArguments, DefinesArguments, NamesHead, RefusesHead};
 ghost use Rattle.irtext_parse_nested.specs.Definitions.{ValuesReady, LosesPlaceholders};
 ghost use Rattle.irtext_parse_nested.specs.Ends.{numbers_of, noted_as, GainsMarks};
@@ -39,14 +39,14 @@ ghost use Rattle.irtext_parse_nested.specs.Items.{IsSound, Lasts};
 ghost use Rattle.irtext_parse_nested.specs.Located.{IsLocated, IsLocatedAt};
 ghost use Rattle.irtext_parse_nested.specs.Read.{BeginsBlock, RefusesBlock};
 
-use crate::closing::note_mark;
+use crate::block_labels::label_block;
+use crate::definitions::{Definer, define_values, undefined_error};
 use crate::dictionary::{arguments_split, block_attributes};
 use crate::frame::{BegunBlock, Names};
-use crate::gathering::NotGathered;
-use crate::labelling::label_block;
-use crate::naming::identifier_of;
+use crate::name_errors::identifier_of;
+use crate::operation_end::note_mark;
+use crate::operation_parts::NotGathered;
 use crate::placing::place_block;
-use crate::rows::{Row, define_row, undefined_fault};
 use irtext_base::location::Location;
 use irtext_base::parsable::{CharStream, ParseFault, ParseResult, Place, TextStream};
 use irtext_base::result::Cause;
@@ -55,10 +55,10 @@ use irtext_context::base::{BasicBlock, Item, Ptr, Region};
 use irtext_dict::base::AttributeDict;
 use irtext_few::Few;
 use irtext_graph::held::HasGraph;
-use irtext_parse_heads::entries::ReadEntry;
-use irtext_parse_heads::headers::{BlockHead, block_head_parse};
-use irtext_parse_heads::marks::ReadMark;
-use irtext_parse_heads::names::ReadName;
+use irtext_parse_pieces::entries::ReadEntry;
+use irtext_parse_pieces::headers::{BlockHead, block_head_parse};
+use irtext_parse_pieces::marks::ReadMark;
+use irtext_parse_pieces::names::ReadName;
 use irtext_read::irfmt::faults::{out_of_memory, refuse_at};
 use irtext_state::parsable::StateStream;
 
@@ -195,9 +195,9 @@ fn arguments_defined<T: IrText<A>, A: AttrText, U>(
         → KeepsOlder m s.old.state.ctx.now s.new.state.ctx.now }
 {
     let ctx = &mut *s.state.ctx;
-    match define_row(names, ctx.graph_mut(), arguments, Row::Arguments(block)) {
+    match define_values(names, ctx.graph_mut(), arguments, Definer::Arguments(block)) {
         Ok(()) => Ok(()),
-        Err(undefined) => Err(undefined_fault(&mut s.stream, names, arguments, undefined)),
+        Err(undefined) => Err(undefined_error(&mut s.stream, names, arguments, undefined)),
     }
 }
 

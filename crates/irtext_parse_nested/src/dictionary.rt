@@ -12,13 +12,13 @@ ghost use Rattle.irtext_parse_nested.specs.Ends.{numbers_of};
 ghost use Rattle.irtext_parse_nested.specs.Gathered.{entry_read};
 
 use crate::frame::Names;
-use crate::gathering::{NotGathered, entry_stored};
 use crate::given::names_stored;
+use crate::operation_parts::{NotGathered, entry_stored};
 use irtext_base::base::Identifier;
 use irtext_dict::base::AttributeDict;
 use irtext_few::{Few, Items};
-use irtext_parse_heads::entries::ReadEntry;
-use irtext_parse_heads::names::ReadName;
+use irtext_parse_pieces::entries::ReadEntry;
+use irtext_parse_pieces::names::ReadName;
 use std::alloc::{AllocError, Global};
 
 /// The key under which the section keeps the label of a block.

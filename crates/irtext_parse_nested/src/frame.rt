@@ -5,7 +5,7 @@ use irtext_base::parsable::Place;
 use irtext_context::base::{BasicBlock, Operation, Ptr, Region};
 use irtext_few::Few;
 use irtext_graph::object::Value;
-use irtext_parse_heads::names::ReadName;
+use irtext_parse_pieces::names::ReadName;
 use irtext_scopes::tracker::NameTracker;
 
 /// The names of a reading, with what values and labels they stand for.

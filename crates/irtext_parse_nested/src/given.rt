@@ -6,14 +6,14 @@ ghost use Rattle.irtext_grammar.specs.Grammar.Tree.{Name};
 ghost use Rattle.irtext_names.specs.Rows.{AreKnown, AreNamed};
 ghost use Rattle.irtext_parse_nested.specs.Ends.{numbers_of};
 
+use crate::definitions::number_at;
 use crate::frame::Names;
-use crate::gathering::stored;
-use crate::naming::identifier_of;
-use crate::rows::number_at;
+use crate::name_errors::identifier_of;
+use crate::operation_parts::stored;
 use irtext_base::base::{AttrObj, GIVEN_NAMES_KEY, Identifier};
 use irtext_dict::base::AttributeDict;
 use irtext_few::Few;
-use irtext_parse_heads::names::ReadName;
+use irtext_parse_pieces::names::ReadName;
 use std::alloc::{AllocError, Global};
 
 /// The names of these numbers.

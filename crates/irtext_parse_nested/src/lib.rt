@@ -3,18 +3,18 @@
 #![tactic(auto)]
 
 pub mod beginning;
+pub mod block_labels;
 pub mod blocks;
-pub mod closing;
 mod counting;
+pub mod definitions;
 mod dictionary;
 pub mod frame;
-pub mod gathering;
 mod given;
-pub mod labelling;
 pub mod later;
 pub mod making;
-mod naming;
+mod name_errors;
+pub mod operation_end;
+pub mod operation_parts;
 pub mod placing;
 pub mod regions;
-pub mod rows;
 pub mod uses;

@@ -6,7 +6,7 @@ ghost use Rattle.irtext_grammar.specs.Grammar.Tree.{at_place, in_order};
 ghost use Rattle.irtext_parse_nested.specs.Beginning.{types_made};
 ghost use Rattle.irtext_parse_nested.specs.Gathered.{AllStand};
 
-use crate::gathering::Gathered;
+use crate::operation_parts::Gathered;
 use crate::uses::Placed;
 use irtext_base::base::OpId;
 use irtext_base::location::Location;

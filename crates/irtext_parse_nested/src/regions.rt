@@ -33,7 +33,7 @@ ghost use Rattle.irtext_parse_nested.specs.Leaving.{IsUnresolved};
 ghost use Rattle.irtext_parse_nested.specs.Read.{BeginsRegion, RefusesRegion, EndsRegion, RefusesRegionEnd};
 
 use crate::frame::{BegunRegion, Names};
-use crate::naming::unresolved_fault;
+use crate::name_errors::unresolved_error;
 use irtext_base::parsable::{
     CharStream, ParseFault, ParseResult, ParserNameTrackerError, SourcePosition, TextStream,
 };
@@ -46,7 +46,7 @@ use irtext_context::base::{Operation, Ptr, Region};
 use irtext_graph::graph::Graph;
 use irtext_graph::held::HasGraph;
 use irtext_names::regions::{enter_region, exit_region};
-use irtext_parse_heads::names::ReadName;
+use irtext_parse_pieces::names::ReadName;
 use irtext_read::irfmt::demanded::text_demanded;
 use irtext_read::irfmt::faults::out_of_memory;
 use irtext_read::irfmt::parsers::skip_white_space;
@@ -233,7 +233,7 @@ fn leave<O: Drop, B: Drop, T: Drop, A>(
         name,
         at: region.at,
     };
-    Err(unresolved_fault(stream, names, read))
+    Err(unresolved_error(stream, names, read))
 }
 
 /// Reads the other brace of a region, and leaves it. The first name that has no definition there is refused, where the region begins. A

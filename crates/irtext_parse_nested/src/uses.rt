@@ -18,7 +18,7 @@ use irtext_graph::graph::Graph;
 use irtext_graph::object::Value;
 use irtext_names::labels::block_opd;
 use irtext_names::values::ssa_opd;
-use irtext_parse_heads::names::ReadName;
+use irtext_parse_pieces::names::ReadName;
 use std::alloc::AllocError;
 
 /// What an operation uses: what has a place of its own, with that place, and a list that stands behind all of these.

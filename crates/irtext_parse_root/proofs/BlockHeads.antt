@@ -34,16 +34,16 @@ use Rattle.irtext_outcomes.proofs.Readers.EntryIndices.{refusal}
 use Rattle.irtext_outcomes.proofs.Readers.FirstMissing.{FirstMissing}
 use Rattle.irtext_outcomes.proofs.Readers.PlainStream.{alone}
 use Rattle.irtext_nesting.specs.Heads.{name_of, label_at, head_at}
-use Rattle.irtext_parse_heads.specs.declared.entries.Key.{Key}
-use Rattle.irtext_parse_heads.specs.declared.headers.BlockHead.{BlockHead}
-use Rattle.irtext_parse_heads.specs.declared.marks.ReadMark.{ReadMark}
-use Rattle.irtext_parse_heads.specs.declared.names.ReadName.{ReadName}
-use Rattle.irtext_parse_heads.specs.Arguments.{IsArgument}
-use Rattle.irtext_parse_heads.specs.Entries.{IsEntry}
-use Rattle.irtext_parse_heads.specs.Headers.{IsHead}
-use Rattle.irtext_parse_heads.specs.Marks.{IsMark, IsMarkIf}
-use Rattle.irtext_parse_heads.specs.Named.{StandsFor, Each, MayMean, MustMean}
-use Rattle.irtext_parse_heads.proofs.Meanings.{may_whole}
+use Rattle.irtext_parse_pieces.specs.declared.entries.Key.{Key}
+use Rattle.irtext_parse_pieces.specs.declared.headers.BlockHead.{BlockHead}
+use Rattle.irtext_parse_pieces.specs.declared.marks.ReadMark.{ReadMark}
+use Rattle.irtext_parse_pieces.specs.declared.names.ReadName.{ReadName}
+use Rattle.irtext_parse_pieces.specs.Arguments.{IsArgument}
+use Rattle.irtext_parse_pieces.specs.Entries.{IsEntry}
+use Rattle.irtext_parse_pieces.specs.Headers.{IsHead}
+use Rattle.irtext_parse_pieces.specs.Marks.{IsMark, IsMarkIf}
+use Rattle.irtext_parse_pieces.specs.Named.{StandsFor, Each, MayMean, MustMean}
+use Rattle.irtext_parse_pieces.proofs.Meanings.{may_whole}
 use Rattle.irtext_promises.specs.Alone.{RefusesBlock}
 use Rattle.irtext_promises.specs.Promises.{IsCause, IsOf, IsFirst}
 use Rattle.irtext_parse_nested.specs.Blocks.{entries_in, IsKeyFault}

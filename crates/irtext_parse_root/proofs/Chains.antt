@@ -22,7 +22,7 @@ use Rattle.irtext_outcomes.proofs.Readers.Answered.{moves_none, moves_more}
 use Rattle.irtext_nesting.specs.Resume as theory
 use Rattle.irtext_nesting.specs.Resume.{EndsIn}
 use Rattle.irtext_nesting.proofs.Resume.Frames.{goes_trans, stuck_at}
-use Rattle.irtext_parse_heads.proofs.Meanings.{takes_whole}
+use Rattle.irtext_parse_pieces.proofs.Meanings.{takes_whole}
 use Rattle.irtext_parse_nested.proofs.Marking.{gains_nothing}
 use Rattle.irtext_parse_nested.specs.Ends.{GainsMarks}
 use Rattle.irtext_parse_nested.specs.Items.{Names, Made, Pledge, StandsAs, Acts, ActsWith, ActFails, IsFailure, IsTextFault, Lasts, doing}

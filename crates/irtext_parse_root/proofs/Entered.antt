@@ -23,7 +23,7 @@ use Rattle.irtext_names.specs.Tied.{AreTied}
 use Rattle.irtext_outcomes.specs.Promises.Root.{UnlessMemory}
 use Rattle.irtext_outcomes.specs.Readers.Streams.{itself, replaced}
 use Rattle.irtext_outcomes.proofs.Readers.Answered.{answered}
-use Rattle.irtext_parse_heads.specs.Named.{Leaves}
+use Rattle.irtext_parse_pieces.specs.Named.{Leaves}
 use Rattle.irtext_parse_nested.specs.Items.{Names, Acts}
 use Rattle.irtext_parse_nested.specs.Read.{enters_of, Demands, BeginsRegion, RefusesRegion, no_brace}
 use Rattle.irtext_parse_nested.specs.declared.frame.BegunRegion.{BegunRegion}

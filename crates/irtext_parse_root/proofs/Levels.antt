@@ -13,9 +13,9 @@ use Rattle.irtext_nesting.specs.Heads.{Step}
 use Rattle.irtext_nesting.specs.Naming.{body_of}
 use Rattle.irtext_nesting.specs.Reached.{steps_in}
 use Rattle.irtext_nesting.specs.Resume.{Begun, Open, Pops, weight, weights, work, by_character}
-use Rattle.irtext_parse_heads.specs.declared.names.ReadName.{ReadName}
-use Rattle.irtext_parse_heads.specs.Named.{StandsFor, Each}
-use Rattle.irtext_parse_heads.proofs.Meanings.{stands_on}
+use Rattle.irtext_parse_pieces.specs.declared.names.ReadName.{ReadName}
+use Rattle.irtext_parse_pieces.specs.Named.{StandsFor, Each}
+use Rattle.irtext_parse_pieces.proofs.Meanings.{stands_on}
 use Rattle.irtext_parse_nested.specs.declared.frame.BegunOperation.{BegunOperation}
 use Rattle.irtext_parse_nested.specs.Beginning.{HasBegun}
 use Rattle.irtext_parse_nested.specs.Begun.{IsBegun}

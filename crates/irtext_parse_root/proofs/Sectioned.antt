@@ -69,7 +69,7 @@ use Rattle.irtext_nesting.specs.Readers.{section_at}
 use Rattle.irtext_nesting.proofs.Lawful.{section_read, section_found}
 use Rattle.irtext_parse_root.specs.Carried.{marks_in, object_of}
 use Rattle.irtext_parse_root.proofs.Carrying.{marks_are}
-use Rattle.irtext_parse_heads.proofs.Meanings.{takes_whole}
+use Rattle.irtext_parse_pieces.proofs.Meanings.{takes_whole}
 use Rattle.irtext_read.proofs.Steps.{alone}
 use Rattle.irtext_parse_nested.specs.Located.{IsLocated}
 use Rattle.irtext_parse_section.specs.Said.{rules_of}

@@ -20,8 +20,8 @@ use Rattle.irtext_nesting.specs.Resume.{Begun}
 use Rattle.irtext_nesting.proofs.Resume.Front.{splits_piece}
 use Rattle.irtext_nesting.specs.Stands.{OwnSoFar}
 use Rattle.irtext_names.specs.Rows.{AreKnown}
-use Rattle.irtext_parse_heads.specs.declared.names.ReadName.{ReadName}
-use Rattle.irtext_parse_heads.specs.Named.{Leaves, StandsFor, Each}
+use Rattle.irtext_parse_pieces.specs.declared.names.ReadName.{ReadName}
+use Rattle.irtext_parse_pieces.specs.Named.{Leaves, StandsFor, Each}
 use Rattle.irtext_parse_nested.specs.declared.frame.BegunOperation.{BegunOperation}
 use Rattle.irtext_parse_nested.specs.declared.frame.BegunRegion.{BegunRegion}
 use Rattle.irtext_parse_nested.specs.declared.frame.BegunBlock.{BegunBlock}

@@ -16,10 +16,10 @@ use Rattle.irtext_grammar.specs.Names.Scopes.{Scopes, no_scope, failures}
 use Rattle.irtext_grammar.specs.Names.Script.{done, does_all}
 use Rattle.irtext_outcomes.specs.Readers.Streams.{itself, replaced}
 use Rattle.irtext_nesting.specs.Heads.{head_at}
-use Rattle.irtext_parse_heads.specs.declared.entries.Key.{Key}
-use Rattle.irtext_parse_heads.specs.declared.headers.BlockHead.{BlockHead}
-use Rattle.irtext_parse_heads.specs.declared.marks.ReadMark.{ReadMark}
-use Rattle.irtext_parse_heads.specs.Headers.{IsHead}
+use Rattle.irtext_parse_pieces.specs.declared.entries.Key.{Key}
+use Rattle.irtext_parse_pieces.specs.declared.headers.BlockHead.{BlockHead}
+use Rattle.irtext_parse_pieces.specs.declared.marks.ReadMark.{ReadMark}
+use Rattle.irtext_parse_pieces.specs.Headers.{IsHead}
 use Rattle.irtext_promises.specs.Promises.{IsFirst}
 
 -- no scope is open, and these indices are marked

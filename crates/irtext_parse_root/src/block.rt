@@ -15,8 +15,8 @@ ghost use Rattle.irtext_outcomes.specs.Promises.Section.{indices_of};
 ghost use Rattle.irtext_outcomes.specs.Readers.Refusals.{Refusal, RefusesFailed};
 ghost use Rattle.irtext_outcomes.specs.Readers.Streams.{itself, replaced};
 ghost use Rattle.irtext_nesting.specs.Heads.{head_at};
-ghost use Rattle.irtext_parse_heads.specs.Headers.{IsHead};
-ghost use Rattle.irtext_parse_heads.specs.Named.{AreWords, NamesRead, MayMean};
+ghost use Rattle.irtext_parse_pieces.specs.Headers.{IsHead};
+ghost use Rattle.irtext_parse_pieces.specs.Named.{AreWords, NamesRead, MayMean};
 ghost use Rattle.irtext_promises.specs.Alone.{RefusesBlock};
 ghost use Rattle.irtext_parse_nested.specs.Blocks.{entries_in, IsKeyFault};
 ghost use Rattle.irtext_parse_nested.specs.Definitions.{IsFaultOf};
@@ -28,11 +28,11 @@ use irtext_base::parsable::{CharStream, ParseFault, ParseResult, TextStream};
 use irtext_base::result::Cause;
 use irtext_base::text::{AttrText, IrText};
 use irtext_context::base::{BasicBlock, Ptr};
-use irtext_parse_heads::entries::{Key, ReadEntry};
-use irtext_parse_heads::headers::{BlockHead, block_head_parse};
-use irtext_parse_heads::marks::ReadMark;
-use irtext_parse_heads::names::ReadName;
 use irtext_parse_nested::frame::Names;
+use irtext_parse_pieces::entries::{Key, ReadEntry};
+use irtext_parse_pieces::headers::{BlockHead, block_head_parse};
+use irtext_parse_pieces::marks::ReadMark;
+use irtext_parse_pieces::names::ReadName;
 use irtext_read::irfmt::faults::{next_is, out_of_memory, refuse_at, unexpected};
 use irtext_read::irfmt::parsers::held;
 use irtext_scopes::tracker::NameTracker;
@@ -124,7 +124,7 @@ fn key_fault<A>(stream: &mut TextStream, key: &Key) -> ParseFault<A>
 
 /// The fault of a name that is defined where no scope is open, at the name. The stream has failed.
 #[cold]
-fn outside_fault<A>(stream: &mut TextStream, names: &Names, read: ReadName) -> ParseFault<A>
+fn no_scope_error<A>(stream: &mut TextStream, names: &Names, read: ReadName) -> ParseFault<A>
     requires known { read.name < length names.now.names }
     requires words { AreWords names.now.names }
     ensures says { UnlessMemory (IsFaultOf names.now.names (whole stream.old) fault.NoActiveScope read) result }
@@ -165,11 +165,11 @@ fn header_fault<T: IrText<A>, A: AttrText, U>(
         return key_fault(stream, key);
     }
     if head.arguments.len() != 0 {
-        return outside_fault(stream, names, head.arguments[0].0);
+        return no_scope_error(stream, names, head.arguments[0].0);
     }
     match noted_twice(state, head.mark) {
         Some(mark) => mark_fault(stream, mark),
-        None => outside_fault(stream, names, head.label),
+        None => no_scope_error(stream, names, head.label),
     }
 }
 

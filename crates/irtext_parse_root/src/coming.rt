@@ -5,15 +5,15 @@ ghost use Rattle.irtext_formats.specs.Directives.{format_of};
 ghost use Rattle.irtext_grammar.specs.Contexts.Formats.{isolated};
 ghost use Rattle.irtext_nesting.specs.Heads.{steps_of};
 ghost use Rattle.irtext_nesting.specs.Reached.{steps_in};
-ghost use Rattle.irtext_parse_heads.specs.Steps.{seen_step};
+ghost use Rattle.irtext_parse_pieces.specs.Steps.{seen_step};
 ghost use Rattle.irtext_parse_root.specs.Turns.{IsStep, IsNext};
 ghost use Rattle.irtext_parse_root.specs.declared.coming.Coming.TheVariants as comes;
 
 use irtext_base::format::{Directive, OpFormat};
 use irtext_base::text::{AttrText, IrText};
 use irtext_context::base::Context;
-use irtext_parse_heads::steps::{FormatStep, step_at};
 use irtext_parse_nested::frame::BegunOperation;
+use irtext_parse_pieces::steps::{FormatStep, step_at};
 
 /// What comes next in an operation that is open.
 #[derive(Clone, Copy)]

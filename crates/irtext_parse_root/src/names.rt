@@ -1,7 +1,7 @@
 //! Names that are used outside of each region: no scope of names is open there, so that each is refused.
 ghost use Rattle.std.specs.Prelude.{false, IfErr, OnOk};
 ghost use Rattle.irtext_nesting.specs.Heads.{used_at, target_at};
-ghost use Rattle.irtext_parse_heads.specs.Named.{Misses};
+ghost use Rattle.irtext_parse_pieces.specs.Named.{Misses};
 
 use irtext_base::parsable::{CharStream, ParseFault, ParseResult};
 use irtext_base::result::Cause;

@@ -60,7 +60,7 @@ fn count_fault<A>(stream: &mut TextStream, results: usize, names: usize) -> Pars
 
 /// The fault of a name that is defined where no scope of names is open, at its location. The stream has failed.
 #[cold]
-fn outside_fault<A>(stream: &mut TextStream, name: &Identifier, loc: &Location<A>) -> ParseFault<A>
+fn no_scope_error<A>(stream: &mut TextStream, name: &Identifier, loc: &Location<A>) -> ParseFault<A>
     ensures says { UnlessMemory (λ f. (fault_of f.cause ≡ fault.NoActiveScope name.now) × (f.committed ≡ true) × IsOutermost loc.now f.pos) result }
     ensures refused { Refusal stream.old result stream.new }
 {
@@ -95,7 +95,7 @@ pub fn process_parsed_ssa_defs<T: IrText<A>, A: AttrText, U>(
         return Err(count_fault(&mut s.stream, count, results.len()));
     }
     match results.split_first() {
-        Some((first, _)) => Err(outside_fault(&mut s.stream, &first.0, &first.1)),
+        Some((first, _)) => Err(no_scope_error(&mut s.stream, &first.0, &first.1)),
         None => Ok(()),
     }
 }

@@ -27,9 +27,9 @@ use irtext_base::text::{AttrText, IrText};
 use irtext_context::base::{BasicBlock, Operation, Ptr, Region};
 use irtext_parse_nested::beginning::operation_begin;
 use irtext_parse_nested::blocks::block_begin;
-use irtext_parse_nested::closing::operation_end;
 use irtext_parse_nested::frame::{BegunBlock, BegunOperation, BegunRegion, Names};
 use irtext_parse_nested::later::operation_piece;
+use irtext_parse_nested::operation_end::operation_end;
 use irtext_parse_nested::regions::{region_begin, region_end};
 use irtext_state::parsable::StateStream;
 

@@ -15,8 +15,8 @@ use Rattle.irtext_grammar.specs.Grammar.Section.{Entry, of_item, of_once, direct
 use Rattle.irtext_grammar.specs.Grammar.Tree.{Name, Attribute}
 use Rattle.irtext_grammar.specs.Graphs.Build.{resolved}
 use Rattle.irtext_grammar.specs.Names.Acts.{shared_attribute}
-use Rattle.irtext_parse_heads.specs.Named.{Each}
-use Rattle.irtext_parse_heads.specs.declared.entries.Key.{Key}
+use Rattle.irtext_parse_pieces.specs.Named.{Each}
+use Rattle.irtext_parse_pieces.specs.declared.entries.Key.{Key}
 use Rattle.irtext_parse_section.specs.Applied.{under, stored_by, all_stored, Gives, GivesAll, AppliesAll, IsNewer, ItemsAreNewer, AreNewer}
 use Rattle.irtext_parse_section.specs.Entries.{AreItems, AreOnce}
 use Rattle.irtext_parse_section.specs.Said.{IsPair}

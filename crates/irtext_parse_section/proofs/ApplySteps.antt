@@ -9,7 +9,7 @@ use Rattle.irtext_base.specs.declared.base.attributes.AttrObj.{AttrObj}
 use Rattle.irtext_grammar.specs.Contexts.Held.{attribute_of, entries_of}
 use Rattle.irtext_grammar.specs.Graphs.Build.{put, put_all}
 use Rattle.irtext_grammar.specs.Grammar.Tree.{Attribute}
-use Rattle.irtext_parse_heads.specs.declared.entries.Key.{Key}
+use Rattle.irtext_parse_pieces.specs.declared.entries.Key.{Key}
 use Rattle.irtext_parse_section.specs.Applied.{all_stored, no_label, label_in}
 use Rattle.irtext_parse_section.specs.declared.said.GivenAttr.{GivenAttr}
 use Rattle.irtext_grammar.proofs.Lists.SameText.{same_text-bytes_eq, same_text_true}

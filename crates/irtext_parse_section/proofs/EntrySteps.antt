@@ -21,10 +21,10 @@ use Rattle.irtext_grammar.specs.Grammar.Tree.{Mark, ident}
 use Rattle.irtext_grammar.specs.Names.Acts.{Rule}
 use Rattle.irtext_outcomes.specs.Readers.Directives.{attribute_at}
 use Rattle.irtext_outcomes.specs.Readers.Streams.{itself, replaced}
-use Rattle.irtext_parse_heads.specs.Named.{whole, MustMean}
-use Rattle.irtext_parse_heads.specs.declared.entries.Key.{Key}
-use Rattle.irtext_parse_heads.proofs.EntrySteps.{first_refused}
-use Rattle.irtext_parse_heads.proofs.Meanings.{must_refuse, must_whole}
+use Rattle.irtext_parse_pieces.specs.Named.{whole, MustMean}
+use Rattle.irtext_parse_pieces.specs.declared.entries.Key.{Key}
+use Rattle.irtext_parse_pieces.proofs.EntrySteps.{first_refused}
+use Rattle.irtext_parse_pieces.proofs.Meanings.{must_refuse, must_whole}
 use Rattle.irtext_nesting.specs.Readers.{begins_given, tested, entry_head_at, given_at, entry_at}
 use Rattle.irtext_parse_section.specs.Said.{rule_for, rules_of, rule_of_item, is_block, ArePairs}
 use Rattle.irtext_parse_section.specs.Entries.{IsHead, IsGivenOver, IsEntry}

@@ -23,8 +23,8 @@ use Rattle.irtext_outcomes.specs.Readers.NewPaths.{AddsPaths}
 use Rattle.irtext_outcomes.specs.Readers.Streams.{itself, replaced, KeepsRest}
 use Rattle.irtext_outcomes.proofs.Readers.Answered.{answered}
 use Rattle.irtext_outcomes.proofs.Readers.NewPaths.{adds_none, adds_more}
-use Rattle.irtext_parse_heads.specs.Named.{whole, MustMean}
-use Rattle.irtext_parse_heads.proofs.Meanings.{takes_whole, must_refuse}
+use Rattle.irtext_parse_pieces.specs.Named.{whole, MustMean}
+use Rattle.irtext_parse_pieces.proofs.Meanings.{takes_whole, must_refuse}
 use Rattle.irtext_nesting.specs.Readers.{entry_at, may_have, entries_after}
 use Rattle.irtext_parse_section.specs.Said.{rules_of}
 use Rattle.irtext_parse_section.specs.Entries.{items_of, once_of, IsEntry, Noted, nothing, one_noted, AreEntriesOver, AreItems, AreOnce, entry_kept, Notes, EntriesSoFar}

@@ -23,11 +23,11 @@ use Rattle.irtext_grammar.specs.Grammar.Tree.{Name}
 use Rattle.irtext_grammar.specs.Names.Acts.{Rule}
 use Rattle.irtext_outcomes.specs.Readers.Directives.{attribute_at}
 use Rattle.irtext_outcomes.specs.Readers.Streams.{itself, replaced}
-use Rattle.irtext_parse_heads.specs.Named.{whole, Each, MayMean, MustMean}
-use Rattle.irtext_parse_heads.specs.declared.entries.Key.{Key}
-use Rattle.irtext_parse_heads.specs.declared.marks.ReadMark.{ReadMark}
-use Rattle.irtext_parse_heads.proofs.Listings.{list_some}
-use Rattle.irtext_parse_heads.proofs.Meanings.{takes_whole, may_whole}
+use Rattle.irtext_parse_pieces.specs.Named.{whole, Each, MayMean, MustMean}
+use Rattle.irtext_parse_pieces.specs.declared.entries.Key.{Key}
+use Rattle.irtext_parse_pieces.specs.declared.marks.ReadMark.{ReadMark}
+use Rattle.irtext_parse_pieces.proofs.Listings.{list_some}
+use Rattle.irtext_parse_pieces.proofs.Meanings.{takes_whole, may_whole}
 use Rattle.irtext_nesting.specs.Readers.{item_at, pair_at, may_stand, kept}
 use Rattle.irtext_parse_section.proofs.HeadSteps.{refused_there}
 use Rattle.irtext_parse_section.specs.Said.{stands_under, IsGiven, IsPair, Allows, MustPairs, PairsBehind}

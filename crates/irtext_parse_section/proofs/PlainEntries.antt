@@ -13,10 +13,10 @@ use Rattle.irtext_read.specs.Tokens.{word_at, text_at, space_at}
 use Rattle.irtext_read.proofs.Steps.{mapped_followed, mapped_prefixed}
 use Rattle.irtext_outcomes.specs.Readers.Streams.{itself, replaced}
 use Rattle.irtext_grammar.specs.Names.Acts.{Rule}
-use Rattle.irtext_parse_heads.specs.declared.entries.Key.{Key}
+use Rattle.irtext_parse_pieces.specs.declared.entries.Key.{Key}
 use Rattle.irtext_nesting.specs.Readers.{pairs_at}
-use Rattle.irtext_parse_heads.specs.Plain.{TakesDigits, Looks, Gets}
-use Rattle.irtext_parse_heads.proofs.Plain.{number_taken, behind_label, further, gets_must}
+use Rattle.irtext_parse_pieces.specs.Plain.{TakesDigits, Looks, Gets}
+use Rattle.irtext_parse_pieces.proofs.Plain.{number_taken, behind_label, further, gets_must}
 use Rattle.irtext_parse_section.specs.Entries.{location_end_at}
 use Rattle.irtext_parse_section.specs.Said.{MustPairs}
 use Rattle.irtext_parse_section.specs.declared.said.GivenAttr.{GivenAttr}

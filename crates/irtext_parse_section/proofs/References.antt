@@ -35,10 +35,10 @@ use Rattle.irtext_outcomes.specs.Readers.Streams.{itself, replaced}
 use Rattle.irtext_outcomes.proofs.Joins.Answers.{followed_read}
 use Rattle.irtext_outcomes.proofs.Readers.Answered.{Answered, answered}
 use Rattle.irtext_nesting.proofs.Exact.Attributes.{lawful_needs_word}
-use Rattle.irtext_parse_heads.specs.Entries.{IsKey}
-use Rattle.irtext_parse_heads.specs.Named.{whole, Leaves, Each, MustMean}
-use Rattle.irtext_parse_heads.specs.declared.entries.Key.{Key}
-use Rattle.irtext_parse_heads.proofs.Meanings.{must_refuse}
+use Rattle.irtext_parse_pieces.specs.Entries.{IsKey}
+use Rattle.irtext_parse_pieces.specs.Named.{whole, Leaves, Each, MustMean}
+use Rattle.irtext_parse_pieces.specs.declared.entries.Key.{Key}
+use Rattle.irtext_parse_pieces.proofs.Meanings.{must_refuse}
 use Rattle.irtext_nesting.specs.Readers.{fault_for, upto, wrong_references, unless_wrong, referred, entries_after, entries_at, section_at}
 use Rattle.irtext_nesting.proofs.Claims.{wrong, wrongs, references_fail}
 use Rattle.irtext_nesting.proofs.Entries.{entries_read}

@@ -18,7 +18,7 @@ use Rattle.irtext_outcomes.specs.Readers.Refusals.{CommittedRefusal}
 use Rattle.irtext_outcomes.specs.Readers.Streams.{itself, replaced}
 use Rattle.irtext_outcomes.proofs.Readers.Answered.{answered}
 use Rattle.irtext_outcomes.proofs.Readers.NewPaths.{adds_kept}
-use Rattle.irtext_parse_heads.specs.Named.{whole, MustMean}
+use Rattle.irtext_parse_pieces.specs.Named.{whole, MustMean}
 use Rattle.irtext_nesting.specs.Readers.{section_at}
 use Rattle.irtext_parse_section.specs.Applied.{GivesAll, ItemsAreNewer, AreNewer}
 use Rattle.irtext_parse_section.specs.Entries.{AreEntriesOver, items_of, once_of}

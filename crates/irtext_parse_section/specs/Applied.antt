@@ -20,7 +20,7 @@ use Rattle.irtext_grammar.specs.Grammar.Section.{Entry, of_item, of_once}
 use Rattle.irtext_grammar.specs.Grammar.Tree.{Attribute, ident}
 use Rattle.irtext_grammar.specs.Graphs.Build.{put_all, resolved}
 use Rattle.irtext_outcomes.specs.Promises.Section.{given_over}
-use Rattle.irtext_parse_heads.specs.declared.entries.Key.{Key}
+use Rattle.irtext_parse_pieces.specs.declared.entries.Key.{Key}
 use Rattle.irtext_parse_section.specs.declared.said.GivenAttr.{GivenAttr}
 use Rattle.irtext_parse_section.specs.declared.said.GivenAttr.TheVariants as given
 use Rattle.irtext_parse_section.specs.declared.said.ItemEntry.{ItemEntry}

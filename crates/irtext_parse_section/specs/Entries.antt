@@ -28,9 +28,9 @@ use Rattle.irtext_grammar.specs.Names.Scopes.{is_among}
 use Rattle.irtext_outcomes.specs.Promises.Section.{known_given, given_over, given_kept, indices_of, Moves}
 use Rattle.irtext_outcomes.specs.Readers.NewPaths.{AddsPaths}
 use Rattle.irtext_outcomes.specs.Readers.Streams.{itself, replaced, KeepsRest}
-use Rattle.irtext_parse_heads.specs.Marks.{IsMark}
-use Rattle.irtext_parse_heads.specs.Named.{whole, MustMean}
-use Rattle.irtext_parse_heads.specs.declared.entries.Key.{Key}
+use Rattle.irtext_parse_pieces.specs.Marks.{IsMark}
+use Rattle.irtext_parse_pieces.specs.Named.{whole, MustMean}
+use Rattle.irtext_parse_pieces.specs.declared.entries.Key.{Key}
 use Rattle.irtext_nesting.specs.Readers.{begins_given, entries_after}
 use Rattle.irtext_parse_section.specs.Said.{ArePairs, rules_of}
 use Rattle.irtext_parse_section.specs.declared.entry.EntryHead.{EntryHead}

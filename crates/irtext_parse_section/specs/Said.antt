@@ -19,10 +19,10 @@ use Rattle.irtext_grammar.specs.Grammar.Section.{direct, reference}
 use Rattle.irtext_grammar.specs.Names.Acts.{Rule, may_hold, keeps_label_key}
 use Rattle.irtext_outcomes.specs.Readers.Operations.{RefusesAt}
 use Rattle.irtext_outcomes.specs.Readers.Streams.{itself, replaced}
-use Rattle.irtext_parse_heads.specs.Entries.{IsKey}
-use Rattle.irtext_parse_heads.specs.Marks.{IsMark}
-use Rattle.irtext_parse_heads.specs.Named.{whole, Each, MustMean}
-use Rattle.irtext_parse_heads.specs.declared.entries.Key.{Key}
+use Rattle.irtext_parse_pieces.specs.Entries.{IsKey}
+use Rattle.irtext_parse_pieces.specs.Marks.{IsMark}
+use Rattle.irtext_parse_pieces.specs.Named.{whole, Each, MustMean}
+use Rattle.irtext_parse_pieces.specs.declared.entries.Key.{Key}
 use Rattle.irtext_parse_section.specs.declared.said.GivenAttr.{GivenAttr}
 use Rattle.irtext_parse_section.specs.declared.said.GivenAttr.TheVariants as given
 

@@ -8,7 +8,7 @@ use crate::said::{GivenAttr, ItemEntry, Once, ReadPair};
 use irtext_base::base::AttrObj;
 use irtext_base::parsable::{CharStream, ParseFault, ParseResult, TextStream};
 use irtext_base::result::Cause;
-use irtext_parse_heads::entries::Key;
+use irtext_parse_pieces::entries::Key;
 use irtext_read::irfmt::faults::{out_of_memory, refuse_at};
 
 /// The attribute that is written once under an index.

@@ -5,7 +5,7 @@ ghost use Rattle.irtext_state.specs.States.{marks_of};
 ghost use Rattle.irtext_outcomes.specs.Promises.Section.{indices_of};
 ghost use Rattle.irtext_outcomes.specs.Readers.NewPaths.{AddsPaths};
 ghost use Rattle.irtext_outcomes.specs.Readers.Streams.{itself, replaced, KeepsRest};
-ghost use Rattle.irtext_parse_heads.specs.Named.{MustMean, whole};
+ghost use Rattle.irtext_parse_pieces.specs.Named.{MustMean, whole};
 ghost use Rattle.irtext_nesting.specs.Readers.{entries_after};
 ghost use Rattle.irtext_parse_section.specs.Said.{rules_of};
 ghost use Rattle.irtext_parse_section.specs.Entries.{AreEntriesOver, Notes, noted, nothing, one_noted, MustGoOn};

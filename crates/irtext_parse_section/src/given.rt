@@ -6,7 +6,7 @@ ghost use Rattle.irtext_outcomes.specs.Promises.Section.{known_given, given_over
 ghost use Rattle.irtext_outcomes.specs.Readers.NewPaths.{AddsPaths, MustReadOver};
 ghost use Rattle.irtext_outcomes.specs.Readers.Section.{entry_location_at};
 ghost use Rattle.irtext_outcomes.specs.Readers.Streams.{itself, replaced};
-ghost use Rattle.irtext_parse_heads.specs.Named.{MustMean, whole};
+ghost use Rattle.irtext_parse_pieces.specs.Named.{MustMean, whole};
 ghost use Rattle.irtext_nesting.specs.Readers.{given_at};
 ghost use Rattle.irtext_parse_section.specs.Said.{rule_for};
 ghost use Rattle.irtext_parse_section.specs.Entries.{IsGivenOver, location_end_at};
@@ -18,7 +18,7 @@ use irtext_base::parsable::{CharStream, ParseResult, TextStream};
 use irtext_base::result::Cause;
 use irtext_base::text::{AttrText, IrText};
 use irtext_context::base::Context;
-use irtext_parse_heads::location::nested::location_demanded;
+use irtext_parse_pieces::location::nested::location_demanded;
 use irtext_read::irfmt::demanded::{spaced_text_demanded, text_demanded};
 use irtext_read::irfmt::faults::{next_is, refuse};
 use irtext_read::irfmt::parsers::skip_white_space;

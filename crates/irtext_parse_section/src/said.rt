@@ -4,8 +4,8 @@ use indexmap::IndexMap;
 use irtext_base::base::AttrObj;
 use irtext_base::location::Location;
 use irtext_context::base::Item;
-use irtext_parse_heads::entries::Key;
-use irtext_parse_heads::marks::ReadMark;
+use irtext_parse_pieces::entries::Key;
+use irtext_parse_pieces::marks::ReadMark;
 use irtext_state::parsable::numbered::Numbered;
 
 /// What an entry gives under a key: an attribute, or a reference to one that is written once.

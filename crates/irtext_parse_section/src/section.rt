@@ -9,7 +9,7 @@ ghost use Rattle.irtext_outcomes.specs.Promises.Supported.{RefusedAs};
 ghost use Rattle.irtext_outcomes.specs.Readers.NewPaths.{AddsPaths};
 ghost use Rattle.irtext_outcomes.specs.Readers.Refusals.{CommittedRefusal};
 ghost use Rattle.irtext_outcomes.specs.Readers.Streams.{itself, replaced, KeepsRest};
-ghost use Rattle.irtext_parse_heads.specs.Named.{MustMean, whole};
+ghost use Rattle.irtext_parse_pieces.specs.Named.{MustMean, whole};
 ghost use Rattle.irtext_nesting.specs.Readers.{entries_at, section_at};
 ghost use Rattle.irtext_parse_section.specs.Applied.{GivesAll, ItemsAreNewer, AreNewer};
 ghost use Rattle.irtext_parse_section.specs.Entries.{AreEntriesOver, items_of, once_of};

@@ -1,6 +1,6 @@
 use Rattle.std.proofs.Common.{sym, ap, ◌∙◌, length, true≢false}
 use Rattle.irtext_read.proofs.Exits.{handed_on}
-use Rattle.irtext_parse_heads.proofs.Meanings.{names_more}
+use Rattle.irtext_parse_pieces.proofs.Meanings.{names_more}
 use Rattle.irtext_parse_nested.proofs.FrontRead.{lead_lacks, lead_unread, piece_lacks, piece_commits, front_stands, steps_are}
 use Rattle.irtext_parse_nested.proofs.beginning.front_read.Goals as goal
 
@@ -24,7 +24,7 @@ returns-in_err-pieces-clause-lacks g c =
     g.met.T.IrText.sincere g.met.A.IrText.sincere c.in_err-pieces.ensures.read)
 
 pub returns-in_err-pieces-clause-names : goal.returns-in_err-pieces-clause-names
-returns-in_err-pieces-clause-names g c = names_more c.args.names.now c.led_parse.new.names c.front_parse.new.names c.led_parse.ensures.names c.front_parse.ensures.names
+returns-in_err-pieces-clause-names g c = names_more c.args.names.now c.results_and_id_parse.new.names c.front_parse.new.names c.results_and_id_parse.ensures.names c.front_parse.ensures.names
 
 pub returns-clause-stands : goal.returns-clause-stands
 returns-clause-stands g c =
@@ -36,4 +36,4 @@ returns-clause-counted g c =
     c.step_count.ensures ∙ ap length (sym (steps_are g.T.IrText.reading g.A.IrText.reading c.args.ctx.now.dialects c.args.stream.now c.requires.fine c.in-Ok.led c.in-Ok.led.2.now c.in-Ok.ensures.read c.in-Ok.ensures.known))
 
 pub returns-clause-names : goal.returns-clause-names
-returns-clause-names g c = names_more c.args.names.now c.led_parse.new.names c.front_parse.new.names c.led_parse.ensures.names c.front_parse.ensures.names
+returns-clause-names g c = names_more c.args.names.now c.results_and_id_parse.new.names c.front_parse.new.names c.results_and_id_parse.ensures.names c.front_parse.ensures.names

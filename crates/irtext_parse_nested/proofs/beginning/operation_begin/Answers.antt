@@ -6,7 +6,7 @@ use Rattle.irtext_parse_nested.proofs.Stores.{exit_from}
 use Rattle.irtext_read.specs.AttrTexts.{attr_at}
 use Rattle.irtext_read.proofs.Exits.{handed_on}
 use Rattle.irtext_read.proofs.Steps.{alone}
-use Rattle.irtext_parse_heads.proofs.Meanings.{takes_whole}
+use Rattle.irtext_parse_pieces.proofs.Meanings.{takes_whole}
 use Rattle.irtext_names.specs.Tied.{AreWaiting}
 use Rattle.irtext_parse_nested.specs.Beginning.{LacksFront, NotGatheredAs}
 use Rattle.irtext_parse_nested.specs.Read.{RefusesOperation}

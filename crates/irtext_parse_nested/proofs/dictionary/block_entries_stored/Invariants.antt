@@ -2,7 +2,7 @@ use Rattle.std.proofs.Common.{◌≡◌, map}
 use Rattle.irtext_grammar.specs.Graphs.Build.{put_all}
 use Rattle.irtext_grammar.specs.Contexts.Held.{entries_of}
 use Rattle.irtext_grammar.specs.Names.Acts.{block_may_hold}
-use Rattle.irtext_parse_nested.specs.declared.gathering.NotGathered.{NotGathered}
+use Rattle.irtext_parse_nested.specs.declared.operation_parts.NotGathered.{NotGathered}
 use Rattle.irtext_parse_nested.specs.Blocks.{AreAllowed, Forbids}
 use Rattle.irtext_parse_nested.specs.Gathered.{entry_read}
 use Rattle.irtext_parse_nested.proofs.dictionary.block_entries_stored.Given as goal

@@ -14,8 +14,8 @@ returns-in-Some-clause-first g c = λ h is. elim c.key_fault.ensures.says [
 ]
 
 -- ---- an argument
-pub outside_fault-requires-clause-known : goal.outside_fault-requires-clause-known
-outside_fault-requires-clause-known g c =
+pub no_scope_error-requires-clause-known : goal.no_scope_error-requires-clause-known
+no_scope_error-requires-clause-known g c =
     let read = c.args.head.now in
     let r = c.requires.read in
     argument_within c.args.names.now.names (whole c.args.stream.now) read.arguments r.head.arguments c.index.result.now r.is.arguments
@@ -25,10 +25,10 @@ pub returns-then-len-ne0-clause-first : goal.returns-then-len-ne0-clause-first
 returns-then-len-ne0-clause-first g c = λ h is.
     let read = c.args.head.now in
     let there = item_there read.arguments 0 c.index.result.now (omega (arith, c.len.ensures, c.if-len-ne0.true)) c.index.ensures in
-    elim c.outside_fault.ensures.says [
+    elim c.no_scope_error.ensures.says [
       | inl starved ↦ inl starved
       | inr k ↦ inr (record {
-        first = argument_outside (whole c.args.stream.now) c.outside_fault.result c.args.names.now.names read h is (indices_of (marks_of c.args.state.now)) c.index.result.now c.in_default.ensures there k;
+        first = argument_outside (whole c.args.stream.now) c.no_scope_error.result c.args.names.now.names read h is (indices_of (marks_of c.args.state.now)) c.index.result.now c.in_default.ensures there k;
         flag = k.flag;
       })
     ]
@@ -44,16 +44,16 @@ returns-in-Some-noted_twice-clause-first g c = λ h is.
     })
 
 -- ---- the label
-pub outside_fault-requires-in-None-clause-known : goal.outside_fault-requires-in-None-clause-known
-outside_fault-requires-in-None-clause-known g c =
+pub no_scope_error-requires-in-None-clause-known : goal.no_scope_error-requires-in-None-clause-known
+no_scope_error-requires-in-None-clause-known g c =
     let label = c.requires.read.is.label in
     named_within c.args.names.now.names c.args.head.now.label.name c.requires.read.head.label.text label.named
 
 pub returns-in-None-clause-first : goal.returns-in-None-clause-first
-returns-in-None-clause-first g c = λ h is. elim c.outside_fault-in-None.ensures.says [
+returns-in-None-clause-first g c = λ h is. elim c.no_scope_error-in-None.ensures.says [
   | inl starved ↦ inl starved
   | inr k ↦ inr (record {
-    first = label_outside (whole c.args.stream.now) c.outside_fault-in-None.result c.args.names.now.names c.args.head.now h is (marks_of c.args.state.now) c.in_default.ensures (omega (arith, c.len.ensures, c.if-len-ne0.false)) c.in-None.ensures k;
+    first = label_outside (whole c.args.stream.now) c.no_scope_error-in-None.result c.args.names.now.names c.args.head.now h is (marks_of c.args.state.now) c.in_default.ensures (omega (arith, c.len.ensures, c.if-len-ne0.false)) c.in-None.ensures k;
     flag = k.flag;
   })
 ]

@@ -1,9 +1,9 @@
 use Rattle.std.proofs.Common.{false, refl, Err, []}
 use Rattle.irtext_read.proofs.Exits.{handed_on}
 use Rattle.irtext_read.proofs.Steps.{Lens, lens}
-use Rattle.irtext_parse_heads.specs.Named.{StandsFor}
-use Rattle.irtext_parse_heads.proofs.Meanings.{may_miss, insisted_mean}
-use Rattle.irtext_parse_heads.proofs.NameSteps.{nobody, target_behind, target_refused}
+use Rattle.irtext_parse_pieces.specs.Named.{StandsFor}
+use Rattle.irtext_parse_pieces.proofs.Meanings.{may_miss, insisted_mean}
+use Rattle.irtext_parse_pieces.proofs.NameSteps.{nobody, target_behind, target_refused}
 use Rattle.irtext_parse_root.proofs.names.block_opd_parse.Given as given
 use Rattle.irtext_parse_root.proofs.names.block_opd_parse.Goals as goal
 

@@ -5,7 +5,7 @@ use Rattle.irtext_parse_root.proofs.results.process_parsed_ssa_defs.Goals as goa
 pub returns-in-Some-clause-missed : goal.returns-in-Some-clause-missed
 returns-in-Some-clause-missed g c = λ fine.
     let first = c.in-Some.first.now in
-    elim c.outside_fault.ensures.says [
+    elim c.no_scope_error.ensures.says [
       | inl starved ↦ inl starved
       | inr (because, flag, place) ↦ inr (outside first.0 first.1 c.in-Some.field-0-1.now c.in-Some.ensures.cases.0 (sym c.result_count-count.ensures ∙ c.if-count-results.false) because flag place)
     ]

@@ -5,8 +5,8 @@ use Rattle.irtext_read.specs.Demanded.{spaced_at}
 use Rattle.irtext_read.proofs.Exits.{handed_on}
 use Rattle.irtext_read.proofs.Steps.{alone, first, refuses_seen, last_seen}
 use Rattle.irtext_grammar.specs.Grammar.Tree.{Mark}
-use Rattle.irtext_parse_heads.proofs.EntrySteps.{first_refused}
-use Rattle.irtext_parse_heads.proofs.Meanings.{must_refuse}
+use Rattle.irtext_parse_pieces.proofs.EntrySteps.{first_refused}
+use Rattle.irtext_parse_pieces.proofs.Meanings.{must_refuse}
 use Rattle.irtext_parse_section.proofs.HeadSteps.{a_mark, mark_read, mark_unread}
 use Rattle.irtext_parse_section.proofs.entry.index_parse.Goals as goal
 

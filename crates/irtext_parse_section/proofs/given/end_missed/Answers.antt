@@ -4,7 +4,7 @@ use Rattle.irtext_base.specs.Text.{Text}
 use Rattle.irtext_read.specs.Tokens.{space_at, text_at}
 use Rattle.irtext_read.proofs.Exits.{handed_on}
 use Rattle.irtext_read.proofs.Steps.{alone, first, more, refuses, last_spaced}
-use Rattle.irtext_parse_heads.proofs.EntrySteps.{first_refused}
+use Rattle.irtext_parse_pieces.proofs.EntrySteps.{first_refused}
 use Rattle.irtext_parse_section.proofs.given.end_missed.Goals as goal
 
 -- what stands behind the bracket

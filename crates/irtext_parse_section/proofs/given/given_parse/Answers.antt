@@ -10,8 +10,8 @@ use Rattle.irtext_grammar.specs.Grammar.Section.{Item}
 use Rattle.irtext_grammar.specs.Grammar.Tree.{Name}
 use Rattle.irtext_grammar.specs.Names.Acts.{Rule}
 use Rattle.irtext_outcomes.specs.Promises.Section.{given_over}
-use Rattle.irtext_parse_heads.proofs.EntrySteps.{first_refused}
-use Rattle.irtext_parse_heads.proofs.Meanings.{must_refuse, must_whole}
+use Rattle.irtext_parse_pieces.proofs.EntrySteps.{first_refused}
+use Rattle.irtext_parse_pieces.proofs.Meanings.{must_refuse, must_whole}
 use Rattle.irtext_nesting.specs.Readers.{pairs_at}
 use Rattle.irtext_parse_section.specs.Said.{rule_for, ArePairs}
 use Rattle.irtext_parse_section.proofs.given.given_parse.Goals as goal

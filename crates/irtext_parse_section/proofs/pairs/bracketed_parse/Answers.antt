@@ -10,9 +10,9 @@ use Rattle.irtext_read.proofs.Steps.{alone, first, spaced, more, refuses, refuse
 use Rattle.irtext_grammar.specs.Grammar.Section.{Item}
 use Rattle.irtext_grammar.specs.Grammar.Tree.{Name}
 use Rattle.irtext_grammar.specs.Names.Acts.{Rule}
-use Rattle.irtext_parse_heads.specs.Named.{Each}
-use Rattle.irtext_parse_heads.proofs.EntrySteps.{first_refused}
-use Rattle.irtext_parse_heads.proofs.Meanings.{must_refuse, passed_whole}
+use Rattle.irtext_parse_pieces.specs.Named.{Each}
+use Rattle.irtext_parse_pieces.proofs.EntrySteps.{first_refused}
+use Rattle.irtext_parse_pieces.proofs.Meanings.{must_refuse, passed_whole}
 use Rattle.irtext_nesting.specs.Readers.{pairs_at}
 use Rattle.irtext_parse_section.specs.Said.{rule_for, IsPair}
 use Rattle.irtext_parse_section.proofs.PairSteps.{kept_at}

@@ -4,7 +4,7 @@ use Rattle.irtext_read.proofs.Exits.{handed_on}
 use Rattle.irtext_read.proofs.Steps.{alone}
 use Rattle.irtext_grammar.specs.Grammar.Section.{direct}
 use Rattle.irtext_grammar.specs.Grammar.Tree.{ident}
-use Rattle.irtext_parse_heads.proofs.Meanings.{must_fail}
+use Rattle.irtext_parse_pieces.proofs.Meanings.{must_fail}
 use Rattle.irtext_parse_section.proofs.PairSteps.{reference_there, reference_refused, attribute_there, attribute_refused}
 use Rattle.irtext_parse_section.proofs.pairs.item_parse.Goals as goal
 

@@ -1,8 +1,8 @@
 use Rattle.std.proofs.Common.{[], refl}
 use Rattle.irtext_read.proofs.Steps.{alone}
 use Rattle.irtext_read.specs.AttrTexts.{attr_at}
-use Rattle.irtext_parse_heads.proofs.Meanings.{must_refuse}
-use Rattle.irtext_parse_heads.proofs.Listings.{list_bad, list_none}
+use Rattle.irtext_parse_pieces.proofs.Meanings.{must_refuse}
+use Rattle.irtext_parse_pieces.proofs.Listings.{list_bad, list_none}
 use Rattle.irtext_parse_section.specs.Said.{rule_for}
 use Rattle.irtext_parse_section.proofs.PairSteps.{kept_at, list_pairs}
 use Rattle.irtext_parse_section.proofs.pairs.list_parse.Goals as goal

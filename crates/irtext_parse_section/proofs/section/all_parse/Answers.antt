@@ -10,8 +10,8 @@ use Rattle.irtext_state.specs.States.{marks_of}
 use Rattle.irtext_grammar.specs.Grammar.Section.{Entry}
 use Rattle.irtext_grammar.specs.Names.Acts.{Rule}
 use Rattle.irtext_outcomes.specs.Promises.Section.{indices_of}
-use Rattle.irtext_parse_heads.proofs.EntrySteps.{first_refused}
-use Rattle.irtext_parse_heads.proofs.Meanings.{must_refuse, must_whole}
+use Rattle.irtext_parse_pieces.proofs.EntrySteps.{first_refused}
+use Rattle.irtext_parse_pieces.proofs.Meanings.{must_refuse, must_whole}
 use Rattle.irtext_nesting.specs.Readers.{entries_after}
 use Rattle.irtext_parse_section.specs.Entries.{AreEntriesOver}
 use Rattle.irtext_parse_section.specs.Said.{rules_of}

@@ -8,7 +8,7 @@ use Rattle.irtext_outcomes.specs.Readers.Streams.{itself, replaced}
 use Rattle.irtext_outcomes.proofs.Readers.Answered.{answered}
 use Rattle.irtext_parse_section.specs.Checked.{items_wrong}
 use Rattle.irtext_parse_section.specs.Said.{rules_of}
-use Rattle.irtext_parse_heads.specs.Named.{whole, Each, MustMean}
+use Rattle.irtext_parse_pieces.specs.Named.{whole, Each, MustMean}
 use Rattle.irtext_nesting.specs.Readers.{wrong_references, section_at}
 use Rattle.irtext_parse_section.specs.Entries.{AreEntriesOver, items_of, once_of}
 use Rattle.irtext_parse_section.proofs.References.{IsWrong, references_same, references_near, section_unread, section_right, section_wrong}

@@ -1,0 +1,30 @@
+use Rattle.std.proofs.Common.{◌≡◌, ◌<◌, ◌∙◌, inl, inr, length, sym, subst, arith}
+use Rattle.irtext_base.specs.Faults as causes
+use Rattle.irtext_graph.specs.declared.object.Value.TheVariants.{Result}
+use Rattle.irtext_grammar.specs.Contexts.Held.{whole}
+use Rattle.irtext_parse_nested.specs.Definitions.{ValuesReady, IsFaultOf}
+use Rattle.irtext_parse_nested.specs.Ends.{no_scope, defined_twice}
+use Rattle.irtext_parse_nested.proofs.Numbered.{item_there}
+use Rattle.irtext_parse_nested.proofs.operation_end.define_results.Goals as goal
+
+pub returns-then-not-has_value_scope-clause-refused : goal.returns-then-not-has_value_scope-clause-refused
+returns-then-not-has_value_scope-clause-refused g c =
+    let counts : length c.args.begun.now.names ≡ c.args.begun.now.results = sym c.len.ensures ∙ c.if-len-begun.false in
+    let there : 0 < length c.args.begun.now.names = omega (arith, counts, c.if-begun-eq0.false) in
+    elim c.no_scope_error.ensures [
+      | inl starved ↦ inl starved
+      | inr says ↦ inr (no_scope c.index.result.now (item_there c.args.begun.now.names 0 c.index.result.now there c.index.ensures) counts (sym c.has_value_scope.ensures ∙ c.if-not-has_value_scope.true) says)
+    ]
+
+pub define_values-requires-clause-ready : goal.define_values-requires-clause-ready
+define_values-requires-clause-ready g c =
+    subst (λ n. ValuesReady (λ i. Result c.args.begun.now.op i) n c.args.names.now.values c.args.graph.now) (sym (sym c.len.ensures ∙ c.if-len-begun.false)) c.requires.ready
+
+pub returns-in-Err-clause-refused : goal.returns-in-Err-clause-refused
+returns-in-Err-clause-refused g c =
+    let counts : length c.args.begun.now.names ≡ c.args.begun.now.results = sym c.len.ensures ∙ c.if-len-begun.false in
+    elim c.undefined_error.ensures [
+      | inl starved ↦ inl starved
+      | inr r ↦ inr (defined_twice c.in-Err.undefined.index r.read r.is counts (c.in-Err.ensures.fails r.twice)
+          (subst (λ ns. IsFaultOf ns (whole c.args.stream.now) causes.MultipleDefinitions r.read c.undefined_error.result) c.in-Err.ensures.rest.0 r.says))
+    ]

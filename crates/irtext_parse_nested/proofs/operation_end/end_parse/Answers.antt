@@ -1,0 +1,18 @@
+use Rattle.std.proofs.Common.{refl, subst, IfOk}
+use Rattle.irtext_read.specs.Infix.{◌▷◌}
+use Rattle.irtext_read.specs.Tokens.{space_at}
+use Rattle.irtext_read.proofs.Steps.{alone, starts, spaced, last}
+use Rattle.irtext_nesting.specs.Heads.{mark_if_at}
+use Rattle.irtext_parse_pieces.specs.Marks.{IsMarkIf}
+use Rattle.irtext_parse_pieces.proofs.Meanings.{passed_whole}
+use Rattle.irtext_parse_nested.proofs.operation_end.end_parse.Goals as goal
+
+pub returns : goal.returns
+returns g c =
+    let h = c.mark_parse.ensures in
+    let p = spaced alone (λ _ t. mark_if_at t) (starts alone (space_at ▷ mark_if_at) (space_at ▷ mark_if_at) c.args.stream.now c.requires.fine refl) c.skip_white_space.ensures in
+    record {
+      meant = h.meant;
+      means = subst (λ t. IfOk c.mark_parse.result (λ y. IsMarkIf t y (h.meant y))) (passed_whole alone p) h.means;
+      read = last alone p h.read;
+    }

@@ -1,0 +1,137 @@
+use Rattle.std.proofs.Common.{◌∙◌, ◌∷◌, [], inl, inr, refl, sym, ap, subst, length}
+use Rattle.irtext_read.specs.AttrTexts.{attr_at}
+use Rattle.irtext_read.proofs.Exits.{handed_on}
+use Rattle.irtext_context.specs.declared.base.item.Item.TheVariants as item
+use Rattle.irtext_state.specs.States.{marks_of}
+use Rattle.irtext_grammar.specs.Contexts.Held.{whole}
+use Rattle.irtext_graph.specs.declared.object.Object.TheVariants.{TheOperation}
+use Rattle.irtext_nesting.specs.Stands.{Spares}
+use Rattle.irtext_parse_nested.specs.Ends.{BecomesNamed}
+use Rattle.irtext_parse_nested.specs.Items.{Lasts}
+use Rattle.irtext_parse_nested.specs.Located.{IsLocated}
+use Rattle.irtext_parse_nested.specs.Read.{no_results}
+use Rattle.irtext_parse_nested.proofs.Ended.{end_read, end_marked, end_unread, end_noted, must_commit}
+use Rattle.irtext_parse_nested.proofs.Marking.{on_both, on_err, always_ok, if_err, gains_nothing}
+use Rattle.irtext_parse_nested.proofs.operation_end.operation_end.Goals as goal
+
+-- ---- the results are refused
+pub returns-in_err-close-clause-refused : goal.returns-in_err-close-clause-refused
+returns-in_err-close-clause-refused g c = rw (handed_on c.from_residual.result c.from_residual.ensures.1) (λ o is. elim c.in_err-close.ensures.refused [ inl starved ↦ inl starved | inr f ↦ inr (no_results (f o is)) ])
+
+pub returns-in_err-close-clause-committed : goal.returns-in_err-close-clause-committed
+returns-in_err-close-clause-committed g c = rw (handed_on c.from_residual.result c.from_residual.ensures.1) c.in_err-close.ensures.committed
+
+pub returns-in_err-close-clause-ends : goal.returns-in_err-close-clause-ends
+returns-in_err-close-clause-ends g c = rw (handed_on c.from_residual.result c.from_residual.ensures.1) tt
+
+pub returns-in_err-close-clause-lasts : goal.returns-in_err-close-clause-lasts
+returns-in_err-close-clause-lasts g c = rw (handed_on c.from_residual.result c.from_residual.ensures.1) tt
+
+pub returns-in_err-close-clause-sound : goal.returns-in_err-close-clause-sound
+returns-in_err-close-clause-sound g c = rw (handed_on c.from_residual.result c.from_residual.ensures.1) tt
+
+pub returns-in_err-close-clause-names : goal.returns-in_err-close-clause-names
+returns-in_err-close-clause-names g c = rw c.in_err-close.ensures.names (λ i t e. e)
+
+pub returns-in_err-close-clause-labels : goal.returns-in_err-close-clause-labels
+returns-in_err-close-clause-labels g c = ap length c.in_err-close.ensures.labels
+
+pub returns-in_err-close-clause-kept : goal.returns-in_err-close-clause-kept
+returns-in_err-close-clause-kept g c = λ m le closed sound new. c.in_err-close.ensures.kept m closed sound new
+
+pub returns-in_err-close-clause-own : goal.returns-in_err-close-clause-own
+returns-in_err-close-clause-own g c = rw (handed_on c.from_residual.result c.from_residual.ensures.1) tt
+
+pub returns-in_err-close-clause-spares : goal.returns-in_err-close-clause-spares
+returns-in_err-close-clause-spares g c = rw (handed_on c.from_residual.result c.from_residual.ensures.1) tt
+
+pub returns-in_err-close-clause-noted : goal.returns-in_err-close-clause-noted
+returns-in_err-close-clause-noted g c = rw (handed_on c.from_residual.result c.from_residual.ensures.1) tt
+
+-- ---- no mark can be read
+pub returns-in_err-mark-clause-refused : goal.returns-in_err-mark-clause-refused
+returns-in_err-mark-clause-refused g c =
+    let same = c.in_ok-close.ensures.stream in
+    rw (handed_on c.from_residual-in_err-mark.result c.from_residual-in_err-mark.ensures.1)
+    (λ o is. end_unread g.T.IrText.reading (attr_at g.A.IrText.reading) o c.args.begun.now c.args.names.now c.close.new.names c.args.s.now c.close.new.s.state (item.Operation c.args.begun.now.op) (marks_of c.close.new.s.state) (c.in_ok-close.ensures.closes o is) refl
+    c.close.new.s.stream _ same _ c.close.new.s refl (ap (λ v. v.failed) same ∙ c.requires.fine) c.in_err-mark.ensures)
+
+pub returns-in_err-mark-clause-committed : goal.returns-in_err-mark-clause-committed
+returns-in_err-mark-clause-committed g c =
+    rw (handed_on c.from_residual-in_err-mark.result c.from_residual-in_err-mark.ensures.1) (must_commit (ap (λ v. v.failed) c.in_ok-close.ensures.stream ∙ c.requires.fine) c.in_err-mark.ensures.read)
+
+pub returns-in_err-mark-clause-ends : goal.returns-in_err-mark-clause-ends
+returns-in_err-mark-clause-ends g c = rw (handed_on c.from_residual-in_err-mark.result c.from_residual-in_err-mark.ensures.1) tt
+
+pub returns-in_err-mark-clause-lasts : goal.returns-in_err-mark-clause-lasts
+returns-in_err-mark-clause-lasts g c = rw (handed_on c.from_residual-in_err-mark.result c.from_residual-in_err-mark.ensures.1) tt
+
+pub returns-in_err-mark-clause-sound : goal.returns-in_err-mark-clause-sound
+returns-in_err-mark-clause-sound g c = rw (handed_on c.from_residual-in_err-mark.result c.from_residual-in_err-mark.ensures.1) tt
+
+pub returns-in_err-mark-clause-names : goal.returns-in_err-mark-clause-names
+returns-in_err-mark-clause-names g c = rw c.in_ok-close.ensures.names (λ i t e. e)
+
+pub returns-in_err-mark-clause-labels : goal.returns-in_err-mark-clause-labels
+returns-in_err-mark-clause-labels g c = ap length c.in_ok-close.ensures.labels
+
+pub returns-in_err-mark-clause-kept : goal.returns-in_err-mark-clause-kept
+returns-in_err-mark-clause-kept g c = λ m le closed sound new. c.in_ok-close.ensures.kept m closed sound new
+
+pub returns-in_err-mark-clause-own : goal.returns-in_err-mark-clause-own
+returns-in_err-mark-clause-own g c = rw (handed_on c.from_residual-in_err-mark.result c.from_residual-in_err-mark.ensures.1) tt
+
+pub returns-in_err-mark-clause-spares : goal.returns-in_err-mark-clause-spares
+returns-in_err-mark-clause-spares g c = rw (handed_on c.from_residual-in_err-mark.result c.from_residual-in_err-mark.ensures.1) tt
+
+pub returns-in_err-mark-clause-noted : goal.returns-in_err-mark-clause-noted
+returns-in_err-mark-clause-noted g c = rw (handed_on c.from_residual-in_err-mark.result c.from_residual-in_err-mark.ensures.1) tt
+
+-- ---- the mark is noted, or was before
+pub returns-clause-ends : goal.returns-clause-ends
+returns-clause-ends g c =
+    on_both c.note_mark.result (λ n e o is. end_read g.T.IrText.reading (attr_at g.A.IrText.reading) o c.args.begun.now c.args.names.now c.close.new.names c.args.s.now c.close.new.s.state (item.Operation c.args.begun.now.op) (marks_of c.close.new.s.state) (c.in_ok-close.ensures.closes o is) refl
+    c.close.new.s.stream _ c.in_ok-close.ensures.stream c.note_mark.new.s c.in_ok-mark.mark (marks_of c.note_mark.new.s.state) e c.in_ok-mark.ensures n refl c.note_mark.ensures.ctx) c.note_mark.ensures.notes c.note_mark.ensures.stream
+
+pub returns-clause-refused : goal.returns-clause-refused
+returns-clause-refused g c =
+    if_err c.note_mark.result (λ f u o is. end_marked g.T.IrText.reading (attr_at g.A.IrText.reading) o c.args.begun.now c.args.names.now c.close.new.names c.args.s.now c.close.new.s.state (item.Operation c.args.begun.now.op) (marks_of c.close.new.s.state) (c.in_ok-close.ensures.closes o is) refl
+    c.close.new.s.stream _ c.in_ok-close.ensures.stream f c.in_ok-mark.mark c.in_ok-mark.ensures u) c.note_mark.ensures.refused
+
+pub returns-clause-lasts : goal.returns-clause-lasts
+returns-clause-lasts g c = always_ok c.note_mark.result (subst (λ x. Lasts c.args.s.now.state.ctx.now x) (sym c.note_mark.ensures.ctx) c.in_ok-close.ensures.lasts)
+
+pub returns-clause-sound : goal.returns-clause-sound
+returns-clause-sound g c = always_ok c.note_mark.result (λ m le sound. let r = c.in_ok-close.ensures.sound m sound in record { tied = rw c.note_mark.ensures.ctx r.tied; waiting = rw c.note_mark.ensures.ctx r.waiting; blanks = rw c.note_mark.ensures.ctx r.blanks })
+
+pub returns-clause-names : goal.returns-clause-names
+returns-clause-names g c = rw c.in_ok-close.ensures.names (λ i t e. e)
+
+pub returns-clause-labels : goal.returns-clause-labels
+returns-clause-labels g c = ap length c.in_ok-close.ensures.labels
+
+pub returns-clause-kept : goal.returns-clause-kept
+returns-clause-kept g c = λ m le closed sound new. rw c.note_mark.ensures.ctx (c.in_ok-close.ensures.kept m closed sound new)
+
+pub returns-clause-own : goal.returns-clause-own
+returns-clause-own g c =
+    let L = IsLocated c.args.s.now.state.src (whole c.args.s.now.stream) in
+    always_ok c.note_mark.result (subst (λ x. BecomesNamed L c.args.names.now.names (whole c.args.s.now.stream) c.args.begun.now.names c.args.s.now.state.ctx.now x c.args.begun.now.op) (sym c.note_mark.ensures.ctx) c.in_ok-close.ensures.own)
+
+pub returns-clause-spares : goal.returns-clause-spares
+returns-clause-spares g c = always_ok c.note_mark.result (subst (λ x. Spares (TheOperation c.args.begun.now.op ∷ []) c.args.s.now.state.ctx.now x) (sym c.note_mark.ensures.ctx) c.in_ok-close.ensures.spares)
+
+pub returns-clause-noted : goal.returns-clause-noted
+returns-clause-noted g c =
+    on_both c.note_mark.result (λ n e mark taken is. end_noted c.args.s.now c.close.new.s.state (item.Operation c.args.begun.now.op) c.close.new.s.stream _ c.in_ok-close.ensures.stream c.in_ok-close.ensures.marks c.note_mark.new.s c.in_ok-mark.mark e c.in_ok-mark.ensures n mark taken is)
+    c.note_mark.ensures.notes c.note_mark.ensures.stream
+
+-- ---- where it is refused, no mark is noted
+pub returns-in_err-close-clause-unnoted : goal.returns-in_err-close-clause-unnoted
+returns-in_err-close-clause-unnoted g c = rw (handed_on c.from_residual.result c.from_residual.ensures.1) (gains_nothing c.in_err-close.ensures.marks)
+
+pub returns-in_err-mark-clause-unnoted : goal.returns-in_err-mark-clause-unnoted
+returns-in_err-mark-clause-unnoted g c = rw (handed_on c.from_residual-in_err-mark.result c.from_residual-in_err-mark.ensures.1) (gains_nothing c.in_ok-close.ensures.marks)
+
+pub returns-clause-unnoted : goal.returns-clause-unnoted
+returns-clause-unnoted g c = on_err c.note_mark.result (λ e. gains_nothing (e ∙ c.in_ok-close.ensures.marks)) c.note_mark.ensures.unnoted

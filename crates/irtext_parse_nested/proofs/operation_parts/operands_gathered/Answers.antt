@@ -1,0 +1,25 @@
+use Rattle.std.proofs.Common.{◌<◌, ◌∙◌, length, refl, sym, arith}
+use Rattle.irtext_parse_nested.proofs.Numbered.{item_there}
+use Rattle.irtext_parse_nested.proofs.Steady.{steady_itself}
+use Rattle.irtext_parse_nested.proofs.Pieces.{operands_one, no_operands_one, none_of_length, operands_outside}
+use Rattle.irtext_parse_nested.proofs.operation_parts.operands_gathered.Goals as goal
+
+pub returns-then-not-has_value_scope-clause-refused : goal.returns-then-not-has_value_scope-clause-refused
+returns-then-not-has_value_scope-clause-refused g c =
+    let there : 0 < length c.args.used = omega (arith, c.len.ensures, c.if-len-eq0.false) in
+    operands_outside c.args.names.now c.args.graph.now c.args.used c.index.result.now (item_there c.args.used 0 c.index.result.now there c.index.ensures) (sym c.has_value_scope.ensures ∙ c.if-not-has_value_scope.true)
+
+pub returns-then-not-has_value_scope-clause-steady : goal.returns-then-not-has_value_scope-clause-steady
+returns-then-not-has_value_scope-clause-steady g c = steady_itself c.args.names.now c.args.graph.now c.requires.tied
+
+pub values_used-requires-clause-known : goal.values_used-requires-clause-known
+values_used-requires-clause-known g c = c.requires.can.names_are.0
+
+pub returns-then-len-eq0-clause-gathers : goal.returns-then-len-eq0-clause-gathers
+returns-then-len-eq0-clause-gathers g c = no_operands_one c.args.names.now c.args.graph.now c.args.used (none_of_length c.args.used (sym c.len.ensures ∙ c.if-len-eq0.true)) refl
+
+pub returns-then-len-eq0-clause-steady : goal.returns-then-len-eq0-clause-steady
+returns-then-len-eq0-clause-steady g c = steady_itself c.args.names.now c.args.graph.now c.requires.tied
+
+pub returns-clause-gathers : goal.returns-clause-gathers
+returns-clause-gathers g c = let r = c.in-Ok.ensures.uses in operands_one c.args.used r.0 c.requires.can.operands_once.0 r.2 r.1 refl refl refl refl refl

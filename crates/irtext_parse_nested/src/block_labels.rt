@@ -1,0 +1,63 @@
+//! The definition of a block's label.
+ghost use Rattle.std.specs.Prelude.{◌≡◌, ◌<◌, ℕ, List, length, true, Some, OnOk, IfErr, slice_get};
+ghost use Rattle.irtext_base.specs.Faults as causes;
+ghost use Rattle.irtext_graph.specs.Back.{IsClosedBelow};
+ghost use Rattle.irtext_graph.specs.Graph.{KeepsOlder, Stands};
+ghost use Rattle.irtext_graph.specs.declared.arena.Ptr.{Ptr};
+ghost use Rattle.irtext_graph.specs.declared.object.BasicBlock.{BasicBlock};
+ghost use Rattle.irtext_graph.specs.declared.object.Defined.TheVariants.{OfBlock};
+ghost use Rattle.irtext_graph.specs.declared.object.Object.TheVariants.{TheBlock};
+ghost use Rattle.irtext_scopes.specs.Scopes.{is_open};
+ghost use Rattle.irtext_grammar.specs.Contexts.Held.{whole};
+ghost use Rattle.irtext_grammar.specs.Names.Script.{Place, define_label};
+ghost use Rattle.irtext_grammar.specs.Names.TextScopes.{Word};
+ghost use Rattle.irtext_outcomes.specs.Promises.Root.{UnlessMemory};
+ghost use Rattle.irtext_names.specs.Linked.{TakesDefinition};
+ghost use Rattle.irtext_names.specs.Tied.{AreTied, AreWaiting, IsNoPlaceholder};
+ghost use Rattle.irtext_parse_nested.specs.Definitions.{LosesPlaceholders};
+ghost use Rattle.irtext_parse_nested.specs.Placing.{RefusesLabel};
+
+use crate::frame::Names;
+use crate::name_errors::redefinition_error;
+use irtext_base::parsable::{ParseResult, TextStream};
+use irtext_graph::arena::Ptr;
+use irtext_graph::graph::Graph;
+use irtext_graph::object::BasicBlock;
+use irtext_names::labels::block_def;
+use irtext_parse_pieces::names::ReadName;
+use irtext_read::irfmt::faults::out_of_memory;
+use irtext_scopes::scopes::DefineFault;
+
+/// Defines the label of a block, a region being open. A label that its region defines already is refused, at the label. A fault is
+/// committed, and leaves names and graph as they were.
+pub fn label_block<O: Drop, B: Drop, T: Drop, A>(
+    stream: &mut TextStream,
+    names: &mut Names,
+    graph: &mut Graph<Option<O>, B, Option<T>>,
+    label: ReadName,
+    block: Ptr<BasicBlock>,
+) -> ParseResult<(), A>
+    requires open { is_open names.old.labels ≡ true }
+    requires known { label.name < length names.old.names }
+    requires tied { AreTied names.old.values names.old.labels graph.old }
+    requires there { Stands graph.old (TheBlock block) }
+    requires no_placeholder { IsNoPlaceholder names.old.labels block }
+    ensures stream { OnOk result (stream.new ≡ stream.old) }
+    ensures follows { OnOk result ((w : Word) (p : Place) → slice_get names.old.names label.name ≡ Some w.name
+        → TakesDefinition (define_label w p) names.old names.new graph.old graph.new p (OfBlock block)) }
+    ensures refused { IfErr result (UnlessMemory (RefusesLabel names.old graph.old (whole stream.old) label)) }
+    ensures loses { LosesPlaceholders graph.old graph.new }
+    ensures labels { length names.new.labels ≡ length names.old.labels }
+    ensures rest { (names.new.names ≡ names.old.names) × (names.new.values ≡ names.old.values) }
+    ensures tied { AreTied names.new.values names.new.labels graph.new }
+    ensures waiting { (m : ℕ) (own : List (Ptr BasicBlock))
+        → AreWaiting m own names.old.values names.old.labels graph.old → AreWaiting m own names.new.values names.new.labels graph.new }
+    ensures kept { (m : ℕ) (own : List (Ptr BasicBlock)) → IsClosedBelow m graph.old
+        → AreWaiting m own names.old.values names.old.labels graph.old → KeepsOlder m graph.old graph.new }
+{
+    match block_def(names, graph, label.name, block) {
+        Ok(()) => Ok(()),
+        Err(DefineFault::Memory) => Err(out_of_memory(stream)),
+        Err(DefineFault::MultipleDefinitions) => Err(redefinition_error(stream, names, label)),
+    }
+}

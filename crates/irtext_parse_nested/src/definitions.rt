@@ -1,0 +1,110 @@
+//! Names that are defined one after another: the results of an operation, or the arguments of a block.
+ghost use Rattle.std.specs.Prelude.{◌≡◌, ◌<◌, ℕ, List, length, Some, true, OnOk, IfErr, slice_get};
+ghost use Rattle.irtext_graph.specs.Back.{IsClosedBelow};
+ghost use Rattle.irtext_graph.specs.Graph.{KeepsOlder};
+ghost use Rattle.irtext_graph.specs.declared.arena.Ptr.{Ptr};
+ghost use Rattle.irtext_graph.specs.declared.object.BasicBlock.{BasicBlock};
+ghost use Rattle.irtext_scopes.specs.Scopes.{is_open};
+ghost use Rattle.irtext_scopes.specs.declared.scopes.DefineFault.{DefineFault};
+ghost use Rattle.irtext_base.specs.Faults.{MultipleDefinitions};
+ghost use Rattle.irtext_grammar.specs.Contexts.Held.{whole};
+ghost use Rattle.irtext_outcomes.specs.Promises.Root.{UnlessMemory};
+ghost use Rattle.irtext_names.specs.Tied.{AreTied, AreWaiting};
+ghost use Rattle.irtext_names.specs.Rows.{AreKnown};
+ghost use Rattle.irtext_parse_nested.specs.Definitions.{defined_value, ValuesReady, DefinesRow, FailsRow, LosesPlaceholders};
+ghost use Rattle.irtext_parse_nested.specs.Ends.{numbers_of, RefusesTwice};
+
+use crate::frame::Names;
+use crate::name_errors::redefinition_error;
+use irtext_base::parsable::{ParseFault, TextStream};
+use irtext_few::Few;
+use irtext_graph::arena::Ptr;
+use irtext_graph::graph::Graph;
+use irtext_graph::object::{BasicBlock, Operation, Value};
+use irtext_names::definitions::UndefinedName;
+use irtext_names::values::ssa_def;
+use irtext_parse_pieces::names::ReadName;
+use irtext_read::irfmt::faults::out_of_memory;
+use irtext_scopes::scopes::DefineFault;
+
+/// What a row of names defines.
+#[derive(Clone, Copy)]
+pub enum Definer {
+    /// The results of an operation.
+    Results(Ptr<Operation>),
+    /// The arguments of a block.
+    Arguments(Ptr<BasicBlock>),
+}
+
+/// The value of a row that has this index.
+fn defined_value(row: Definer, index: usize) -> Value
+    ensures { result ≡ defined_value row index }
+{
+    match row {
+        Definer::Results(op) => Value::Result(op, index),
+        Definer::Arguments(block) => Value::Argument(block, index),
+    }
+}
+
+/// The number of the name of this index.
+pub(crate) fn number_at(defined: &Few<ReadName>, index: usize) -> usize
+    requires { index < length defined.now }
+    ensures { slice_get (numbers_of defined.now) index ≡ Some result }
+{
+    defined[index].name
+}
+
+/// Defines names as the values of a row, one after another, from the first on, a scope of values being open. The first name that its
+/// scope defines already is refused, and memory may be refused; those before it are defined then.
+pub(crate) fn define_values<O: Drop, B: Drop, T: Drop>(
+    names: &mut Names,
+    graph: &mut Graph<Option<O>, B, Option<T>>,
+    defined: &Few<ReadName>,
+    row: Definer,
+) -> Result<(), UndefinedName>
+    requires open { is_open names.old.values ≡ true }
+    requires known { AreKnown (length names.old.names) (numbers_of defined.now) }
+    requires tied { AreTied names.old.values names.old.labels graph.old }
+    requires ready { ValuesReady (defined_value row) (length defined.now) names.old.values graph.old }
+    ensures defines { OnOk result (DefinesRow (defined_value row) (numbers_of defined.now) names.old names.new graph.old graph.new) }
+    ensures fails { IfErr result (λ undefined. undefined.fault ≡ DefineFault.MultipleDefinitions
+        → FailsRow (defined_value row) (numbers_of defined.now) undefined.index names.old graph.old) }
+    ensures within { IfErr result (λ undefined. undefined.index < length defined.now) }
+    ensures loses { LosesPlaceholders graph.old graph.new }
+    ensures values { length names.new.values ≡ length names.old.values }
+    ensures rest { (names.new.names ≡ names.old.names) × (names.new.labels ≡ names.old.labels) }
+    ensures tied { AreTied names.new.values names.new.labels graph.new }
+    ensures waiting { (m : ℕ) (own : List (Ptr BasicBlock))
+        → AreWaiting m own names.old.values names.old.labels graph.old → AreWaiting m own names.new.values names.new.labels graph.new }
+    ensures kept { (m : ℕ) (own : List (Ptr BasicBlock)) → IsClosedBelow m graph.old
+        → AreWaiting m own names.old.values names.old.labels graph.old → KeepsOlder m graph.old graph.new }
+{
+    for index in 0..defined.len() {
+        let name = number_at(defined, index);
+        if let Err(fault) = ssa_def(names, graph, name, defined_value(row, index)) {
+            return Err(UndefinedName { fault, index });
+        }
+    }
+    Ok(())
+}
+
+/// The fault of a row of names of which one was not defined, at that name. The stream has failed.
+pub(crate) fn undefined_error<A>(
+    stream: &mut TextStream,
+    names: &Names,
+    defined: &Few<ReadName>,
+    undefined: UndefinedName,
+) -> ParseFault<A>
+    requires known { AreKnown (length names.now.names) (numbers_of defined.now) }
+    requires within { undefined.index < length defined.now }
+    ensures { UnlessMemory (RefusesTwice names.now.names (whole stream.old) defined.now undefined) result }
+{
+    match undefined.fault {
+        DefineFault::Memory => out_of_memory(stream),
+        DefineFault::MultipleDefinitions => redefinition_error(
+            stream,
+            names,
+            defined[undefined.index],
+        ),
+    }
+}

@@ -1,0 +1,85 @@
+//! Faults that speak of a name that was read, at its place.
+ghost use Rattle.std.specs.Prelude.{◌≡◌, ◌<◌, length, Some, IfSome, slice_get};
+ghost use Rattle.irtext_base.specs.Faults.{NoActiveScope, MultipleDefinitions, Unresolved};
+ghost use Rattle.irtext_grammar.specs.Contexts.Held.{whole};
+ghost use Rattle.irtext_outcomes.specs.Promises.Root.{UnlessMemory};
+ghost use Rattle.irtext_parse_nested.specs.Definitions.{IsFaultOf};
+
+use crate::frame::Names;
+use irtext_base::base::Identifier;
+use irtext_base::base::identifier::is_identifier;
+use irtext_base::parsable::{
+    CharStream, ParseFault, ParserNameTrackerError, TextStream, UnresolvedReference,
+};
+use irtext_base::result::Cause;
+use irtext_parse_pieces::names::ReadName;
+use irtext_read::irfmt::faults::{out_of_memory, refuse_at};
+use std::alloc::Global;
+
+/// The identifier of a text that a reading has as a name; none where memory is refused.
+pub(crate) fn identifier_of(alloc: Global, text: &str) -> Option<Identifier>
+    ensures { IfSome result (λ i. i ≡ text.now) }
+{
+    if !is_identifier(text) {
+        return None;
+    }
+    match Identifier::from_word(alloc, text) {
+        Ok(name) => Some(name),
+        Err(_) => None,
+    }
+}
+
+/// The fault of a name that is defined where no scope of its kind is open, at the name. The stream has failed.
+#[cold]
+pub(crate) fn no_scope_error<A>(
+    stream: &mut TextStream,
+    names: &Names,
+    read: ReadName,
+) -> ParseFault<A>
+    requires { read.name < length names.now.names }
+    ensures { UnlessMemory (IsFaultOf names.now.names (whole stream.old) NoActiveScope read) result }
+{
+    match identifier_of(stream.allocator(), names.name(read.name)) {
+        Some(name) => refuse_at(stream, read.at, Cause::NoActiveScope(name)),
+        None => out_of_memory(stream),
+    }
+}
+
+/// The fault of a name that its scope defines already, at the name. The stream has failed.
+#[cold]
+pub(crate) fn redefinition_error<A>(
+    stream: &mut TextStream,
+    names: &Names,
+    read: ReadName,
+) -> ParseFault<A>
+    requires { read.name < length names.now.names }
+    ensures { UnlessMemory (IsFaultOf names.now.names (whole stream.old) MultipleDefinitions read) result }
+{
+    match identifier_of(stream.allocator(), names.name(read.name)) {
+        Some(name) => {
+            let twice = ParserNameTrackerError::MultipleDefinitions(name);
+            refuse_at(stream, read.at, Cause::ParserNameTrackerError(twice))
+        }
+        None => out_of_memory(stream),
+    }
+}
+
+/// The fault of a name that a region leaves without a definition, at the place that is given with it. The stream has failed.
+#[cold]
+pub(crate) fn unresolved_error<A>(
+    stream: &mut TextStream,
+    names: &Names,
+    read: ReadName,
+) -> ParseFault<A>
+    requires { read.name < length names.now.names }
+    ensures { UnlessMemory (IsFaultOf names.now.names (whole stream.old) Unresolved read) result }
+{
+    match identifier_of(stream.allocator(), names.name(read.name)) {
+        Some(name) => refuse_at(
+            stream,
+            read.at,
+            Cause::UnresolvedReference(UnresolvedReference(name)),
+        ),
+        None => out_of_memory(stream),
+    }
+}

@@ -1,0 +1,299 @@
+//! The end of an operation: the names of its results are defined, and its mark is read and noted.
+ghost use Rattle.std.specs.Prelude.{◌≡◌, ◌≤◌, ℕ, List, [], ◌∷◌, ◌++◌, Option, length, map, true, false, IfErr, OnOk, OnErr, IsSome};
+ghost use Rattle.irtext_base.specs.Text.{Text};
+ghost use Rattle.irtext_base.specs.Answers.{Read};
+ghost use Rattle.irtext_base.specs.Faults as fault;
+ghost use Rattle.irtext_base.specs.Faults.{fault_of};
+ghost use Rattle.irtext_base.specs.Stream.{IsAt};
+ghost use Rattle.irtext_stream.specs.Places.{AtOffset};
+ghost use Rattle.irtext_context.specs.Context.{operation, KeepsOlder};
+ghost use Rattle.irtext_graph.specs.declared.arena.Ptr.{Ptr};
+ghost use Rattle.irtext_graph.specs.declared.object.BasicBlock.{BasicBlock};
+ghost use Rattle.irtext_graph.specs.declared.object.Value.TheVariants.{Result};
+ghost use Rattle.irtext_graph.specs.Back.{IsClosedBelow};
+ghost use Rattle.irtext_graph.specs.Graph as graphs;
+ghost use Rattle.irtext_graph.specs.Graph.{IsNew};
+ghost use Rattle.irtext_graph.specs.declared.object.Object.TheVariants.{TheOperation};
+ghost use Rattle.irtext_context.specs.declared.base.item.Item.TheVariants as item;
+ghost use Rattle.irtext_graph.specs.Parts.{results};
+ghost use Rattle.irtext_read.specs.AttrTexts.{attr_at};
+ghost use Rattle.irtext_read.specs.Infix.{◌▷◌};
+ghost use Rattle.irtext_read.specs.Tokens.{space_at};
+ghost use Rattle.irtext_state.specs.States.{marks_of};
+ghost use Rattle.irtext_scopes.specs.Names.{KeepsNames};
+ghost use Rattle.irtext_names.specs.Tied.{AreTied, AreWaiting};
+ghost use Rattle.irtext_grammar.specs.Contexts.Held.{whole};
+ghost use Rattle.irtext_outcomes.specs.Readers.Streams.{itself, replaced, KeepsRest};
+ghost use Rattle.irtext_outcomes.specs.Promises.Root.{UnlessMemory};
+ghost use Rattle.irtext_outcomes.specs.Promises.Section.{IsStarved};
+ghost use Rattle.irtext_nesting.specs.Stands.{Spares};
+ghost use Rattle.irtext_grammar.specs.Grammar.Tree.{Mark};
+ghost use Rattle.irtext_nesting.specs.Heads.{mark_if_at};
+ghost use Rattle.irtext_nesting.specs.Resume.{Begun};
+ghost use Rattle.irtext_names.specs.Rows.{AreKnown};
+ghost use Rattle.irtext_parse_pieces.specs.Marks.{IsMarkIf};
+ghost use Rattle.irtext_parse_pieces.specs.Named.{MustMean};
+ghost use Rattle.irtext_parse_nested.specs.Begun.{IsBegun, pledge_of};
+ghost use Rattle.irtext_parse_nested.specs.Definitions.{ValuesReady, DefinesRow, LosesPlaceholders};
+ghost use Rattle.irtext_parse_nested.specs.Ends.{numbers_of, closes_at, RefusesResults, NotesMark, noted_as, GainsMarks, RefusesMark, WritesAttributes, GivesNames, BecomesNamed};
+ghost use Rattle.irtext_parse_nested.specs.Items.{Acts, ActFails, IsSound, Lasts};
+ghost use Rattle.irtext_parse_nested.specs.Located.{IsLocated};
+ghost use Rattle.irtext_parse_nested.specs.Read.{EndsOperation, RefusesEnd};
+
+use crate::definitions::{Definer, define_values, undefined_error};
+use crate::frame::{BegunOperation, Names};
+use crate::given::names_stored;
+use crate::name_errors::no_scope_error;
+use irtext_base::parsable::{CharStream, ParseFault, ParseResult, TextStream};
+use irtext_base::result::Cause;
+use irtext_base::text::{AttrText, IrText};
+use irtext_context::base::{Context, Item};
+use irtext_graph::graph::Graph;
+use irtext_graph::held::HasGraph;
+use irtext_parse_pieces::marks::{ReadMark, mark_parse};
+use irtext_read::irfmt::faults::{out_of_memory, refuse_at};
+use irtext_read::irfmt::parsers::skip_white_space;
+use irtext_state::parsable::StateStream;
+use irtext_state::parsable::state::Noting;
+use std::alloc::{AllocError, Global};
+
+/// The fault of an operation whose names are not as many as its results, where it begins. The stream has failed.
+#[cold]
+fn count_fault<A>(stream: &mut TextStream, begun: &BegunOperation) -> ParseFault<A>
+    ensures cause { fault_of result.cause ≡ fault.ResultCount begun.now.results (length begun.now.names) }
+    ensures flag { result.committed ≡ true }
+    ensures place { AtOffset begun.now.at.offset (whole stream.old) (λ passed rest. IsAt result.pos.line result.pos.column passed) }
+{
+    refuse_at(
+        stream,
+        begun.at,
+        Cause::ResultCount {
+            results: begun.results,
+            names: begun.names.len(),
+        },
+    )
+}
+
+/// Defines the names of an operation's results, which must be as many as these are. A fault is committed; the names before one that is
+/// refused are defined then.
+fn define_results<O: Drop, B: Drop, T: Drop, A>(
+    stream: &mut TextStream,
+    names: &mut Names,
+    graph: &mut Graph<Option<O>, B, Option<T>>,
+    begun: &BegunOperation,
+) -> ParseResult<(), A>
+    requires known { AreKnown (length names.old.names) (numbers_of begun.now.names) }
+    requires tied { AreTied names.old.values names.old.labels graph.old }
+    requires ready { ValuesReady (λ i. Result begun.now.op i) begun.now.results names.old.values graph.old }
+    ensures stream { OnOk result (stream.new ≡ stream.old) }
+    ensures counts { OnOk result (length begun.now.names ≡ begun.now.results) }
+    ensures defines { OnOk result (DefinesRow (λ i. Result begun.now.op i) (numbers_of begun.now.names) names.old names.new graph.old graph.new) }
+    ensures refused { IfErr result (UnlessMemory (RefusesResults begun.now names.old graph.old (whole stream.old))) }
+    ensures committed { IfErr result (λ f. f.committed ≡ true) }
+    ensures loses { LosesPlaceholders graph.old graph.new }
+    ensures values { length names.new.values ≡ length names.old.values }
+    ensures rest { (names.new.names ≡ names.old.names) × (names.new.labels ≡ names.old.labels) }
+    ensures tied { AreTied names.new.values names.new.labels graph.new }
+    ensures waiting { (m : ℕ) (own : List (Ptr BasicBlock))
+        → AreWaiting m own names.old.values names.old.labels graph.old → AreWaiting m own names.new.values names.new.labels graph.new }
+    ensures kept { (m : ℕ) (own : List (Ptr BasicBlock)) → IsClosedBelow m graph.old
+        → AreWaiting m own names.old.values names.old.labels graph.old → graphs.KeepsOlder m graph.old graph.new }
+{
+    if begun.names.len() != begun.results {
+        return Err(count_fault(stream, begun));
+    }
+    if begun.results == 0 {
+        return Ok(());
+    }
+    if !names.has_value_scope() {
+        return Err(no_scope_error(stream, names, begun.names[0]));
+    }
+    match define_values(names, graph, &begun.names, Definer::Results(begun.op)) {
+        Ok(()) => Ok(()),
+        Err(undefined) => Err(undefined_error(stream, names, &begun.names, undefined)),
+    }
+}
+
+/// Defines the names of an operation's results, in the context of a reading.
+fn results_defined<T: IrText<A>, A: AttrText, U>(
+    s: &mut StateStream<'_, T, A, U>,
+    names: &mut Names,
+    begun: &BegunOperation,
+) -> ParseResult<(), A>
+    requires stands { IsSome (operation s.old.state.ctx.now begun.now.op) }
+    requires counts { length (results s.old.state.ctx.now.graph begun.now.op) ≡ begun.now.results }
+    requires known { AreKnown (length names.old.names) (numbers_of begun.now.names) }
+    requires tied { AreTied names.old.values names.old.labels s.old.state.ctx.now.graph }
+    ensures lent { s.new.state.ctx.ghost_name ≡ s.old.state.ctx.ghost_name }
+    ensures rest { KeepsRest s.old.state s.new.state }
+    ensures marks { marks_of s.new.state ≡ marks_of s.old.state }
+    ensures stream { OnOk result (s.new.stream ≡ s.old.stream) }
+    ensures closes { OnOk result ((o : Begun T A) → IsBegun names.old.names (whole s.old.stream) s.old.state.ctx.now begun.now o
+        → Acts (closes_at o s.old.state) names.old s.old.state (pledge_of begun.now o.place ∷ []) names.new s.new.state []) }
+    ensures refused { IfErr result (UnlessMemory (λ f. (o : Begun T A) → IsBegun names.old.names (whole s.old.stream) s.old.state.ctx.now begun.now o
+        → ActFails (whole s.old.stream) (closes_at o s.old.state) names.old s.old.state (pledge_of begun.now o.place ∷ []) f)) }
+    ensures committed { IfErr result (λ f. f.committed ≡ true) }
+    ensures lasts { Lasts s.old.state.ctx.now s.new.state.ctx.now }
+    ensures spares { Spares [] s.old.state.ctx.now s.new.state.ctx.now }
+    ensures newer { (m : ℕ) → IsNew m s.old.state.ctx.now.graph (TheOperation begun.now.op) → IsNew m s.new.state.ctx.now.graph (TheOperation begun.now.op) }
+    ensures tied { AreTied names.new.values names.new.labels s.new.state.ctx.now.graph }
+    ensures values { length names.new.values ≡ length names.old.values }
+    ensures names { names.new.names ≡ names.old.names }
+    ensures labels { names.new.labels ≡ names.old.labels }
+    ensures sound { (m : ℕ) → IsSound m names.old s.old.state → IsSound m names.new s.new.state }
+    ensures kept { (m : ℕ) → IsClosedBelow m s.old.state.ctx.now.graph → IsSound m names.old s.old.state
+        → KeepsOlder m s.old.state.ctx.now s.new.state.ctx.now }
+{
+    let ctx = &mut *s.state.ctx;
+    define_results(&mut s.stream, names, ctx.graph_mut(), begun)
+}
+
+/// Stores the names of an operation's results as given names. Where memory is refused its attributes may be written all the same.
+fn given_kept<T: IrText<A>, A: AttrText>(
+    ctx: &mut Context<T, A>,
+    alloc: Global,
+    names: &Names,
+    begun: &BegunOperation,
+) -> Result<(), AllocError>
+    requires stands { IsSome (operation ctx.old begun.now.op) }
+    requires known { AreKnown (length names.now.names) (numbers_of begun.now.names) }
+    ensures writes { WritesAttributes ctx.old ctx.new begun.now.op }
+    ensures gives { OnOk result (GivesNames names.now.names begun.now.names ctx.old ctx.new begun.now.op) }
+{
+    let attributes = ctx.operation_attributes_mut(begun.op);
+    names_stored(alloc, names, &begun.names, attributes)
+}
+
+/// Stores the names of an operation's results as given names, in the context of a reading. A fault is want of memory, and committed.
+fn given_stored<T: IrText<A>, A: AttrText, U>(
+    s: &mut StateStream<'_, T, A, U>,
+    names: &Names,
+    begun: &BegunOperation,
+) -> ParseResult<(), A>
+    requires stands { IsSome (operation s.old.state.ctx.now begun.now.op) }
+    requires known { AreKnown (length names.now.names) (numbers_of begun.now.names) }
+    ensures lent { s.new.state.ctx.ghost_name ≡ s.old.state.ctx.ghost_name }
+    ensures rest { KeepsRest s.old.state s.new.state }
+    ensures marks { marks_of s.new.state ≡ marks_of s.old.state }
+    ensures stream { OnOk result (s.new.stream ≡ s.old.stream) }
+    ensures writes { WritesAttributes s.old.state.ctx.now s.new.state.ctx.now begun.now.op }
+    ensures gives { OnOk result (GivesNames names.now.names begun.now.names s.old.state.ctx.now s.new.state.ctx.now begun.now.op) }
+    ensures starved { IfErr result IsStarved }
+{
+    let alloc = s.stream.allocator();
+    let ctx = &mut *s.state.ctx;
+    match given_kept(ctx, alloc, names, begun) {
+        Ok(()) => Ok(()),
+        Err(AllocError) => Err(out_of_memory(&mut s.stream)),
+    }
+}
+
+/// Defines the names of an operation's results, and stores them as given names, in the context of a reading.
+fn close<T: IrText<A>, A: AttrText, U>(
+    s: &mut StateStream<'_, T, A, U>,
+    names: &mut Names,
+    begun: &BegunOperation,
+) -> ParseResult<(), A>
+    requires stands { IsSome (operation s.old.state.ctx.now begun.now.op) }
+    requires counts { length (results s.old.state.ctx.now.graph begun.now.op) ≡ begun.now.results }
+    requires known { AreKnown (length names.old.names) (numbers_of begun.now.names) }
+    requires tied { AreTied names.old.values names.old.labels s.old.state.ctx.now.graph }
+    ensures lent { s.new.state.ctx.ghost_name ≡ s.old.state.ctx.ghost_name }
+    ensures rest { KeepsRest s.old.state s.new.state }
+    ensures marks { marks_of s.new.state ≡ marks_of s.old.state }
+    ensures stream { OnOk result (s.new.stream ≡ s.old.stream) }
+    ensures closes { OnOk result ((o : Begun T A) → IsBegun names.old.names (whole s.old.stream) s.old.state.ctx.now begun.now o
+        → Acts (closes_at o s.old.state) names.old s.old.state (pledge_of begun.now o.place ∷ []) names.new s.new.state []) }
+    ensures refused { IfErr result (UnlessMemory (λ f. (o : Begun T A) → IsBegun names.old.names (whole s.old.stream) s.old.state.ctx.now begun.now o
+        → ActFails (whole s.old.stream) (closes_at o s.old.state) names.old s.old.state (pledge_of begun.now o.place ∷ []) f)) }
+    ensures committed { IfErr result (λ f. f.committed ≡ true) }
+    ensures lasts { Lasts s.old.state.ctx.now s.new.state.ctx.now }
+    ensures own { OnOk result (BecomesNamed (IsLocated s.old.state.src (whole s.old.stream)) names.old.names (whole s.old.stream) begun.now.names
+        s.old.state.ctx.now s.new.state.ctx.now begun.now.op) }
+    ensures spares { Spares (TheOperation begun.now.op ∷ []) s.old.state.ctx.now s.new.state.ctx.now }
+    ensures values { length names.new.values ≡ length names.old.values }
+    ensures names { names.new.names ≡ names.old.names }
+    ensures labels { names.new.labels ≡ names.old.labels }
+    ensures sound { (m : ℕ) → IsSound m names.old s.old.state → IsSound m names.new s.new.state }
+    ensures kept { (m : ℕ) → IsClosedBelow m s.old.state.ctx.now.graph → IsSound m names.old s.old.state
+        → IsNew m s.old.state.ctx.now.graph (TheOperation begun.now.op) → KeepsOlder m s.old.state.ctx.now s.new.state.ctx.now }
+{
+    results_defined(s, names, begun)?;
+    given_stored(s, names, begun)
+}
+
+/// Reads white space, and a mark where one stands. A fault is committed.
+fn end_parse<A>(stream: &mut TextStream) -> ParseResult<Option<ReadMark>, A>
+    requires fine { stream.old.failed ≡ false }
+    ensures { MustMean itself replaced (IsMarkIf (whole stream.old)) (space_at ▷ mark_if_at) stream.old result stream.new }
+{
+    skip_white_space(stream);
+    mark_parse(stream)
+}
+
+/// Notes the mark of an operation or a block, where one was read. An index that is noted already is refused, at the mark. A fault is
+/// committed.
+pub(crate) fn note_mark<T: IrText<A>, A: AttrText, U>(
+    s: &mut StateStream<'_, T, A, U>,
+    mark: Option<ReadMark>,
+    item: Item,
+) -> ParseResult<(), A>
+    ensures lent { s.new.state.ctx.ghost_name ≡ s.old.state.ctx.ghost_name }
+    ensures rest { KeepsRest s.old.state s.new.state }
+    ensures ctx { s.new.state.ctx.now ≡ s.old.state.ctx.now }
+    ensures stream { OnOk result (s.new.stream ≡ s.old.stream) }
+    ensures notes { OnOk result (NotesMark mark item (marks_of s.old.state) (marks_of s.new.state)) }
+    ensures unnoted { OnErr result (marks_of s.new.state ≡ marks_of s.old.state) }
+    ensures refused { IfErr result (UnlessMemory (RefusesMark (whole s.old.stream) mark (marks_of s.old.state))) }
+    ensures committed { IfErr result (λ f. f.committed ≡ true) }
+{
+    let Some(read) = mark else {
+        return Ok(());
+    };
+    match s.state.mark(read.index, item) {
+        Ok(true) => Ok(()),
+        Ok(false) => {
+            let twice = Cause::DuplicateIndex(read.index);
+            Err(refuse_at(&mut s.stream, read.at, twice))
+        }
+        Err(AllocError) => Err(out_of_memory(&mut s.stream)),
+    }
+}
+
+/// Ends an operation of which all pieces and regions were read: there must be as many names as it has results, which are defined as its
+/// results and stored as its given names; then its mark is read, where one stands, and noted. A fault is committed.
+pub fn operation_end<T: IrText<A>, A: AttrText, U>(
+    s: &mut StateStream<'_, T, A, U>,
+    names: &mut Names,
+    begun: &BegunOperation,
+) -> ParseResult<(), A>
+    requires stands { IsSome (operation s.old.state.ctx.now begun.now.op) }
+    requires counts { length (results s.old.state.ctx.now.graph begun.now.op) ≡ begun.now.results }
+    requires known { AreKnown (length names.old.names) (map (λ n. n.name) begun.now.names) }
+    requires fine { s.old.stream.failed ≡ false }
+    requires tied { AreTied names.old.values names.old.labels s.old.state.ctx.now.graph }
+    ensures lent { s.new.state.ctx.ghost_name ≡ s.old.state.ctx.ghost_name }
+    ensures rest { KeepsRest s.old.state s.new.state }
+    ensures ends { OnOk result ((o : Begun T A) → IsBegun names.old.names (whole s.old.stream) s.old.state.ctx.now begun.now o
+        → EndsOperation T.IrText.reading (attr_at A.IrText.reading) o begun.now names.old s.old names.new s.new) }
+    ensures refused { IfErr result (λ fault. (o : Begun T A) → IsBegun names.old.names (whole s.old.stream) s.old.state.ctx.now begun.now o
+        → UnlessMemory (RefusesEnd T.IrText.reading (attr_at A.IrText.reading) o begun.now names.old s.old) fault) }
+    ensures committed { IfErr result (λ fault. fault.committed ≡ true) }
+    ensures own { OnOk result (BecomesNamed (IsLocated s.old.state.src (whole s.old.stream)) names.old.names (whole s.old.stream) begun.now.names
+        s.old.state.ctx.now s.new.state.ctx.now begun.now.op) }
+    ensures spares { OnOk result (Spares (TheOperation begun.now.op ∷ []) s.old.state.ctx.now s.new.state.ctx.now) }
+    ensures noted { OnOk result ((mark : Option (Mark ℕ)) (taken : Text) → (space_at ▷ mark_if_at) s.old.stream.rest ≡ Read mark taken s.new.stream.rest
+        → marks_of s.new.state ≡ marks_of s.old.state ++ noted_as mark (item.Operation begun.now.op)) }
+    ensures unnoted { OnErr result (GainsMarks (marks_of s.old.state) (marks_of s.new.state)) }
+    ensures lasts { OnOk result (Lasts s.old.state.ctx.now s.new.state.ctx.now) }
+    ensures names { KeepsNames names.old.names names.new.names }
+    ensures values { length names.new.values ≡ length names.old.values }
+    ensures labels { length names.new.labels ≡ length names.old.labels }
+    ensures sound { OnOk result ((m : ℕ) → m ≤ s.old.state.ctx.now.graph.made → IsSound m names.old s.old.state → IsSound m names.new s.new.state) }
+    ensures kept { (m : ℕ) → m ≤ s.old.state.ctx.now.graph.made → IsClosedBelow m s.old.state.ctx.now.graph → IsSound m names.old s.old.state
+        → IsNew m s.old.state.ctx.now.graph (TheOperation begun.now.op) → KeepsOlder m s.old.state.ctx.now s.new.state.ctx.now }
+{
+    close(s, names, begun)?;
+    let mark = end_parse(&mut s.stream)?;
+    note_mark(s, mark, Item::Operation(begun.op))
+}

@@ -1,0 +1,378 @@
+//! What the pieces in front of an operation's first region come to: their names are used, and what they give the operation is gathered,
+//! in the order of the text.
+ghost use Rattle.std.specs.Prelude.{◌≡◌, ◌∷◌, [], IfOk, IfErr, IfSome, OnOk, map, true};
+ghost use Rattle.irtext_base.specs.Format.{sym_name_key};
+ghost use Rattle.irtext_dict.specs.Dictionary.{RefusesEntry};
+ghost use Rattle.irtext_grammar.specs.Contexts.Held.{attribute_of, entries_of};
+ghost use Rattle.irtext_grammar.specs.Graphs.Build.{put_all};
+ghost use Rattle.irtext_grammar.specs.Grammar.Tree.{ident};
+ghost use Rattle.irtext_grammar.specs.Names.Acts.{may_hold};
+ghost use Rattle.irtext_names.specs.Tied.{AreTied};
+ghost use Rattle.irtext_parse_pieces.specs.declared.pieces.ReadPiece.TheVariants as read;
+ghost use Rattle.irtext_parse_nested.specs.declared.operation_parts.NotGathered.TheVariants.{Memory};
+ghost use Rattle.irtext_parse_nested.specs.Gathered.{entry_read, refused_at, GathersAlone, RefusesAlone, MayAllHold, RefusesEntries, IsNothing, CanGather, IsSteady, Gathers, RefusesGathering};
+
+use crate::frame::Names;
+use crate::uses::{Placed, block_placed, blocks_used, value_placed, values_used};
+use irtext_base::base::{AttrObj, Identifier, Refusal};
+use irtext_base::parsable::Place;
+use irtext_context::base::block::BlockData;
+use irtext_context::base::operation::OperationData;
+use irtext_context::base::{BasicBlock, Ptr};
+use irtext_dict::base::AttributeDict;
+use irtext_few::Few;
+use irtext_graph::graph::Graph;
+use irtext_graph::object::Value;
+use irtext_parse_pieces::entries::{Key, ReadEntry};
+use irtext_parse_pieces::found::Pieces;
+use irtext_parse_pieces::names::{ReadName, Symbol};
+use irtext_parse_pieces::pieces::ReadPiece;
+use std::alloc::{AllocError, Global};
+
+/// The graph of a context.
+pub type Objects<T, A> = Graph<Option<OperationData<A>>, BlockData<A>, Option<T>>;
+
+/// What the pieces of an operation came to.
+#[derive(Drop)]
+pub struct Gathered<T, A> {
+    pub operands: Placed<Value>,
+    pub successors: Placed<Ptr<BasicBlock>>,
+    /// The types of results, each with its place.
+    pub types: Vec<(usize, T)>,
+    /// The last list of types.
+    pub listed: Few<T>,
+    pub attributes: AttributeDict<A>,
+}
+
+/// Why pieces were not gathered.
+#[derive(Drop)]
+pub enum NotGathered {
+    Memory,
+    /// The key is reserved, and the attribute may not stand under it.
+    ReservedKey(Key),
+    /// The name stands where no scope of its kind is open.
+    NoActiveScope(ReadName),
+}
+
+/// Nothing, so far. It takes no memory.
+pub(crate) fn nothing<T: Drop, A: Drop>(alloc: Global) -> Gathered<T, A>
+    ensures { IsNothing result }
+{
+    Gathered {
+        operands: Placed {
+            single: Vec::new(alloc),
+            list: Vec::new(alloc),
+        },
+        successors: Placed {
+            single: Vec::new(alloc),
+            list: Vec::new(alloc),
+        },
+        types: Vec::new(alloc),
+        listed: Few::none(),
+        attributes: AttributeDict::new(alloc),
+    }
+}
+
+/// Stores an attribute under a key. A refusal changes nothing.
+pub(crate) fn stored<A: Drop>(
+    attributes: &mut AttributeDict<A>,
+    key: Identifier,
+    attr: AttrObj<A>,
+) -> Result<(), Refusal>
+    ensures stored { OnOk result (entries_of attributes.new ≡ put_all (entries_of attributes.old) ((key, attribute_of attr) ∷ [])) }
+    ensures holds { OnOk result (may_hold key (attribute_of attr) ≡ true) }
+    ensures refused { IfErr result (RefusesEntry key attr) }
+{
+    attributes.insert(key, attr)
+}
+
+/// The refusal of an entry whose key stands at a place.
+fn refused(refusal: Refusal, at: Place) -> NotGathered
+    ensures { result ≡ refused_at refusal at }
+{
+    match refusal {
+        Refusal::Memory => NotGathered::Memory,
+        Refusal::ReservedKey(name) => NotGathered::ReservedKey(Key { name, at }),
+    }
+}
+
+/// Stores an entry of a dictionary.
+pub(crate) fn entry_stored<A: Drop>(
+    attributes: &mut AttributeDict<A>,
+    entry: ReadEntry<A>,
+) -> Result<(), NotGathered>
+    ensures stored { OnOk result (entries_of attributes.new ≡ put_all (entries_of attributes.old) (entry_read entry ∷ [])) }
+    ensures holds { OnOk result (MayAllHold (entry ∷ [])) }
+    ensures refused { IfErr result (RefusesEntries (entry ∷ [])) }
+{
+    let (Key { name, at }, attr) = entry;
+    match stored(attributes, name, attr) {
+        Ok(()) => Ok(()),
+        Err(refusal) => Err(refused(refusal, at)),
+    }
+}
+
+/// Stores the entries of a dictionary, one after another. The first whose attribute may not stand under its key is refused, and memory may
+/// be refused; those before it are stored then.
+pub(crate) fn entries_stored<A: Drop>(
+    attributes: &mut AttributeDict<A>,
+    entries: Vec<ReadEntry<A>>,
+) -> Result<(), NotGathered>
+    ensures stored { OnOk result (entries_of attributes.new ≡ put_all (entries_of attributes.old) (map entry_read entries.items)) }
+    ensures holds { OnOk result (MayAllHold entries.items) }
+    ensures refused { IfErr result (RefusesEntries entries.items) }
+{
+    for entry in entries {
+        entry_stored(attributes, entry)?;
+    }
+    Ok(())
+}
+
+/// Uses the name of an operand that has a directive of its own.
+fn operand_gathered<T: Drop, A: Drop>(
+    names: &mut Names,
+    graph: &mut Objects<T, A>,
+    gathered: &mut Gathered<T, A>,
+    index: usize,
+    name: ReadName,
+) -> Result<(), NotGathered>
+    requires can { CanGather {T = T} {A = A} names.old gathered.old.operands.list.items gathered.old.successors.list.items (read.Operand index name ∷ []) }
+    requires tied { AreTied names.old.values names.old.labels graph.old }
+    ensures gathers { OnOk result (Gathers (read.Operand index name ∷ []) names.old graph.old gathered.old names.new graph.new gathered.new) }
+    ensures refused { IfErr result (RefusesGathering {T = T} {A = A} (read.Operand index name ∷ []) names.old graph.old) }
+    ensures steady { IsSteady names.old names.new graph.old graph.new }
+{
+    if !names.has_value_scope() {
+        return Err(NotGathered::NoActiveScope(name));
+    }
+    let single = &mut gathered.operands.single;
+    let Ok(()) = value_placed(names, graph, single, index, name.name) else {
+        return Err(NotGathered::Memory);
+    };
+    Ok(())
+}
+
+/// Uses the name of a successor that has a directive of its own.
+fn successor_gathered<T: Drop, A: Drop>(
+    names: &mut Names,
+    graph: &mut Objects<T, A>,
+    gathered: &mut Gathered<T, A>,
+    index: usize,
+    name: ReadName,
+) -> Result<(), NotGathered>
+    requires can { CanGather {T = T} {A = A} names.old gathered.old.operands.list.items gathered.old.successors.list.items (read.Successor index name ∷ []) }
+    requires tied { AreTied names.old.values names.old.labels graph.old }
+    ensures gathers { OnOk result (Gathers (read.Successor index name ∷ []) names.old graph.old gathered.old names.new graph.new gathered.new) }
+    ensures refused { IfErr result (RefusesGathering {T = T} {A = A} (read.Successor index name ∷ []) names.old graph.old) }
+    ensures steady { IsSteady names.old names.new graph.old graph.new }
+{
+    if !names.has_label_scope() {
+        return Err(NotGathered::NoActiveScope(name));
+    }
+    let single = &mut gathered.successors.single;
+    let Ok(()) = block_placed(names, graph, single, index, name.name) else {
+        return Err(NotGathered::Memory);
+    };
+    Ok(())
+}
+
+/// Uses the names of a list of operands.
+fn operands_gathered<T: Drop, A: Drop>(
+    names: &mut Names,
+    graph: &mut Objects<T, A>,
+    gathered: &mut Gathered<T, A>,
+    used: Few<ReadName>,
+) -> Result<(), NotGathered>
+    requires can { CanGather {T = T} {A = A} names.old gathered.old.operands.list.items gathered.old.successors.list.items (read.Operands used ∷ []) }
+    requires tied { AreTied names.old.values names.old.labels graph.old }
+    ensures gathers { OnOk result (Gathers (read.Operands used ∷ []) names.old graph.old gathered.old names.new graph.new gathered.new) }
+    ensures refused { IfErr result (RefusesGathering {T = T} {A = A} (read.Operands used ∷ []) names.old graph.old) }
+    ensures steady { IsSteady names.old names.new graph.old graph.new }
+{
+    if used.len() == 0 {
+        return Ok(());
+    }
+    if !names.has_value_scope() {
+        return Err(NotGathered::NoActiveScope(used[0]));
+    }
+    let Ok(()) = values_used(names, graph, &used, &mut gathered.operands.list) else {
+        return Err(NotGathered::Memory);
+    };
+    Ok(())
+}
+
+/// Uses the names of a list of successors.
+fn successors_gathered<T: Drop, A: Drop>(
+    names: &mut Names,
+    graph: &mut Objects<T, A>,
+    gathered: &mut Gathered<T, A>,
+    used: Few<ReadName>,
+) -> Result<(), NotGathered>
+    requires can { CanGather {T = T} {A = A} names.old gathered.old.operands.list.items gathered.old.successors.list.items (read.Successors used ∷ []) }
+    requires tied { AreTied names.old.values names.old.labels graph.old }
+    ensures gathers { OnOk result (Gathers (read.Successors used ∷ []) names.old graph.old gathered.old names.new graph.new gathered.new) }
+    ensures refused { IfErr result (RefusesGathering {T = T} {A = A} (read.Successors used ∷ []) names.old graph.old) }
+    ensures steady { IsSteady names.old names.new graph.old graph.new }
+{
+    if used.len() == 0 {
+        return Ok(());
+    }
+    if !names.has_label_scope() {
+        return Err(NotGathered::NoActiveScope(used[0]));
+    }
+    let Ok(()) = blocks_used(names, graph, &used, &mut gathered.successors.list) else {
+        return Err(NotGathered::Memory);
+    };
+    Ok(())
+}
+
+/// Stores what is not refused but for memory.
+pub(crate) fn kept<A: Drop>(
+    attributes: &mut AttributeDict<A>,
+    key: Identifier,
+    attr: AttrObj<A>,
+) -> Result<(), NotGathered>
+    ensures stored { OnOk result (entries_of attributes.new ≡ put_all (entries_of attributes.old) ((key, attribute_of attr) ∷ [])) }
+    ensures refused { IfErr result (λ refusal. refusal ≡ Memory) }
+{
+    match stored(attributes, key, attr) {
+        Ok(()) => Ok(()),
+        Err(_) => Err(NotGathered::Memory),
+    }
+}
+
+/// Stores the attribute of a directive, which names the key, where no marker stands.
+fn attr_gathered<T: Drop, A: Drop>(
+    gathered: &mut Gathered<T, A>,
+    key: Identifier,
+    attr: Option<AttrObj<A>>,
+) -> Result<(), NotGathered>
+    ensures gathers { OnOk result (GathersAlone (read.Attr key attr ∷ []) gathered.old gathered.new) }
+    ensures refused { IfErr result (RefusesAlone {T = T} {A = A} (read.Attr key attr ∷ [])) }
+{
+    match attr {
+        Some(attr) => kept(&mut gathered.attributes, key, attr),
+        None => Ok(()),
+    }
+}
+
+/// Stores the entries of a dictionary.
+fn dictionary_gathered<T: Drop, A: Drop>(
+    gathered: &mut Gathered<T, A>,
+    entries: Vec<ReadEntry<A>>,
+) -> Result<(), NotGathered>
+    ensures gathers { OnOk result (GathersAlone (read.Dictionary entries ∷ []) gathered.old gathered.new) }
+    ensures refused { IfErr result (RefusesAlone {T = T} {A = A} (read.Dictionary entries ∷ [])) }
+{
+    entries_stored(&mut gathered.attributes, entries)
+}
+
+/// The key of a symbol's name, which shares the text of the one that is given.
+pub(crate) fn symbol_key(alloc: Global, key: &Option<Identifier>) -> Result<Identifier, AllocError>
+    requires { IfSome key.now (λ k. k ≡ sym_name_key) }
+    ensures { IfOk result (λ k. k ≡ sym_name_key) }
+{
+    match key {
+        Some(key) => key.clone(),
+        None => Identifier::from_word(alloc, "builtin_sym_name"),
+    }
+}
+
+/// Stores a symbol's name.
+fn header_gathered<T: Drop, A: Drop>(
+    alloc: Global,
+    gathered: &mut Gathered<T, A>,
+    key: &Option<Identifier>,
+    symbol: Symbol,
+) -> Result<(), NotGathered>
+    requires { IfSome key.now (λ k. k ≡ sym_name_key) }
+    ensures gathers { OnOk result (GathersAlone (read.Header symbol ∷ []) gathered.old gathered.new) }
+    ensures refused { IfErr result (RefusesAlone {T = T} {A = A} (read.Header symbol ∷ [])) }
+{
+    let Ok(key) = symbol_key(alloc, key) else {
+        return Err(NotGathered::Memory);
+    };
+    kept(&mut gathered.attributes, key, AttrObj::Ident(symbol.name))
+}
+
+/// Keeps the type of a result, with its place.
+fn type_gathered<T: Drop, A: Drop>(
+    gathered: &mut Gathered<T, A>,
+    index: usize,
+    of_type: T,
+) -> Result<(), NotGathered>
+    ensures gathers { OnOk result (GathersAlone (read.ResultType index of_type ∷ []) gathered.old gathered.new) }
+    ensures refused { IfErr result (RefusesAlone {T = T} {A = A} (read.ResultType index of_type ∷ [])) }
+{
+    let Ok(()) = gathered.types.push((index, of_type)) else {
+        return Err(NotGathered::Memory);
+    };
+    Ok(())
+}
+
+/// Keeps a list of types, in place of the one before it.
+fn types_gathered<T: Drop, A: Drop>(gathered: &mut Gathered<T, A>, listed: Few<T>)
+    ensures { GathersAlone (read.Types listed ∷ []) gathered.old gathered.new }
+{
+    gathered.listed = listed;
+}
+
+/// Uses what a piece names, and keeps what it gives the operation.
+fn piece_gathered<T: Drop, A: Drop>(
+    alloc: Global,
+    names: &mut Names,
+    graph: &mut Objects<T, A>,
+    gathered: &mut Gathered<T, A>,
+    key: &Option<Identifier>,
+    piece: ReadPiece<T, A>,
+) -> Result<(), NotGathered>
+    requires can { CanGather names.old gathered.old.operands.list.items gathered.old.successors.list.items (piece ∷ []) }
+    requires tied { AreTied names.old.values names.old.labels graph.old }
+    requires key { IfSome key.now (λ k. k ≡ sym_name_key) }
+    ensures gathers { OnOk result (Gathers (piece ∷ []) names.old graph.old gathered.old names.new graph.new gathered.new) }
+    ensures refused { IfErr result (RefusesGathering (piece ∷ []) names.old graph.old) }
+    ensures steady { IsSteady names.old names.new graph.old graph.new }
+{
+    match piece {
+        ReadPiece::Word => Ok(()),
+        ReadPiece::Operand(index, name) => operand_gathered(names, graph, gathered, index, name),
+        ReadPiece::Operands(used) => operands_gathered(names, graph, gathered, used),
+        ReadPiece::Successor(index, name) => successor_gathered(
+            names, graph, gathered, index, name,
+        ),
+        ReadPiece::Successors(used) => successors_gathered(names, graph, gathered, used),
+        ReadPiece::Attr(key, attr) => attr_gathered(gathered, key, attr),
+        ReadPiece::Dictionary(entries) => dictionary_gathered(gathered, entries),
+        ReadPiece::ResultType(index, of_type) => type_gathered(gathered, index, of_type),
+        ReadPiece::Header(symbol) => header_gathered(alloc, gathered, key, symbol),
+        ReadPiece::Types(listed) => {
+            types_gathered(gathered, listed);
+            Ok(())
+        }
+    }
+}
+
+/// Uses what pieces name, and keeps what they give the operation, one after another. The first key of a dictionary that is reserved is
+/// refused, or the first name that stands where no scope of its kind is open, and memory may be refused; what stands before it was used
+/// then.
+pub fn gather<T: Drop, A: Drop>(
+    alloc: Global,
+    names: &mut Names,
+    graph: &mut Objects<T, A>,
+    gathered: &mut Gathered<T, A>,
+    key: &Option<Identifier>,
+    pieces: Pieces<T, A>,
+) -> Result<(), NotGathered>
+    requires can { CanGather names.old gathered.old.operands.list.items gathered.old.successors.list.items pieces }
+    requires tied { AreTied names.old.values names.old.labels graph.old }
+    requires key { IfSome key.now (λ k. k ≡ sym_name_key) }
+    ensures gathers { OnOk result (Gathers pieces names.old graph.old gathered.old names.new graph.new gathered.new) }
+    ensures refused { IfErr result (RefusesGathering pieces names.old graph.old) }
+    ensures steady { IsSteady names.old names.new graph.old graph.new }
+{
+    for found in pieces.into_found() {
+        let (_, piece) = found;
+        piece_gathered(alloc, names, graph, gathered, key, piece)?;
+    }
+    Ok(())
+}

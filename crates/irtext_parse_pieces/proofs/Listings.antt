@@ -1,0 +1,159 @@
+-- How far the reader of a list has come whose items stand for others.
+use Rattle.std.proofs.Common.{◌≡◌, ℕ, suc, Bool, true, false, Result, Ok, Err, List, [], ◌∷◌, ◌++◌, length, refl, sym, ◌∙◌, subst, ◌⊎◌, inl, inr, true≢false, arith, ◌<◌}
+use Rattle.std.specs.Char.{is_whitespace}
+use Rattle.irtext_base.specs.Text.{Text, begins, front, after}
+use Rattle.irtext_base.specs.Reading.{the}
+use Rattle.irtext_base.specs.Stream.{advanced}
+use Rattle.irtext_base.specs.Answers.{Outcome, Read, Missing, Bad, Takes, Starves, StarvesHere, Refuses, mapped, followed, unless_failed}
+use Rattle.irtext_base.specs.declared.parsable.fault.ParseFault.{ParseFault}
+use Rattle.irtext_base.proofs.Compose.{refuses_first_demanded}
+use Rattle.irtext_read.specs.ListOutcomes.{item_after, items_after, or_empty, separated_at}
+use Rattle.irtext_read.specs.MustRead.{MayRead, MustRead}
+use Rattle.irtext_read.specs.Tokens.{space_at}
+use Rattle.irtext_read.proofs.ListOutcomes.{Found, found_first, found_all, goes_on, falls_behind, behind_separator, behind_space, list_begun, list_empty, separated_stands}
+use Rattle.irtext_read.proofs.Steps.{Lens, Passed, first, more, took, spaced, refuses, starved, last_spaced, begins_with, begins_refused, begun_by, fine_there, never_missing}
+use Rattle.irtext_grammar.specs.Grammar.Tree.{Name}
+use Rattle.irtext_parse_pieces.specs.declared.names.ReadName.{ReadName}
+use Rattle.irtext_parse_pieces.specs.Arguments.{IsArgument, MustArguments, ArgumentsBehind}
+use Rattle.irtext_parse_pieces.specs.Named.{whole, StandsFor, Each, MayMean, MustMean, MayName, MustNames, NamesBehind}
+use Rattle.irtext_parse_pieces.proofs.Meanings.{passed_whole, takes_whole, may_whole}
+
+-- one more of each, behind the others
+pub each_more : {X Y : Type 0} (Means : Y → X → Type 0) (ys : List Y) (xs : List X) (y : Y) (x : X) → Each Means ys xs → Means y x → Each Means (ys ++ (y ∷ [])) (xs ++ (x ∷ []))
+each_more Means [] [] y x h k = (k, tt)
+each_more Means [] (z ∷ zs) y x h k = absurd h
+each_more Means (w ∷ ws) [] y x h k = absurd h
+each_more Means (w ∷ ws) (z ∷ zs) y x h k = (h.0, each_more Means ws zs y x h.1 k)
+
+-- what each stands for, in another way
+pub each_on : {X Y : Type 0} (Means Other : Y → X → Type 0) → ((y : Y) (x : X) → Means y x → Other y x) → (ys : List Y) (xs : List X) → Each Means ys xs → Each Other ys xs
+each_on Means Other on [] [] h = tt
+each_on Means Other on [] (x ∷ xs) h = absurd h
+each_on Means Other on (y ∷ ys) [] h = absurd h
+each_on Means Other on (y ∷ ys) (x ∷ xs) h = (on y x h.0, each_on Means Other on ys xs h.1)
+
+-- what stands behind the first item
+abbrev pub behind_first : {X : Type 0} → (Text → Outcome X) → List X → Text → Outcome (List X)
+behind_first item found t = items_after 44 item (length t) found t
+
+module _ {S X : Type 0} (l : Lens S) (item : Text → Outcome X) where
+  bad_first : {A : Type 0} (b : Bool) (o : Outcome (List X)) (text : Text) (old new : S) (fault : ParseFault A) → fault.committed ≡ true
+      → Starves l.view l.at old fault new ⊎ Refuses l.view l.at (unless_failed b o) old fault new → Starves l.view l.at old fault new ⊎ Refuses l.view l.at (unless_failed b (or_empty (followed o (behind_first item)) text)) old fault new
+  bad_first b o text old new fault c (inl h) = inl h
+  bad_first true o text old new fault c (inr h) = inr h
+  bad_first false (Read x t r) text old new fault c (inr h) = absurd h
+  bad_first false (Missing cause) text old new fault c (inr h) = absurd (true≢false (sym c ∙ h.committed))
+  bad_first false (Bad cause upto) text old new fault c (inr h) = inr h
+
+module _ {S X Y : Type 0} (l : Lens S) (item : Text → Outcome X) where
+  module _ {A : Type 0} {see : Y → X} {old mid new : S} {y : Y} where
+    -- an item that must stand there was read, with the white space behind it
+    pub item_read : (found : List X) → MustRead {A = A} l.view l.at see item old (Ok y) mid → Takes l.view l.at (front is_whitespace (l.view mid).rest) (after is_whitespace (l.view mid).rest) mid new
+        → MustRead {A = A} {Y = Y} l.view l.at (λ _. found ++ (see y ∷ [])) (item_after 44 item found) old (Ok y) new
+    item_read found h k = last_spaced l {A = A} (λ _. found ++ (see y ∷ [])) (λ _. found ++ (see y ∷ [])) y refl (first l (λ x t. mapped (λ _. found ++ (x ∷ [])) (space_at t)) h) k
+
+    -- the first item was read, with the white space behind it
+    pub first_read : MayRead {A = A} l.view l.at see item old (Ok y) mid → Takes l.view l.at (front is_whitespace (l.view mid).rest) (after is_whitespace (l.view mid).rest) mid new
+        → MayRead {A = A} {Y = Y} l.view l.at (λ _. see y ∷ []) (item_after 44 item []) old (Ok y) new
+    first_read h k =
+        let next : X → Text → Outcome (List X) = λ x t. mapped (λ _. x ∷ []) (space_at t) in
+        begun_by l next h (last_spaced l {A = A} (λ _. see y ∷ []) (λ _. see y ∷ []) y refl (begins_with l next h) k)
+
+  -- less is left behind a separator, an item and white space
+  pub item_falls : {A : Type 0} {see : Y → X} {now mid later next new : S} {y : Y} → begins (the 44) (l.view now).rest ≡ true → mid ≡ l.at now (advanced (l.view now)) → Takes l.view l.at (front is_whitespace (l.view mid).rest) (after is_whitespace (l.view mid).rest) mid later
+      → MustRead {A = A} l.view l.at see item later (Ok y) next → Takes l.view l.at (front is_whitespace (l.view next).rest) (after is_whitespace (l.view next).rest) next new → length (l.view new).rest < length (l.view now).rest
+  item_falls b t k h behind = falls_behind l 44 b t k (item_read [] h behind)
+
+  -- the items found so far behind the first one, and what each stands for
+  pub record Listing (Means : Y → X → Type 0) (begun : List X) (old now : S) (found : List Y) : Type 0 where
+    pub items : List X
+    pub each : Each Means found items
+    pub so_far : Found 44 item l begun old now items
+
+  module _ {Means : Y → X → Type 0} where
+    -- no more than the first one
+    pub listing_first : (x : X) (y : Y) (old : S) → (l.view old).failed ≡ false → Means y x → Listing Means (x ∷ []) old old (y ∷ [])
+    listing_first x y old fine h = record { items = x ∷ []; each = (h, tt); so_far = found_first 44 item l (x ∷ []) old fine }
+
+    module _ {begun : List X} {old now : S} {found : List Y} where
+      -- where no separator follows, these are all
+      pub listing_all : {A W : Type 0} (MeansAll : W → List X → Type 0) (w : W) → begins (the 44) (l.view now).rest ≡ false → (p : Listing Means begun old now found) → MeansAll w p.items
+          → MustMean {A = A} l.view l.at MeansAll (λ t. items_after 44 item (length t) begun t) old (Ok w) now
+      listing_all MeansAll w stop p h = record { meant = λ _. p.items; means = h; read = found_all 44 item l (λ _. p.items) w refl stop p.so_far }
+
+      -- an item is to be read behind a separator and white space
+      pub listing_next : {mid later : S} → begins (the 44) (l.view now).rest ≡ true → mid ≡ l.at now (advanced (l.view now)) → Takes l.view l.at (front is_whitespace (l.view mid).rest) (after is_whitespace (l.view mid).rest) mid later → (p : Listing Means begun old now found)
+          → (n : ℕ) × (p.so_far.room ≡ suc n) × Passed l (λ t. items_after 44 item (length t) begun t) (behind_space 44 item n p.items tt) old later
+      listing_next b t k p =
+          let w = goes_on 44 item l b p.so_far in
+          (w.0, w.1, spaced l (behind_space 44 item w.0 p.items) (took l 44 (behind_separator 44 item w.0 p.items) w.2 b t) k)
+
+      -- the whole text is the same there
+      pub listing_whole : {mid later : S} → begins (the 44) (l.view now).rest ≡ true → mid ≡ l.at now (advanced (l.view now)) → Takes l.view l.at (front is_whitespace (l.view mid).rest) (after is_whitespace (l.view mid).rest) mid later → Listing Means begun old now found → whole (l.view later) ≡ whole (l.view old)
+      listing_whole b t k p = passed_whole l (listing_next b t k p).2
+
+      module _ {A : Type 0} {mid later : S} (b : begins (the 44) (l.view now).rest ≡ true) (t : mid ≡ l.at now (advanced (l.view now))) (k : Takes l.view l.at (front is_whitespace (l.view mid).rest) (after is_whitespace (l.view mid).rest) mid later) (p : Listing Means begun old now found) where
+        -- the item there is refused
+        pub listing_refused : {W : Type 0} {see : Y → X} (sees : W → List X) {fault : ParseFault A} {new : S} → MustRead l.view l.at see item later (Err fault) new → MustRead l.view l.at sees (λ t. items_after 44 item (length t) begun t) old (Err fault) new
+        listing_refused {see = see} sees {fault = fault} {new = new} h =
+            let w = listing_next b t k p in
+            let q : MustRead {Y = Y} l.view l.at (λ _. p.items) (item_after 44 item p.items) later (Err fault) new =
+            record { answers = refuses_first_demanded l.view l.at l.view_at l.at_at see (λ (z : Y). p.items) (l.view later).failed (item (l.view later).rest) (λ x t. mapped (λ _. p.items ++ (x ∷ [])) (space_at t)) later new fault h.answers } in
+            refuses l (λ more v. items_after 44 item w.0 more v) w.2 q
+
+        -- the item there was read, with the white space behind it
+        pub listing_more : {Other : Y → X → Type 0} {next new : S} {y : Y} → ((y : Y) (x : X) → Means y x → Other y x) → (h : MustMean {A = A} l.view l.at Other item later (Ok y) next) → Takes l.view l.at (front is_whitespace (l.view next).rest) (after is_whitespace (l.view next).rest) next new
+            → Listing Other begun old new (found ++ (y ∷ []))
+        listing_more {Other = Other} {next = next} {new = new} {y = y} on h behind =
+            let w = listing_next b t k p in
+            let i = item_read {see = h.meant} p.items h.read behind in
+            record {
+              items = p.items ++ (h.meant y ∷ []);
+              each = each_more Other found p.items y (h.meant y) (each_on Means Other on found p.items p.each) h.means;
+              so_far = record {
+                room = w.0;
+                enough = omega (arith, falls_behind l 44 b t k i, p.so_far.enough, w.1);
+                passed = more l (λ more v. items_after 44 item w.0 more v) w.2 i;
+              };
+            }
+
+      -- memory is refused there
+      pub listing_starved : {A W : Type 0} (sees : W → List X) {fault : ParseFault A} {new : S} → Listing Means begun old now found → StarvesHere l.view l.at now fault new → MustRead l.view l.at sees (λ t. items_after 44 item (length t) begun t) old (Err fault) new
+      listing_starved sees p h = starved l {sees = sees} p.so_far.passed h
+
+  module _ {A : Type 0} {see : Y → X} {old new : S} where
+    first_refused : {fault : ParseFault A} → MayRead l.view l.at see item old (Err fault) new → MayRead {Y = Y} l.view l.at (λ _. []) (item_after 44 item []) old (Err fault) new
+    first_refused h = begins_refused l (λ _. []) (λ x t. mapped (λ _. x ∷ []) (space_at t)) h
+
+  module _ {A W : Type 0} {see : Y → X} {old new : S} where
+    -- the first item is bad
+    pub list_bad : (sees : W → List X) {fault : ParseFault A} → fault.committed ≡ true → MayRead l.view l.at see item old (Err fault) new → MustRead l.view l.at sees (separated_at 44 item) old (Err fault) new
+    list_bad sees {fault = fault} c h =
+        never_missing l (separated_at 44 item) (separated_stands 44 item) (record { answers = bad_first l item (l.view old).failed (item_after 44 item [] (l.view old).rest) (l.view old).rest old new fault c (first_refused h).answers })
+
+    -- there is no first item
+    pub list_none : (sees : W → List X) (w : W) → sees w ≡ [] → {fault : ParseFault A} → fault.committed ≡ false → MayRead l.view l.at see item old (Err fault) new → MustRead {A = A} l.view l.at sees (separated_at 44 item) old (Ok w) new
+    list_none sees w e c h =
+        never_missing l (separated_at 44 item) (separated_stands 44 item) (list_empty l (behind_first item) w e c (first_refused h))
+
+    -- there is a first item
+    pub list_some : {MeansAll : W → List X → Type 0} {y : Y} {mid last : S} {r : Result W (ParseFault A)} → MayRead {A = A} l.view l.at see item old (Ok y) mid → Takes l.view l.at (front is_whitespace (l.view mid).rest) (after is_whitespace (l.view mid).rest) mid new
+        → ((l.view new).failed ≡ false → MustMean l.view l.at MeansAll (λ t. items_after 44 item (length t) (see y ∷ []) t) new r last) → MustMean l.view l.at MeansAll (separated_at 44 item) old r last
+    list_some h k rest =
+        let i = first_read h k in
+        let m = rest (fine_there l (begins_with l (behind_first item) i)) in
+        record { meant = m.meant; means = m.means; read = never_missing l (separated_at 44 item) (separated_stands 44 item) (list_begun l (behind_first item) i (λ _. m.read)) }
+
+-- there is a first name, and what stands behind it
+pub list_names : {S A : Type 0} (l : Lens S) (item : Text → Outcome (Name ℕ)) (before names : List Text) {old mid new last : S} {first : ReadName} {r : Result (List ReadName) (ParseFault A)} → MayName {A = A} l.view l.at before item old (Ok first) mid → Takes l.view l.at (front is_whitespace (l.view mid).rest) (after is_whitespace (l.view mid).rest) mid new
+    → NamesBehind l.view l.at before names item first new r last → MustNames l.view l.at names (separated_at 44 item) old r last
+list_names {A = A} l item before names {old = old} {mid = mid} {new = new} {last = last} {first = n} {r = r} h k rest =
+    let e : whole (l.view new) ≡ whole (l.view old) = takes_whole l mid new (front is_whitespace (l.view mid).rest) (after is_whitespace (l.view mid).rest) k ∙ may_whole l h.read in
+    list_some l item h.read k (λ fine. subst (λ t. MustMean l.view l.at (Each (StandsFor names t)) (λ t. items_after 44 item (length t) (h.meant n ∷ []) t) new r last) e (rest (h.meant n) (subst (λ t. StandsFor before t n (h.meant n)) (sym e) h.means) fine))
+
+-- there is a first argument, and what stands behind it
+pub list_arguments : {S T A : Type 0} (l : Lens S) (item : Text → Outcome (Name ℕ × T)) (before names : List Text) {old mid new last : S} {first : ReadName × T} {r : Result (List (ReadName × T)) (ParseFault A)} → MayMean {A = A} l.view l.at (IsArgument before (whole (l.view old))) item old (Ok first) mid → Takes l.view l.at (front is_whitespace (l.view mid).rest) (after is_whitespace (l.view mid).rest) mid new
+    → ArgumentsBehind l.view l.at before names item first new r last → MustArguments l.view l.at names (separated_at 44 item) old r last
+list_arguments {A = A} l item before names {old = old} {mid = mid} {new = new} {last = last} {first = n} {r = r} h k rest =
+    let e : whole (l.view new) ≡ whole (l.view old) = takes_whole l mid new (front is_whitespace (l.view mid).rest) (after is_whitespace (l.view mid).rest) k ∙ may_whole l h.read in
+    list_some l item h.read k (λ fine. subst (λ t. MustMean l.view l.at (Each (IsArgument names t)) (λ t. items_after 44 item (length t) (h.meant n ∷ []) t) new r last) e (rest (h.meant n) (subst (λ t. IsArgument before t n (h.meant n)) (sym e) h.means) fine))

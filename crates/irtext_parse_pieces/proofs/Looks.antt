@@ -1,0 +1,150 @@
+-- What a look for names tells of a text, where nothing is read.
+use Rattle.std.proofs.Common.{◌≡◌, ℕ, Bool, true, false, Result, Ok, Err, Option, Some, None, List, [], ◌∷◌, ◌++◌, refl, sym, ◌∙◌, ap, subst, ◌⊎◌, inl, inr, true≢false}
+use Rattle.std.specs.Char.{is_whitespace}
+use Rattle.irtext_base.specs.Text.{Text, begins, front, after, begins_word, in_word}
+use Rattle.irtext_base.specs.Reading.{the}
+use Rattle.irtext_base.specs.Answers.{Outcome, Read, Missing, Bad, Takes, Gives, Commits, Stands, Starves, StarvesHere, Refuses, demanded, prefixed, mapped, followed, unless_failed}
+use Rattle.irtext_base.specs.declared.parsable.fault.ParseFault.{ParseFault}
+use Rattle.irtext_base.specs.Faults.{Failed}
+use Rattle.irtext_base.proofs.Compose.{starves_after, stands_after, takes_stands, takes_none, seen_after, starves_behind}
+use Rattle.irtext_read.specs.ListOutcomes.{item_after, items_after, or_empty, separated_at}
+use Rattle.irtext_read.specs.MustRead.{MayRead}
+use Rattle.irtext_read.specs.Tokens.{space_at, word_at}
+use Rattle.irtext_read.proofs.ListOutcomes.{behind_space}
+use Rattle.irtext_read.proofs.Spelling.{begins_the}
+use Rattle.irtext_read.proofs.Steps.{Lens, Passed, begins_with, fine_there}
+use Rattle.irtext_grammar.specs.Grammar.Tree.{Name}
+use Rattle.irtext_nesting.specs.Heads.{name_at, results_at, named}
+use Rattle.irtext_parse_pieces.specs.declared.names.ReadName.{ReadName}
+use Rattle.irtext_parse_pieces.specs.Named.{whole, StandsFor, MayName, MustNames}
+use Rattle.irtext_parse_pieces.specs.Results.{is_read, results_if_at, Looks, LooksBehind}
+use Rattle.irtext_parse_pieces.proofs.Meanings.{takes_whole, may_whole}
+use Rattle.irtext_parse_pieces.proofs.Listings.{behind_first, first_read, list_names}
+
+read_demanded : {X : Type 0} (o : Outcome X) → is_read (demanded o) ≡ is_read o
+read_demanded (Read x t r) = refl
+read_demanded (Missing cause) = refl
+read_demanded (Bad cause upto) = refl
+
+read_prefixed : {X : Type 0} (t : Text) (o : Outcome X) → is_read (prefixed t o) ≡ is_read o
+read_prefixed t (Read x u r) = refl
+read_prefixed t (Missing cause) = refl
+read_prefixed t (Bad cause upto) = refl
+
+-- where the first thing is not read, nothing is
+unread_followed : {X Y : Type 0} (o : Outcome X) (k : X → Text → Outcome Y) → is_read o ≡ false → is_read (followed o k) ≡ false
+unread_followed (Read x t r) k e = absurd (true≢false e)
+unread_followed (Missing cause) k e = refl
+unread_followed (Bad cause upto) k e = refl
+
+-- where no names and `=` stand, there are no results
+pub no_results : (o : Outcome (List (Name ℕ))) (text : Text) → is_read o ≡ false → named o text ≡ Read [] [] text
+no_results (Read x t r) text e = absurd (true≢false e)
+no_results (Missing cause) text e = refl
+no_results (Bad cause upto) text e = refl
+
+-- a word with `.` behind it is no list of results
+pub dotted_unread : (text rest : Text) → begins begins_word text ≡ true → after in_word text ≡ 46 ∷ rest → is_read (results_at text) ≡ false
+unfolding word_at
+dotted_unread text rest b e = rw (b, e) refl
+
+-- no item stands behind the separator
+pub next_unread : (n : ℕ) (found : List (Name ℕ)) (text : Text) → is_read (name_at text) ≡ false → is_read (behind_space 44 name_at n found tt text) ≡ false
+next_unread n found text e =
+    unread_followed (item_after 44 name_at found text) (λ more v. items_after 44 name_at n more v) (unread_followed (name_at text) (λ x t. mapped (λ _. found ++ (x ∷ [])) (space_at t)) e)
+
+begun_read : (t text : Text) (o : Outcome (List (Name ℕ))) → is_read (prefixed t o) ≡ false → is_read (or_empty (prefixed t o) text) ≡ false
+begun_read t text (Read x u r) e = absurd (true≢false e)
+begun_read t text (Missing cause) e = refl
+begun_read t text (Bad cause upto) e = refl
+
+module _ {S : Type 0} (l : Lens S) where
+  -- what is to be read is not there
+  pub passed_unread : {V : Type 0} {outcome next : Text → Outcome V} {old mid : S} → Passed l outcome next old mid → is_read (next (l.view mid).rest) ≡ false → is_read (outcome (l.view old).rest) ≡ false
+  passed_unread {outcome = outcome} {next = next} {old = old} {mid = mid} p e = sym (read_demanded (outcome (l.view old).rest)) ∙ (ap is_read p.so_far ∙ (read_prefixed p.taken (next (l.view mid).rest) ∙ e))
+
+  -- the stream stands in its text
+  pub passed_stands : {V : Type 0} {outcome next : Text → Outcome V} {old mid : S} → Passed l outcome next old mid → Stands l.view l.at false old mid
+  passed_stands {old = old} {mid = mid} p = subst (λ b. Stands l.view l.at b old mid) p.fine (takes_stands l.view l.at l.view_at l.at_at old mid p.taken (l.view mid).rest p.takes)
+
+  -- a word was taken, and `.` follows
+  pub dotted_there : (old mid : S) → begins begins_word (l.view old).rest ≡ true → Takes l.view l.at (front in_word (l.view old).rest) (after in_word (l.view old).rest) old mid → begins (the 46) (l.view mid).rest ≡ true → is_read (results_at (l.view old).rest) ≡ false
+  dotted_there old mid b t e =
+      let v : (l.view mid).rest ≡ after in_word (l.view old).rest = ap (λ w. w.rest) (seen_after l.view l.at l.view_at l.at_at old mid (front in_word (l.view old).rest) (after in_word (l.view old).rest) t) in
+      let f = begins_the 46 (l.view mid).rest e in
+      dotted_unread (l.view old).rest f.0 b (sym v ∙ f.1)
+
+  begun_unread : (b : Bool) (o : Outcome (List (Name ℕ))) (k : List (Name ℕ) → Text → Outcome (List (Name ℕ))) (text : Text) (old new : S) (x : List (Name ℕ)) → Gives l.view l.at (unless_failed b o) old x new → is_read (followed o k) ≡ false → is_read (or_empty (followed o k) text) ≡ false
+  begun_unread true o k text old new x h e = absurd h
+  begun_unread false (Read y t r) k text old new x h e = begun_read t text (k y r) e
+  begun_unread false (Missing cause) k text old new x h e = absurd h
+  begun_unread false (Bad cause upto) k text old new x h e = absurd h
+
+module _ {S A : Type 0} (l : Lens S) where
+  unread : {X Y : Type 0} (b : Bool) (o : Outcome X) (see : Y → X) (old new : S) (fault : ParseFault A) → fault.committed ≡ false → Starves l.view l.at old fault new ⊎ Refuses l.view l.at (unless_failed b o) old fault new → (is_read o ≡ false) × (new ≡ old)
+  unread b o see old new fault c (inl h) = absurd (true≢false (sym h.committed ∙ c))
+  unread true o see old new fault c (inr h) = absurd (true≢false (sym h.committed ∙ c))
+  unread false (Read x t r) see old new fault c (inr h) = absurd h
+  unread false (Missing cause) see old new fault c (inr h) = (refl, h.left)
+  unread false (Bad cause upto) see old new fault c (inr h) = absurd (true≢false (sym h.committed ∙ c))
+
+  -- what is missing is not read, and the stream stays
+  pub missing_unread : {X Y : Type 0} {see : Y → X} {f : Text → Outcome X} {old new : S} {fault : ParseFault A} → MayRead l.view l.at see f old (Err fault) new → fault.committed ≡ false → (is_read (f (l.view old).rest) ≡ false) × (new ≡ old)
+  missing_unread {see = see} {f = f} {old = old} {new = new} {fault = fault} h c = unread (l.view old).failed (f (l.view old).rest) see old new fault c h.answers
+
+  bad_name : (b : Bool) (text : Text) (old new : S) (fault : ParseFault A) → begins begins_word text ≡ b → fault.committed ≡ true → Starves l.view l.at old fault new ⊎ Refuses l.view l.at (name_at text) old fault new → Starves l.view l.at old fault new
+  unfolding word_at
+  bad_name b text old new fault e c (inl h) = h
+  bad_name true text old new fault e c (inr h) = absurd (rw e at h)
+  bad_name false text old new fault e c (inr h) = let m = rw e at h in absurd (true≢false (sym c ∙ m.committed))
+
+  -- a name is never bad: its committed fault is want of memory
+  pub name_starves : {Y : Type 0} {see : Y → Name ℕ} {old new : S} {fault : ParseFault A} → (l.view old).failed ≡ false → MayRead l.view l.at see name_at old (Err fault) new → fault.committed ≡ true → Starves l.view l.at old fault new
+  name_starves {old = old} {new = new} {fault = fault} fine h c = bad_name (begins begins_word (l.view old).rest) (l.view old).rest old new fault refl c (rw fine at h.answers)
+
+  pub passed_starves : {V : Type 0} {outcome next : Text → Outcome V} {old mid new : S} {fault : ParseFault A} → Passed l outcome next old mid → Starves l.view l.at mid fault new → Starves l.view l.at old fault new
+  passed_starves {old = old} {mid = mid} {new = new} {fault = fault} p h = starves_after l.view l.at l.view_at l.at_at old mid new p.taken (l.view mid).rest fault p.takes h
+
+  -- there are none
+  pub results_none : {names : List Text} {old new : S} (found : List ReadName) → found ≡ [] → (l.view old).failed ≡ false → is_read (results_at (l.view old).rest) ≡ false → new ≡ old → MustNames {A = A} l.view l.at names results_if_at old (Ok found) new
+  results_none {names = names} {old = old} found none fine e n = record {
+    meant = λ _. [];
+    means = rw none tt;
+    read = record { answers = rw (fine, no_results (results_at (l.view old).rest) (l.view old).rest e, n) (refl, takes_none l.view l.at l.view_at l.at_at l.at_view old) };
+  }
+
+  -- a stream that had failed is refused
+  pub results_fail : {names : List Text} {old new : S} {fault : ParseFault A} → (l.view old).failed ≡ true → Commits l.view l.at Failed [] old fault new → MustNames {A = A} l.view l.at names results_if_at old (Err fault) new
+  results_fail e h = record { meant = λ _. []; means = tt; read = record { answers = rw e (inr h) } }
+
+  -- memory was refused
+  pub results_starve : {names : List Text} {old start new : S} {fault : ParseFault A} → start ≡ old → Starves l.view l.at start fault new → MustNames {A = A} l.view l.at names results_if_at old (Err fault) new
+  results_starve {names = names} {new = new} {fault = fault} still h =
+      subst (λ s. MustNames {A = A} l.view l.at names results_if_at s (Err fault) new) still (record { meant = λ _. []; means = tt; read = record { answers = inl h } })
+
+  -- memory was refused where the stream stands
+  pub passed_here : {V : Type 0} {outcome next : Text → Outcome V} {old mid new : S} {fault : ParseFault A} → Passed l outcome next old mid → StarvesHere l.view l.at mid fault new → Starves l.view l.at old fault new
+  passed_here {old = old} {mid = mid} {new = new} {fault = fault} p h = starves_behind l.view l.at l.view_at l.at_at old mid new p.taken (l.view mid).rest fault p.fine p.takes h
+
+  -- there is a first name, and a look behind it
+  pub list_looks : (before names : List Text) {old mid new : S} (last : S) {n : ReadName} (r : Result (Option (List ReadName)) (ParseFault A)) → MayName {A = A} l.view l.at before name_at old (Ok n) mid → Takes l.view l.at (front is_whitespace (l.view mid).rest) (after is_whitespace (l.view mid).rest) mid new
+      → LooksBehind l.view l.at before names n new r last → Looks l.view l.at names (separated_at 44 name_at) old r last
+  list_looks before names {old = old} {mid = mid} {new = new} last {n = n} r h k rest = go r rest
+    where
+      e : whole (l.view new) ≡ whole (l.view old)
+      e = takes_whole l mid new (front is_whitespace (l.view mid).rest) (after is_whitespace (l.view mid).rest) k ∙ may_whole l h.read
+
+      i : MayRead {A = A} {Y = ReadName} l.view l.at (λ _. h.meant n ∷ []) (item_after 44 name_at []) old (Ok n) new
+      i = first_read l name_at h.read k
+
+      p : Passed l (λ t. followed (item_after 44 name_at [] t) (behind_first name_at)) (behind_first name_at (h.meant n ∷ [])) old new
+      p = begins_with l (behind_first name_at) i
+
+      go : (r : Result (Option (List ReadName)) (ParseFault A)) → LooksBehind l.view l.at before names n new r last → Looks l.view l.at names (separated_at 44 name_at) old r last
+      go (Ok (Some found)) rest = list_names l name_at before names h k rest
+      go (Ok None) rest =
+          let x = rest (h.meant n) (subst (λ t. StandsFor before t n (h.meant n)) (sym e) h.means) (fine_there l p) in (
+            begun_unread l (l.view old).failed (item_after 44 name_at [] (l.view old).rest) (behind_first name_at) (l.view old).rest old new (h.meant n ∷ []) i.answers (passed_unread l p x.0),
+            stands_after l.view l.at l.view_at l.at_at false old new last p.taken (l.view new).rest p.takes x.1,
+          )
+      go (Err fault) rest = passed_starves p (rest (h.meant n) (subst (λ t. StandsFor before t n (h.meant n)) (sym e) h.means) (fine_there l p))

@@ -1,0 +1,35 @@
+use Rattle.std.proofs.Common.{sym, ◌∙◌}
+use Rattle.irtext_base.specs.Text.{front, after, in_word}
+use Rattle.irtext_base.proofs.Compose.{takes_stands}
+use Rattle.irtext_read.proofs.SetBack.{set_back, set_within}
+use Rattle.irtext_parse_pieces.proofs.Looks.{dotted_there}
+use Rattle.irtext_read.proofs.Steps.{Lens, lens}
+use Rattle.irtext_parse_pieces.proofs.results.begins_id.Given as given
+use Rattle.irtext_parse_pieces.proofs.results.begins_id.Goals as goal
+
+-- the stream's view, and the rules that it keeps
+abbrev stream : (g : given.Over) → Lens g.row.S.Denot
+stream g = let m = g.met.S.CharStream in lens g.S.CharStream.view g.S.CharStream.at m.view_at m.at_view m.at_at
+
+pub reset-requires : goal.reset-requires
+reset-requires g c =
+    let l = stream g in
+    let old = c.args.stream.now in
+    let mid = c.skip_identifier.new.stream in
+    let text = (l.view old).rest in
+    let s = takes_stands l.view l.at l.view_at l.at_at old mid (front in_word text) (after in_word text) c.if-not-skip_identifier.ensures.1 in
+    record { passed = (l.view old).passed; rest = text; same = set_within l old mid s; stands = c.position-place.ensures }
+
+pub returns-clause-no_results : goal.returns-clause-no_results
+returns-clause-no_results g c = λ e.
+    let word = c.if-not-skip_identifier.ensures in
+    dotted_there (stream g) c.args.stream.now c.skip_identifier.new.stream word.0 word.1 (sym c.next_is-dotted.ensures ∙ e)
+
+pub returns-clause-still : goal.returns-clause-still
+returns-clause-still g c =
+    let l = stream g in
+    let old = c.args.stream.now in
+    let mid = c.skip_identifier.new.stream in
+    let text = (l.view old).rest in
+    let s = takes_stands l.view l.at l.view_at l.at_at old mid (front in_word text) (after in_word text) c.if-not-skip_identifier.ensures.1 in
+    set_back l old mid c.reset.new.self s (c.reset.ensures (l.view old).passed (l.view old).rest (set_within l old mid s) c.position-place.ensures)

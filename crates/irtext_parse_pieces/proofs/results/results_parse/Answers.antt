@@ -1,0 +1,40 @@
+use Rattle.std.proofs.Common.{◌≡◌, false, sym, ◌∙◌, ap, subst}
+use Rattle.irtext_base.specs.Answers.{Stands}
+use Rattle.irtext_nesting.specs.Heads.{results_at}
+use Rattle.irtext_parse_pieces.specs.Results.{is_read}
+use Rattle.irtext_read.proofs.Exits.{handed_on}
+use Rattle.irtext_read.proofs.SetBack.{set_back, set_within}
+use Rattle.irtext_parse_pieces.proofs.Looks.{results_none, results_starve, results_fail}
+use Rattle.irtext_read.proofs.Steps.{Lens, lens}
+use Rattle.irtext_parse_pieces.proofs.results.results_parse.Given as given
+use Rattle.irtext_parse_pieces.proofs.results.results_parse.Goals as goal
+
+-- the stream's view, and the rules that it keeps
+abbrev stream : (g : given.Over) → Lens g.row.S.Denot
+stream g = let m = g.met.S.CharStream in lens g.S.CharStream.view g.S.CharStream.at m.view_at m.at_view m.at_at
+
+pub returns-then-has_failed-clause-read : goal.returns-then-has_failed-clause-read
+returns-then-has_failed-clause-read g c = results_fail (stream g) (sym c.has_failed.ensures ∙ c.if-has_failed.true) c.refuse.ensures
+
+pub returns-then-begins_id-clause-read : goal.returns-then-begins_id-clause-read
+returns-then-begins_id-clause-read g c = results_none (stream g) c.none.result c.none.ensures (sym c.has_failed.ensures ∙ c.if-has_failed.false) (c.begins_id.ensures.no_results c.if-begins_id.true) c.begins_id.ensures.still
+
+pub returns-in_err-results-clause-read : goal.returns-in_err-results-clause-read
+returns-in_err-results-clause-read g c =
+    let l = stream g in
+    let still = c.begins_id.ensures.still in
+    let fine = ap (λ s. (l.view s).failed) still ∙ (sym c.has_failed.ensures ∙ c.if-has_failed.false) in
+    rw (handed_on c.from_residual.result c.from_residual.ensures.1) (results_starve l still (c.in_err-results.ensures.looks fine))
+
+pub returns-in-None-clause-read : goal.returns-in-None-clause-read
+returns-in-None-clause-read g c =
+    let l = stream g in
+    let start = c.begins_id.new.stream in
+    let mid = c.results_there.new.stream in
+    let still = c.begins_id.ensures.still in
+    let fine : (l.view c.args.stream.now).failed ≡ false = sym c.has_failed.ensures ∙ c.if-has_failed.false in
+    let begun : (l.view start).failed ≡ false = ap (λ s. (l.view s).failed) still ∙ fine in
+    let k = (rw c.in-None.is at c.in_ok-results.ensures.looks) begun in
+    let s = subst (λ b. Stands l.view l.at b start mid) (sym begun) k.1 in
+    let e = set_back l start mid c.reset.new.self s (c.reset.ensures (l.view start).passed (l.view start).rest (set_within l start mid s) c.position-place.ensures) in
+    results_none l c.none-in-None.result c.none-in-None.ensures fine (subst (λ t. is_read (results_at (l.view t).rest) ≡ false) still k.0) (e ∙ still)

@@ -1,0 +1,17 @@
+-- Between functions: what the steps of the code are to the theory.
+use Rattle.irtext_base.specs.Format as format
+use Rattle.irtext_base.specs.Faults.{characters}
+use Rattle.irtext_formats.specs.Directives.{directive_of}
+use Rattle.irtext_nesting.specs.Heads.{Step, flat, types, all, step_of}
+use Rattle.irtext_parse_pieces.specs.declared.steps.FormatStep.{FormatStep}
+use Rattle.irtext_parse_pieces.specs.declared.steps.FormatStep.TheVariants as step
+
+-- the theory's step
+abbrev pub seen_step : FormatStep → Step
+seen_step (step.Directive d) = step_of (directive_of d.now)
+seen_step (step.Word w) = flat (format.word (characters w.now))
+seen_step step.Operands = flat format.operands
+seen_step step.Successors = flat format.successors
+seen_step step.Dictionary = flat format.dictionary
+seen_step step.Types = types
+seen_step step.Regions = all

@@ -1,0 +1,87 @@
+//! Reading of the arguments of a block.
+ghost use Rattle.irtext_read.specs.ListOutcomes.{separated_at};
+ghost use Rattle.irtext_read.specs.AttrTexts.{attr_at};
+ghost use Rattle.irtext_nesting.specs.Heads.{argument_at};
+ghost use Rattle.irtext_parse_pieces.specs.Arguments.{IsArgument, MustArguments, ArgumentsBehind};
+ghost use Rattle.irtext_parse_pieces.specs.Named.{MayMean, NamesRead, whole};
+
+use crate::lists::{NameKind, none_named, with_item};
+use crate::names::{ReadName, name_parse};
+use irtext_base::parsable::{CharStream, ParseResult};
+use irtext_base::text::{AttrText, IrText};
+use irtext_few::Few;
+use irtext_read::irfmt::demanded::spaced_text_demanded;
+use irtext_read::irfmt::faults::{committed, next_is, out_of_memory};
+use irtext_read::irfmt::parsers::skip_white_space;
+use irtext_read::parsable::OwnStream;
+use irtext_scopes::tracker::NameTracker;
+use std::alloc::AllocError;
+
+/// Reads an argument of a block: a name, `:` and a type. Where no name begins, the fault is uncommitted and the stream stays; other
+/// faults are committed.
+fn argument_parse<S: OwnStream, V: Copy, B: Copy, T: IrText<A>, A: AttrText>(
+    stream: &mut S,
+    names: &mut NameTracker<V, B>,
+) -> ParseResult<(ReadName, T), A>
+    ensures read { MayMean S.CharStream.view S.CharStream.at (IsArgument names.new.names (whole (S.CharStream.view stream.old)))
+        (argument_at T.IrText.reading (attr_at A.IrText.reading)) stream.old result stream.new }
+    ensures names { NamesRead names.old names.new }
+{
+    let name = name_parse(stream, names)?;
+    spaced_text_demanded(stream, ":")?;
+    let answer = stream.read_own();
+    let ty = committed(stream, answer)?;
+    Ok((name, ty))
+}
+
+/// Reads the arguments behind the first one, as long as `,` follows.
+fn more_arguments<S: OwnStream, V: Copy, B: Copy, T: IrText<A>, A: AttrText>(
+    stream: &mut S,
+    names: &mut NameTracker<V, B>,
+    first: (ReadName, T),
+) -> ParseResult<Few<(ReadName, T)>, A>
+    ensures read { ArgumentsBehind S.CharStream.view S.CharStream.at names.old.names names.new.names
+        (argument_at T.IrText.reading (attr_at A.IrText.reading)) first stream.old result stream.new }
+    ensures names { NamesRead names.old names.new }
+{
+    let mut found = Few::one(first);
+    while next_is(stream, ',') {
+        let _ = stream.take();
+        skip_white_space(stream);
+        let answer = argument_parse(stream, names);
+        let next = committed(stream, answer)?;
+        skip_white_space(stream);
+        found = match with_item(stream.allocator(), found, next) {
+            Ok(more) => more,
+            Err(AllocError) => return Err(out_of_memory(stream)),
+        };
+    }
+    Ok(found)
+}
+
+/// Reads the arguments of a block, each a name, `:` and a type, with `,` between them and white space after each. Where no name begins,
+/// there are none. A fault is committed.
+pub fn arguments_parse<S: OwnStream, V: Copy, B: Copy, T: IrText<A>, A: AttrText>(
+    stream: &mut S,
+    names: &mut NameTracker<V, B>,
+) -> ParseResult<Few<(ReadName, T)>, A>
+    ensures read { MustArguments S.CharStream.view S.CharStream.at names.new.names
+        (separated_at 44 (argument_at T.IrText.reading (attr_at A.IrText.reading))) stream.old result stream.new }
+    ensures names { NamesRead names.old names.new }
+{
+    if none_named(stream, NameKind::Value) {
+        return Ok(Few::none());
+    }
+    match argument_parse(stream, names) {
+        Ok(first) => {
+            skip_white_space(stream);
+            more_arguments(stream, names, first)
+        }
+        Err(fault) => {
+            if fault.committed {
+                return Err(fault);
+            }
+            Ok(Few::none())
+        }
+    }
+}

@@ -1,0 +1,133 @@
+//! Reading of dictionaries: attributes under keys, whatever keys may stand there.
+ghost use Rattle.irtext_read.specs.AttrTexts.{attr_at};
+ghost use Rattle.irtext_read.specs.ListOutcomes.{separated_at};
+ghost use Rattle.irtext_read.specs.MustRead.{MustRead};
+ghost use Rattle.irtext_outcomes.specs.Readers.Directives.{attribute_at};
+ghost use Rattle.irtext_grammar.specs.Contexts.Held.{attribute_of};
+ghost use Rattle.irtext_nesting.specs.Heads.{name_at, pair_at, dictionary_at};
+ghost use Rattle.irtext_parse_pieces.specs.Entries.{IsKey, IsEntry, MustEntries, EntriesBehind, MustDictionaryIf};
+ghost use Rattle.irtext_parse_pieces.specs.Named.{MayMean, whole};
+
+use crate::lists::{NameKind, none_named};
+use irtext_base::base::{AttrObj, Identifier};
+use irtext_base::parsable::{CharStream, ParseResult, Place};
+use irtext_base::result::Cause;
+use irtext_base::text::AttrText;
+use irtext_read::irfmt::demanded::{spaced_text_demanded, text_demanded};
+use irtext_read::irfmt::faults::{committed, next_is, out_of_memory, refuse};
+use irtext_read::irfmt::parsers::{attr_parse, identifier_parse, skip_white_space};
+use irtext_read::parsable::OwnStream;
+
+/// A key that was read, and where it stands.
+#[derive(Drop)]
+pub struct Key {
+    pub name: Identifier,
+    pub at: Place,
+}
+
+/// An entry of a dictionary that was read: a key and its attribute.
+pub type ReadEntry<A> = (Key, AttrObj<A>);
+
+/// Reads an attribute, with its faults committed.
+pub fn attr_demanded<S: OwnStream, A: AttrText>(stream: &mut S) -> ParseResult<AttrObj<A>, A>
+    ensures { MustRead S.CharStream.view S.CharStream.at attribute_of (attribute_at (attr_at A.IrText.reading)) stream.old result stream.new }
+{
+    let answer = attr_parse(stream);
+    committed(stream, answer)
+}
+
+/// Reads a key. Where no name begins, the fault is uncommitted and the stream stays.
+pub fn key_parse<S: CharStream, A>(stream: &mut S) -> ParseResult<Key, A>
+    ensures { MayMean S.view S.at (IsKey (whole (S.view stream.old))) name_at stream.old result stream.new }
+{
+    let at = stream.position();
+    let name = identifier_parse(stream)?;
+    Ok(Key { name, at })
+}
+
+/// Reads an entry of a dictionary: a key, `:` and an attribute. Where no name begins, the fault is uncommitted and the stream stays;
+/// other faults are committed.
+fn entry_parse<S: OwnStream, A: AttrText>(stream: &mut S) -> ParseResult<ReadEntry<A>, A>
+    ensures { MayMean S.CharStream.view S.CharStream.at (IsEntry (whole (S.CharStream.view stream.old)))
+        (pair_at (attr_at A.IrText.reading)) stream.old result stream.new }
+{
+    let key = key_parse(stream)?;
+    spaced_text_demanded(stream, ":")?;
+    let attr = attr_demanded(stream)?;
+    Ok((key, attr))
+}
+
+/// Reads the entries behind the first one, as long as `,` follows.
+fn more_entries<S: OwnStream, A: AttrText>(
+    stream: &mut S,
+    first: ReadEntry<A>,
+) -> ParseResult<Vec<ReadEntry<A>>, A>
+    ensures { EntriesBehind S.CharStream.view S.CharStream.at (pair_at (attr_at A.IrText.reading)) first stream.old result stream.new }
+{
+    let mut found = Vec::new(stream.allocator());
+    let Ok(()) = found.push(first) else {
+        return Err(out_of_memory(stream));
+    };
+    while next_is(stream, ',') {
+        let _ = stream.take();
+        skip_white_space(stream);
+        let answer = entry_parse(stream);
+        let next = committed(stream, answer)?;
+        skip_white_space(stream);
+        let Ok(()) = found.push(next) else {
+            return Err(out_of_memory(stream));
+        };
+    }
+    Ok(found)
+}
+
+/// Reads entries with `,` between them and white space after each. Where no name begins, there are none. A fault is committed.
+fn entries_parse<S: OwnStream, A: AttrText>(stream: &mut S) -> ParseResult<Vec<ReadEntry<A>>, A>
+    ensures { MustEntries S.CharStream.view S.CharStream.at (separated_at 44 (pair_at (attr_at A.IrText.reading))) stream.old result stream.new }
+{
+    if none_named(stream, NameKind::Value) {
+        return Ok(Vec::new(stream.allocator()));
+    }
+    match entry_parse(stream) {
+        Ok(first) => {
+            skip_white_space(stream);
+            more_entries(stream, first)
+        }
+        Err(fault) => {
+            if fault.committed {
+                return Err(fault);
+            }
+            Ok(Vec::new(stream.allocator()))
+        }
+    }
+}
+
+/// Reads a dictionary: entries between brackets, each a key, `:` and an attribute, with `,` between them. Which keys may stand there,
+/// and how often, is not looked at. A dictionary with no entry takes no memory, and one with entries takes a vector. A fault is committed.
+pub fn dictionary_parse<S: OwnStream, A: AttrText>(
+    stream: &mut S,
+) -> ParseResult<Vec<ReadEntry<A>>, A>
+    ensures { MustEntries S.CharStream.view S.CharStream.at (dictionary_at (attr_at A.IrText.reading)) stream.old result stream.new }
+{
+    text_demanded(stream, "[")?;
+    skip_white_space(stream);
+    let entries = entries_parse(stream)?;
+    text_demanded(stream, "]")?;
+    Ok(entries)
+}
+
+/// Reads a dictionary as `dictionary_parse` does, where a `[` stands. A fault is committed.
+pub fn dictionary_if_parse<S: OwnStream, A: AttrText>(
+    stream: &mut S,
+) -> ParseResult<Option<Vec<ReadEntry<A>>>, A>
+    ensures { MustDictionaryIf S.CharStream.view S.CharStream.at (attr_at A.IrText.reading) stream.old result stream.new }
+{
+    if stream.has_failed() {
+        return Err(refuse(stream, Cause::StreamFailed));
+    }
+    if !next_is(stream, '[') {
+        return Ok(None);
+    }
+    let entries = dictionary_parse(stream)?;
+    Ok(Some(entries))
+}

@@ -1,0 +1,93 @@
+//! Reading of what an operation's format has in front of its first region.
+ghost use Rattle.std.specs.Prelude.{◌≡◌, ◌+◌, ◌<◌, ◌^◌, false, length, IfOk};
+ghost use Rattle.irtext_formats.specs.Directives.{format_of};
+ghost use Rattle.irtext_read.specs.AttrTexts.{attr_at};
+ghost use Rattle.irtext_nesting.specs.Heads.{steps_of, front_steps, piece_at};
+ghost use Rattle.irtext_parse_pieces.specs.Fronts.{MustFront, MustFind};
+ghost use Rattle.irtext_parse_pieces.specs.Named.{NamesRead};
+ghost use Rattle.irtext_parse_pieces.specs.Steps.{seen_step};
+
+use crate::found::Pieces;
+use crate::pieces::step_parse;
+use crate::steps::{FormatStep, reads_piece, step_there, word_of};
+use irtext_base::format::OpFormat;
+use irtext_base::parsable::{CharStream, ParseResult};
+use irtext_base::result::Cause;
+use irtext_base::text::{AttrText, IrText};
+use irtext_read::irfmt::demanded::text_demanded;
+use irtext_read::irfmt::faults::{out_of_memory, refuse};
+use irtext_read::irfmt::parsers::skip_white_space;
+use irtext_read::parsable::OwnStream;
+use irtext_scopes::tracker::NameTracker;
+use std::alloc::AllocError;
+
+/// Reads what a step of a format reads, where that is no region, and puts it behind the pieces that were found. A fault is committed.
+fn step_found<S: OwnStream, V: Copy, B: Copy, T: IrText<A>, A: AttrText>(
+    stream: &mut S,
+    names: &mut NameTracker<V, B>,
+    step: FormatStep<'_>,
+    inside: bool,
+    found: &mut Pieces<T, A>,
+) -> ParseResult<(), A>
+    requires { length found.old + 1 < 2 ^ 64 }
+    ensures read { MustFind S.CharStream.view S.CharStream.at names.new.names
+        (piece_at T.IrText.reading (attr_at A.IrText.reading) inside (seen_step step.entry)) found.old found.new stream.old result stream.new }
+    ensures names { NamesRead names.old names.new }
+{
+    if let Some(word) = word_of(step) {
+        text_demanded(stream, word)?;
+        found.push_word();
+        return Ok(());
+    }
+    let piece = step_parse(stream, names, step, inside)?;
+    match found.push(piece) {
+        Ok(()) => Ok(()),
+        Err(AllocError) => Err(out_of_memory(stream)),
+    }
+}
+
+/// Reads what the steps of a format read, up to the first that reads regions, with white space before each.
+fn pieces_parse<S: OwnStream, V: Copy, B: Copy, T: IrText<A>, A: AttrText>(
+    stream: &mut S,
+    names: &mut NameTracker<V, B>,
+    format: &OpFormat,
+    inside: bool,
+) -> ParseResult<Pieces<T, A>, A>
+    ensures read { (S.CharStream.view stream.old).failed ≡ false → MustFront S.CharStream.view S.CharStream.at names.new.names
+        T.IrText.reading (attr_at A.IrText.reading) inside (steps_of (format_of format.now)) stream.old result stream.new }
+    ensures count { IfOk result (λ found. length found ≡ length (front_steps (steps_of (format_of format.now)))) }
+    ensures names { NamesRead names.old names.new }
+{
+    let mut found = match Pieces::none(stream.allocator()) {
+        Ok(found) => found,
+        Err(AllocError) => return Err(out_of_memory(stream)),
+    };
+    while let Some(step) = step_there(format, found.len()) {
+        if !reads_piece(step) {
+            return Ok(found);
+        }
+        skip_white_space(stream);
+        step_found(stream, names, step, inside, &mut found)?;
+    }
+    Ok(found)
+}
+
+/// Reads what the steps of a format in front of the first that reads regions read, one piece each, with white space before each, inside
+/// of some region or outside of each, where no name can be used. As many pieces are found as there are such steps. A fault is committed,
+/// and leaves the stream failed.
+pub fn front_parse<S: OwnStream, V: Copy, B: Copy, T: IrText<A>, A: AttrText>(
+    stream: &mut S,
+    names: &mut NameTracker<V, B>,
+    format: &OpFormat,
+    inside: bool,
+) -> ParseResult<Pieces<T, A>, A>
+    ensures read { MustFront S.CharStream.view S.CharStream.at names.new.names
+        T.IrText.reading (attr_at A.IrText.reading) inside (steps_of (format_of format.now)) stream.old result stream.new }
+    ensures count { IfOk result (λ found. length found ≡ length (front_steps (steps_of (format_of format.now)))) }
+    ensures names { NamesRead names.old names.new }
+{
+    if stream.has_failed() {
+        return Err(refuse(stream, Cause::StreamFailed));
+    }
+    pieces_parse(stream, names, format, inside)
+}

@@ -1,0 +1,272 @@
+//! Reading of what one step of a format reads, where that is no region.
+ghost use Rattle.std.specs.Prelude.{List};
+ghost use Rattle.irtext_base.specs.Answers.{Missing};
+ghost use Rattle.irtext_base.specs.Faults.{characters, Unexpected, AnOperation};
+ghost use Rattle.irtext_base.specs.Stream.{first_of};
+ghost use Rattle.irtext_base.specs.Text.{Text};
+ghost use Rattle.irtext_read.specs.AttrTexts.{attr_at};
+ghost use Rattle.irtext_read.specs.Infix.{◌⇒◌};
+ghost use Rattle.irtext_read.specs.ListOutcomes.{separated_at};
+ghost use Rattle.irtext_read.specs.MustRead.{MustRead};
+ghost use Rattle.irtext_read.specs.Tokens.{text_at};
+ghost use Rattle.irtext_grammar.specs.Grammar.Tree.{word, operand, operands, successor, successors, attribute, dictionary, result_type, header, types};
+ghost use Rattle.irtext_formats.specs.Directives.{directive_of};
+ghost use Rattle.irtext_nesting.specs.Heads.{outlined_or_at, used_at, target_at, symbol_at, dictionary_at, directive_at, piece_at};
+ghost use Rattle.irtext_parse_pieces.specs.Pieces.{seen_attribute, Accepts, MustPiece};
+ghost use Rattle.irtext_parse_pieces.specs.Named.{NamesRead};
+ghost use Rattle.irtext_parse_pieces.specs.Steps.{seen_step};
+
+use crate::entries::{ReadEntry, attr_demanded, dictionary_parse};
+use crate::lists::{NameKind, names_parse};
+use crate::names::{ReadName, Symbol, symbol_demanded, target_demanded, used_demanded};
+use crate::steps::FormatStep;
+use crate::types::types_parse;
+use irtext_base::base::{AttrObj, Identifier};
+use irtext_base::format::Directive;
+use irtext_base::parsable::{CharStream, ParseResult};
+use irtext_base::result::{Cause, Expected};
+use irtext_base::text::{AttrText, IrText};
+use irtext_few::Few;
+use irtext_read::irfmt::demanded::text_demanded;
+use irtext_read::irfmt::faults::{commit_unexpected, committed, out_of_memory, refuse};
+use irtext_read::parsable::OwnStream;
+use irtext_scopes::tracker::NameTracker;
+
+/// What one directive of a format read, or a list of types of the form that any operation has.
+#[derive(Drop)]
+pub enum ReadPiece<T, A> {
+    /// A fixed text, of which nothing is kept.
+    Word,
+    /// The name of the operand at this place.
+    Operand(usize, ReadName),
+    /// The names of the other operands.
+    Operands(Few<ReadName>),
+    /// The label of the successor at this place.
+    Successor(usize, ReadName),
+    /// The labels of the other successors.
+    Successors(Few<ReadName>),
+    /// The attribute under this key, or none where the marker of an attribute of the section stands.
+    Attr(Identifier, Option<AttrObj<A>>),
+    /// The entries of a dictionary.
+    Dictionary(Vec<ReadEntry<A>>),
+    /// The type of the result at this place.
+    ResultType(usize, T),
+    /// The symbol's name.
+    Header(Symbol),
+    /// A list of types.
+    Types(Few<T>),
+}
+
+/// Passes a fixed text where it stands whole, and answers whether it does.
+fn accepts<S: CharStream>(stream: &mut S, text: &str) -> bool
+    ensures { Accepts S.view S.at (characters text.now) stream.old result stream.new }
+{
+    stream.accept(text)
+}
+
+/// Reads the marker of an attribute that the section has, or an attribute. A fault is committed.
+fn outlined_or_demanded<S: OwnStream, A: AttrText>(
+    stream: &mut S,
+) -> ParseResult<Option<AttrObj<A>>, A>
+    ensures { MustRead S.CharStream.view S.CharStream.at seen_attribute (outlined_or_at (attr_at A.IrText.reading)) stream.old result stream.new }
+{
+    if stream.has_failed() {
+        return Err(refuse(stream, Cause::StreamFailed));
+    }
+    if accepts(stream, "!outlined") {
+        return Ok(None);
+    }
+    let attr = attr_demanded(stream)?;
+    Ok(Some(attr))
+}
+
+/// Reads a fixed text.
+fn word_piece<S: OwnStream, T: IrText<A>, A: AttrText>(
+    stream: &mut S,
+    text: &str,
+) -> ParseResult<ReadPiece<T, A>, A>
+    ensures { (names : List Text) → MustPiece S.CharStream.view S.CharStream.at names
+        (text_at (characters text.now) ⇒ λ _. word (characters text.now)) stream.old result stream.new }
+{
+    text_demanded(stream, text)?;
+    Ok(ReadPiece::Word)
+}
+
+/// Reads the name of an operand.
+fn operand_piece<S: OwnStream, V: Copy, B: Copy, T: IrText<A>, A: AttrText>(
+    stream: &mut S,
+    names: &mut NameTracker<V, B>,
+    index: usize,
+    inside: bool,
+) -> ParseResult<ReadPiece<T, A>, A>
+    ensures read { MustPiece S.CharStream.view S.CharStream.at names.new.names (used_at inside ⇒ operand index) stream.old result stream.new }
+    ensures names { NamesRead names.old names.new }
+{
+    let name = used_demanded(stream, names, inside)?;
+    Ok(ReadPiece::Operand(index, name))
+}
+
+/// Reads the names of operands.
+fn operands_piece<S: OwnStream, V: Copy, B: Copy, T: IrText<A>, A: AttrText>(
+    stream: &mut S,
+    names: &mut NameTracker<V, B>,
+    inside: bool,
+) -> ParseResult<ReadPiece<T, A>, A>
+    ensures read { MustPiece S.CharStream.view S.CharStream.at names.new.names
+        (separated_at 44 (used_at inside) ⇒ operands) stream.old result stream.new }
+    ensures names { NamesRead names.old names.new }
+{
+    let found = names_parse(stream, names, NameKind::Value, inside)?;
+    Ok(ReadPiece::Operands(found))
+}
+
+/// Reads the label of a successor.
+fn successor_piece<S: OwnStream, V: Copy, B: Copy, T: IrText<A>, A: AttrText>(
+    stream: &mut S,
+    names: &mut NameTracker<V, B>,
+    index: usize,
+    inside: bool,
+) -> ParseResult<ReadPiece<T, A>, A>
+    ensures read { MustPiece S.CharStream.view S.CharStream.at names.new.names (target_at inside ⇒ successor index) stream.old result stream.new }
+    ensures names { NamesRead names.old names.new }
+{
+    let label = target_demanded(stream, names, inside)?;
+    Ok(ReadPiece::Successor(index, label))
+}
+
+/// Reads the labels of successors.
+fn successors_piece<S: OwnStream, V: Copy, B: Copy, T: IrText<A>, A: AttrText>(
+    stream: &mut S,
+    names: &mut NameTracker<V, B>,
+    inside: bool,
+) -> ParseResult<ReadPiece<T, A>, A>
+    ensures read { MustPiece S.CharStream.view S.CharStream.at names.new.names
+        (separated_at 44 (target_at inside) ⇒ successors) stream.old result stream.new }
+    ensures names { NamesRead names.old names.new }
+{
+    let found = names_parse(stream, names, NameKind::Block, inside)?;
+    Ok(ReadPiece::Successors(found))
+}
+
+/// Reads the marker or the attribute of a directive, which names this key.
+fn attr_piece<S: OwnStream, T: IrText<A>, A: AttrText>(
+    stream: &mut S,
+    key: &Identifier,
+) -> ParseResult<ReadPiece<T, A>, A>
+    ensures { (names : List Text) → MustPiece S.CharStream.view S.CharStream.at names
+        (outlined_or_at (attr_at A.IrText.reading) ⇒ attribute key.now) stream.old result stream.new }
+{
+    let attr = outlined_or_demanded(stream)?;
+    match key.clone() {
+        Ok(key) => Ok(ReadPiece::Attr(key, attr)),
+        Err(_) => Err(out_of_memory(stream)),
+    }
+}
+
+/// Reads a dictionary.
+fn dictionary_piece<S: OwnStream, T: IrText<A>, A: AttrText>(
+    stream: &mut S,
+) -> ParseResult<ReadPiece<T, A>, A>
+    ensures { (names : List Text) → MustPiece S.CharStream.view S.CharStream.at names
+        (dictionary_at (attr_at A.IrText.reading) ⇒ dictionary) stream.old result stream.new }
+{
+    let entries = dictionary_parse(stream)?;
+    Ok(ReadPiece::Dictionary(entries))
+}
+
+/// Reads the type of a result.
+fn type_piece<S: OwnStream, T: IrText<A>, A: AttrText>(
+    stream: &mut S,
+    index: usize,
+) -> ParseResult<ReadPiece<T, A>, A>
+    ensures { (names : List Text) → MustPiece S.CharStream.view S.CharStream.at names
+        (T.IrText.reading ⇒ result_type index) stream.old result stream.new }
+{
+    let answer = stream.read_own();
+    let ty = committed(stream, answer)?;
+    Ok(ReadPiece::ResultType(index, ty))
+}
+
+/// Reads a symbol's name.
+fn header_piece<S: OwnStream, T: IrText<A>, A: AttrText>(
+    stream: &mut S,
+) -> ParseResult<ReadPiece<T, A>, A>
+    ensures { (names : List Text) → MustPiece S.CharStream.view S.CharStream.at names (symbol_at ⇒ header) stream.old result stream.new }
+{
+    let symbol = symbol_demanded(stream)?;
+    Ok(ReadPiece::Header(symbol))
+}
+
+/// Reads a list of types, as it stands in the form that any operation has.
+fn types_piece<S: OwnStream, T: IrText<A>, A: AttrText>(
+    stream: &mut S,
+) -> ParseResult<ReadPiece<T, A>, A>
+    ensures { (names : List Text) → MustPiece S.CharStream.view S.CharStream.at names
+        (separated_at 44 T.IrText.reading ⇒ types) stream.old result stream.new }
+{
+    let found = types_parse(stream)?;
+    Ok(ReadPiece::Types(found))
+}
+
+/// The refusal where a region would be read.
+fn no_piece<S: OwnStream, T: IrText<A>, A: AttrText>(
+    stream: &mut S,
+) -> ParseResult<ReadPiece<T, A>, A>
+    ensures { (names : List Text) → MustPiece S.CharStream.view S.CharStream.at names
+        (λ text. Missing (Unexpected (first_of text) AnOperation)) stream.old result stream.new }
+{
+    if stream.has_failed() {
+        return Err(refuse(stream, Cause::StreamFailed));
+    }
+    Err(commit_unexpected(stream, Expected::Operation))
+}
+
+/// Reads what a directive reads.
+fn piece_parse<S: OwnStream, V: Copy, B: Copy, T: IrText<A>, A: AttrText>(
+    stream: &mut S,
+    names: &mut NameTracker<V, B>,
+    directive: &Directive,
+    inside: bool,
+) -> ParseResult<ReadPiece<T, A>, A>
+    ensures read { MustPiece S.CharStream.view S.CharStream.at names.new.names
+        (directive_at T.IrText.reading (attr_at A.IrText.reading) inside (directive_of directive.now)) stream.old result stream.new }
+    ensures names { NamesRead names.old names.new }
+{
+    match directive {
+        Directive::Literal(text) => word_piece(stream, text.as_str()),
+        Directive::Operand(index) => operand_piece(stream, names, *index, inside),
+        Directive::Operands => operands_piece(stream, names, inside),
+        Directive::Successor(index) => successor_piece(stream, names, *index, inside),
+        Directive::Successors => successors_piece(stream, names, inside),
+        Directive::Attr(key) => attr_piece(stream, key),
+        Directive::AttrDict => dictionary_piece(stream),
+        Directive::ResultType(index) => type_piece(stream, *index),
+        Directive::SymbolHeader => header_piece(stream),
+        Directive::Region(_) => no_piece(stream),
+        Directive::Regions => no_piece(stream),
+    }
+}
+
+/// Reads what a step of a format reads, inside of some region or outside of each, where no name can be used. For an attribute the
+/// marker `!outlined` may stand; which keys a dictionary has is not looked at. Where the step reads regions, an operation is expected. A
+/// fault is committed, and leaves the stream failed.
+pub fn step_parse<S: OwnStream, V: Copy, B: Copy, T: IrText<A>, A: AttrText>(
+    stream: &mut S,
+    names: &mut NameTracker<V, B>,
+    step: FormatStep<'_>,
+    inside: bool,
+) -> ParseResult<ReadPiece<T, A>, A>
+    ensures read { MustPiece S.CharStream.view S.CharStream.at names.new.names
+        (piece_at T.IrText.reading (attr_at A.IrText.reading) inside (seen_step step.entry)) stream.old result stream.new }
+    ensures names { NamesRead names.old names.new }
+{
+    match step {
+        FormatStep::Directive(directive) => piece_parse(stream, names, directive, inside),
+        FormatStep::Word(text) => word_piece(stream, text),
+        FormatStep::Operands => operands_piece(stream, names, inside),
+        FormatStep::Successors => successors_piece(stream, names, inside),
+        FormatStep::Dictionary => dictionary_piece(stream),
+        FormatStep::Types => types_piece(stream),
+        FormatStep::Regions => no_piece(stream),
+    }
+}

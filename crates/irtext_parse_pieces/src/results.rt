@@ -1,0 +1,126 @@
+//! Reading of the names of an operation's results, which stand in front of its id.
+ghost use Rattle.std.specs.Prelude.{◌≡◌, true, false};
+ghost use Rattle.irtext_read.specs.ListOutcomes.{separated_at};
+ghost use Rattle.irtext_nesting.specs.Heads.{name_at, results_at};
+ghost use Rattle.irtext_parse_pieces.specs.Named.{MustNames, NamesRead};
+ghost use Rattle.irtext_parse_pieces.specs.Results.{is_read, results_if_at, Looks, LooksBehind};
+
+use crate::lists::with_item;
+use crate::names::{ReadName, name_parse};
+use irtext_base::parsable::{CharStream, ParseResult};
+use irtext_base::result::Cause;
+use irtext_few::Few;
+use irtext_read::irfmt::faults::{next_is, out_of_memory, refuse};
+use irtext_read::irfmt::parsers::{skip_identifier, skip_white_space};
+use irtext_scopes::tracker::NameTracker;
+use std::alloc::AllocError;
+
+/// Whether a word with `.` behind it comes next, as an operation's id begins. Nothing is passed.
+fn begins_id<S: CharStream>(stream: &mut S) -> bool
+    ensures no_results { result ≡ true → is_read (results_at (S.view stream.old).rest) ≡ false }
+    ensures still { stream.new ≡ stream.old }
+{
+    let place = stream.position();
+    if !skip_identifier(stream) {
+        return false;
+    }
+    let dotted = next_is(stream, '.');
+    stream.reset(place);
+    dotted
+}
+
+/// Looks for the names behind the first one, as long as `,` follows. There are none where no name stands behind a `,`.
+fn more_results<S: CharStream, V: Copy, B: Copy, A: Drop>(
+    stream: &mut S,
+    names: &mut NameTracker<V, B>,
+    first: ReadName,
+) -> ParseResult<Option<Few<ReadName>>, A>
+    ensures looks { LooksBehind S.view S.at names.old.names names.new.names first stream.old result stream.new }
+    ensures names { NamesRead names.old names.new }
+{
+    let mut found = Few::one(first);
+    while next_is(stream, ',') {
+        let _ = stream.take();
+        skip_white_space(stream);
+        let next = match name_parse(stream, names) {
+            Ok(next) => next,
+            Err(fault) => {
+                if fault.committed {
+                    return Err(fault);
+                }
+                return Ok(None);
+            }
+        };
+        skip_white_space(stream);
+        found = match with_item(stream.allocator(), found, next) {
+            Ok(more) => more,
+            Err(AllocError) => return Err(out_of_memory(stream)),
+        };
+    }
+    Ok(Some(found))
+}
+
+/// Looks for names with `,` between them.
+fn names_there<S: CharStream, V: Copy, B: Copy, A: Drop>(
+    stream: &mut S,
+    names: &mut NameTracker<V, B>,
+) -> ParseResult<Option<Few<ReadName>>, A>
+    ensures looks { (S.view stream.old).failed ≡ false → Looks S.view S.at names.new.names (separated_at 44 name_at) stream.old result stream.new }
+    ensures names { NamesRead names.old names.new }
+{
+    match name_parse(stream, names) {
+        Ok(first) => {
+            skip_white_space(stream);
+            more_results(stream, names, first)
+        }
+        Err(fault) => {
+            if fault.committed {
+                return Err(fault);
+            }
+            Ok(Some(Few::none()))
+        }
+    }
+}
+
+/// Looks for names with `,` between them and `=`.
+fn results_there<S: CharStream, V: Copy, B: Copy, A: Drop>(
+    stream: &mut S,
+    names: &mut NameTracker<V, B>,
+) -> ParseResult<Option<Few<ReadName>>, A>
+    ensures looks { (S.view stream.old).failed ≡ false → Looks S.view S.at names.new.names results_at stream.old result stream.new }
+    ensures names { NamesRead names.old names.new }
+{
+    let Some(found) = names_there(stream, names)? else {
+        return Ok(None);
+    };
+    if !next_is(stream, '=') {
+        return Ok(None);
+    }
+    let _ = stream.take();
+    Ok(Some(found))
+}
+
+/// Reads the names of an operation's results, with `,` between them and `=` behind them, where all of this stands; else nothing is
+/// passed, and there are none. A word with `.` behind it is an id, and not kept as a name. A fault is committed.
+pub fn results_parse<S: CharStream, V: Copy, B: Copy, A: Drop>(
+    stream: &mut S,
+    names: &mut NameTracker<V, B>,
+) -> ParseResult<Few<ReadName>, A>
+    ensures read { MustNames S.view S.at names.new.names results_if_at stream.old result stream.new }
+    ensures names { NamesRead names.old names.new }
+{
+    if stream.has_failed() {
+        return Err(refuse(stream, Cause::StreamFailed));
+    }
+    if begins_id(stream) {
+        return Ok(Few::none());
+    }
+    let place = stream.position();
+    match results_there(stream, names)? {
+        Some(results) => Ok(results),
+        None => {
+            stream.reset(place);
+            Ok(Few::none())
+        }
+    }
+}

@@ -1,0 +1,111 @@
+//! The steps by which an operation's own parts are read: the directives of its format, or the steps of the form that any operation has.
+ghost use Rattle.std.specs.Prelude.{◌≡◌, ◌+◌, ◌<◌, ◌^◌, slice_get, option_map, IfSome};
+ghost use Rattle.irtext_base.specs.Faults.{characters};
+ghost use Rattle.irtext_base.specs.Format.{is_any_region, word};
+ghost use Rattle.irtext_formats.specs.Directives.{directive_of, format_of};
+ghost use Rattle.irtext_nesting.specs.Heads.{canonical_steps, steps_of, flat};
+ghost use Rattle.irtext_nesting.specs.Resume.{is_flat};
+ghost use Rattle.irtext_parse_pieces.specs.Steps.{seen_step};
+
+use irtext_base::format::{Directive, OpFormat};
+
+/// One step of the reading of an operation's own parts.
+#[derive(Clone, Copy)]
+pub enum FormatStep<'f> {
+    /// What this directive reads.
+    Directive(&'f Directive),
+    /// This fixed text.
+    Word(&'f str),
+    /// The names of all operands.
+    Operands,
+    /// The labels of all successors.
+    Successors,
+    /// The dictionary of the attributes.
+    Dictionary,
+    /// A list of types.
+    Types,
+    /// All regions.
+    Regions,
+}
+
+/// A step of the form that any operation has.
+fn canonical_step<'f>(index: usize) -> Option<FormatStep<'f>>
+    ensures { option_map seen_step result ≡ slice_get canonical_steps index }
+{
+    match index {
+        0 => Some(FormatStep::Word("(")),
+        1 => Some(FormatStep::Operands),
+        2 => Some(FormatStep::Word(")")),
+        3 => Some(FormatStep::Word("[")),
+        4 => Some(FormatStep::Successors),
+        5 => Some(FormatStep::Word("]")),
+        6 => Some(FormatStep::Dictionary),
+        7 => Some(FormatStep::Word(":")),
+        8 => Some(FormatStep::Word("<")),
+        9 => Some(FormatStep::Word("(")),
+        10 => Some(FormatStep::Types),
+        11 => Some(FormatStep::Word(")")),
+        12 => Some(FormatStep::Word("->")),
+        13 => Some(FormatStep::Word("(")),
+        14 => Some(FormatStep::Types),
+        15 => Some(FormatStep::Word(")")),
+        16 => Some(FormatStep::Word(">")),
+        17 => Some(FormatStep::Regions),
+        _ => None,
+    }
+}
+
+/// The step of a format at this place, as `step_at` says. The place behind it is a number too.
+#[inline]
+pub(crate) fn step_there(format: &OpFormat, index: usize) -> Option<FormatStep<'_>>
+    ensures step { option_map seen_step result ≡ slice_get (steps_of (format_of format.now)) index }
+    ensures fits { IfSome result (λ _. index + 1 < 2 ^ 64) }
+{
+    match format {
+        OpFormat::Canonical => canonical_step(index),
+        OpFormat::Custom(directives) => match directives.get(index) {
+            Some(directive) => Some(FormatStep::Directive(directive)),
+            None => None,
+        },
+    }
+}
+
+/// The step of a format at this place: a directive of it, or a step of the form that any operation has. There is none behind the last.
+pub fn step_at(format: &OpFormat, index: usize) -> Option<FormatStep<'_>>
+    ensures { option_map seen_step result ≡ slice_get (steps_of (format_of format.now)) index }
+{
+    step_there(format, index)
+}
+
+/// Whether a directive reads regions.
+fn reads_regions(directive: &Directive) -> bool
+    ensures { result ≡ is_any_region (directive_of directive.now) }
+{
+    matches!(directive, Directive::Region(_) | Directive::Regions)
+}
+
+/// Whether a step reads a piece, and no region.
+pub(crate) fn reads_piece(step: FormatStep<'_>) -> bool
+    ensures { result ≡ is_flat (seen_step step.entry) }
+{
+    match step {
+        FormatStep::Directive(directive) => !reads_regions(directive),
+        FormatStep::Regions => false,
+        _ => true,
+    }
+}
+
+/// The fixed text that a step is, if it is one.
+#[inline]
+pub(crate) fn word_of<'f>(step: FormatStep<'f>) -> Option<&'f str>
+    ensures { IfSome result (λ text. seen_step step.entry ≡ flat (word (characters text.now))) }
+{
+    match step {
+        FormatStep::Word(text) => Some(text),
+        FormatStep::Directive(directive) => match directive {
+            Directive::Literal(text) => Some(text.as_str()),
+            _ => None,
+        },
+        _ => None,
+    }
+}

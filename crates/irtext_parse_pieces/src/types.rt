@@ -1,0 +1,61 @@
+//! Lists of types, with `,` between them: up to two take no memory.
+ghost use Rattle.std.specs.Prelude.{◌≡◌};
+ghost use Rattle.irtext_read.specs.ListOutcomes.{separated_at};
+ghost use Rattle.irtext_parse_pieces.specs.Pieces.{MustTypes, TypesBehind};
+ghost use Rattle.irtext_parse_pieces.specs.Named.{MayMean};
+
+use crate::lists::with_item;
+use irtext_base::parsable::{CharStream, ParseResult};
+use irtext_base::text::IrText;
+use irtext_few::Few;
+use irtext_read::irfmt::faults::{committed, next_is, out_of_memory};
+use irtext_read::irfmt::parsers::skip_white_space;
+use irtext_read::parsable::OwnStream;
+use std::alloc::AllocError;
+
+/// Reads a type by its own reader, whose faults are the answer.
+fn type_parse<S: OwnStream, T: IrText<A>, A>(stream: &mut S) -> ParseResult<T, A>
+    ensures { MayMean S.CharStream.view S.CharStream.at ◌≡◌ T.IrText.reading stream.old result stream.new }
+{
+    stream.read_own()
+}
+
+/// Reads the types behind the first one, as long as `,` follows.
+fn more_types<S: OwnStream, T: IrText<A>, A: Drop>(
+    stream: &mut S,
+    first: T,
+) -> ParseResult<Few<T>, A>
+    ensures { TypesBehind S.CharStream.view S.CharStream.at T.IrText.reading first stream.old result stream.new }
+{
+    let mut found = Few::one(first);
+    while next_is(stream, ',') {
+        let _ = stream.take();
+        skip_white_space(stream);
+        let answer = type_parse(stream);
+        let next = committed(stream, answer)?;
+        skip_white_space(stream);
+        found = match with_item(stream.allocator(), found, next) {
+            Ok(more) => more,
+            Err(AllocError) => return Err(out_of_memory(stream)),
+        };
+    }
+    Ok(found)
+}
+
+/// Reads types with `,` between them and white space after each. Where no type begins, there are none. A fault is committed.
+pub fn types_parse<S: OwnStream, T: IrText<A>, A: Drop>(stream: &mut S) -> ParseResult<Few<T>, A>
+    ensures { MustTypes S.CharStream.view S.CharStream.at (separated_at 44 T.IrText.reading) stream.old result stream.new }
+{
+    match type_parse(stream) {
+        Ok(first) => {
+            skip_white_space(stream);
+            more_types(stream, first)
+        }
+        Err(fault) => {
+            if fault.committed {
+                return Err(fault);
+            }
+            Ok(Few::none())
+        }
+    }
+}
