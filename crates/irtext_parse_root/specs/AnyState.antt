@@ -74,7 +74,7 @@ module _ {T A : Type 0} (types_at : Text → Outcome T) (attr : Text → Outcome
     pub held : HoldsMade IsLocation old new items whole [] (Some op) (finished tree)
     pub machine : (path : ℕ → Path) → StandsFrom items marks new text rest path
 
-  -- The fault of a text in which an operation must end the text's beginning. Either it is a fault of the text, and no name had failed
+  -- The fault of a text whose end is `rest`, at which an operation is expected. Either it is a fault of the text, and no name had failed
   -- before it; it is committed unless no operation comes next. Or it is the failure of a name or a mark, committed, whatever follows in
   -- the text. An index is marked twice also if it was marked earlier.
   pub data HasFaultFrom (text rest : Text) (fault : ParseFault A) : Type 0 where
