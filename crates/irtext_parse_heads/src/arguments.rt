@@ -59,8 +59,8 @@ fn more_arguments<S: OwnStream, V: Copy, B: Copy, T: IrText<A>, A: AttrText>(
     Ok(found)
 }
 
-/// Parses the arguments of a block, separated by `,` and with white space after each. Each is a name, `:` and a type, as `x:
-/// builtin.integer si64`. If no name comes next, returns an empty list. Every error is committed.
+/// Parses the arguments of a block, separated by `,` and with white space after each. Each is a name, `:` and a type, as
+/// `x: builtin.integer si64`. If no name comes next, returns an empty list. Every error is committed.
 pub fn arguments_parse<S: OwnStream, V: Copy, B: Copy, T: IrText<A>, A: AttrText>(
     stream: &mut S,
     names: &mut NameTracker<V, B>,

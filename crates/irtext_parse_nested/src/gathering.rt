@@ -1,5 +1,6 @@
 //! What the pieces before an operation's first region give: their names are used, and what they give the operation is gathered, in the
-//! order of the text.
+//! order of the text. A name is used by looking up the value or the block that it refers to; without a definition so far it gets a
+//! placeholder.
 ghost use Rattle.std.specs.Prelude.{◌≡◌, ◌∷◌, [], IfOk, IfErr, IfSome, OnOk, map, true};
 ghost use Rattle.irtext_base.specs.Format.{sym_name_key};
 ghost use Rattle.irtext_dict.specs.Dictionary.{RefusesEntry};

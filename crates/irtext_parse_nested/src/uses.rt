@@ -1,4 +1,5 @@
-//! Names that the pieces of an operation use, over the names and the graph of a parse.
+//! Names that the pieces of an operation use, over the names and the graph of a parse. A used name refers to a value or a block; without
+//! a definition so far it gets a placeholder.
 ghost use Rattle.std.specs.Prelude.{◌≡◌, ◌<◌, ◌++◌, ◌∷◌, [], List, IfOk, OnOk, length, map, true, Some, slice_get};
 ghost use Rattle.irtext_graph.specs.declared.arena.Ptr.{Ptr};
 ghost use Rattle.irtext_graph.specs.declared.object.BasicBlock.{BasicBlock};

@@ -108,7 +108,8 @@ module _ {T A U : Type 0} (types_at : Reader T) (attr : Reader (AttrView A)) whe
     pub fresh : (m : ℕ) → m ≤ old.state.ctx.now.graph.made → AreAllNew m old.state.ctx.now.graph (Some frame) waits → AreAllNew m new.state.ctx.now.graph next frames
     pub less : left_to_do T A old.state.ctx.now.dialects next frames new.stream.rest < left_to_do T A old.state.ctx.now.dialects (Some frame) waits old.stream.rest
 
-  -- A step failed: the fault is committed, and whenever the frames were the open ones, it is the fault of the text or of an action.
+  -- A step failed: the fault is committed, and whenever the frames were the open ones, an allocation failed, or the fault is that of the
+  -- text or of an action.
   pub record Stops (frame : Frame) (waits : List Frame) (before : Names) (old : StateStream T A U) (fault : ParseFault A) : Type 0 where
     pub committed : fault.committed ≡ true
     pub stops : (base : Base) (v l : ℕ) (ls : List (Level T A)) → IsHere base v l ls before (whole old.stream) old.state.ctx.now (Some frame) waits

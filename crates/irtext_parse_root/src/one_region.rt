@@ -112,9 +112,9 @@ fn not_isolated<A>(stream: &mut TextStream, pos: SourcePosition) -> ParseFault<A
 }
 
 /// Parses a region with everything nested in it, and appends it to a live operation. If the operation is not isolated from above and no
-/// scope of values is open, fails with `NotIsolated` at the position of the operation's location; any other error is the first one in the
-/// order of the text. An error is committed, unless `{` does not come next; then nothing was consumed. On an error, the operation is
-/// unchanged; the objects that were created stay in the context, and scopes of names may stay open.
+/// scope of values is open, fails with `TopLevelOpRegionNotIsolatedFromAbove` at the position of the operation's location; any other
+/// error is the first one in the order of the text. An error is committed, unless `{` does not come next; then nothing was consumed. On
+/// an error, the operation is unchanged; the objects that were created stay in the context, and scopes of names may stay open.
 pub fn region_parse<T: IrText<A>, A: AttrText, U>(
     s: &mut StateStream<'_, T, A, U>,
     names: &mut Names,

@@ -126,7 +126,7 @@ pub fn outermost_parse<T: IrText<A>, A: AttrText, U>(
 }
 
 /// Parses an operation with everything nested in it, and no section: its marks stay recorded. On an error, the objects that were created
-/// are removed, and none of the operation's marks stays recorded.
+/// are removed, and none of the operation's marks stays recorded. The errors are those of `outermost_parse`.
 pub fn operation_parse<T: IrText<A>, A: AttrText, U>(
     s: &mut StateStream<'_, T, A, U>,
 ) -> ParseResult<Ptr<Operation>, A>
@@ -149,9 +149,11 @@ pub fn operation_parse<T: IrText<A>, A: AttrText, U>(
     outermost_parse(s, false)
 }
 
-/// Parses a root: an operation with everything nested in it and, if a mark is recorded, the section after it. On an error, the objects
-/// that were created are removed, none of the root's marks stays recorded, and everything older is unchanged: the items of roots that
-/// were parsed before, whose marks are still recorded, keep what they had.
+/// Parses a root: an operation with everything nested in it and, if a mark is recorded, the section after it, as
+/// `builtin.module @m { ^a(): test.nop !0 } outlined_attributes: !0 = @[?], []`. On an error, the objects that were created are removed,
+/// none of the root's marks stays recorded, and everything older is unchanged: the items of roots that were parsed before, whose marks
+/// are still recorded, keep what they had. On a stream that has failed the error is `StreamFailed`; if an allocation fails, the error is
+/// `Memory`.
 pub fn root_parse<T: IrText<A>, A: AttrText, U>(
     s: &mut StateStream<'_, T, A, U>,
 ) -> ParseResult<Ptr<Operation>, A>

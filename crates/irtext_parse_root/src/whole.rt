@@ -19,8 +19,8 @@ use irtext_read::irfmt::faults::commit_unexpected;
 use irtext_read::irfmt::parsers::skip_white_space;
 use irtext_state::parsable::StateStream;
 
-/// Parses a root with its section, after which only white space may be left. Otherwise the error is `Unexpected` at the first other
-/// character: the end of the text was expected. On an error, the objects that were created are removed.
+/// Parses a root with its section, as `root_parse` does, after which only white space may be left. Otherwise the error is `Unexpected` at
+/// the first other character: the end of the text was expected. On an error, the objects that were created are removed.
 pub fn whole_parse<T: IrText<A>, A: AttrText, U>(
     s: &mut StateStream<'_, T, A, U>,
 ) -> ParseResult<Ptr<Operation>, A>

@@ -29,7 +29,7 @@ use irtext_read::irfmt::demanded::{spaced_text_demanded, text_demanded};
 use irtext_read::irfmt::faults::{commit, committed, next_is, out_of_memory, refuse, unexpected};
 use irtext_read::irfmt::parsers::{attr_parse, skip_white_space};
 
-/// Whether a source comes next.
+/// Whether the next character begins a source.
 pub(crate) fn begins_source(stream: &TextStream) -> bool
     ensures { result ≡ begins begins_source stream.now.rest }
 {
@@ -39,7 +39,7 @@ pub(crate) fn begins_source(stream: &TextStream) -> bool
     }
 }
 
-/// Whether a location comes next.
+/// Whether the next character begins a location.
 pub(crate) fn begins_location(stream: &TextStream) -> bool
     ensures { result ≡ begins begins_location stream.now.rest }
 {
@@ -294,8 +294,8 @@ pub fn location_demanded<T: IrText<A>, A: AttrText>(
     nested_demanded(stream, ctx)
 }
 
-/// Parses a location of any kind, as `"a.mlir": line: 1, column: 2`. If none comes next, the error is `Unexpected`, uncommitted, and the
-/// stream is unchanged; every other error is committed. The context keeps the paths of its files, also on an error.
+/// Parses a location of any kind, as `"a.mlir": line: 1, column: 2`. If the next character begins no location, the error is `Unexpected`,
+/// uncommitted, and the stream is unchanged; every other error is committed. The context keeps the paths of its files, also on an error.
 pub fn location_parse<T: IrText<A>, A: AttrText>(
     stream: &mut TextStream,
     ctx: &mut Context<T, A>,

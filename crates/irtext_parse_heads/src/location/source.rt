@@ -106,8 +106,8 @@ fn place_parse<T: IrText<A>, A: AttrText>(
     Ok(Location::SrcPos { src, pos })
 }
 
-/// Parses a source: a path in quotation marks, or `<in-memory>`. If neither comes next, the error is `Unexpected`, uncommitted, and the
-/// stream is unchanged; every other error is committed. The context keeps the path.
+/// Parses a source: a path in quotation marks, as `"a.mlir"`, or `<in-memory>`. If neither `"` nor `<` comes next, the error is
+/// `Unexpected`, uncommitted, and the stream is unchanged; every other error is committed. The context keeps the path.
 pub fn source_parse<T: IrText<A>, A: AttrText>(
     stream: &mut TextStream,
     ctx: &mut Context<T, A>,

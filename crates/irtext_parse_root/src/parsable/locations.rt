@@ -23,9 +23,9 @@ impl<T: IrText<A>, A: AttrText, U> Parsable<T, A, U> for SourcePosition {
 
     type Parsed = SourcePosition;
 
-    /// Parses `line: L, column: C`, with optional white space around each `:` and around `,`. If `line` does not come next, the error is
-    /// `Unexpected`, uncommitted. If a number does not fit, the error is `NumberRange`, at the beginning of the number. Nothing but the
-    /// stream changes.
+    /// Parses `line: L, column: C`, with optional white space around each `:` and around `,`. If `l` does not come next, the error is
+    /// `Unexpected`, uncommitted; every other error is committed. If a number does not fit, the error is `NumberRange`, at the beginning
+    /// of the number. Nothing but the stream changes.
     fn parse(stream: &mut StateStream<'_, T, A, U>, _arg: ()) -> ParseResult<SourcePosition, A>
         ensures read { MayRead itself replaced (λ at. at) position_at stream.old.stream result stream.new.stream }
         ensures state { stream.new.state ≡ stream.old.state }
@@ -40,7 +40,8 @@ impl<T: IrText<A>, A: AttrText, U> Parsable<T, A, U> for Source {
     type Parsed = Source;
 
     /// Parses a quoted path, or `<in-memory>`. The context keeps the path from then on; the rest of the state is unchanged. If neither
-    /// comes next, the error is `Unexpected`, uncommitted; other errors are those of `quoted_string_parse`.
+    /// `"` nor `<` comes next, the error is `Unexpected`, uncommitted; every other error is committed. The errors in a quoted path are
+    /// those of `quoted_string_parse`.
     fn parse(stream: &mut StateStream<'_, T, A, U>, _arg: ()) -> ParseResult<Source, A>
         ensures lent { stream.new.state.ctx.ghost_name ≡ stream.old.state.ctx.ghost_name }
         ensures adds { AddsPaths stream.old.state.ctx.now stream.new.state.ctx.now }
@@ -61,10 +62,10 @@ impl<T: IrText<A>, A: AttrText, U> Parsable<T, A, U> for Location<A> {
 
     type Parsed = Location<A>;
 
-    /// Parses a location of any kind: a source with a line and a column, `fused[..]` or `fused<ATTRIBUTE>[..]`, `name: "N", loc:
-    /// (LOCATION)`, `callsite(LOCATION at LOCATION)`, or `?`. The context keeps the paths of its files from then on, also if the location
-    /// has an error; the rest of the state is unchanged. If no location comes next, the error is `Unexpected`, uncommitted; otherwise it
-    /// is committed, at the place where a part of the location is missing or has an error.
+    /// Parses a location of any kind: a source with a line and a column, `fused[..]` or `fused<ATTRIBUTE>[..]`,
+    /// `name: "N", loc: (LOCATION)`, `callsite(LOCATION at LOCATION)`, or `?`. The context keeps the paths of its files from then on,
+    /// also if the location has an error; the rest of the state is unchanged. If the next character begins no location, the error is
+    /// `Unexpected`, uncommitted; otherwise an error is committed, at the place where a part of the location is missing or has an error.
     fn parse(stream: &mut StateStream<'_, T, A, U>, _arg: ()) -> ParseResult<Location<A>, A>
         ensures lent { stream.new.state.ctx.ghost_name ≡ stream.old.state.ctx.ghost_name }
         ensures adds { AddsPaths stream.old.state.ctx.now stream.new.state.ctx.now }
