@@ -1,4 +1,4 @@
--- Between functions: an operation that begins: what was read in front of its first region, its own so far, and where it comes to stand.
+-- Between functions: an operation that begins: what was parsed before its first region, its own parts so far, and where it is created.
 use Rattle.std.specs.Prelude.{◌≡◌, ◌<◌, ℕ, Bool, true, ◌||◌, List, [], ◌∷◌, ◌++◌, length, Option, Some, None, ⊤}
 use Rattle.irtext_base.specs.Text.{Text}
 use Rattle.irtext_base.specs.Format.{Format, Id, Accepted}
@@ -51,14 +51,15 @@ use Rattle.irtext_parse_nested.specs.Gathered.{IsNothing, IsSteady, Gathers, Ref
 use Rattle.irtext_parse_nested.specs.Items.{Names}
 use Rattle.irtext_parse_nested.specs.Read.{Demands}
 
--- ---- what was read
--- why no front was read: by the lead, committed where one is wanted or where something stands there; or by a piece
+-- ---- what was parsed
+-- why no front was parsed: because of the lead, with a committed fault if a front is required or something of the lead is there; or
+-- because of a piece
 pub data LacksFront {T A : Type 0} (types_at : Reader T) (attr : Reader (AttrView A)) (dialects : List (Text × Table)) (inside wanted : Bool) (old : StreamView) (fault : ParseFault A) : Type 0 where
   lacks_lead : Demands (whole old) (led_at dialects old.rest) old.rest fault → fault.committed ≡ (wanted || is_committed (led_at dialects old.rest)) → LacksFront types_at attr dialects inside wanted old fault
   lacks_piece : (names : List (Name ℕ)) (id : Id) (lead middle : Text) → led_at dialects old.rest ≡ Read (names, id) lead middle
       → Demands (whole old) (front_at types_at attr inside (front_steps (steps_in dialects id)) [] middle) middle fault → fault.committed ≡ true → LacksFront types_at attr dialects inside wanted old fault
 
--- Names of results, the id of a registered operation, and the pieces in front of its first region stand at the text, and these were read.
+-- The names of results, the id of a registered operation, and the pieces before its first region come next in the text, and were parsed.
 pub record FrontStands {T A : Type 0} (types_at : Reader T) (attr : Reader (AttrView A)) (dialects : List (Text × Table)) (inside : Bool) (names : List Text) (old : StreamView)
     (read : List ReadName) (id : OpId) (pieces : List (ReadPiece T A)) (new : StreamView) : Type 0 where
   pub results : List (Name ℕ)
@@ -77,37 +78,39 @@ pub record FrontStands {T A : Type 0} (types_at : Reader T) (attr : Reader (Attr
   pub accepted : Accepted format
 
 -- ---- why pieces were not gathered
--- the name that a refusal speaks of is one of so many
+-- the name in the error, if it has one, is below this count
 abbrev pub IsKnownIn : ℕ → NotGathered → Type 0
 IsKnownIn count (refusal.NoActiveScope read) = read.name < count
 IsKnownIn count _ = ⊤
 
 module _ {A : Type 0} where
-  -- the fault says so: memory was refused; or the key is reserved, or the name stands where no scope is open, at its place
+  -- the fault is that of the error: an allocation failed; or the key is reserved, or no scope is open for the name, at its place
   abbrev pub SaysGather : List Text → Text → NotGathered → ParseFault A → Type 0
   SaysGather names text refusal.Memory fault = IsStarved fault
   SaysGather names text (refusal.ReservedKey key) fault = (fault_of fault.cause ≡ causes.ReservedKey key.name) × (fault.committed ≡ true)
       × AtOffset key.at.offset text (λ passed rest. IsAt fault.pos.line fault.pos.column passed)
   SaysGather names text (refusal.NoActiveScope read) fault = UnlessMemory (IsFaultOf names text causes.NoActiveScope read) fault
 
--- Memory was refused, or the acts of the pieces fail, wherever the machine stands with what was, and the fault says how.
+-- An allocation failed; or whenever names and graph agree with a state of the machine, the acts of the pieces fail, and the fault is for
+-- that failure.
 pub data NotGatheredAs {T A O B : Type 0} (pieces : List (ReadPiece T A)) (names : Names) (g : GraphView (Option O) B (Option T)) (text : Text) (fault : ParseFault A) : Type 0 where
   starved : IsStarved fault → NotGatheredAs pieces names g text fault
   refused : (why : NotGathered) → RefusesGathering pieces names g why → SaysGather names.names text why fault → NotGatheredAs pieces names g text fault
 
--- ---- what is made
--- the types of results: by their places, or else those of the list
+-- ---- what is created
+-- the types of results: those with places; if there are none, those of the list
 abbrev pub types_made : {T : Type 0} → List (ℕ × T) → List T → List T
 types_made [] listed = listed
 types_made (e ∷ es) listed = in_order (e ∷ es)
 
 module _ {T A : Type 0} where
-  -- an operation that was made comes last into the block that is given; else nothing changes
+  -- the operation was appended to the block, if one is given; otherwise nothing changed
   abbrev pub PlacedIn : Option (Ptr BasicBlock) → ContextView T A → ContextView T A → Ptr Operation → Type 0
   PlacedIn None old new op = new ≡ old
   PlacedIn (Some b) old new op = Appends old.graph new.graph (TheBlock b) (TheOperation op) × (new.paths ≡ old.paths) × (new.dialects ≡ old.dialects)
 
-  -- What the pieces of a front name was used, an operation was made of what they give, and it came last into the block that is given.
+  -- The names of the pieces were used, an operation was created from what the pieces give, and it was appended to the block, if one is
+  -- given.
   pub record MakesOf (block : Option (Ptr BasicBlock)) (front : ReadFront T A) (at : Place) (loc : Location A) (before : Names) (old : ContextView T A) (names : Names) (new : ContextView T A)
       (b : BegunOperation) : Type 0 where
     pub none : Gathered T A
@@ -129,22 +132,23 @@ module _ {T A : Type 0} where
     pub step_is : b.step ≡ length front.pieces
     pub steps_are : b.steps ≡ front.steps
 
--- ---- an own that grows
--- the part is one that the step reads
+-- ---- the operation's own parts so far
+-- the part is one that the step parses
 abbrev pub IsPartOf : {T A : Type 0} → Step → Part ℕ T A → Type 0
 IsPartOf (one i) (tree.region j) = j ≡ i
 IsPartOf all tree.regions = ⊤
 IsPartOf s (tree.piece p) = IsOfStep s p
 IsPartOf _ _ = ⊥
 
--- the parts are those that the steps read, one each
+-- the parts are those that the steps parse, one for each step
 abbrev pub ArePartsOf : {T A : Type 0} → List Step → List (Part ℕ T A) → Type 0
 ArePartsOf [] [] = ⊤
 ArePartsOf (s ∷ ss) (p ∷ ps) = IsPartOf s p × ArePartsOf ss ps
 ArePartsOf _ _ = ⊥
 
--- The own is what was read of the operation so far: it stores what its parts so far store, and has the types that its body will have, and
--- as many operands and successors; and the body will store what its parts store, whatever the steps that are left read.
+-- The own parts are those that were parsed of the operation so far. They store what its parsed parts store. Whatever the remaining steps
+-- parse, the operation's body will have these result types and this many operands and successors, and it will store what all of its parts
+-- store.
 pub record HasBegun {T A : Type 0} (formats : Id → Option Format) (o : Begun T A) (own : OwnSoFar T A) : Type 0 where
   pub place : own.place ≡ o.place
   pub id : own.id ≡ o.id
@@ -154,9 +158,9 @@ pub record HasBegun {T A : Type 0} (formats : Id → Option Format) (o : Begun T
   pub types : (later : List (Part ℕ T A)) → ArePartsOf o.steps later → result_types (body_of (formats o.id) (o.parts ++ later)) ≡ own.types
   pub stores : (later : List (Part ℕ T A)) → ArePartsOf o.steps later → views stored (parts_of (body_of (formats o.id) (o.parts ++ later))) ≡ views stored (o.parts ++ later)
 
--- ---- where it comes to stand
+-- ---- where it is created
 module _ {T A : Type 0} (IsLocation : ℕ → Location A → Type 0) (old new : ContextView T A) (p : Ptr Operation) (own : OwnSoFar T A) where
-  -- the operation came, last into a block where one is given, and all else is as it was
+  -- the operation was created, as the last of the block if one is given, and everything else is unchanged
   abbrev pub ComesInto : Option (Ptr BasicBlock) → Type 0
   ComesInto None = OperationCame old new IsLocation p own × Spares (TheOperation p ∷ []) old new
   ComesInto (Some b) = OperationCame old new IsLocation p own × BlockGains old new b p × Spares (TheOperation p ∷ TheBlock b ∷ []) old new

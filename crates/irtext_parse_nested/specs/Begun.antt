@@ -1,4 +1,4 @@
--- Between functions: what is open while nested text is read, as the code has it, and what it stands for.
+-- Between functions: the open frames while nested text is parsed, as the code has them, and what they represent.
 use Rattle.std.specs.Prelude.{◌≡◌, ℕ, Bool, List, [], ◌∷◌, ◌++◌, drop, length, IsSome, ⊤}
 use Rattle.std.specs.List.{All}
 use Rattle.irtext_base.specs.Text.{Text}
@@ -28,7 +28,7 @@ HasNoType (tree.piece (tree.result_type i t)) = ⊥
 HasNoType (tree.piece (tree.types ts)) = ⊥
 HasNoType _ = ⊤
 
--- the step reads no name and no type
+-- the step parses no name and no type
 abbrev pub ReadsNeither : Step → Type 0
 ReadsNeither (flat d) = WritesNamesOrType d → ⊥
 ReadsNeither types = ⊥
@@ -39,13 +39,13 @@ abbrev pub ReadNeither : List Step → Type 0
 ReadNeither [] = ⊤
 ReadNeither (s ∷ ss) = ReadsNeither s × ReadNeither ss
 
--- what an open operation has promised: at this place, the results that it was made with
+-- the pledge of an open operation: its place, and the results that it was created with
 abbrev pub pledge_of : BegunOperation → ℕ → Pledge
 pledge_of b place = record { place = place; op = b.op; results = b.results }
 
 module _ {T A : Type 0} (names : List Text) (text : Text) (ctx : ContextView T A) where
-  -- The operation that was begun is this one: its names, its place, its id, the steps that are left, of how many, which read no names and no types,
-  -- and as many results as its parts give types, whatever parts without types come.
+  -- The begun operation of the code represents this one. They have the same names, place, id and remaining steps, which parse no names
+  -- and no types. The number of results is that of the types that its parts give, whatever parts without types follow.
   pub record IsBegun (b : BegunOperation) (o : Begun T A) : Type 0 where
     pub inside : b.inside ≡ o.inside
     pub place : Leaves text b.at o.place
@@ -59,13 +59,13 @@ module _ {T A : Type 0} (names : List Text) (text : Text) (ctx : ContextView T A
     pub counts : length (results ctx.graph b.op) ≡ b.results
     pub typed : (later : List (Part ℕ T A)) → All HasNoType later → length (result_types (body_of (format_of ctx.dialects o.id) (o.parts ++ later))) ≡ b.results
 
-  -- The region that was begun is this one, of an isolated operation or not, with the place of its brace.
+  -- The begun region represents this one: whether its operation is isolated, and the place of its `{`.
   pub record IsRegion (r : BegunRegion) (iso : Bool) (place : ℕ) : Type 0 where
     pub is_isolated : r.isolated ≡ iso
     pub placed : Leaves text r.at place
     pub stands : Stands ctx.graph (TheRegion r.region)
 
-  -- The block that was begun stands in a region.
+  -- The begun block is live, and is in a region.
   pub record IsBlock (b : BegunBlock) (first : Bool) : Type 0 where
     pub is_first : b.first ≡ first
     pub stands : IsSome (block ctx b.block)

@@ -1,4 +1,5 @@
--- Between functions: what the header of a block comes to: its dictionary is kept, it is made in its region, and its names are defined.
+-- Between functions: what the header of a block gives: its dictionary is stored, the block is created in its region, and its names are
+-- defined.
 use Rattle.std.specs.Prelude.{◌≡◌, ◌⊎◌, ℕ, true, false, List, [], ◌∷◌, ◌++◌, map, Option, Some, None, Vec, slice_get, ⊤}
 use Rattle.std.specs.Global.{Global}
 use Rattle.irtext_base.specs.Text.{Text}
@@ -43,55 +44,56 @@ use Rattle.irtext_parse_nested.specs.Located.{IsLocatedAt}
 use Rattle.irtext_parse_nested.specs.Placing.{PlacesBlock, RefusesLabel}
 
 -- ---- the dictionary
--- the entries of a dictionary, where there is one
+-- the entries of a dictionary, if there is one
 abbrev pub entries_in : {X : Type 0} → Option (Vec X Global) → List X
 entries_in None = []
 entries_in (Some es) = es.items
 
 module _ {A : Type 0} (rule : Rule A) where
-  -- each entry's attribute may stand under its key
+  -- each entry's attribute is allowed under its key
   abbrev pub AreAllowed : List (Key × AttrObj A) → Type 0
   AreAllowed [] = ⊤
   AreAllowed (e ∷ es) = (rule e.0.name (attribute_of e.1) ≡ true) × AreAllowed es
 
-  -- this is the key of the first entry whose attribute may not stand there
+  -- this is the key of the first entry whose attribute is not allowed
   abbrev pub IsFirstForbidden : List (Key × AttrObj A) → Key → Type 0
   IsFirstForbidden [] key = ⊥
   IsFirstForbidden (e ∷ es) key = ((rule e.0.name (attribute_of e.1) ≡ false) × (key ≡ e.0))
       ⊎ ((rule e.0.name (attribute_of e.1) ≡ true) × IsFirstForbidden es key)
 
-  -- why entries were not kept: memory was refused, or a key is forbidden
+  -- why entries were not stored: an allocation failed, or a key is forbidden
   abbrev pub Forbids : List (Key × AttrObj A) → NotGathered → Type 0
   Forbids es refusal.Memory = ⊤
   Forbids es (refusal.ReservedKey key) = IsFirstForbidden es key
   Forbids es (refusal.NoActiveScope name) = ⊥
 
--- the fault says that this key is reserved, at the key
+-- the fault is `ReservedKey` for this key, at the key
 pub record IsKeyFault {A : Type 0} (text : Text) (key : Key) (fault : ParseFault A) : Type 0 where
   pub because : fault_of fault.cause ≡ causes.ReservedKey key.name
   pub flag : fault.committed ≡ true
   pub place : AtOffset key.at.offset text (λ passed rest. IsAt fault.pos.line fault.pos.column passed)
 
--- what entries may be refused for: memory, or a key, and no name
+-- the error of entries: an allocation failed, or a key is reserved; it is not about a name
 abbrev pub IsOfEntries : NotGathered → Type 0
 IsOfEntries refusal.Memory = ⊤
 IsOfEntries (refusal.ReservedKey key) = ⊤
 IsOfEntries (refusal.NoActiveScope name) = ⊥
 
--- the same of a refusal, where it is one of a key
+-- the fault is that of this reserved key; the error is about a key
 abbrev pub IsRefusalFault : {A : Type 0} → Text → NotGathered → ParseFault A → Type 0
 IsRefusalFault text refusal.Memory fault = ⊥
 IsRefusalFault text (refusal.ReservedKey key) fault = IsKeyFault text key fault
 IsRefusalFault text (refusal.NoActiveScope name) fault = ⊥
 
--- a key of the block's dictionary is the first that is forbidden there, and the fault says so
+-- the fault is for the first key of the block's dictionary that is forbidden there
 pub record RefusesKeys {A : Type 0} (text : Text) (entries : List (Key × AttrObj A)) (fault : ParseFault A) : Type 0 where
   pub key : Key
   pub first : IsFirstForbidden block_may_hold entries key
   pub says : IsKeyFault text key fault
 
 -- ---- the block
--- a block was made with this label, the last of a region: at its place, with these attributes, and with arguments of these types
+-- a block with this label was created and appended to a region: at the label's location, with these attributes, and with arguments of
+-- these types
 pub record PlacesLabelled {T A : Type 0} (names : List Text) (source : Source) (text : Text) (label : ReadName) (attributes : List (Text × AttrObj A)) (types : List T) (old new : ContextView T A) (r : Ptr Region) (b : Ptr BasicBlock) : Type 0 where
   pub held : BlockData A
   pub named : slice_get names label.name ≡ held.label
@@ -99,7 +101,7 @@ pub record PlacesLabelled {T A : Type 0} (names : List Text) (source : Source) (
   pub attributes_are : held.attributes ≡ attributes
   pub places : PlacesBlock old new r b held types
 
--- a block was made of the header, the last of a region: with its label, its location, its entries and its arguments' names
+-- a block was created from the header and appended to a region: with its label, its location, its entries and its arguments' names
 pub record MakesHead {T A : Type 0} (names : List Text) (source : Source) (text : Text) (label : ReadName) (arguments : List (ReadName × T)) (entries : List (Key × AttrObj A)) (old new : ContextView T A) (r : Ptr Region) (b : Ptr BasicBlock) : Type 0 where
   pub held : BlockData A
   pub named : slice_get names label.name ≡ held.label
@@ -110,7 +112,7 @@ pub record MakesHead {T A : Type 0} (names : List Text) (source : Source) (text 
   pub places : PlacesBlock old new r b held (map (λ a. a.1) arguments)
 
 -- ---- its names
--- an argument's name is defined already, and the fault says so
+-- the name of an argument is already defined, and the fault is for it
 pub record RefusesArguments {O B T A : Type 0} (b : Ptr BasicBlock) (arguments : List ReadName) (names : Names) (g : GraphView (Option O) B T) (text : Text) (fault : ParseFault A) : Type 0 where
   pub index : ℕ
   pub read : ReadName
@@ -124,7 +126,8 @@ pub record DefinesArguments {T A U : Type 0} (b : Ptr BasicBlock) (arguments : L
   pub row : DefinesRow (Argument b) (numbers_of arguments) old mid s.ctx.now.graph g
 
 module _ {T A U : Type 0} (b : Ptr BasicBlock) (label : ReadName) (arguments : List ReadName) (mark : Option ReadMark) (old : Names) (s : code.State T A U) where
-  -- The names of a block's header were defined, in their order: its arguments; its mark was noted; its label.
+  -- The names of a block's header were processed in this order: its arguments were defined, its mark was recorded, and its label was
+  -- defined.
   pub record NamesHead (new : Names) (z : code.State T A U) : Type 0 where
     pub mid : Names
     pub between : GraphView (Option (OperationData A)) (BlockData A) (Option T)
@@ -132,7 +135,7 @@ module _ {T A U : Type 0} (b : Ptr BasicBlock) (label : ReadName) (arguments : L
     pub notes : NotesMark mark (item.Block b) (marks_of s) (marks_of z)
     pub labels : (w : Word) (p : Place) → slice_get mid.names label.name ≡ Some w.name → TakesDefinition (define_label w p) mid new between z.ctx.now.graph p (OfBlock b)
 
-  -- They were not: an argument is defined already; or its mark's index is noted already; or its label is defined already.
+  -- They were not: an argument is already defined; or the index of its mark is already recorded; or its label is already defined.
   pub data RefusesHead (text : Text) (fault : ParseFault A) : Type 0 where
     same_argument : RefusesArguments b arguments old s.ctx.now.graph text fault → RefusesHead text fault
     same_mark : (mid : Names) (g : GraphView (Option (OperationData A)) (BlockData A) (Option T)) → DefinesArguments b arguments old s mid g → RefusesMark text mark (marks_of s) fault → RefusesHead text fault

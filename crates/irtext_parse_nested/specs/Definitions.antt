@@ -1,4 +1,4 @@
--- Between functions: what names that are defined one after another come to, as the results of an operation or as the arguments of a block.
+-- Between functions: names that are defined one after another, as the results of an operation or as the arguments of a block.
 use Rattle.std.specs.Prelude.{◌≡◌, ◌<◌, ℕ, true, suc, List, [], ◌∷◌, length, map, Option, Some, None, IsSome, slice_get, ⊤}
 use Rattle.std.specs.Option.{option_map}
 use Rattle.irtext_base.specs.Text.{Text}
@@ -35,62 +35,62 @@ use Rattle.irtext_parse_pieces.specs.declared.names.ReadName.{ReadName}
 use Rattle.irtext_parse_nested.specs.declared.definitions.Definer.{Definer}
 use Rattle.irtext_parse_nested.specs.declared.definitions.Definer.TheVariants.{Results, Arguments}
 
--- the value of a row that has this index
+-- the value of this index
 abbrev pub defined_value : Definer → ℕ → Value
 defined_value (Results op) i = Result op i
 defined_value (Arguments b) i = Argument b i
 
--- names are defined as the places from i on
+-- the definitions of the names as the places from i on
 abbrev pub definitions_from : (ℕ → Place) → ℕ → List (Name ℕ) → List Act
 definitions_from place i [] = []
 definitions_from place i (w ∷ ws) = define_value (word_of w) (place i) ∷ definitions_from place (suc i) ws
 
--- the first places were made into the first values, as many as there are of these
+-- the first places were made into the first values, as many as the list has elements
 abbrev pub AreMadeAs : {X : Type 0} → (ℕ → Place) → (ℕ → Value) → List X → Known → Type 0
 AreMadeAs place value xs known = (i : ℕ) → i < length xs → Among (place i, value i) known.values
 
 module _ {O B T : Type 0} where
-  -- the first values, so many of them, are there, and no name waits with one of them
+  -- the first values, this many, are live, and no name waits with one of them
   abbrev pub ValuesReady : (ℕ → Value) → ℕ → List (Scope Value) → GraphView (Option O) B T → Type 0
   ValuesReady value count scopes g = (i : ℕ) → i < count → IsDefined g (OfValue (value i)) × IsNoPlaceholder scopes (value i)
 
-  -- wherever the machine stands with what was, nothing is in hand, and places are made into these values, the definitions of names of these
-  -- numbers as these places take it to where it stands with what is
+  -- Whenever the old names and graph agree with a state of the machine, nothing is in hand, and the places were made into these values,
+  -- the definitions of the names with these numbers take the machine to a state that the new ones agree with.
   pub record DefinesRow (value : ℕ → Value) (numbers : List ℕ) (old new : NameTracker Value (Ptr BasicBlock)) (g k : GraphView (Option O) B T) : Type 0 where
     pub so : (ws : List (Name ℕ)) → AreNamed old.names numbers ws → (place : ℕ → Place) (known : Known) (st : State) → AreMadeAs place value numbers known → StandsAt old g known [] st
         → (next : State) × (run (going st) (map act (definitions_from place 0 ws)) ≡ going next) × StandsAt new k known [] next
 
-  -- wherever it stands so, these definitions fail at the name of this index, which its scope defines already
+  -- whenever names and graph agree so, these definitions fail at the name of this index, which its scope already defines
   pub record FailsRow (value : ℕ → Value) (numbers : List ℕ) (index : ℕ) (names : NameTracker Value (Ptr BasicBlock)) (g : GraphView (Option O) B T) : Type 0 where
     pub so : (ws : List (Name ℕ)) → AreNamed names.names numbers ws → (place : ℕ → Place) (known : Known) (st : State) → AreMadeAs place value numbers known → StandsAt names g known [] st
         → (w : Name ℕ) × (slice_get ws index ≡ Some w) × (run (going st) (map act (definitions_from place 0 ws)) ≡ failed (record { cause = MultipleDefinitions w.text; at = Some w.place }))
 
-  -- an object is no placeholder: an operation that has data, a block that stands somewhere, or a region
+  -- the object is no placeholder: an operation that has data, a block that has a parent, or a region
   abbrev pub IsPlaced : GraphView (Option O) B T → Object → Type 0
   IsPlaced g (TheOperation p) = (x : O) × (option_map (λ c. c.data_of) (operation_at g p) ≡ Some (Some x))
   IsPlaced g (TheBlock b) = Stands g (TheBlock b) × IsSome (parent g (TheBlock b))
   IsPlaced g (TheRegion r) = Stands g (TheRegion r)
 
-  -- where an object is an operation, it has as many operands and successors
+  -- if the object is an operation, it has the same number of operands and successors
   abbrev pub HasAsMany : GraphView (Option O) B T → GraphView (Option O) B T → Object → Type 0
   HasAsMany g k (TheOperation p) = UsesAsMany g k p
   HasAsMany g k (TheBlock b) = ⊤
   HasAsMany g k (TheRegion r) = ⊤
 
-  -- an object is the same apart from what it uses, uses as many, holds the same and stands in the same
+  -- the object is the same apart from what it uses; it has the same number of uses, the same children and the same parent
   pub record StaysAlike (g k : GraphView (Option O) B T) (q : Object) : Type 0 where
     pub contents : option_map without_uses (content k q) ≡ option_map without_uses (content g q)
     pub as_many : HasAsMany g k q
     pub parents : parent k q ≡ parent g q
     pub lists : children k q ≡ children g q
 
-  -- of what was made since a mark, each operation without data has a result, as the placeholders of values have
+  -- of what was created since a count, each operation without data has a result, as the placeholders of values have
   abbrev pub BlanksHaveResults : ℕ → GraphView (Option O) B T → Type 0
   BlanksHaveResults m g = (p : Ptr Operation) → option_map (λ c. c.data_of) (operation_at g p) ≡ Some None → IsNew m g (TheOperation p) → (i : ℕ) × IsDefined g (OfValue (Result p i))
 
-  -- what is no placeholder stands as it stood: each operation that has data, with its data and as many results; each block that stands
-  -- somewhere, there; each region; all of these with what stands in them, and nothing else came; what is younger than a mark is so still; and each
-  -- operation without data has a result where that was so
+  -- What is no placeholder is unchanged: each operation that has data has the same data and the same number of results; each block that
+  -- has a parent has the same parent; each region is live. All of these have the same children, and no other such object was added. What
+  -- was created since a count still was. Each operation without data has a result if that was so before.
   pub record LosesPlaceholders (g k : GraphView (Option O) B T) : Type 0 where
     pub operations : (p : Ptr Operation) (x : O) → option_map (λ c. c.data_of) (operation_at g p) ≡ Some (Some x) → option_map (λ c. c.data_of) (operation_at k p) ≡ Some (Some x)
     pub results : (p : Ptr Operation) (x : O) → option_map (λ c. c.data_of) (operation_at g p) ≡ Some (Some x) → length (results k p) ≡ length (results g p)
@@ -102,7 +102,7 @@ module _ {O B T : Type 0} where
     pub brought : (q : Object) → IsPlaced k q → IsPlaced g q
     pub blanks : (m : ℕ) → BlanksHaveResults m g → BlanksHaveResults m k
 
--- the fault is committed, says this of the name's text, and stands at the name's place
+-- the fault is committed, has this cause with the text of the name, and is at the name's place
 pub record IsFaultOf {A : Type 0} (names : List Text) (text : Text) (cause : Text → Fault) (read : ReadName) (fault : ParseFault A) : Type 0 where
   pub name : Text
   pub named : slice_get names read.name ≡ Some name

@@ -1,4 +1,4 @@
--- Between functions: what the end of an operation does, in steps: its results are defined, and its mark is noted.
+-- Between functions: what the end of an operation does, step by step: its results are defined, and its mark is recorded.
 use Rattle.std.specs.Prelude.{◌≡◌, ℕ, true, false, List, [], ◌∷◌, ◌++◌, length, map, Option, Some, None, slice_get}
 use Rattle.std.specs.Map.{lookup}
 use Rattle.irtext_base.specs.Text.{Text}
@@ -35,11 +35,12 @@ use Rattle.irtext_base.specs.declared.location.Location.{Location}
 use Rattle.irtext_nesting.specs.Resume.{Begun}
 use Rattle.irtext_parse_nested.specs.Items.{Names, doing}
 
--- the numbers of names that were read
+-- the numbers of the parsed names
 abbrev pub numbers_of : List ReadName → List ℕ
 numbers_of ns = map (λ n. n.name) ns
 
--- the operation's results are not defined: its names are not as many; or they stand where no scope of values is open; or a name is defined already
+-- the operation's results are not defined: there are not as many names as results; or no scope of values is open for them; or a name is
+-- already defined
 pub data RefusesResults {O B T A : Type 0} (b : BegunOperation) (names : Names) (g : GraphView (Option O) B T) (text : Text) (fault : ParseFault A) : Type 0 where
   uncounted : (length b.names ≡ b.results → ⊥) → fault_of fault.cause ≡ causes.ResultCount b.results (length b.names) → fault.committed ≡ true
       → AtOffset b.at.offset text (λ passed rest. IsAt fault.pos.line fault.pos.column passed) → RefusesResults b names g text fault
@@ -47,21 +48,21 @@ pub data RefusesResults {O B T A : Type 0} (b : BegunOperation) (names : Names) 
   defined_twice : (index : ℕ) (read : ReadName) → slice_get b.names index ≡ Some read → length b.names ≡ b.results → FailsRow (Result b.op) (numbers_of b.names) index names g
       → IsFaultOf names.names text causes.MultipleDefinitions read fault → RefusesResults b names g text fault
 
--- the mark, where one was read, came to be noted last
+-- the mark, if one was parsed, was recorded last
 abbrev pub NotesMark : {X : Type 0} → Option ReadMark → X → List (ℕ × X) → List (ℕ × X) → Type 0
 NotesMark None item old new = new ≡ old
 NotesMark (Some mark) item old new = Notes mark.index item true old new
 
--- the mark that stands in a text, where one does, with what carries it
+-- the mark of the text, if there is one, with the operation or block that carries it
 abbrev pub noted_as : {X : Type 0} → Option (Mark ℕ) → X → List (ℕ × X)
 noted_as None item = []
 noted_as (Some m) item = (m.index, item) ∷ []
 
--- marks may have come behind those that were noted
+-- marks may have been recorded after the earlier ones
 abbrev pub GainsMarks : {X : Type 0} → List (ℕ × X) → List (ℕ × X) → Type 0
 GainsMarks {X} old new = (more : List (ℕ × X)) × (new ≡ old ++ more)
 
--- the index of the mark that was read is noted already, and the fault says so, at the mark's place
+-- the index of the parsed mark is already recorded, and the fault is for it, at the mark
 pub record RefusesMark {X A : Type 0} (text : Text) (mark : Option ReadMark) (marks : List (ℕ × X)) (fault : ParseFault A) : Type 0 where
   pub read : ReadMark
   pub is : mark ≡ Some read
@@ -70,14 +71,14 @@ pub record RefusesMark {X A : Type 0} (text : Text) (mark : Option ReadMark) (ma
   pub flag : fault.committed ≡ true
   pub place : AtOffset read.at.offset text (λ passed rest. IsAt fault.pos.line fault.pos.column passed)
 
--- the name of this index was refused since its scope defines it already, and the fault says so, at the name's place
+-- the name of this index is already defined in its scope, and the fault is for it, at the name
 pub record RefusesTwice {A : Type 0} (names : List Text) (text : Text) (defined : List ReadName) (undefined : UndefinedName) (fault : ParseFault A) : Type 0 where
   pub twice : undefined.fault ≡ DefineFault.MultipleDefinitions
   pub read : ReadName
   pub is : slice_get defined undefined.index ≡ Some read
   pub says : IsFaultOf names text causes.MultipleDefinitions read fault
 
--- what the end of an operation does, up to its mark
+-- what the end of an operation does, before its mark
 abbrev pub closes_at : {T A U : Type 0} → Begun T A → code.State T A U → (ℕ → Path) → Outcome → Outcome
 closes_at {T} {A} o s path = (doing {T = T} {A = A} s.ctx.now.dialects path).closes o.place o.names o.id o.parts
 
@@ -87,14 +88,14 @@ module _ {T A : Type 0} where
     pub left : List (Text × AttrObj A)
     pub edits : EditsOperation old new op (with_attributes left)
 
-  -- the same, and these names were put in as given names, where there are any
+  -- the same, and these names were stored as given names, if there are any
   pub record GivesNames (names : List Text) (read : List ReadName) (old new : ContextView T A) (op : Ptr Operation) : Type 0 where
     pub left : List (Text × AttrObj A)
     pub edits : EditsOperation old new op (with_attributes left)
     pub stored : (view : OperationView T A) → operation old op ≡ Some view → (ws : List (Name ℕ)) → AreNamed names (numbers_of read) ws
         → entries_of left ≡ put_all (entries_of view.attributes) (read_names (map (λ w. w.text) ws))
 
-  -- whatever own an operation had, it has these names as given names besides
+  -- whatever parts of its own the operation had, it now has these names as given names too
   pub record BecomesNamed (IsLocation : ℕ → Location A → Type 0) (names : List Text) (text : Text) (read : List ReadName) (old new : ContextView T A) (op : Ptr Operation) : Type 0 where
     pub so : (own : OwnSoFar T A) (view : OperationView T A) → operation old op ≡ Some view → HasOwn IsLocation view own → HasUses old op own → (ns : List (Name ℕ)) → Each (StandsFor names text) read ns
         → OwnBecame old new IsLocation op (record own { entries = put_all own.entries (read_names (map (λ n. n.text) ns)) })

@@ -1,4 +1,4 @@
--- Between functions: what the pieces in front of an operation's first region come to: what they use, and what they give the operation.
+-- Between functions: the pieces before an operation's first region: what they use, and what they give the operation.
 use Rattle.std.specs.Prelude.{◌≡◌, ◌⊎◌, ◌+◌, ◌<◌, ◌≤◌, ℕ, true, false, List, [], ◌∷◌, ◌++◌, length, map, flat_map, slice_get, Option, Some, None, ⊤}
 use Rattle.std.specs.Option.{option_map}
 use Rattle.irtext_base.specs.Text.{Text}
@@ -47,11 +47,11 @@ use Rattle.irtext_parse_nested.specs.Definitions.{BlanksHaveResults}
 use Rattle.irtext_parse_nested.specs.Items.{Names}
 
 -- ---- what pieces give
--- an entry that was read, with its key as a text
+-- a parsed entry, with its key as a text
 abbrev pub entry_read : {A : Type 0} → Key × AttrObj A → Text × Attribute A
 entry_read e = (e.0.name, attribute_of e.1)
 
--- the last of these lists, or else the first one given
+-- the last of these lists; if there is none, the list given first
 abbrev pub last_list : {X : Type 0} → List X → List (List X) → List X
 last_list xs [] = xs
 last_list xs (ys ∷ lists) = last_list ys lists
@@ -87,7 +87,7 @@ module _ {T A : Type 0} where
   type_list (read.Types ts) = ts ∷ []
   type_list _ = []
 
-  -- the attributes that are stored of a piece, under their keys
+  -- the attributes that a piece stores, under their keys
   abbrev pub stored_of : ReadPiece T A → List (Text × Attribute A)
   stored_of (read.Attr k None) = []
   stored_of (read.Attr k (Some a)) = (k, attribute_of a) ∷ []
@@ -95,8 +95,8 @@ module _ {T A : Type 0} where
   stored_of (read.Header s) = (sym_name_key, ident s.name) ∷ []
   stored_of _ = []
 
-  -- ---- which pieces may come
-  -- the piece's names are among so many
+  -- ---- which pieces can be gathered
+  -- the numbers of the piece's names are below this count
   abbrev pub CanUse : ℕ → ReadPiece T A → Type 0
   CanUse count (read.Operand i n) = n.name < count
   CanUse count (read.Operands ns) = AreKnown count (map (λ n. n.name) ns)
@@ -104,7 +104,7 @@ module _ {T A : Type 0} where
   CanUse count (read.Successors ns) = AreKnown count (map (λ n. n.name) ns)
   CanUse count _ = ⊤
 
-  -- so is each of them
+  -- the same of each piece
   abbrev pub CanUseAll : ℕ → List (ReadPiece T A) → Type 0
   CanUseAll count [] = ⊤
   CanUseAll count (p ∷ ps) = CanUse count p × CanUseAll count ps
@@ -121,19 +121,19 @@ module _ {T A : Type 0} where
   LackSuccessors (read.Successors ns ∷ ps) = ⊥
   LackSuccessors (_ ∷ ps) = LackSuccessors ps
 
-  -- one list of operands at most is among these, and none where some came already
+  -- at most one list of operands is among these, and none if there are listed operands already
   abbrev pub OperandsOnce : List Value → List (ReadPiece T A) → Type 0
   OperandsOnce vs [] = ⊤
   OperandsOnce vs (read.Operands ns ∷ ps) = (vs ≡ []) × LackOperands ps
   OperandsOnce vs (_ ∷ ps) = OperandsOnce vs ps
 
-  -- one list of successors at most is among these, and none where some came already
+  -- at most one list of successors is among these, and none if there are listed successors already
   abbrev pub SuccessorsOnce : List (Ptr BasicBlock) → List (ReadPiece T A) → Type 0
   SuccessorsOnce bs [] = ⊤
   SuccessorsOnce bs (read.Successors ns ∷ ps) = (bs ≡ []) × LackSuccessors ps
   SuccessorsOnce bs (_ ∷ ps) = SuccessorsOnce bs ps
 
-  -- The pieces can be used where these names are, and these lists of operands and of successors came already.
+  -- The pieces can be used, given these names and the listed operands and successors so far.
   pub record CanGather (names : Names) (values : List Value) (blocks : List (Ptr BasicBlock)) (ps : List (ReadPiece T A)) : Type 0 where
     pub names_are : CanUseAll (length names.names) ps
     pub operands_once : OperandsOnce values ps
@@ -147,24 +147,24 @@ module _ {T A : Type 0} where
     pub attributes : x.attributes ≡ []
 
 -- ---- entries of a dictionary
--- the refusal of an entry, where its key stands at a place
+-- the error of an entry whose key is at this position
 abbrev pub refused_at : Refusal → Place → NotGathered
 refused_at entry.Memory at = refusal.Memory
 refused_at (entry.ReservedKey name) at = refusal.ReservedKey (record { name = name; at = at })
 
 module _ {A : Type 0} where
-  -- each entry's attribute may stand under its key
+  -- each entry's attribute is allowed under its key
   abbrev pub MayAllHold : List (Key × AttrObj A) → Type 0
   MayAllHold [] = ⊤
   MayAllHold (e ∷ es) = (may_hold e.0.name (attribute_of e.1) ≡ true) × MayAllHold es
 
-  -- this is the key of the first entry whose attribute may not stand there
+  -- this is the key of the first entry whose attribute is not allowed
   abbrev pub IsFirstReserved : List (Key × AttrObj A) → Key → Type 0
   IsFirstReserved [] key = ⊥
   IsFirstReserved (e ∷ es) key = ((may_hold e.0.name (attribute_of e.1) ≡ false) × (key ≡ e.0))
       ⊎ ((may_hold e.0.name (attribute_of e.1) ≡ true) × IsFirstReserved es key)
 
-  -- why entries were not stored: memory was refused, or a key is reserved
+  -- why entries were not stored: an allocation failed, or a key is reserved
   abbrev pub RefusesEntries : List (Key × AttrObj A) → NotGathered → Type 0
   RefusesEntries es refusal.Memory = ⊤
   RefusesEntries es (refusal.ReservedKey key) = IsFirstReserved es key
@@ -172,31 +172,31 @@ module _ {A : Type 0} where
 
 -- ---- what pieces use
 module _ {X : Type 0} where
-  -- at its own place, or so many places behind the first of the list's, the user has what stands there in hand
+  -- the user at this place of its own, or at this index of the list, which begins at place k, has this value or block in hand
   abbrev pub IsInHand : (X → Defined) → (ℕ → User) → ℕ → List (ℕ × X) → List X → User → Defined → Type 0
   IsInHand of user k single list u d = ((i : ℕ) × (x : X) × (u ≡ user i) × (d ≡ of x) × Among (i, x) single)
       ⊎ ((j : ℕ) × (x : X) × (u ≡ user (k + j)) × (d ≡ of x) × (slice_get list j ≡ Some x))
 
-  -- all that there was is there
+  -- everything that was there is there
   pub record Grows (old new : Placed X) : Type 0 where
     pub single : (e : ℕ × X) → Among e old.single.items → Among e new.single.items
     pub list : (j : ℕ) (x : X) → slice_get old.list.items j ≡ Some x → slice_get new.list.items j ≡ Some x
 
--- What is in hand is in the hands of the operation at a path, where the lists of operands and successors begin at these places.
+-- What is in hand is in the hands of the operation at this path; its lists of operands and successors begin at these places.
 pub record AreInHand (p : Path) (k l : ℕ) (operands : Placed Value) (successors : Placed (Ptr BasicBlock)) (held : List (User × Defined)) : Type 0 where
   pub so : (u : User) (d : Defined) → Among (u, d) held → IsInHand OfValue (operand p) k operands.single.items operands.list.items u d
       ⊎ IsInHand OfBlock (successor p) l successors.single.items successors.list.items u d
 
 module _ {O B T : Type 0} where
-  -- Nothing came but placeholders: each operation that has data had it, each block that stands somewhere stood there, and each region was
-  -- there.
+  -- Nothing but placeholders was added: each operation that has data had it, each block that has a parent had the same parent, and each
+  -- region was live.
   pub record BringsNone (g k : GraphView (Option O) B T) : Type 0 where
     pub operations : (p : Ptr Operation) (x : O) → option_map (λ c. c.data_of) (operation_at k p) ≡ Some (Some x) → option_map (λ c. c.data_of) (operation_at g p) ≡ Some (Some x)
     pub blocks : (b : Ptr BasicBlock) (o : Object) → parent k (TheBlock b) ≡ Some o → parent g (TheBlock b) ≡ Some o
     pub regions : (r : Ptr Region) → Stands k (TheRegion r) → Stands g (TheRegion r)
 
-  -- The names are the same, as many scopes are open, all is tied, what is older stands as it did, nothing came but placeholders, and
-  -- each operation without data has a result where that was so.
+  -- The names are the same, as many scopes are open, and names and graph are still tied; what is older is unchanged, nothing but
+  -- placeholders was added, and each operation without data has a result if that was so before.
   pub record IsSteady (old new : Names) (g k : GraphView (Option O) B T) : Type 0 where
     pub names : new.names ≡ old.names
     pub values : length new.values ≡ length old.values
@@ -207,17 +207,18 @@ module _ {O B T : Type 0} where
     pub brings : BringsNone g k
     pub blanks : (m : ℕ) → BlanksHaveResults m g → BlanksHaveResults m k
 
-  -- a name of this number was used, by any user, and stands for this
+  -- a name of this number was used, by any user, and refers to this
   pub record TakesName {X : Type 0} (of : X → Defined) (uses : Word → User → Act) (number : ℕ) (old new : Names) (g h : GraphView (Option O) B T) (x : X) : Type 0 where
     pub still : (d : Defined) → IsDefined g d → IsDefined h d
     pub there : IsDefined h (of x)
     pub follows : (w : Word) (u : User) → slice_get old.names number ≡ Some w.name → TakesUse (uses w u) old new g h u (of x)
 
-  -- wherever the machine stands with what was, whatever is in hand, the acts fail so
+  -- whenever names and graph agree with a state of the machine, whatever is in hand, the acts fail so
   pub record FailsUses (acts : List Act) (names : Names) (g : GraphView (Option O) B T) (failure : Failure) : Type 0 where
     pub so : (known : Known) (held : List (User × Defined)) (st : State) → StandsAt names g known held st → run (going st) (map act acts) ≡ failed failure
 
-  -- the acts take the machine to where it stands with what is, and what they use is in the hands of the operation at a path
+  -- the acts take the machine to a state that the new names and graph agree with, and what they use is in the hands of the operation at a
+  -- path
   pub record TakesParts (p : Path) (k l : ℕ) (acts : List Act) (old : Names) (g : GraphView (Option O) B T) (new : Names) (h : GraphView (Option O) B T)
       (operands : Placed Value) (successors : Placed (Ptr BasicBlock)) : Type 0 where
     pub more : List (User × Defined)
@@ -225,7 +226,7 @@ module _ {O B T : Type 0} where
     pub held : AreInHand p k l operands successors more
 
 module _ {O B T A : Type 0} where
-  -- all that is used so far is there
+  -- everything that was used so far is live
   pub record AllStand (g : GraphView (Option O) B (Option T)) (x : Gathered T A) : Type 0 where
     pub operands : (e : ℕ × Value) → Among e x.operands.single.items → IsDefined g (OfValue e.1)
     pub listed_operands : (v : Value) → Among v x.operands.list.items → IsDefined g (OfValue v)
@@ -250,7 +251,7 @@ module _ {O B T A : Type 0} where
     pub attributes : entries_of y.attributes ≡ put_all (entries_of x.attributes) (flat_map stored_of ps)
     pub there : AllStand g x → AllStand h y
 
-  -- wherever the machine stands with what was, the acts of the pieces fail at a name of the text, for this cause
+  -- whenever names and graph agree with a state of the machine, the acts of the pieces fail at a name of the text, for this cause
   pub record FailsAt (ps : List (ReadPiece T A)) (names : Names) (g : GraphView (Option O) B (Option T)) (Is : Text → Name ℕ → Type 0) (cause : Text → Cause Text) : Type 0 where
     pub so : (text : Text) (parts : List (Part ℕ T A)) → Each (IsPart names.names text) ps parts
         → (n : Name ℕ) × Is text n × ((p : Path) (k l : ℕ) → FailsUses (views (piece_acts p k l) parts) names g (record { cause = cause n.text; at = Some n.place }))
@@ -259,21 +260,21 @@ module _ {O B T A : Type 0} where
   abbrev pub GatherFails : List (ReadPiece T A) → Names → GraphView (Option O) B (Option T) → Key → Type 0
   GatherFails ps names g key = FailsAt ps names g (λ text n. IsKey text key n) ReservedKey
 
-  -- they fail at this name, which stands where no scope of its kind is open
+  -- they fail at this name, for which no scope of its kind is open
   abbrev pub GatherOutside : List (ReadPiece T A) → Names → GraphView (Option O) B (Option T) → ReadName → Type 0
   GatherOutside ps names g read = FailsAt ps names g (λ text n. StandsFor names.names text read n) NoActiveScope
 
-  -- why the pieces were not gathered: memory was refused, or their acts fail
+  -- why the pieces were not gathered: an allocation failed, or their acts fail
   abbrev pub RefusesGathering : List (ReadPiece T A) → Names → GraphView (Option O) B (Option T) → NotGathered → Type 0
   RefusesGathering ps names g refusal.Memory = ⊤
   RefusesGathering ps names g (refusal.ReservedKey key) = GatherFails ps names g key
   RefusesGathering ps names g (refusal.NoActiveScope read) = GatherOutside ps names g read
 
 module _ {T A : Type 0} where
-  -- The pieces were stored, wherever names and graph stand, which stay so.
+  -- The pieces were stored; this does not depend on names and graph, which are unchanged.
   abbrev pub GathersAlone : List (ReadPiece T A) → Gathered T A → Gathered T A → Type 0
   GathersAlone ps x y = (names : Names) (g : GraphView (Option (OperationData A)) (BlockData A) (Option T)) → Gathers ps names g x names g y
 
-  -- why the pieces were not stored, wherever names and graph stand
+  -- why the pieces were not stored, whatever names and graph are
   abbrev pub RefusesAlone : List (ReadPiece T A) → NotGathered → Type 0
   RefusesAlone ps refusal = (names : Names) (g : GraphView (Option (OperationData A)) (BlockData A) (Option T)) → RefusesGathering ps names g refusal

@@ -1,4 +1,5 @@
--- Between functions: what names come to as items are read, over the names, the graph and the marks of a reading.
+-- Between functions: the names while items are parsed, with the graph and the marks. An item is an operation or a block with its place in
+-- the text.
 use Rattle.std.specs.Prelude.{◌≡◌, ◌<◌, ◌≤◌, true, ℕ, List, [], ◌++◌, None, IsSome, length}
 use Rattle.irtext_base.specs.Text.{Text}
 use Rattle.irtext_base.specs.Faults as fault
@@ -37,21 +38,21 @@ use Rattle.irtext_outcomes.specs.Promises.Root.{IsPlace}
 use Rattle.irtext_nesting.specs.Naming.{naming}
 use Rattle.irtext_nesting.specs.Reached.{Doing}
 
--- the names of a reading, with what values and labels they stand for
+-- the names of a parse, with the values and blocks that they refer to
 abbrev pub Names : Type 0
 Names = NameTracker Value (Ptr BasicBlock)
 
--- what items do with names, where the item of a place of the text is the one of its path
+-- what items do with names, if the item of each place of the text has this path
 abbrev pub doing : {T A : Type 0} → List (Text × Table) → (ℕ → Path) → Doing T A Outcome
 doing dialects path = naming (format_of dialects) path
 
--- An operation that is open: its place in the text, its pointer, and how many results it has.
+-- An open operation: its place in the text, its pointer, and the number of its results.
 pub record Pledge : Type 0 where
   pub place : ℕ
   pub op : Ptr Operation
   pub results : ℕ
 
--- the results of an open operation are those that its path has in what was made
+-- the results of an open operation are those that were made for its path
 abbrev pub AreMadeAt : (ℕ → Path) → Known → Pledge → Type 0
 AreMadeAt path known w = (i : ℕ) → i < w.results → Among (result (path w.place) i, Result w.op i) known.values
 
@@ -59,8 +60,8 @@ AreMadeAt path known w = (i : ℕ) → i < w.results → Among (result (path w.p
 abbrev pub Made : Type 0
 Made = List (ℕ × Object)
 
--- Names, graph and marks stand where the machine of names stands, nothing is in hand, these items were made, and these operations are
--- open.
+-- The names, the graph and the marks agree with the state of the machine, nothing is in hand, these items were made, and these operations
+-- are open.
 pub record StandsAs {T A U : Type 0} (path : ℕ → Path) (items : Made) (pledges : List Pledge) (names : Names) (s : code.State T A U) (o : Outcome) : Type 0 where
   pub known : Known
   pub of_items : AreOf path items known
@@ -70,11 +71,11 @@ pub record StandsAs {T A U : Type 0} (path : ℕ → Path) (items : Made) (pledg
   pub marks : state.marks ≡ indices_of (marks_of s)
   pub results : (w : Pledge) → Among w pledges → AreMadeAt path known w
 
--- of what was made since a mark, each operation without data has a result, as the placeholders of values have
+-- of what was created since a count, each operation without data has a result, as the placeholders of values have
 abbrev pub BlanksDefine : {T A : Type 0} → ℕ → ContextView T A → Type 0
 BlanksDefine m c = (p : Ptr Operation) → IsSome (get c.graph.operations p) → operation c p ≡ None → IsNew m c.graph (TheOperation p) → (i : ℕ) × IsDefined c.graph (OfValue (Result p i))
 
--- the cause that readers answer for this failure of names
+-- the cause that parsers return for this failure of names
 abbrev pub IsNameCause : Cause Text → Fault → Type 0
 IsNameCause (script.ResultCount types names) cause = cause ≡ fault.ResultCount types names
 IsNameCause (script.NoActiveScope n) cause = cause ≡ fault.NoActiveScope n
@@ -86,7 +87,8 @@ IsNameCause (script.UnknownIndex i) cause = cause ≡ fault.UnknownIndex i
 IsNameCause (script.UnknownPrintOnce i) cause = cause ≡ fault.UnknownPrintOnce i
 IsNameCause (script.ReservedKey k) cause = cause ≡ fault.ReservedKey k
 
--- the fault is this failure: it has its cause, and is at its place of the text, or at the text's beginning where it has none
+-- the fault is this failure: it has its cause, and is at its place of the text, or at the beginning of the text if the failure has no
+-- place
 pub record IsFailure {A : Type 0} (text : Text) (failure : Failure) (fault : ParseFault A) : Type 0 where
   pub cause : IsNameCause failure.cause (fault_of fault.cause)
   pub place : IsPlace text failure.at fault.pos
@@ -98,8 +100,8 @@ pub record IsTextFault {A : Type 0} (text : Text) (cause : Fault) (place : ℕ) 
   pub placed : IsPosition text place fault.pos
 
 module _ {T A U : Type 0} where
-  -- wherever the machine stands with what was, besides open operations, the act takes it to where it stands with what is, and these items
-  -- were made besides
+  -- whenever the old names and state agree with a state of the machine, with these operations open besides others, the act takes it to a
+  -- state that the new ones agree with, and these items were made too
   pub record ActsWith (made : Made) (act : (ℕ → Path) → Outcome → Outcome) (old : Names) (s : code.State T A U) (pledges : List Pledge) (new : Names) (z : code.State T A U) (pledges' : List Pledge) : Type 0 where
     pub so : (path : ℕ → Path) (items : Made) (more : List Pledge) (o : Outcome) → StandsAs path items (more ++ pledges) old s o → StandsAs path (made ++ items) (more ++ pledges') new z (act path o)
 
@@ -107,21 +109,22 @@ module _ {T A U : Type 0} where
   abbrev pub Acts : ((ℕ → Path) → Outcome → Outcome) → Names → code.State T A U → List Pledge → Names → code.State T A U → List Pledge → Type 0
   Acts = ActsWith []
 
-  -- wherever it stands with what was, the act fails, and the fault says how
+  -- whenever names and state agree with a state of the machine, the act fails, and the fault is for that failure
   pub record ActFails (text : Text) (act : (ℕ → Path) → Outcome → Outcome) (old : Names) (s : code.State T A U) (pledges : List Pledge) (fault : ParseFault A) : Type 0 where
     pub failure : Failure
     pub is : IsFailure text failure fault
     pub so : (path : ℕ → Path) (items : Made) (more : List Pledge) (o : Outcome) → StandsAs path items (more ++ pledges) old s o → act path o ≡ failed failure
 
-  -- Of what was made since m the names wait with placeholders alone, and no older name waits; and each operation without data has a result.
+  -- Of what was created since m, the names wait with placeholders alone, and no older name waits; and each operation without data has a
+  -- result.
   pub record IsSound (m : ℕ) (names : Names) (s : code.State T A U) : Type 0 where
     pub tied : AreTied names.values names.labels s.ctx.now.graph
     pub waiting : AreWaiting m [] names.values names.labels s.ctx.now.graph
     pub blanks : BlanksDefine m s.ctx.now
 
 module _ {T A : Type 0} where
-  -- What was there and is no placeholder is there still: each operation that has data, with as many results, each block that stands in a
-  -- region, each region; what is younger than a mark is so still; and the dialects are the same.
+  -- What was live and is no placeholder is still live: each operation that has data, with the same number of results; each block that has
+  -- a parent, with the same parent; each region. What was created since a count still was, and the dialects are the same.
   pub record Lasts (old new : ContextView T A) : Type 0 where
     pub operations : (p : Ptr Operation) → IsSome (operation old p) → IsSome (operation new p)
     pub results : (p : Ptr Operation) → IsSome (operation old p) → length (results new.graph p) ≡ length (results old.graph p)

@@ -1,4 +1,4 @@
--- Between functions: a piece that stands behind a region of its operation: what is stored of it, and what the turn comes to that reads it.
+-- Between functions: a piece of an operation after a region: what is stored of it, and what the action that parses it promises.
 use Rattle.std.specs.Prelude.{◌≡◌, ℕ, true, List, [], ◌∷◌, ◌++◌, Option, Some, None, ⊤}
 use Rattle.irtext_base.specs.Text.{Text}
 use Rattle.irtext_base.specs.Locations.{AttrView}
@@ -30,45 +30,45 @@ use Rattle.irtext_parse_nested.specs.Items.{Names}
 use Rattle.irtext_parse_nested.specs.Located.{IsLocated}
 use Rattle.irtext_parse_nested.specs.Read.{ReadsPiece}
 
--- a step comes, and it reads a piece and no region
+-- there is a next step, and it parses a piece and no region
 abbrev pub IsFlatNext : Option Step → Type 0
 IsFlatNext (Some step) = is_flat step ≡ true
 IsFlatNext None = ⊥
 
 -- ---- a piece that is stored
--- what an attribute gives that was read, where no marker stands
+-- what a parsed attribute gives: nothing if the text has the marker
 abbrev pub given_by : {A : Type 0} → Text → Option (AttrObj A) → List (Text × Attribute A)
 given_by key None = []
 given_by key (Some a) = (key, attribute_of a) ∷ []
 
 module _ {T A : Type 0} where
-  -- where the piece is a dictionary, each entry's attribute may stand under its key
+  -- if the piece is a dictionary, each entry's attribute is allowed under its key
   abbrev pub MayStore : ReadPiece T A → Type 0
   MayStore (read.Dictionary es) = MayAllHold es.items
   MayStore _ = ⊤
 
-  -- why the piece was not stored: memory was refused, or a key of its dictionary is reserved
+  -- why the piece was not stored: an allocation failed, or a key of its dictionary is reserved
   abbrev pub RefusesStored : ReadPiece T A → NotGathered → Type 0
   RefusesStored (read.Dictionary es) why = RefusesEntries es.items why
   RefusesStored _ why = why ≡ refusal.Memory
 
-  -- what the piece gives its operation was put in behind the attributes that it had
+  -- what the piece gives its operation was stored after the attributes that it had
   pub record StoresPiece (piece : ReadPiece T A) (old new : ContextView T A) (op : Ptr Operation) : Type 0 where
     pub left : List (Text × AttrObj A)
     pub edits : EditsOperation old new op (with_attributes left)
     pub stored : (view : OperationView T A) → operation old op ≡ Some view → entries_of left ≡ put_all (entries_of view.attributes) (stored_of piece)
     pub may : MayStore piece
 
-  -- the piece was not stored, and the fault says why
+  -- the piece was not stored, and the fault is for the reason
   pub record NotStored (piece : ReadPiece T A) (names : List Text) (text : Text) (fault : ParseFault A) : Type 0 where
     pub why : NotGathered
     pub refuses : RefusesStored piece why
     pub says : SaysGather names text why fault
 
--- ---- the turn
+-- ---- the action
 module _ {T A U : Type 0} (types_at : Reader T) (attr : Reader (AttrView A)) (before : Names) (old : StateStream T A U) where
-  -- A piece was read, by the next step of an operation that is open, which goes on behind it: whatever operation it is that was begun, its
-  -- own has what the piece gives besides.
+  -- A piece was parsed, by the next step of an open operation, which is now at the step after it. Whatever operation the frame
+  -- represents, what the piece gives was added to its own parts.
   pub record GoesOn (b next : BegunOperation) (names : Names) (new : StateStream T A U) : Type 0 where
     pub op : next.op ≡ b.op
     pub results : next.results ≡ b.results

@@ -1,4 +1,4 @@
--- Between functions: why a region can't be left.
+-- Between functions: why the scopes of a region cannot be closed without an error.
 use Rattle.std.specs.Prelude.{◌≡◌, ℕ, Some, Option, slice_get}
 use Rattle.irtext_base.specs.Text.{Text}
 use Rattle.irtext_base.specs.Faults.{Unresolved}
@@ -11,7 +11,7 @@ use Rattle.irtext_parse_nested.specs.declared.frame.BegunRegion.{BegunRegion}
 use Rattle.irtext_parse_nested.specs.Definitions.{IsFaultOf}
 use Rattle.irtext_parse_nested.specs.Items.{Names}
 
--- the fault says that this name is left without a definition, where the region begins, and so does the machine
+-- this name has no definition; the fault is for it, at the beginning of the region, and the machine fails in the same way
 pub record IsUnresolved {O B T A : Type 0} (names : Names) (g : GraphView (Option O) B T) (text : Text) (region : BegunRegion) (fault : ParseFault A) : Type 0 where
   pub name : ℕ
   pub said : IsFaultOf names.names text Unresolved (record { name = name; at = region.at }) fault

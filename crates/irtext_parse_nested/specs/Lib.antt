@@ -1,4 +1,4 @@
--- What the readers of nested text promise one another: what names come to beside what is read, and what is open.
+-- What the parsers of nested text promise each other: the names, and the open frames.
 pub mod Items
 pub mod Begun
 pub mod Read

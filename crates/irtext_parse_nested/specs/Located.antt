@@ -1,4 +1,4 @@
--- Between functions: the location of what was read.
+-- Between functions: the location of what was parsed.
 use Rattle.std.specs.Prelude.{◌≡◌, ℕ, ◌-◌, length, take}
 use Rattle.irtext_base.specs.Text.{Text}
 use Rattle.irtext_base.specs.Stream.{IsAt}
@@ -13,7 +13,7 @@ use Rattle.irtext_outcomes.specs.Promises.Root.{position_behind}
 abbrev pub IsLocated : {A : Type 0} → Source → Text → ℕ → Location A → Type 0
 IsLocated source text place loc = loc ≡ SrcPos source (position_behind (take (length text - place) text))
 
--- the same of a place that the stream gave
+-- the same for a position of the stream
 pub record IsLocatedAt {A : Type 0} (source : Source) (text : Text) (place : Place) (loc : Location A) : Type 0 where
   pub at : SourcePosition
   pub is : loc ≡ SrcPos source at

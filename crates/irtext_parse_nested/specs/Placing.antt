@@ -1,4 +1,4 @@
--- Between functions: a block that is made in a region, and its label.
+-- Between functions: a block that is created in a region, and its label.
 use Rattle.std.specs.Prelude.{◌≡◌, List, Option, Some, slice_get}
 use Rattle.irtext_base.specs.Text.{Text}
 use Rattle.irtext_base.specs.Faults as causes
@@ -18,7 +18,7 @@ use Rattle.irtext_parse_pieces.specs.declared.names.ReadName.{ReadName}
 use Rattle.irtext_parse_nested.specs.Definitions.{IsFaultOf}
 use Rattle.irtext_parse_nested.specs.Items.{Names}
 
--- a block with this data and with arguments of these types was made, and came last into a region
+-- a block with this data and with arguments of these types was created and appended to a region
 pub record PlacesBlock {T A : Type 0} (old new : ContextView T A) (r : Ptr Region) (b : Ptr BasicBlock) (held : BlockData A) (types : List T) : Type 0 where
   pub between : ContextView T A
   pub makes : MakesBlock old between b held types
@@ -26,7 +26,8 @@ pub record PlacesBlock {T A : Type 0} (old new : ContextView T A) (r : Ptr Regio
   pub paths : new.paths ≡ old.paths
   pub dialects : new.dialects ≡ old.dialects
 
--- the label is defined already: its definition fails wherever the machine stands so, and the fault says so, at the label
+-- the label is already defined: whenever names and graph agree with a state of the machine, its definition fails, and the fault is for
+-- it, at the label
 pub record RefusesLabel {O B T A : Type 0} (names : Names) (g : GraphView (Option O) B T) (text : Text) (label : ReadName) (fault : ParseFault A) : Type 0 where
   pub says : IsFaultOf names.names text causes.MultipleDefinitions label fault
   pub fails : (w : Word) (p : Place) → slice_get names.names label.name ≡ Some w.name → FailsBy (act (define_label w p)) names g (record { cause = MultipleDefinitions w.name; at = Some w.at })

@@ -1,4 +1,4 @@
--- Between functions: what each turn of the reading of nested text reads, does, and refuses.
+-- Between functions: what each action of the parser of nested text parses and does, and how it fails.
 use Rattle.std.specs.Prelude.{◌≡◌, ◌⊎◌, ℕ, ◌-◌, Bool, true, ◌||◌, List, [], ◌∷◌, codes, length, Option}
 use Rattle.irtext_base.specs.Text.{Text}
 use Rattle.irtext_base.specs.Format.{Id}
@@ -25,7 +25,7 @@ use Rattle.irtext_parse_nested.specs.declared.frame.BegunBlock.{BegunBlock}
 use Rattle.irtext_parse_nested.specs.Begun.{IsBegun, IsRegion, IsBlock, pledge_of}
 use Rattle.irtext_parse_nested.specs.Items.{Names, doing, Acts, ActsWith, ActFails, IsTextFault}
 
--- the fault is that of a reader at a text that is the end of the whole, where what it reads must stand
+-- the fault of a parser that starts at `rest`, which is the end of the whole text, if what it parses is required
 pub record Demands {X A : Type 0} (text : Text) (o : Outcome X) (rest : Text) (fault : ParseFault A) : Type 0 where
   pub cause : Fault
   pub upto : Text
@@ -35,7 +35,7 @@ pub record Demands {X A : Type 0} (text : Text) (o : Outcome X) (rest : Text) (f
 module _ {T A U : Type 0} (types_at : Reader T) (attr : Reader (AttrView A)) where
   -- ---- an operation begins
 
-  -- Names of results, an id and the pieces in front of the first region stand at a text, inside of some region or outside of each.
+  -- Names of results, an id and the pieces before the first region come next, inside of a region or outside of every region.
   pub record ReadsFront (inside : Bool) (old : StateStream T A U) (rest : Text) : Type 0 where
     pub names : List (Name ℕ)
     pub id : Id
@@ -46,7 +46,7 @@ module _ {T A U : Type 0} (types_at : Reader T) (attr : Reader (AttrView A)) whe
     pub taken : Text
     pub front : front_at types_at attr inside (front_steps (steps_in old.state.ctx.now.dialects id)) [] middle ≡ Read parts taken rest
 
-  -- what is begun where these were read
+  -- what is begun when these were parsed
   abbrev pub begun_by : (inside : Bool) (old : StateStream T A U) (rest : Text) → ReadsFront inside old rest → Begun T A
   begun_by inside old rest r = begun old.state.ctx.now.dialects inside (length old.stream.rest) r.names r.id r.parts
 
@@ -54,15 +54,15 @@ module _ {T A U : Type 0} (types_at : Reader T) (attr : Reader (AttrView A)) whe
   abbrev pub uses_of : (inside : Bool) (old : StateStream T A U) (rest : Text) → ReadsFront inside old rest → (ℕ → Path) → Machine → Machine
   uses_of inside old rest r path = (doing old.state.ctx.now.dialects path).uses (length old.stream.rest) r.id r.parts
 
-  -- the operation was begun: what stands in front of its first region was read and done
+  -- the operation was begun: what precedes its first region was parsed and done
   pub record BeginsOperation (inside : Bool) (before : Names) (old : StateStream T A U) (b : BegunOperation) (names : Names) (new : StateStream T A U) : Type 0 where
     pub read : ReadsFront inside old new.stream.rest
     pub moves : Moves old.stream new.stream
     pub begun : IsBegun names.names (whole old.stream) new.state.ctx.now b (begun_by inside old new.stream.rest read)
     pub acts : ActsWith ((length old.stream.rest, TheOperation b.op) ∷ []) (uses_of inside old new.stream.rest read) before old.state [] names new.state (pledge_of b (length old.stream.rest) ∷ [])
 
-  -- no operation begins there: by its lead, of which a fault is committed where an operation is wanted, by a piece in front of its first
-  -- region, or by what these do
+  -- no operation was begun: because of its lead, with a committed fault if an operation is required; because of a piece before its first
+  -- region; or because of what these do
   pub data RefusesOperation (inside wanted : Bool) (before : Names) (old : StateStream T A U) (fault : ParseFault A) : Type 0 where
     no_lead : Demands (whole old.stream) (led_at old.state.ctx.now.dialects old.stream.rest) old.stream.rest fault
         → fault.committed ≡ (wanted || is_committed (led_at old.state.ctx.now.dialects old.stream.rest)) → RefusesOperation inside wanted before old fault
@@ -70,9 +70,9 @@ module _ {T A U : Type 0} (types_at : Reader T) (attr : Reader (AttrView A)) whe
         → Demands (whole old.stream) (front_at types_at attr inside (front_steps (steps_in old.state.ctx.now.dialects id)) [] middle) middle fault → fault.committed ≡ true → RefusesOperation inside wanted before old fault
     no_uses : (rest : Text) (r : ReadsFront inside old rest) → ActFails (whole old.stream) (uses_of inside old rest r) before old.state [] fault → RefusesOperation inside wanted before old fault
 
-  -- ---- a piece behind a region
+  -- ---- a piece after a region
 
-  -- the piece that the operation's next step reads was read and done
+  -- the piece of the operation's next step was parsed and done
   pub record ReadsPiece (o : Begun T A) (step : Step) (b : BegunOperation) (before : Names) (old : StateStream T A U) (names : Names) (new : StateStream T A U) : Type 0 where
     pub piece : Piece ℕ T A
     pub taken : Text
@@ -80,7 +80,7 @@ module _ {T A U : Type 0} (types_at : Reader T) (attr : Reader (AttrView A)) whe
     pub moves : Moves old.stream new.stream
     pub acts : Acts (λ path. (doing old.state.ctx.now.dialects path).late o.place o.id piece) before old.state [] names new.state []
 
-  -- no such piece stands there, or what it does fails
+  -- no such piece comes next, or what it does fails
   abbrev pub RefusesPiece : Begun T A → Step → Names → StateStream T A U → ParseFault A → Type 0
   RefusesPiece o step before old fault = Demands (whole old.stream) ((space_at ▷ piece_at types_at attr o.inside step) old.stream.rest) old.stream.rest fault
       ⊎ ((piece : Piece ℕ T A) × (taken : Text) × (rest : Text) × ((space_at ▷ piece_at types_at attr o.inside step) old.stream.rest ≡ Read piece taken rest)
@@ -88,11 +88,11 @@ module _ {T A U : Type 0} (types_at : Reader T) (attr : Reader (AttrView A)) whe
 
   -- ---- an operation ends
 
-  -- what the operation's end does, up to its mark, and with it
+  -- what the end of the operation does, before its mark
   abbrev pub closes_of : Begun T A → StateStream T A U → (ℕ → Path) → Machine → Machine
   closes_of o old path = (doing {T = T} {A = A} old.state.ctx.now.dialects path).closes o.place o.names o.id o.parts
 
-  -- its mark was read, where one stands, and it was closed and marked
+  -- its mark was parsed, if one came next, and the operation was closed and marked
   pub record EndsOperation (o : Begun T A) (b : BegunOperation) (before : Names) (old : StateStream T A U) (names : Names) (new : StateStream T A U) : Type 0 where
     pub mark : Option (Mark ℕ)
     pub taken : Text
@@ -100,7 +100,7 @@ module _ {T A U : Type 0} (types_at : Reader T) (attr : Reader (AttrView A)) whe
     pub moves : Moves old.stream new.stream
     pub acts : Acts (λ path z. (doing {T = T} {A = A} old.state.ctx.now.dialects path).marks mark (closes_of o old path z)) before old.state (pledge_of b o.place ∷ []) names new.state []
 
-  -- what its end does fails; or it was closed, and no mark can be read there, or what the mark does fails
+  -- what its end does fails; or it was closed, but its mark has an error, or what the mark does fails
   pub data RefusesEnd (o : Begun T A) (b : BegunOperation) (before : Names) (old : StateStream T A U) (fault : ParseFault A) : Type 0 where
     no_results : ActFails (whole old.stream) (closes_of o old) before old.state (pledge_of b o.place ∷ []) fault → RefusesEnd o b before old fault
     no_mark : (names : Names) (mid : StateStream T A U) → Acts (closes_of o old) before old.state (pledge_of b o.place ∷ []) names mid.state [] → Demands (whole old.stream) ((space_at ▷ mark_if_at) old.stream.rest) old.stream.rest fault → RefusesEnd o b before old fault
@@ -109,14 +109,14 @@ module _ {T A U : Type 0} (types_at : Reader T) (attr : Reader (AttrView A)) whe
 
   -- ---- a region begins and ends
 
-  -- what entering it does, and leaving it
+  -- what the beginning and the end of a region do
   abbrev pub enters_of : Bool → StateStream T A U → (ℕ → Path) → Machine → Machine
   enters_of iso old path = (doing {T = T} {A = A} old.state.ctx.now.dialects path).enters iso
 
   abbrev pub leaves_of : Bool → ℕ → StateStream T A U → (ℕ → Path) → Machine → Machine
   leaves_of iso place old path = (doing {T = T} {A = A} old.state.ctx.now.dialects path).leaves iso place
 
-  -- the region was entered, and its brace was read, with white space behind
+  -- the scopes of the region were opened, and its `{` was parsed, with the white space after it
   pub record BeginsRegion (iso : Bool) (r : BegunRegion) (before : Names) (old : StateStream T A U) (names : Names) (new : StateStream T A U) : Type 0 where
     pub taken : Text
     pub read : (word (codes "{") ▷ space_at) old.stream.rest ≡ Read tt taken new.stream.rest
@@ -124,30 +124,30 @@ module _ {T A U : Type 0} (types_at : Reader T) (attr : Reader (AttrView A)) whe
     pub region : IsRegion names.names (whole old.stream) new.state.ctx.now r iso (length old.stream.rest)
     pub acts : Acts (enters_of iso old) before old.state [] names new.state []
 
-  -- it can't be entered; or it was entered, and no brace stands there
+  -- its scopes cannot be opened; or they were opened, but `{` does not come next
   pub data RefusesRegion (iso : Bool) (before : Names) (old : StateStream T A U) (fault : ParseFault A) : Type 0 where
     not_isolated : ActFails (whole old.stream) (enters_of iso old) before old.state [] fault → RefusesRegion iso before old fault
     no_brace : (names : Names) (mid : StateStream T A U) → Acts (enters_of iso old) before old.state [] names mid.state [] → Demands (whole old.stream) ((word (codes "{") ▷ space_at) old.stream.rest) old.stream.rest fault → RefusesRegion iso before old fault
 
-  -- its other brace was read, and it was left
+  -- its `}` was parsed, and its scopes were closed
   pub record EndsRegion (iso : Bool) (place : ℕ) (before : Names) (old : StateStream T A U) (names : Names) (new : StateStream T A U) : Type 0 where
     pub taken : Text
     pub read : word (codes "}") old.stream.rest ≡ Read tt taken new.stream.rest
     pub moves : Moves old.stream new.stream
     pub acts : Acts (leaves_of iso place old) before old.state [] names new.state []
 
-  -- no brace stands there, or a name is left without a definition
+  -- `}` does not come next, or a name has no definition
   abbrev pub RefusesRegionEnd : Bool → ℕ → Names → StateStream T A U → ParseFault A → Type 0
   RefusesRegionEnd iso place before old fault = Demands (whole old.stream) (word (codes "}") old.stream.rest) old.stream.rest fault
       ⊎ ((taken rest : Text) × (word (codes "}") old.stream.rest ≡ Read tt taken rest) × ActFails (whole old.stream) (leaves_of iso place old) before old.state [] fault)
 
   -- ---- a block begins
 
-  -- what a block's header does
+  -- what the header of a block does
   abbrev pub heads_of : Head ℕ T A → StateStream T A U → (ℕ → Path) → Machine → Machine
   heads_of h old path = (doing old.state.ctx.now.dialects path).heads h
 
-  -- its header was read and done
+  -- its header was parsed and done
   pub record BeginsBlock (b : BegunBlock) (before : Names) (old : StateStream T A U) (names : Names) (new : StateStream T A U) : Type 0 where
     pub head : Head ℕ T A
     pub taken : Text
@@ -156,7 +156,7 @@ module _ {T A U : Type 0} (types_at : Reader T) (attr : Reader (AttrView A)) whe
     pub block : IsBlock names.names (whole old.stream) new.state.ctx.now b true
     pub acts : ActsWith ((head.label.place, TheBlock b.block) ∷ []) (heads_of head old) before old.state [] names new.state []
 
-  -- no header stands there, or what it does fails
+  -- its header has an error, or what it does fails
   abbrev pub RefusesBlock : Names → StateStream T A U → ParseFault A → Type 0
   RefusesBlock before old fault = Demands (whole old.stream) (head_at types_at attr old.stream.rest) old.stream.rest fault
       ⊎ ((head : Head ℕ T A) × (taken rest : Text) × (head_at types_at attr old.stream.rest ≡ Read head taken rest) × ActFails (whole old.stream) (heads_of head old) before old.state [] fault)

@@ -1,4 +1,4 @@
-//! The beginning of an operation: what stands in front of its first region is read, names are used, and the operation is made and put into
+//! The beginning of an operation: what precedes its first region is parsed, names are used, and the operation is created and appended to
 //! its block.
 ghost use Rattle.std.specs.Prelude.{◌≡◌, ◌++◌, ◌≤◌, ◌<◌, ◌⊎◌, ℕ, List, [], ◌∷◌, length, cond, true, false, None, IfOk, IfErr, IfSome, OnOk, OnErr, IsSome, is_some};
 ghost use Rattle.irtext_base.specs.Answers.{StarvesHere, Demands};
@@ -54,27 +54,27 @@ use irtext_state::parsable::StateStream;
 use irtext_state::parsable::state::StreamLocation;
 use std::alloc::AllocError;
 
-/// What stands in front of an operation's first region.
+/// What precedes an operation's first region.
 #[derive(Drop)]
 pub struct ReadFront<T, A> {
-    /// The names that stand for its results.
+    /// The names of its results.
     pub names: Few<ReadName>,
     pub id: OpId,
-    /// The key of a symbol's name, where one is kept for the operation.
+    /// The key of a symbol's name, if it is stored for the operation.
     pub key: Option<Identifier>,
-    /// How many steps its format has.
+    /// The number of steps of its format.
     pub steps: usize,
     pub pieces: Pieces<T, A>,
 }
 
-/// The fault, committed where this is wanted.
+/// Returns the error, committed if `wanted` is set.
 fn commit_if<A>(stream: &mut TextStream, wanted: bool, fault: ParseFault<A>) -> ParseFault<A>
     ensures { cond wanted (Demands itself replaced fault stream.old result stream.new) ((result ≡ fault) × (stream.new ≡ stream.old)) }
 {
     if wanted { commit(stream, fault) } else { fault }
 }
 
-/// The key of a symbol's name that is kept for an operation, with its text shared.
+/// Returns the key of a symbol's name that is stored for an operation; shares its text.
 pub(crate) fn kept_key(info: &OpInfo) -> Option<Identifier>
     ensures { IfSome result (λ key. key ≡ sym_name_key) }
 {
@@ -84,8 +84,7 @@ pub(crate) fn kept_key(info: &OpInfo) -> Option<Identifier>
     }
 }
 
-/// Reads what stands in front of an operation's first region. A fault is committed, but where no operation begins there, unless one is
-/// wanted.
+/// Parses what precedes an operation's first region. An error is committed, unless no operation comes next and `wanted` is not set.
 fn front_read<T: IrText<A>, A: AttrText>(
     stream: &mut TextStream,
     ctx: &Context<T, A>,
@@ -116,7 +115,7 @@ fn front_read<T: IrText<A>, A: AttrText>(
     })
 }
 
-/// The fault of pieces that were not gathered. The stream has failed.
+/// Returns the error for pieces that were not gathered. Leaves the stream failed.
 #[cold]
 pub(crate) fn gather_fault<A>(
     stream: &mut TextStream,
@@ -133,7 +132,8 @@ pub(crate) fn gather_fault<A>(
     }
 }
 
-/// Uses what the pieces of an operation name, and gathers what they give it. A fault is committed; what stands before it was used then.
+/// Uses the names of the pieces of an operation, and gathers what they give it. Every error is committed; what precedes the error was
+/// used then.
 fn pieces_gathered<T: IrText<A>, A: AttrText, U>(
     s: &mut StateStream<'_, T, A, U>,
     names: &mut Names,
@@ -163,7 +163,7 @@ fn pieces_gathered<T: IrText<A>, A: AttrText, U>(
     }
 }
 
-/// A second id that shares the texts.
+/// Returns a copy of the id that shares its texts.
 fn copied(id: &OpId) -> Result<OpId, AllocError>
     ensures { IfOk result (λ copy. copy ≡ id.now) }
 {
@@ -172,7 +172,7 @@ fn copied(id: &OpId) -> Result<OpId, AllocError>
     Ok(OpId { dialect, name })
 }
 
-/// Makes the operation of this id, which stands nowhere, of what its pieces came to; and says how many results it has. A fault is
+/// Creates a detached operation with this id from what its pieces gave. Returns it with the number of its results. Every error is
 /// committed.
 fn made_here<T: IrText<A>, A: AttrText, U>(
     s: &mut StateStream<'_, T, A, U>,
@@ -202,7 +202,7 @@ fn made_here<T: IrText<A>, A: AttrText, U>(
     }
 }
 
-/// Puts an operation that stands nowhere and holds nothing last into a block. Where memory is refused nothing changes.
+/// Appends a detached and empty operation to a block. If an allocation fails, nothing changes.
 fn put_last<T: IrText<A>, A: AttrText>(
     ctx: &mut Context<T, A>,
     block: Ptr<BasicBlock>,
@@ -222,7 +222,7 @@ fn put_last<T: IrText<A>, A: AttrText>(
     op.insert_at_back(block, ctx)
 }
 
-/// Puts an operation that stands nowhere and holds nothing last into the block that is given. A fault is committed.
+/// Appends a detached and empty operation to the block, if one is given. Every error is committed.
 fn placed_here<T: IrText<A>, A: AttrText, U>(
     s: &mut StateStream<'_, T, A, U>,
     block: Option<Ptr<BasicBlock>>,
@@ -251,7 +251,7 @@ fn placed_here<T: IrText<A>, A: AttrText, U>(
     }
 }
 
-/// Makes the operation whose front was read, with its names used, and puts it last into the block that is given. A fault is committed.
+/// Uses the names of the parsed front, creates the operation, and appends it to the block, if one is given. Every error is committed.
 fn begin_read<T: IrText<A>, A: AttrText, U>(
     s: &mut StateStream<'_, T, A, U>,
     names: &mut Names,
@@ -302,9 +302,10 @@ fn begin_read<T: IrText<A>, A: AttrText, U>(
     })
 }
 
-/// Begins an operation: reads the names of its results, its id and the pieces in front of its first region, uses what these name, and makes
-/// it, last in the block that is given, or outside of each. The first name that stands where no scope of its kind is open is refused, or
-/// the first key of a dictionary that is reserved. A fault is committed, but where no block is given and no operation begins there.
+/// Begins an operation: parses the names of its results, its id and the pieces before its first region, uses their names, creates the
+/// operation, and appends it to the block, if one is given; without a block it is outside of every region. Fails with `NoActiveScope` at
+/// the first name for which no scope of its kind is open, or with `ReservedKey` at the first reserved key of a dictionary. An error is
+/// committed, unless no block is given and no operation comes next.
 pub fn operation_begin<T: IrText<A>, A: AttrText, U>(
     s: &mut StateStream<'_, T, A, U>,
     names: &mut Names,

@@ -28,8 +28,8 @@ use irtext_parse_pieces::names::ReadName;
 use irtext_read::irfmt::faults::out_of_memory;
 use irtext_scopes::scopes::DefineFault;
 
-/// Defines the label of a block, a region being open. A label that its region defines already is refused, at the label. A fault is
-/// committed, and leaves names and graph as they were.
+/// Defines the label of a block, while a region is open. If the region already defines the label, fails at the label. Every error is
+/// committed, and leaves names and graph unchanged.
 pub fn label_block<O: Drop, B: Drop, T: Drop, A>(
     stream: &mut TextStream,
     names: &mut Names,

@@ -1,4 +1,4 @@
-//! The beginning of a block: its header is read, it is made in its region, and the names of the header are defined.
+//! The beginning of a block: its header is parsed, it is created in its region, and the names of the header are defined.
 ghost use Rattle.std.specs.Prelude.{◌≡◌, ◌<◌, ◌≤◌, ◌∷◌, ◌++◌, [], ℕ, List, length, map, true, false, Some, IfOk, IfErr, OnOk, OnErr, IsSome, slice_get};
 ghost use Rattle.irtext_base.specs.Text.{Text};
 ghost use Rattle.irtext_base.specs.Answers.{Read};
@@ -62,7 +62,7 @@ use irtext_parse_pieces::names::ReadName;
 use irtext_read::irfmt::faults::{out_of_memory, refuse_at};
 use irtext_state::parsable::StateStream;
 
-/// Reads the header of a block. Its names are kept, and no name stands under two numbers.
+/// Parses the header of a block. Its names are stored, and no name has two numbers.
 fn head_parse<T: IrText<A>, A: AttrText>(
     stream: &mut TextStream,
     names: &mut Names,
@@ -76,7 +76,7 @@ fn head_parse<T: IrText<A>, A: AttrText>(
     answer
 }
 
-/// The location of a place of the text that is read.
+/// Returns the location of a position in the text.
 pub(crate) fn location_at<T: IrText<A>, A: AttrText, U>(
     s: &StateStream<'_, T, A, U>,
     at: Place,
@@ -89,7 +89,7 @@ pub(crate) fn location_at<T: IrText<A>, A: AttrText, U>(
     }
 }
 
-/// The fault of entries that were not stored.
+/// Returns the error for entries that were not stored.
 fn refusal_fault<A>(stream: &mut TextStream, refusal: NotGathered) -> ParseFault<A>
     requires { IsOfEntries refusal }
     ensures { UnlessMemory (IsRefusalFault (whole stream.old) refusal) result }
@@ -101,7 +101,7 @@ fn refusal_fault<A>(stream: &mut TextStream, refusal: NotGathered) -> ParseFault
     }
 }
 
-/// Makes a block with this label, where it is read, the last of a region. A fault is want of memory, and committed.
+/// Creates a block with this label, at the label's location, and appends it to a region. The only error is `Memory`, committed.
 fn block_made<T: IrText<A>, A: AttrText, U>(
     s: &mut StateStream<'_, T, A, U>,
     names: &Names,
@@ -128,8 +128,8 @@ fn block_made<T: IrText<A>, A: AttrText, U>(
     place_block(s, region, Some(name), attributes, loc, types)
 }
 
-/// Makes a block of the parts of its header, the last of a region, and answers it with the names of its arguments. A key of its
-/// dictionary that is reserved is refused, at the key. A fault is committed.
+/// Creates a block from the parts of its header, and appends it to a region. Returns it with the names of its arguments. If a key of its
+/// dictionary is reserved, fails at the key. Every error is committed.
 fn head_made<T: IrText<A>, A: AttrText, U>(
     s: &mut StateStream<'_, T, A, U>,
     names: &Names,
@@ -165,7 +165,7 @@ fn head_made<T: IrText<A>, A: AttrText, U>(
     Ok((block, arguments))
 }
 
-/// Defines the names of a block's arguments, in the context of a reading. A fault is committed; the names before one that is refused are
+/// Defines the names of a block's arguments, in the state's context. Every error is committed; the names before one that fails are
 /// defined then.
 fn arguments_defined<T: IrText<A>, A: AttrText, U>(
     s: &mut StateStream<'_, T, A, U>,
@@ -201,7 +201,7 @@ fn arguments_defined<T: IrText<A>, A: AttrText, U>(
     }
 }
 
-/// Defines the label of a block, in the context of a reading. A fault is committed.
+/// Defines the label of a block, in the state's context. Every error is committed.
 fn label_defined<T: IrText<A>, A: AttrText, U>(
     s: &mut StateStream<'_, T, A, U>,
     names: &mut Names,
@@ -234,8 +234,8 @@ fn label_defined<T: IrText<A>, A: AttrText, U>(
     label_block(&mut s.stream, names, ctx.graph_mut(), label, block)
 }
 
-/// Defines the names of a block's header: its arguments; notes its mark, where one was read; and defines its label. A fault is
-/// committed; what stands before what is refused is defined and noted then.
+/// Defines the names of a block's arguments, records its mark, if it has one, and defines its label. Every error is committed; what
+/// precedes the error is defined and recorded then.
 fn head_named<T: IrText<A>, A: AttrText, U>(
     s: &mut StateStream<'_, T, A, U>,
     names: &mut Names,
@@ -273,10 +273,10 @@ fn head_named<T: IrText<A>, A: AttrText, U>(
     label_defined(s, names, label, block)
 }
 
-/// Begins a block, the last of a region whose scopes of values and of labels are open: its header is read, and the block is made with its
-/// label, its attributes, its location and the types of its arguments; then its arguments are defined, its mark is noted, and its label
-/// is defined. A key of its dictionary that is reserved, a name that is defined already, and an index that is noted already are refused
-/// where they stand. A fault is committed.
+/// Begins a block, the last of a region whose scopes of values and of labels are open. Its header is parsed, and the block is created
+/// with its label, its attributes, its location and the types of its arguments. Then its arguments are defined, its mark is recorded, and
+/// its label is defined. Fails with `ReservedKey` at a key of its dictionary, with `MultipleDefinitions` at a name, and with
+/// `DuplicateIndex` at its mark. Every error is committed.
 pub fn block_begin<T: IrText<A>, A: AttrText, U>(
     s: &mut StateStream<'_, T, A, U>,
     names: &mut Names,

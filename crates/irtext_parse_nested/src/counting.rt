@@ -1,14 +1,14 @@
-//! How many steps a format has.
+//! The number of steps of a format.
 ghost use Rattle.std.specs.Prelude.{◌≡◌, length};
 ghost use Rattle.irtext_formats.specs.Directives.{format_of};
 ghost use Rattle.irtext_nesting.specs.Heads.{steps_of};
 
 use irtext_base::format::OpFormat;
 
-/// How many steps the form that any operation has is made of.
+/// The number of steps of the canonical form.
 const CANONICAL: usize = 18;
 
-/// How many steps a format has: its directives, or the steps of the form that any operation has.
+/// Returns the number of steps of a format: its directives, or the steps of the canonical form.
 pub(crate) fn step_count(format: &OpFormat) -> usize
     ensures { result ≡ length (steps_of (format_of format.now)) }
 {

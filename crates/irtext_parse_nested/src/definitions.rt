@@ -27,7 +27,7 @@ use irtext_parse_pieces::names::ReadName;
 use irtext_read::irfmt::faults::out_of_memory;
 use irtext_scopes::scopes::DefineFault;
 
-/// What a row of names defines.
+/// The values that a list of names defines.
 #[derive(Clone, Copy)]
 pub enum Definer {
     /// The results of an operation.
@@ -36,7 +36,7 @@ pub enum Definer {
     Arguments(Ptr<BasicBlock>),
 }
 
-/// The value of a row that has this index.
+/// Returns the value of this index.
 fn defined_value(row: Definer, index: usize) -> Value
     ensures { result ≡ defined_value row index }
 {
@@ -46,7 +46,7 @@ fn defined_value(row: Definer, index: usize) -> Value
     }
 }
 
-/// The number of the name of this index.
+/// Returns the number of the name of this index.
 pub(crate) fn number_at(defined: &Few<ReadName>, index: usize) -> usize
     requires { index < length defined.now }
     ensures { slice_get (numbers_of defined.now) index ≡ Some result }
@@ -54,8 +54,8 @@ pub(crate) fn number_at(defined: &Few<ReadName>, index: usize) -> usize
     defined[index].name
 }
 
-/// Defines names as the values of a row, one after another, from the first on, a scope of values being open. The first name that its
-/// scope defines already is refused, and memory may be refused; those before it are defined then.
+/// Defines the names as the values of the row, from the first on, while a scope of values is open. Fails at the first name that its scope
+/// already defines, or if an allocation fails; the names before it are defined then.
 pub(crate) fn define_values<O: Drop, B: Drop, T: Drop>(
     names: &mut Names,
     graph: &mut Graph<Option<O>, B, Option<T>>,
@@ -88,7 +88,7 @@ pub(crate) fn define_values<O: Drop, B: Drop, T: Drop>(
     Ok(())
 }
 
-/// The fault of a row of names of which one was not defined, at that name. The stream has failed.
+/// Returns the error for a list of names of which one was not defined, at that name. Leaves the stream failed.
 pub(crate) fn undefined_error<A>(
     stream: &mut TextStream,
     names: &Names,

@@ -21,7 +21,7 @@ use irtext_parse_pieces::entries::ReadEntry;
 use irtext_parse_pieces::names::ReadName;
 use std::alloc::{AllocError, Global};
 
-/// The key under which the section keeps the label of a block.
+/// The key under which the section has the label of a block.
 const BLOCK_LABEL_KEY: &'static str = "builtin_block_label";
 
 /// Whether a text is the key of a block's label.
@@ -38,7 +38,7 @@ fn is_label_key(key: &Identifier) -> bool
     is_label_text(key.as_str())
 }
 
-/// Stores an entry of a block's dictionary, where none stands under the key of a label.
+/// Stores an entry of a block's dictionary. The key of a label is an error.
 fn block_entry_stored<A: Drop>(
     attributes: &mut AttributeDict<A>,
     entry: ReadEntry<A>,
@@ -54,8 +54,8 @@ fn block_entry_stored<A: Drop>(
     entry_stored(attributes, (key, attr))
 }
 
-/// Stores the entries of a block's dictionary, one after another. The first whose attribute may not stand under its key is refused, and
-/// memory may be refused; those before it are stored then.
+/// Stores the entries of a block's dictionary, one after another. Fails at the first entry whose attribute is not allowed under its key,
+/// or if an allocation fails; the entries before it are stored then.
 fn block_entries_stored<A: Drop>(
     attributes: &mut AttributeDict<A>,
     entries: Vec<ReadEntry<A>>,
@@ -70,7 +70,7 @@ fn block_entries_stored<A: Drop>(
     Ok(())
 }
 
-/// Stores a block's dictionary, where one stands.
+/// Stores a block's dictionary, if there is one.
 fn dictionary_stored<A: Drop>(
     attributes: &mut AttributeDict<A>,
     entries: Option<Vec<ReadEntry<A>>>,
@@ -85,7 +85,7 @@ fn dictionary_stored<A: Drop>(
     block_entries_stored(attributes, entries)
 }
 
-/// The attributes of a block: its dictionary, where one stands, and behind it the names of its arguments.
+/// Returns the attributes of a block: its dictionary, if there is one, and then the names of its arguments.
 pub(crate) fn block_attributes<A: Drop>(
     alloc: Global,
     names: &Names,
@@ -106,7 +106,7 @@ pub(crate) fn block_attributes<A: Drop>(
     }
 }
 
-/// The names of arguments, and their types, each in a list of its own.
+/// Splits arguments into their names and their types.
 fn many_split<T: Drop>(
     alloc: Global,
     arguments: Vec<(ReadName, T)>,
@@ -122,7 +122,7 @@ fn many_split<T: Drop>(
     Ok((Few::from_vec(names), Few::from_vec(types)))
 }
 
-/// The same of a list. Up to two arguments take no memory.
+/// Splits a list of arguments into their names and their types. Up to two arguments allocate nothing.
 pub(crate) fn arguments_split<T: Drop>(
     alloc: Global,
     arguments: Few<(ReadName, T)>,

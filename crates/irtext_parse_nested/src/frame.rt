@@ -1,4 +1,4 @@
-//! What is open while nested text is read: an operation, a region or a block that was begun.
+//! The frames of the parser of nested text: an operation, a region or a block that was begun.
 
 use irtext_base::base::OpId;
 use irtext_base::parsable::Place;
@@ -8,42 +8,42 @@ use irtext_graph::object::Value;
 use irtext_parse_pieces::names::ReadName;
 use irtext_scopes::tracker::NameTracker;
 
-/// The names of a reading, with what values and labels they stand for.
+/// The names of a parse, with the values and blocks that they refer to.
 pub type Names = NameTracker<Value, Ptr<BasicBlock>>;
 
-/// An operation that was made, of which all in front of its first region was read.
+/// An operation that was created, with everything before its first region parsed.
 #[derive(Drop)]
 pub struct BegunOperation {
     pub op: Ptr<Operation>,
     pub id: OpId,
-    /// How many results it has.
+    /// The number of its results.
     pub results: usize,
-    /// The names that stand for its results, which are defined at its end.
+    /// The names of its results, which are defined at its end.
     pub names: Few<ReadName>,
-    /// Where it begins.
+    /// The position where it begins.
     pub at: Place,
-    /// Whether it stands inside of some region.
+    /// Whether it is inside of a region.
     pub inside: bool,
-    /// The index of the step of its format that is read next.
+    /// The index of the next step of its format.
     pub step: usize,
-    /// How many steps its format has.
+    /// The number of steps of its format.
     pub steps: usize,
 }
 
-/// A region that was entered and made, whose first brace was read.
+/// A region that was created, with its scopes opened and its `{` parsed.
 #[derive(Clone, Copy)]
 pub struct BegunRegion {
     pub region: Ptr<Region>,
     /// Whether its operation is isolated from above.
     pub isolated: bool,
-    /// Where its first brace stands.
+    /// The position of its `{`.
     pub at: Place,
 }
 
-/// A block that was made, whose header was read.
+/// A block that was created, with its header parsed.
 #[derive(Clone, Copy)]
 pub struct BegunBlock {
     pub block: Ptr<BasicBlock>,
-    /// Whether none of its operations was read so far.
+    /// Whether none of its operations has been parsed.
     pub first: bool,
 }

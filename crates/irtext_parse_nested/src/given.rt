@@ -1,4 +1,4 @@
-//! The names that results and arguments are given by the text, as an attribute.
+//! The names that the text gives to results and arguments, stored as an attribute.
 ghost use Rattle.std.specs.Prelude.{◌≡◌, ℕ, List, length, map, slice_get, IfOk, OnOk};
 ghost use Rattle.irtext_grammar.specs.Contexts.Held.{entries_of};
 ghost use Rattle.irtext_grammar.specs.Graphs.Build.{put_all, read_names};
@@ -16,7 +16,7 @@ use irtext_few::Few;
 use irtext_parse_pieces::names::ReadName;
 use std::alloc::{AllocError, Global};
 
-/// The names of these numbers.
+/// Returns the names with these numbers.
 fn given_names(
     alloc: Global,
     names: &Names,
@@ -36,7 +36,7 @@ fn given_names(
     Ok(given)
 }
 
-/// Stores names as given names, where there are any.
+/// Stores the names as given names, if there are any.
 pub(crate) fn names_stored<A: Drop>(
     alloc: Global,
     names: &Names,

@@ -1,4 +1,4 @@
-//! A piece of an operation that stands behind a region: it is read by the operation's next step, and what it gives is stored.
+//! A piece of an operation after a region: it is parsed by the operation's next step, and what it gives is stored.
 ghost use Rattle.std.specs.Prelude.{◌≡◌, ◌≤◌, ◌<◌, ◌+◌, ◌∷◌, [], ℕ, List, Some, IfErr, OnOk, IsSome, length, slice_get, false, true};
 ghost use Rattle.irtext_base.specs.Faults.{id_of};
 ghost use Rattle.irtext_base.specs.Format.{sym_name_key};
@@ -48,7 +48,7 @@ use irtext_read::irfmt::parsers::skip_white_space;
 use irtext_state::parsable::StateStream;
 use std::alloc::Global;
 
-/// The index behind that of a step of a format.
+/// Returns the index after that of a step of a format.
 fn step_behind(format: &OpFormat, index: usize) -> usize
     requires { index < length (steps_of (format_of format.now)) }
     ensures { result ≡ index + 1 }
@@ -62,7 +62,7 @@ fn step_behind(format: &OpFormat, index: usize) -> usize
     }
 }
 
-/// Stores the attribute of a directive, which names the key, where no marker stands.
+/// Stores the attribute of a directive, under the directive's key; nothing if the text has the marker.
 fn attr_stored<A: Drop>(
     attributes: &mut AttributeDict<A>,
     key: Identifier,
@@ -110,8 +110,8 @@ fn piece_stored<T: Drop, A: Drop>(
     }
 }
 
-/// Reads what the next step of an operation that is open reads, with white space in front, and goes on to the step behind it. A fault is
-/// committed.
+/// Parses what the next step of an open operation describes, with white space before it, and advances to the step after it. Every error
+/// is committed.
 fn piece_read<T: IrText<A>, A: AttrText>(
     stream: &mut TextStream,
     ctx: &Context<T, A>,
@@ -136,7 +136,7 @@ fn piece_read<T: IrText<A>, A: AttrText>(
     step_parse(stream, names, step, begun.inside)
 }
 
-/// Stores what a piece gives an operation. Where it is refused its attributes may be written all the same.
+/// Stores what a piece gives an operation. On an error, the operation's attributes may have been changed.
 fn piece_kept<T: IrText<A>, A: AttrText>(
     ctx: &mut Context<T, A>,
     alloc: Global,
@@ -152,7 +152,7 @@ fn piece_kept<T: IrText<A>, A: AttrText>(
     piece_stored(alloc, attributes, piece)
 }
 
-/// Stores what a piece gives an operation, in the context of a reading. A fault is committed.
+/// Stores what a piece gives an operation, in the state's context. Every error is committed.
 fn piece_done<T: IrText<A>, A: AttrText, U>(
     s: &mut StateStream<'_, T, A, U>,
     names: &Names,
@@ -176,8 +176,8 @@ fn piece_done<T: IrText<A>, A: AttrText, U>(
     }
 }
 
-/// Reads a piece of an operation that is open, by its next step, which reads no region and no name; stores what it gives the operation;
-/// and goes on to the step behind it. The first key of a dictionary that is reserved is refused, at the key. A fault is committed.
+/// Parses a piece of an open operation, by its next step, which parses no region and no name. Stores what the piece gives the operation,
+/// and advances to the step after it. Fails with `ReservedKey` at the first reserved key of a dictionary. Every error is committed.
 pub fn operation_piece<T: IrText<A>, A: AttrText, U>(
     s: &mut StateStream<'_, T, A, U>,
     names: &mut Names,

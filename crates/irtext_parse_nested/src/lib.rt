@@ -1,5 +1,6 @@
-//! What the reading of nested text does turn by turn, over names, graph and marks: the pieces of an operation are gathered and its names
-//! used, its results are defined and its mark is noted at its end, blocks are placed and labelled, and regions are begun and ended.
+//! The actions of the parser of nested text, over the names, the graph and the marks. The pieces of an operation are gathered, and its
+//! names are used; at its end its results are defined and its mark is recorded. Blocks are created in their regions and labelled. Regions
+//! are begun and ended.
 #![tactic(auto)]
 
 pub mod beginning;

@@ -1,4 +1,4 @@
-//! The operation that is made of what its pieces came to.
+//! Creates an operation from what its pieces gave.
 ghost use Rattle.std.specs.Prelude.{◌≡◌, ◌≤◌, ◌++◌, ◌==◌, ℕ, IfOk, OnErr, length, position};
 ghost use Rattle.std.specs.Map.{keys_of};
 ghost use Rattle.irtext_context.specs.Context.{KeepsOlder, MakesOperation};
@@ -16,14 +16,14 @@ use irtext_context::base::{Context, Operation, Ptr};
 use irtext_few::Few;
 use std::alloc::{AllocError, Global};
 
-/// Where the first item of this place stands.
+/// Returns the index of the first item with this place.
 fn index_of<X>(items: &Vec<(usize, X)>, place: usize) -> Option<usize>
     ensures { result ≡ position (λ i. i == place) (keys_of items.now.items) }
 {
     items.iter().position(|item| item.0 == place)
 }
 
-/// Takes the first item of this place out, where there is one.
+/// Removes and returns the first item with this place, if there is one.
 fn taken<X: Drop>(items: &mut Vec<(usize, X)>, place: usize) -> Option<X>
     ensures value { result ≡ at_place place items.old.items }
     ensures others { (other : ℕ) → (other ≡ place → ⊥) → at_place other items.new.items ≡ at_place other items.old.items }
@@ -33,7 +33,7 @@ fn taken<X: Drop>(items: &mut Vec<(usize, X)>, place: usize) -> Option<X>
     Some(item)
 }
 
-/// The items in the order of their places, which are those from 0 on.
+/// Returns the items in the order of their places, which are the numbers from 0 on.
 fn ordered<X: Drop>(alloc: Global, mut items: Vec<(usize, X)>) -> Result<Vec<X>, AllocError>
     ensures { IfOk result (λ all. all.items ≡ in_order items.items) }
 {
@@ -46,7 +46,7 @@ fn ordered<X: Drop>(alloc: Global, mut items: Vec<(usize, X)>) -> Result<Vec<X>,
     Ok(all)
 }
 
-/// What has a place of its own, in the order of the places, and behind it the list.
+/// Returns the items with places of their own, in the order of the places, followed by the list.
 fn all_placed<X: Drop>(alloc: Global, placed: Placed<X>) -> Result<Vec<X>, AllocError>
     ensures { IfOk result (λ all. all.items ≡ in_order placed.single.items ++ placed.list.items) }
 {
@@ -61,7 +61,7 @@ fn all_placed<X: Drop>(alloc: Global, placed: Placed<X>) -> Result<Vec<X>, Alloc
     Ok(all)
 }
 
-/// The types of an operation's results: those that have places, in the order of these, or else those of the list.
+/// Returns the types of an operation's results: those with places, in the order of the places; if there are none, those of the list.
 fn result_types<T: Drop>(
     alloc: Global,
     single: Vec<(usize, T)>,
@@ -76,8 +76,8 @@ fn result_types<T: Drop>(
     Ok(Few::from_vec(all))
 }
 
-/// Makes an operation of what its pieces came to, without regions, which stands nowhere; and says how many results it has. Where memory is
-/// refused, or a counter is full, nothing changes.
+/// Creates a detached operation without regions from what its pieces gave. Returns it with the number of its results. If an allocation
+/// fails, or a counter is full, nothing changes.
 pub(crate) fn make_gathered<T: IrText<A>, A: AttrText>(
     ctx: &mut Context<T, A>,
     id: OpId,

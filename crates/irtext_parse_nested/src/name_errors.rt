@@ -1,4 +1,4 @@
-//! Faults that speak of a name that was read, at its place.
+//! Errors for a parsed name, at its position.
 ghost use Rattle.std.specs.Prelude.{◌≡◌, ◌<◌, length, Some, IfSome, slice_get};
 ghost use Rattle.irtext_base.specs.Faults.{NoActiveScope, MultipleDefinitions, Unresolved};
 ghost use Rattle.irtext_grammar.specs.Contexts.Held.{whole};
@@ -16,7 +16,7 @@ use irtext_parse_pieces::names::ReadName;
 use irtext_read::irfmt::faults::{out_of_memory, refuse_at};
 use std::alloc::Global;
 
-/// The identifier of a text that a reading has as a name; none where memory is refused.
+/// Returns a stored name as an identifier; `None` if it is no identifier, or if an allocation fails.
 pub(crate) fn identifier_of(alloc: Global, text: &str) -> Option<Identifier>
     ensures { IfSome result (λ i. i ≡ text.now) }
 {
@@ -29,7 +29,7 @@ pub(crate) fn identifier_of(alloc: Global, text: &str) -> Option<Identifier>
     }
 }
 
-/// The fault of a name that is defined where no scope of its kind is open, at the name. The stream has failed.
+/// Returns the error for a name that is defined or used where no scope of its kind is open, at the name. Leaves the stream failed.
 #[cold]
 pub(crate) fn no_scope_error<A>(
     stream: &mut TextStream,
@@ -45,7 +45,7 @@ pub(crate) fn no_scope_error<A>(
     }
 }
 
-/// The fault of a name that its scope defines already, at the name. The stream has failed.
+/// Returns the error for a name that its scope already defines, at the name. Leaves the stream failed.
 #[cold]
 pub(crate) fn redefinition_error<A>(
     stream: &mut TextStream,
@@ -64,7 +64,7 @@ pub(crate) fn redefinition_error<A>(
     }
 }
 
-/// The fault of a name that a region leaves without a definition, at the place that is given with it. The stream has failed.
+/// Returns the error for a name without a definition at the end of a region, at the position of `read`. Leaves the stream failed.
 #[cold]
 pub(crate) fn unresolved_error<A>(
     stream: &mut TextStream,

@@ -1,4 +1,4 @@
-//! The end of an operation: the names of its results are defined, and its mark is read and noted.
+//! The end of an operation: the names of its results are defined, and its mark is parsed and recorded.
 ghost use Rattle.std.specs.Prelude.{◌≡◌, ◌≤◌, ℕ, List, [], ◌∷◌, ◌++◌, Option, length, map, true, false, IfErr, OnOk, OnErr, IsSome};
 ghost use Rattle.irtext_base.specs.Text.{Text};
 ghost use Rattle.irtext_base.specs.Answers.{Read};
@@ -57,7 +57,8 @@ use irtext_state::parsable::StateStream;
 use irtext_state::parsable::state::Noting;
 use std::alloc::{AllocError, Global};
 
-/// The fault of an operation whose names are not as many as its results, where it begins. The stream has failed.
+/// Returns the error for an operation that does not have as many names as results, at the operation's beginning. Leaves the stream
+/// failed.
 #[cold]
 fn count_fault<A>(stream: &mut TextStream, begun: &BegunOperation) -> ParseFault<A>
     ensures cause { fault_of result.cause ≡ fault.ResultCount begun.now.results (length begun.now.names) }
@@ -74,8 +75,8 @@ fn count_fault<A>(stream: &mut TextStream, begun: &BegunOperation) -> ParseFault
     )
 }
 
-/// Defines the names of an operation's results, which must be as many as these are. A fault is committed; the names before one that is
-/// refused are defined then.
+/// Defines the names of an operation's results. There have to be as many names as results. Every error is committed; the names before one
+/// that fails are defined then.
 fn define_results<O: Drop, B: Drop, T: Drop, A>(
     stream: &mut TextStream,
     names: &mut Names,
@@ -114,7 +115,7 @@ fn define_results<O: Drop, B: Drop, T: Drop, A>(
     }
 }
 
-/// Defines the names of an operation's results, in the context of a reading.
+/// Defines the names of an operation's results, in the state's context.
 fn results_defined<T: IrText<A>, A: AttrText, U>(
     s: &mut StateStream<'_, T, A, U>,
     names: &mut Names,
@@ -148,7 +149,7 @@ fn results_defined<T: IrText<A>, A: AttrText, U>(
     define_results(&mut s.stream, names, ctx.graph_mut(), begun)
 }
 
-/// Stores the names of an operation's results as given names. Where memory is refused its attributes may be written all the same.
+/// Stores the names of an operation's results as given names. If an allocation fails, the attributes may have been changed.
 fn given_kept<T: IrText<A>, A: AttrText>(
     ctx: &mut Context<T, A>,
     alloc: Global,
@@ -164,7 +165,7 @@ fn given_kept<T: IrText<A>, A: AttrText>(
     names_stored(alloc, names, &begun.names, attributes)
 }
 
-/// Stores the names of an operation's results as given names, in the context of a reading. A fault is want of memory, and committed.
+/// Stores the names of an operation's results as given names, in the state's context. The only error is `Memory`, committed.
 fn given_stored<T: IrText<A>, A: AttrText, U>(
     s: &mut StateStream<'_, T, A, U>,
     names: &Names,
@@ -188,7 +189,7 @@ fn given_stored<T: IrText<A>, A: AttrText, U>(
     }
 }
 
-/// Defines the names of an operation's results, and stores them as given names, in the context of a reading.
+/// Defines the names of an operation's results, and stores them as given names, in the state's context.
 fn close<T: IrText<A>, A: AttrText, U>(
     s: &mut StateStream<'_, T, A, U>,
     names: &mut Names,
@@ -222,7 +223,7 @@ fn close<T: IrText<A>, A: AttrText, U>(
     given_stored(s, names, begun)
 }
 
-/// Reads white space, and a mark where one stands. A fault is committed.
+/// Parses white space, and a mark if one comes next. Every error is committed.
 fn end_parse<A>(stream: &mut TextStream) -> ParseResult<Option<ReadMark>, A>
     requires fine { stream.old.failed ≡ false }
     ensures { MustMean itself replaced (IsMarkIf (whole stream.old)) (space_at ▷ mark_if_at) stream.old result stream.new }
@@ -231,7 +232,7 @@ fn end_parse<A>(stream: &mut TextStream) -> ParseResult<Option<ReadMark>, A>
     mark_parse(stream)
 }
 
-/// Notes the mark of an operation or a block, where one was read. An index that is noted already is refused, at the mark. A fault is
+/// Records the mark of an operation or a block, if it has one. If its index is already recorded, fails at the mark. Every error is
 /// committed.
 pub(crate) fn note_mark<T: IrText<A>, A: AttrText, U>(
     s: &mut StateStream<'_, T, A, U>,
@@ -260,8 +261,10 @@ pub(crate) fn note_mark<T: IrText<A>, A: AttrText, U>(
     }
 }
 
-/// Ends an operation of which all pieces and regions were read: there must be as many names as it has results, which are defined as its
-/// results and stored as its given names; then its mark is read, where one stands, and noted. A fault is committed.
+/// Ends an operation whose pieces and regions have been parsed. Its names, which have to be as many as its results, are defined as its
+/// results and stored as its given names. Then its mark is parsed, if one comes next, and recorded. Every error is committed:
+/// `ResultCount` at the beginning of the operation; `NoActiveScope` or `MultipleDefinitions` at a name; `DuplicateIndex` at the mark; and
+/// `Memory` if an allocation fails.
 pub fn operation_end<T: IrText<A>, A: AttrText, U>(
     s: &mut StateStream<'_, T, A, U>,
     names: &mut Names,

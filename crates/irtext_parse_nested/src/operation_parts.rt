@@ -1,5 +1,6 @@
-//! What the pieces in front of an operation's first region come to: their names are used, and what they give the operation is gathered,
-//! in the order of the text.
+//! What the pieces before an operation's first region give: their names are used, and what they give the operation is gathered, in the
+//! order of the text. A name is used by looking up the value or the block that it refers to; without a definition so far it gets a
+//! placeholder.
 ghost use Rattle.std.specs.Prelude.{◌≡◌, ◌∷◌, [], IfOk, IfErr, IfSome, OnOk, map, true};
 ghost use Rattle.irtext_base.specs.Format.{sym_name_key};
 ghost use Rattle.irtext_dict.specs.Dictionary.{RefusesEntry};
@@ -32,7 +33,7 @@ use std::alloc::{AllocError, Global};
 /// The graph of a context.
 pub type Objects<T, A> = Graph<Option<OperationData<A>>, BlockData<A>, Option<T>>;
 
-/// What the pieces of an operation came to.
+/// What the pieces of an operation gave.
 #[derive(Drop)]
 pub struct Gathered<T, A> {
     pub operands: Placed<Value>,
@@ -48,13 +49,13 @@ pub struct Gathered<T, A> {
 #[derive(Drop)]
 pub enum NotGathered {
     Memory,
-    /// The key is reserved, and the attribute may not stand under it.
+    /// The key is reserved, and the attribute is not allowed under it.
     ReservedKey(Key),
-    /// The name stands where no scope of its kind is open.
+    /// No scope of the name's kind is open.
     NoActiveScope(ReadName),
 }
 
-/// Nothing, so far. It takes no memory.
+/// Returns an empty value. Allocates nothing.
 pub(crate) fn nothing<T: Drop, A: Drop>(alloc: Global) -> Gathered<T, A>
     ensures { IsNothing result }
 {
@@ -73,7 +74,7 @@ pub(crate) fn nothing<T: Drop, A: Drop>(alloc: Global) -> Gathered<T, A>
     }
 }
 
-/// Stores an attribute under a key. A refusal changes nothing.
+/// Stores an attribute under a key. On an error nothing changes.
 pub(crate) fn stored<A: Drop>(
     attributes: &mut AttributeDict<A>,
     key: Identifier,
@@ -86,7 +87,7 @@ pub(crate) fn stored<A: Drop>(
     attributes.insert(key, attr)
 }
 
-/// The refusal of an entry whose key stands at a place.
+/// Returns the error for an entry whose key is at this position.
 fn refused(refusal: Refusal, at: Place) -> NotGathered
     ensures { result ≡ refused_at refusal at }
 {
@@ -112,8 +113,8 @@ pub(crate) fn entry_stored<A: Drop>(
     }
 }
 
-/// Stores the entries of a dictionary, one after another. The first whose attribute may not stand under its key is refused, and memory may
-/// be refused; those before it are stored then.
+/// Stores the entries of a dictionary, one after another. Fails at the first entry whose attribute is not allowed under its key, or if an
+/// allocation fails; the entries before it are stored then.
 pub(crate) fn entries_stored<A: Drop>(
     attributes: &mut AttributeDict<A>,
     entries: Vec<ReadEntry<A>>,
@@ -226,7 +227,7 @@ fn successors_gathered<T: Drop, A: Drop>(
     Ok(())
 }
 
-/// Stores what is not refused but for memory.
+/// Stores an attribute that is allowed under its key. The only error is `Memory`.
 pub(crate) fn kept<A: Drop>(
     attributes: &mut AttributeDict<A>,
     key: Identifier,
@@ -241,7 +242,7 @@ pub(crate) fn kept<A: Drop>(
     }
 }
 
-/// Stores the attribute of a directive, which names the key, where no marker stands.
+/// Stores the attribute of a directive, under the directive's key; nothing if the text has the marker.
 fn attr_gathered<T: Drop, A: Drop>(
     gathered: &mut Gathered<T, A>,
     key: Identifier,
@@ -267,7 +268,7 @@ fn dictionary_gathered<T: Drop, A: Drop>(
     entries_stored(&mut gathered.attributes, entries)
 }
 
-/// The key of a symbol's name, which shares the text of the one that is given.
+/// Returns the key of a symbol's name. Shares the text of `key` if it is given.
 pub(crate) fn symbol_key(alloc: Global, key: &Option<Identifier>) -> Result<Identifier, AllocError>
     requires { IfSome key.now (λ k. k ≡ sym_name_key) }
     ensures { IfOk result (λ k. k ≡ sym_name_key) }
@@ -295,7 +296,7 @@ fn header_gathered<T: Drop, A: Drop>(
     kept(&mut gathered.attributes, key, AttrObj::Ident(symbol.name))
 }
 
-/// Keeps the type of a result, with its place.
+/// Stores the type of a result, with its place.
 fn type_gathered<T: Drop, A: Drop>(
     gathered: &mut Gathered<T, A>,
     index: usize,
@@ -310,14 +311,14 @@ fn type_gathered<T: Drop, A: Drop>(
     Ok(())
 }
 
-/// Keeps a list of types, in place of the one before it.
+/// Stores a list of types, which replaces the one before it.
 fn types_gathered<T: Drop, A: Drop>(gathered: &mut Gathered<T, A>, listed: Few<T>)
     ensures { GathersAlone (read.Types listed ∷ []) gathered.old gathered.new }
 {
     gathered.listed = listed;
 }
 
-/// Uses what a piece names, and keeps what it gives the operation.
+/// Uses the names of a piece, and stores what it gives the operation.
 fn piece_gathered<T: Drop, A: Drop>(
     alloc: Global,
     names: &mut Names,
@@ -352,8 +353,8 @@ fn piece_gathered<T: Drop, A: Drop>(
     }
 }
 
-/// Uses what pieces name, and keeps what they give the operation, one after another. The first key of a dictionary that is reserved is
-/// refused, or the first name that stands where no scope of its kind is open, and memory may be refused; what stands before it was used
+/// Uses the names of the pieces, and stores what they give the operation, one after another. Fails at the first reserved key of a
+/// dictionary or at the first name for which no scope of its kind is open, or if an allocation fails; what precedes the error was used
 /// then.
 pub fn gather<T: Drop, A: Drop>(
     alloc: Global,

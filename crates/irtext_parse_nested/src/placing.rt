@@ -1,4 +1,4 @@
-//! Blocks that are made in a region.
+//! Blocks that are created in a region.
 ghost use Rattle.std.specs.Prelude.{◌≡◌, ◌≤◌, ℕ, [], None, IfOk, IfErr, OnOk, OnErr};
 ghost use Rattle.irtext_base.specs.Answers.{StarvesHere};
 ghost use Rattle.irtext_context.specs.Context.{KeepsOlder};
@@ -21,7 +21,7 @@ use irtext_read::irfmt::faults::out_of_memory;
 use irtext_state::parsable::StateStream;
 use std::alloc::AllocError;
 
-/// Puts a block that stands nowhere and holds nothing last into a region. Where memory is refused nothing changes.
+/// Appends a detached and empty block to a region. If an allocation fails, nothing changes.
 fn put_last<T: IrText<A>, A: AttrText>(
     ctx: &mut Context<T, A>,
     region: Ptr<Region>,
@@ -41,8 +41,8 @@ fn put_last<T: IrText<A>, A: AttrText>(
     block.insert_at_back(region, ctx)
 }
 
-/// Makes a block with arguments of these types, the last of a region. A fault is committed; a block that was made stays where memory is
-/// refused to put it into the region.
+/// Creates a block with arguments of these types, and appends it to a region. The only error is `Memory`, committed. If the block was
+/// created but could not be appended, it stays in the context.
 pub fn place_block<T: IrText<A>, A: AttrText, U>(
     s: &mut StateStream<'_, T, A, U>,
     region: Ptr<Region>,

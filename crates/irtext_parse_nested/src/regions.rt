@@ -55,7 +55,8 @@ use irtext_state::parsable::StateStream;
 use irtext_state::parsable::state::State;
 use std::alloc::AllocError;
 
-/// The fault of a region that is not isolated where no scope of values is open, at the beginning of the text. The stream has failed.
+/// Returns the error for a region that is not isolated while no scope of values is open, at the beginning of the text. Leaves the stream
+/// failed.
 #[cold]
 fn not_isolated<A>(stream: &mut TextStream) -> ParseFault<A>
     ensures cause { fault_of result.cause ≡ fault.NotIsolated }
@@ -72,7 +73,7 @@ fn not_isolated<A>(stream: &mut TextStream) -> ParseFault<A>
     }
 }
 
-/// Enters a region. Where it is refused, or memory is, the names stay as they were.
+/// Opens the scopes of a region. On an error the names are unchanged.
 fn enter<O: Drop, B: Drop, T: Drop, A>(
     stream: &mut TextStream,
     names: &mut Names,
@@ -99,7 +100,7 @@ fn enter<O: Drop, B: Drop, T: Drop, A>(
     }
 }
 
-/// The graph of the context of a reading.
+/// Returns the graph of the state's context.
 fn graph_of<'s, T: IrText<A>, A: AttrText, U>(
     state: &'s State<'_, T, A, U>,
 ) -> &'s Graph<Option<OperationData<A>>, BlockData<A>, Option<T>>
@@ -108,7 +109,8 @@ fn graph_of<'s, T: IrText<A>, A: AttrText, U>(
     state.ctx.graph()
 }
 
-/// Enters a region of the text that is read. Where it is refused, or memory is, the names stay as they were.
+/// Opens the scopes of a region, over the state's graph. `isolated` says whether its operation is isolated from above; if it is not and
+/// no scope of values is open, fails at the beginning of the text. On an error the names are unchanged.
 pub fn enter_here<T: IrText<A>, A: AttrText, U>(
     s: &mut StateStream<'_, T, A, U>,
     names: &mut Names,
@@ -134,7 +136,7 @@ pub fn enter_here<T: IrText<A>, A: AttrText, U>(
     enter(&mut s.stream, names, graph_of(&s.state), isolated)
 }
 
-/// Adds a region to an operation, behind those that it has.
+/// Appends a new region to an operation.
 fn add<T: IrText<A>, A: AttrText, U>(
     s: &mut StateStream<'_, T, A, U>,
     op: Ptr<Operation>,
@@ -156,7 +158,7 @@ fn add<T: IrText<A>, A: AttrText, U>(
     }
 }
 
-/// Reads a region's first brace, and the white space behind it. A fault is committed.
+/// Parses the `{` of a region, and the white space after it. Every error is committed.
 pub fn brace_demanded<A>(stream: &mut TextStream) -> ParseResult<(), A>
     ensures { MustRead itself replaced (λ u. u) (word (codes "{") ▷ space_at) stream.old result stream.new }
 {
@@ -165,8 +167,9 @@ pub fn brace_demanded<A>(stream: &mut TextStream) -> ParseResult<(), A>
     Ok(())
 }
 
-/// Enters a region, the last of an operation which is isolated from above or not, and reads its brace and the white space behind it. A
-/// region that is not isolated is refused where no scope of values is open, at the beginning of the text. A fault is committed.
+/// Begins a region: opens its scopes, appends it to the operation, and parses its `{` and the white space after it. `isolated` says
+/// whether the operation is isolated from above; if it is not and no scope of values is open, fails at the beginning of the text. Every
+/// error is committed.
 pub fn region_begin<T: IrText<A>, A: AttrText, U>(
     s: &mut StateStream<'_, T, A, U>,
     names: &mut Names,
@@ -206,8 +209,8 @@ pub fn region_begin<T: IrText<A>, A: AttrText, U>(
     })
 }
 
-/// Leaves a region. The first name that has no definition there is refused, where the region begins; its scopes are closed whatever the
-/// answer.
+/// Closes the scopes of a region, also on an error. Fails at the beginning of the region if a name has no definition there; the error is
+/// for the first such name.
 fn leave<O: Drop, B: Drop, T: Drop, A>(
     stream: &mut TextStream,
     names: &mut Names,
@@ -236,8 +239,8 @@ fn leave<O: Drop, B: Drop, T: Drop, A>(
     Err(unresolved_error(stream, names, read))
 }
 
-/// Reads the other brace of a region, and leaves it. The first name that has no definition there is refused, where the region begins. A
-/// fault is committed.
+/// Ends a region: parses its `}`, and closes its scopes. If a name has no definition there, fails at the beginning of the region, for the
+/// first such name. Every error is committed.
 pub fn region_end<T: IrText<A>, A: AttrText, U>(
     s: &mut StateStream<'_, T, A, U>,
     names: &mut Names,

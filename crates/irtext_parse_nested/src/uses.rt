@@ -1,4 +1,5 @@
-//! Names that the pieces of an operation use, over the names and the graph of a reading.
+//! Names that the pieces of an operation use, over the names and the graph of a parse. A used name refers to a value or a block; without
+//! a definition so far it gets a placeholder.
 ghost use Rattle.std.specs.Prelude.{◌≡◌, ◌<◌, ◌++◌, ◌∷◌, [], List, IfOk, OnOk, length, map, true, Some, slice_get};
 ghost use Rattle.irtext_graph.specs.declared.arena.Ptr.{Ptr};
 ghost use Rattle.irtext_graph.specs.declared.object.BasicBlock.{BasicBlock};
@@ -21,14 +22,15 @@ use irtext_names::values::ssa_opd;
 use irtext_parse_pieces::names::ReadName;
 use std::alloc::AllocError;
 
-/// What an operation uses: what has a place of its own, with that place, and a list that stands behind all of these.
+/// The operands or the successors of an operation: those with a place of their own, each with its place, and a list that follows all of
+/// these.
 #[derive(Drop)]
 pub struct Placed<X> {
     pub single: Vec<(usize, X)>,
     pub list: Vec<X>,
 }
 
-/// The number of one of the names.
+/// Returns the number of one of the names.
 fn number_at(names: &Few<ReadName>, index: usize) -> usize
     requires { index < length names.now }
     ensures { slice_get (map (λ n. n.name) names.now) index ≡ Some result }
@@ -36,8 +38,8 @@ fn number_at(names: &Few<ReadName>, index: usize) -> usize
     names[index].name
 }
 
-/// The value that a name stands for where it is used, a scope of values being open. Where memory is refused, or a counter is full, the
-/// scopes are as they were.
+/// Returns the value that a used name refers to, while a scope of values is open. If an allocation fails, or a counter is full, the
+/// scopes are unchanged.
 pub(crate) fn value_used<O: Drop, B: Drop, T: Drop>(
     names: &mut Names,
     graph: &mut Graph<Option<O>, B, Option<T>>,
@@ -52,8 +54,8 @@ pub(crate) fn value_used<O: Drop, B: Drop, T: Drop>(
     ssa_opd(names, graph, name)
 }
 
-/// The block that a label stands for where it is used, a region being open. Where memory is refused, or a counter is full, the scopes are
-/// as they were.
+/// Returns the block that a used label refers to, while a region is open. If an allocation fails, or a counter is full, the scopes are
+/// unchanged.
 pub(crate) fn block_used<O: Drop, A: Drop, T: Drop>(
     names: &mut Names,
     graph: &mut Graph<Option<O>, BlockData<A>, Option<T>>,
@@ -69,8 +71,8 @@ pub(crate) fn block_used<O: Drop, A: Drop, T: Drop>(
     block_opd(names, graph, name, value)
 }
 
-/// Puts the values that names stand for behind those that are there, one after another, a scope of values being open. Where memory is
-/// refused, or a counter is full, some of the names may have been used.
+/// Appends the values that the names refer to, one after another, while a scope of values is open. If an allocation fails, or a counter
+/// is full, some of the names may have been used.
 pub(crate) fn values_used<O: Drop, B: Drop, T: Drop>(
     names: &mut Names,
     graph: &mut Graph<Option<O>, B, Option<T>>,
@@ -91,8 +93,8 @@ pub(crate) fn values_used<O: Drop, B: Drop, T: Drop>(
     Ok(())
 }
 
-/// Puts the blocks that labels stand for behind those that are there, one after another, a region being open. Where memory is refused,
-/// or a counter is full, some of the labels may have been used.
+/// Appends the blocks that the labels refer to, one after another, while a region is open. If an allocation fails, or a counter is full,
+/// some of the labels may have been used.
 pub(crate) fn blocks_used<O: Drop, A: Drop, T: Drop>(
     names: &mut Names,
     graph: &mut Graph<Option<O>, BlockData<A>, Option<T>>,
@@ -113,7 +115,7 @@ pub(crate) fn blocks_used<O: Drop, A: Drop, T: Drop>(
     Ok(())
 }
 
-/// Puts the value that a name stands for behind those that have places of their own, with this place, a scope of values being open.
+/// Appends the value that a name refers to, with its place, to those that have places of their own, while a scope of values is open.
 pub(crate) fn value_placed<O: Drop, B: Drop, T: Drop>(
     names: &mut Names,
     graph: &mut Graph<Option<O>, B, Option<T>>,
@@ -133,7 +135,7 @@ pub(crate) fn value_placed<O: Drop, B: Drop, T: Drop>(
     Ok(())
 }
 
-/// Puts the block that a label stands for behind those that have places of their own, with this place, a region being open.
+/// Appends the block that a label refers to, with its place, to those that have places of their own, while a region is open.
 pub(crate) fn block_placed<O: Drop, A: Drop, T: Drop>(
     names: &mut Names,
     graph: &mut Graph<Option<O>, BlockData<A>, Option<T>>,

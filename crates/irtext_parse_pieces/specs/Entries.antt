@@ -1,4 +1,4 @@
--- Between functions: what the dictionaries that were read stand for.
+-- Between functions: what the parsed dictionaries represent.
 use Rattle.std.specs.Prelude.{◌≡◌, ℕ, false, List, [], ◌∷◌, length, Option, Some, None, Result, Vec}
 use Rattle.std.specs.Global.{Global}
 use Rattle.irtext_base.specs.Text.{Text, begins}
@@ -16,33 +16,33 @@ use Rattle.irtext_nesting.specs.Heads.{dictionary_at}
 use Rattle.irtext_parse_pieces.specs.declared.entries.Key.{Key}
 use Rattle.irtext_parse_pieces.specs.Named.{whole, Leaves, Each, Optional, MustMean}
 
--- the key has the name's text, and stands where it says
+-- the key has the text of the name, and is at the name's place
 pub record IsKey (text : Text) (key : Key) (name : Name ℕ) : Type 0 where
   pub named : key.name ≡ name.text
   pub place : Leaves text key.at name.place
 
--- the entry has the key that was read, and its attribute
+-- the parsed entry has this key and this attribute
 abbrev pub IsEntry : {A : Type 0} → Text → Key × AttrObj A → Name ℕ × Attribute A → Type 0
 IsEntry text read entry = IsKey text read.0 entry.0 × (attribute_of read.1 ≡ entry.1)
 
--- the entries are those that were read
+-- the parsed entries are these
 abbrev pub AreEntries : {A : Type 0} → Text → Vec (Key × AttrObj A) Global → List (Name ℕ × Attribute A) → Type 0
 AreEntries text read entries = Each (IsEntry text) read.items entries
 
--- a dictionary, where one stands
+-- a dictionary if `[` comes next; otherwise none
 abbrev pub dictionary_if : {A : Type 0} → (Text → Outcome (AttrView A)) → Reader (Option (List (Name ℕ × Attribute A)))
 dictionary_if attr = either (begins (the 91)) (dictionary_at attr ⇒ Some) (nothing None)
 
 module _ {S A : Type 0} (view : S → StreamView) (at : S → StreamView → S) where
-  -- the answer is the entries that stand there, or their fault
+  -- the result is the list of entries that comes next, or its fault
   abbrev pub MustEntries : (Text → Outcome (List (Name ℕ × Attribute A))) → S → Result (Vec (Key × AttrObj A) Global) (ParseFault A) → S → Type 0
   MustEntries outcome old result new = MustMean view at (AreEntries (whole (view old))) outcome old result new
 
-  -- behind a first entry, the answer is the entries that stand there, or their fault
+  -- given a first entry, the result is the list of entries that continues it, or its fault
   abbrev pub EntriesBehind : (Text → Outcome (Name ℕ × Attribute A)) → Key × AttrObj A → S → Result (Vec (Key × AttrObj A) Global) (ParseFault A) → S → Type 0
   EntriesBehind item first old result new = (entry : Name ℕ × Attribute A) → IsEntry (whole (view old)) first entry → (view old).failed ≡ false
       → MustEntries (λ t. items_after 44 item (length t) (entry ∷ []) t) old result new
 
-  -- the answer is the dictionary that stands there, or none, or its fault
+  -- the result is the dictionary that comes next, or none, or its fault
   abbrev pub MustDictionaryIf : (Text → Outcome (AttrView A)) → S → Result (Option (Vec (Key × AttrObj A) Global)) (ParseFault A) → S → Type 0
   MustDictionaryIf attr old result new = MustMean view at (Optional (AreEntries (whole (view old)))) (dictionary_if attr) old result new

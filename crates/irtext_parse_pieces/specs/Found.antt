@@ -1,15 +1,15 @@
--- Between functions: pieces of which those that are words are only counted.
+-- Between functions: lists of pieces in which words are only counted.
 use Rattle.std.specs.Prelude.{ℕ, zero, suc, List, [], ◌∷◌, ◌++◌}
 use Rattle.irtext_parse_pieces.specs.declared.pieces.ReadPiece.{ReadPiece}
 use Rattle.irtext_parse_pieces.specs.declared.pieces.ReadPiece.TheVariants as read
 
 module _ {T A : Type 0} where
-  -- so many words
+  -- this many words
   abbrev pub only_words : ℕ → List (ReadPiece T A)
   only_words zero = []
   only_words (suc n) = read.Word ∷ only_words n
 
-  -- the pieces, each behind so many words, and the words behind them
+  -- the pieces, each after its number of words, and then this many words
   abbrev pub with_words : List (ℕ × ReadPiece T A) → ℕ → List (ReadPiece T A)
   with_words [] n = only_words n
   with_words (f ∷ found) n = only_words f.0 ++ f.1 ∷ with_words found n

@@ -1,4 +1,4 @@
--- Between functions: what was read in front of an operation's first region.
+-- Between functions: what was parsed before an operation's first region.
 use Rattle.std.specs.Prelude.{◌≡◌, ℕ, Bool, List, [], ◌∷◌, ◌++◌, Result}
 use Rattle.irtext_base.specs.Text.{Text}
 use Rattle.irtext_base.specs.Stream.{StreamView}
@@ -14,23 +14,23 @@ use Rattle.irtext_parse_pieces.specs.declared.pieces.ReadPiece.{ReadPiece}
 use Rattle.irtext_parse_pieces.specs.Pieces.{IsPiece}
 use Rattle.irtext_parse_pieces.specs.Named.{whole, Each, MustMean}
 
--- the part is the piece that was read
+-- the piece represents this part
 abbrev pub IsPart : {T A : Type 0} → List Text → Text → ReadPiece T A → Part ℕ T A → Type 0
 IsPart {T = T} {A = A} names text read part = (p : Piece ℕ T A) × (part ≡ tree.piece p) × IsPiece names text read p
 
--- the parts found and those that steps read in front of the first region
+-- the parts found so far, and those that the steps before the first region parse
 abbrev pub front_of : {T A : Type 0} → (Text → Outcome T) → (Text → Outcome (AttrView A)) → Bool → List Step → List (Part ℕ T A) → Reader (List (Part ℕ T A))
 front_of types_at attr inside steps = front_at types_at attr inside (front_steps steps)
 
--- these are the pieces that were found, and one behind them that was read as this
+-- one more piece was appended to those found, and it represents this piece of the text
 abbrev pub IsBehind : {T A : Type 0} → List Text → Text → List (ReadPiece T A) → List (ReadPiece T A) → Piece ℕ T A → Type 0
 IsBehind {T = T} {A = A} names text found more p = (read : ReadPiece T A) × (more ≡ found ++ read ∷ []) × IsPiece names text read p
 
 module _ {S T A : Type 0} (view : S → StreamView) (at : S → StreamView → S) where
-  -- the answer is the pieces that stand there, by these steps, or their fault
+  -- the result is the list of pieces that the steps parse, or their fault
   abbrev pub MustFront : List Text → (Text → Outcome T) → (Text → Outcome (AttrView A)) → Bool → List Step → S → Result (List (ReadPiece T A)) (ParseFault A) → S → Type 0
   MustFront names types_at attr inside steps old result new = MustMean view at (Each (IsPart names (whole (view old)))) (front_of types_at attr inside steps []) old result new
 
-  -- the piece that stands there was put behind those that were found, or there is its fault
+  -- the piece that comes next was appended to those found, or the result is its fault
   abbrev pub MustFind : List Text → Reader (Piece ℕ T A) → List (ReadPiece T A) → List (ReadPiece T A) → S → Result (Unit {0}) (ParseFault A) → S → Type 0
   MustFind names outcome found more old result new = MustMean view at (λ _ p. IsBehind names (whole (view old)) found more p) outcome old result new

@@ -1,4 +1,4 @@
--- Between functions: what the headers of blocks that were read stand for.
+-- Between functions: what the parsed headers of blocks represent.
 use Rattle.std.specs.Prelude.{ℕ, List, Result}
 use Rattle.irtext_base.specs.Text.{Text}
 use Rattle.irtext_base.specs.Stream.{StreamView}
@@ -13,7 +13,7 @@ use Rattle.irtext_parse_pieces.specs.Entries.{AreEntries}
 use Rattle.irtext_parse_pieces.specs.Marks.{IsMarkIf}
 use Rattle.irtext_parse_pieces.specs.Named.{whole, StandsFor, Each, Optional, MustMean}
 
--- all parts of the header stand for those of the text
+-- all parts of the header represent those of the text
 pub record IsHead {T A : Type 0} (names : List Text) (text : Text) (read : BlockHead T A) (head : Head ℕ T A) : Type 0 where
   pub label : StandsFor names text read.label head.label
   pub arguments : Each (IsArgument names text) read.arguments head.arguments
@@ -21,6 +21,6 @@ pub record IsHead {T A : Type 0} (names : List Text) (text : Text) (read : Block
   pub mark : IsMarkIf text read.mark head.mark
 
 module _ {S T A : Type 0} (view : S → StreamView) (at : S → StreamView → S) where
-  -- the answer is the header that stands there, or its fault
+  -- the result is the header that comes next, or its fault
   abbrev pub MustHead : List Text → (Text → Outcome T) → (Text → Outcome (AttrView A)) → S → Result (BlockHead T A) (ParseFault A) → S → Type 0
   MustHead names types_at attr old result new = MustMean view at (IsHead names (whole (view old))) (head_at types_at attr) old result new

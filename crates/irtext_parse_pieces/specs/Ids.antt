@@ -1,4 +1,4 @@
--- Between functions: the id of an operation, found by its text, and what stands in front of it.
+-- Between functions: the id of an operation, looked up by its text, and what precedes it.
 use Rattle.std.specs.Prelude.{◌≡◌, ℕ, Bool, false, List, Some, Result, Ok, Err}
 use Rattle.irtext_base.specs.Text.{Text}
 use Rattle.irtext_base.specs.Stream.{StreamView}
@@ -20,27 +20,28 @@ use Rattle.irtext_outcomes.specs.Readers.Operations.{registered_behind}
 use Rattle.irtext_parse_pieces.specs.declared.names.ReadName.{ReadName}
 use Rattle.irtext_parse_pieces.specs.Named.{StandsFor, Each}
 
--- the id that stands there was taken
+-- the id that comes next was consumed
 pub record TakesId {S : Type 0} (view : S → StreamView) (at : S → StreamView → S) (old : S) (id : OpId) (new : S) : Type 0 where
   pub taken : Text
   pub read : id_at (view old).rest ≡ Read (id_of id) taken (view new).rest
   pub takes : Takes view at taken (view new).rest old new
 
--- this is what the dialects know of a registered operation, whose format is accepted
+-- this is the dialects' information about a registered operation, whose format is accepted
 pub record IsKnown (dialects : List (Text × Table)) (id : OpId) (info : OpInfo) : Type 0 where
   pub known : registered dialects id ≡ Some (known_of info)
   pub accepted : Accepted (format_of info.format)
 
--- the id of what is answered, which is an id with something more
+-- the id in a result that has an id and something more
 abbrev pub id_in : {X E : Type 0} → Result (OpId × X) E → Result OpId E
 id_in (Ok op) = Ok op.0
 id_in (Err fault) = Err fault
 
--- the names of the results stand for these, and the id is this one
+-- the names of the results represent these, and the id is this one
 abbrev pub IsLed : {X : Type 0} → List Text → Text → List ReadName × OpId × X → List (Name ℕ) × Id → Type 0
 IsLed names text op led = Each (StandsFor names text) op.0 led.0 × (id_of op.1 ≡ led.1)
 
--- Behind any lead, which begins at a place and is empty or not, the answer is the id of a registered operation, or its fault.
+-- After any lead, which begins at a place and is empty or not, the result is the id of a registered operation, or its fault. A lead is
+-- what precedes an id: white space and the names of results.
 pub record AnswersLed {S A : Type 0} (view : S → StreamView) (at : S → StreamView → S) (dialects : List (Text × Table)) (start : Place) (led : Bool) (mid : S) (result : Result OpId (ParseFault A)) (new : S) : Type 0 where
   pub answers : (old : S) (lead : Text) → (view old).failed ≡ false → Takes view at lead (view mid).rest old mid → led ≡ is_led lead → StandsBehind start (view old).passed
       → Answers view at id_of (registered_behind dialects lead (behind lead (id_at (view mid).rest))) old result new

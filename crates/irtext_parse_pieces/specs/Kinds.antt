@@ -1,4 +1,4 @@
--- Between functions: the names of values and of blocks as operations use them.
+-- Between functions: the names of values and of blocks, as operations use them.
 use Rattle.std.specs.Prelude.{ℕ, Bool}
 use Rattle.irtext_base.specs.Text.{begins_word}
 use Rattle.irtext_base.specs.Reading.{the}
@@ -8,12 +8,12 @@ use Rattle.irtext_nesting.specs.Heads.{used_at, target_at}
 use Rattle.irtext_parse_pieces.specs.declared.lists.NameKind.{NameKind}
 use Rattle.irtext_parse_pieces.specs.declared.lists.NameKind.TheVariants as kind
 
--- what a name of this kind begins with, or its mark
+-- the characters with which a name of this kind begins
 abbrev pub beginning : NameKind → ℕ → Bool
 beginning kind.Value = begins_word
 beginning kind.Block = the 94
 
--- a name of this kind that is used, inside of some region or outside of each
+-- a name of this kind that is used, inside of a region or outside of every region
 abbrev pub named_at : NameKind → Bool → Reader (Name ℕ)
 named_at kind.Value = used_at
 named_at kind.Block = target_at

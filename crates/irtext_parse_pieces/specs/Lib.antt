@@ -1,4 +1,4 @@
--- Names, lists, dictionaries, headers and pieces as they were read, with what they stand for.
+-- Names, lists, dictionaries, headers and pieces as they were parsed, with what they represent.
 pub mod Arguments
 pub mod Entries
 pub mod Found

@@ -1,11 +1,11 @@
--- Between functions: what the marks that were read stand for.
+-- Between functions: what the parsed marks represent.
 use Rattle.std.specs.Prelude.{◌≡◌, ℕ, Option, Some, None}
 use Rattle.irtext_base.specs.Text.{Text}
 use Rattle.irtext_grammar.specs.Grammar.Tree.{Mark}
 use Rattle.irtext_parse_pieces.specs.Named.{Leaves}
 use Rattle.irtext_parse_pieces.specs.declared.marks.ReadMark.{ReadMark}
 
--- the mark has the index, and stands where it says
+-- the parsed mark has the index of the mark, and is at its place
 pub record IsMark (text : Text) (read : ReadMark) (mark : Mark ℕ) : Type 0 where
   pub indexed : read.index ≡ mark.index
   pub place : Leaves text read.at mark.place

@@ -1,4 +1,4 @@
--- Between functions: what the names that were read stand for, and what a reader answers whose value holds such names.
+-- Between functions: what the parsed names represent, and the results of parsers whose values contain names.
 use Rattle.std.specs.Prelude.{◌≡◌, ◌⊎◌, ℕ, true, false, List, [], ◌∷◌, ◌++◌, length, slice_get, Option, Some, None, Result, IfOk}
 use Rattle.irtext_base.specs.Text.{Text, is_identifier}
 use Rattle.irtext_base.specs.Stream.{StreamView}
@@ -14,11 +14,11 @@ use Rattle.irtext_grammar.specs.Grammar.Tree.{Name}
 use Rattle.irtext_parse_pieces.specs.declared.names.ReadName.{ReadName}
 use Rattle.irtext_parse_pieces.specs.declared.names.Symbol.{Symbol}
 
--- all of a stream's text
+-- the whole text of a stream
 abbrev pub whole : StreamView → Text
 whole v = v.passed ++ v.rest
 
--- behind the place stand so many characters of the text
+-- this many characters of the text are left after the position
 pub record Leaves (text : Text) (place : Place) (left : ℕ) : Type 0 where
   pub passed : Text
   pub rest : Text
@@ -26,24 +26,24 @@ pub record Leaves (text : Text) (place : Place) (left : ℕ) : Type 0 where
   pub stands : StandsBehind place passed
   pub counts : left ≡ length rest
 
--- the name has the text under its number, and stands where it says
+-- the name's number is that of the text, and its position is the name's place
 pub record StandsFor (names : List Text) (text : Text) (read : ReadName) (name : Name ℕ) : Type 0 where
   pub named : slice_get names read.name ≡ Some name.text
   pub place : Leaves text read.at name.place
 
--- the symbol has the name's text, and stands where it says
+-- the symbol has the text of the name, and is at the name's place
 pub record IsSymbol (text : Text) (symbol : Symbol) (name : Name ℕ) : Type 0 where
   pub named : symbol.name ≡ name.text
   pub place : Leaves text symbol.at name.place
 
--- each of these stands for the other that has its place in a list
+-- each element of the one list is related to the element of the other at the same index
 abbrev pub Each : {X Y : Type 0} → (Y → X → Type 0) → List Y → List X → Type 0
 Each R [] [] = Unit {0}
 Each R [] (x ∷ xs) = ⊥
 Each R (y ∷ ys) [] = ⊥
 Each R (y ∷ ys) (x ∷ xs) = R y x × Each R ys xs
 
--- the one stands for the other where it is there, and neither is there else
+-- both are there and related, or neither is there
 abbrev pub Optional : {X Y : Type 0} → (Y → X → Type 0) → Option Y → Option X → Type 0
 Optional R None None = Unit {0}
 Optional R None (Some x) = ⊥
@@ -54,45 +54,45 @@ Optional R (Some y) (Some x) = R y x
 abbrev pub AreWords : List Text → Type 0
 AreWords names = (i : ℕ) (text : Text) → slice_get names i ≡ Some text → is_identifier text ≡ true
 
--- names may have come, which are identifiers, and the scopes are as they were
+-- names may have been added, which are identifiers, and the scopes are unchanged
 pub record NamesRead {V B : Type 0} (old new : NameTracker V B) : Type 0 where
   pub kept : KeepsNames old.names new.names
   pub words : AreWords old.names → AreWords new.names
   pub values : new.values ≡ old.values
   pub labels : new.labels ≡ old.labels
 
--- memory was refused, or there is the fault that `outcome` says of the text
+-- an allocation failed, or the fault is the one that `outcome` gives for the text
 abbrev pub Misses : {S A X : Type 0} → (S → StreamView) → (S → StreamView → S) → (Text → Outcome X) → S → ParseFault A → S → Type 0
 Misses view at outcome old fault new = Starves view at old fault new ⊎ Refuses view at (unless_failed (view old).failed (outcome (view old).rest)) old fault new
 
 module _ {S A X Y : Type 0} (view : S → StreamView) (at : S → StreamView → S) (Means : Y → X → Type 0) (outcome : Text → Outcome X) (old : S) (result : Result Y (ParseFault A)) (new : S) where
-  -- the answer to the text is what `outcome` says, and a value stands for the one that it says
+  -- the result for the text is as `outcome` says, and a value represents that of `outcome`
   pub record MayMean : Type 0 where
     pub meant : Y → X
     pub means : IfOk result (λ y. Means y (meant y))
     pub read : MayRead view at meant outcome old result new
 
-  -- the same, and a missing thing is a committed fault
+  -- the same for what is required: if it is missing, the fault is committed
   pub record MustMean : Type 0 where
     pub meant : Y → X
     pub means : IfOk result (λ y. Means y (meant y))
     pub read : MustRead view at meant outcome old result new
 
 module _ {S A : Type 0} (view : S → StreamView) (at : S → StreamView → S) (names : List Text) (outcome : Text → Outcome (Name ℕ)) (old : S) (result : Result ReadName (ParseFault A)) (new : S) where
-  -- the answer is a name that may stand there, or its fault
+  -- the result is a name, which may be missing, or its fault
   abbrev pub MayName : Type 0
   MayName = MayMean view at (StandsFor names (whole (view old))) outcome old result new
 
-  -- the answer is a name that must stand there, or its fault
+  -- the result is a name, which is required, or its fault
   abbrev pub MustName : Type 0
   MustName = MustMean view at (StandsFor names (whole (view old))) outcome old result new
 
 module _ {S A : Type 0} (view : S → StreamView) (at : S → StreamView → S) where
-  -- the answer is the list of names that stands there, or its fault
+  -- the result is the list of names that comes next, or its fault
   abbrev pub MustNames : List Text → (Text → Outcome (List (Name ℕ))) → S → Result (List ReadName) (ParseFault A) → S → Type 0
   MustNames names outcome old result new = MustMean view at (Each (StandsFor names (whole (view old)))) outcome old result new
 
-  -- behind a first name, the answer is the list of names that stands there, or its fault
+  -- given a first name, the result is the list of names that continues it, or its fault
   abbrev pub NamesBehind : List Text → List Text → (Text → Outcome (Name ℕ)) → ReadName → S → Result (List ReadName) (ParseFault A) → S → Type 0
   NamesBehind before names item first old result new = (name : Name ℕ) → StandsFor before (whole (view old)) first name → (view old).failed ≡ false
       → MustNames names (λ t. items_after 44 item (length t) (name ∷ []) t) old result new

@@ -1,4 +1,4 @@
--- Between functions: what the pieces that were read stand for.
+-- Between functions: what the parsed pieces represent.
 use Rattle.std.specs.Prelude.{◌≡◌, ℕ, Bool, false, List, [], ◌∷◌, length, Option, Some, None, Result, MatchBool}
 use Rattle.irtext_base.specs.Text.{Text}
 use Rattle.irtext_base.specs.Stream.{StreamView}
@@ -17,12 +17,12 @@ use Rattle.irtext_parse_pieces.specs.declared.pieces.ReadPiece.TheVariants as re
 use Rattle.irtext_parse_pieces.specs.Entries.{AreEntries}
 use Rattle.irtext_parse_pieces.specs.Named.{whole, StandsFor, IsSymbol, Each, MustMean}
 
--- the attribute that was read, or none
+-- the parsed attribute, or none
 abbrev pub seen_attribute : {A : Type 0} → Option (AttrObj A) → Option (Attribute A)
 seen_attribute None = None
 seen_attribute (Some a) = Some (attribute_of a)
 
--- the piece is what was read, with parts that stand for those of the text
+-- the parsed piece represents this piece of the text, with all parts
 abbrev pub IsPiece : {T A : Type 0} → List Text → Text → ReadPiece T A → Piece ℕ T A → Type 0
 IsPiece names text read.Word p = (s : Text) × (p ≡ tree.word s)
 IsPiece names text (read.Operand i n) p = (m : Name ℕ) × (p ≡ tree.operand i m) × StandsFor names text n m
@@ -36,19 +36,19 @@ IsPiece names text (read.Header s) p = (n : Name ℕ) × (p ≡ tree.header n) �
 IsPiece names text (read.Types ts) p = p ≡ tree.types ts
 
 module _ {S : Type 0} (view : S → StreamView) (at : S → StreamView → S) where
-  -- the word was taken where it stands whole, and else the stream stays
+  -- the word was consumed if the whole of it comes next; otherwise the stream is unchanged
   abbrev pub Accepts : Text → S → Bool → S → Type 0
   Accepts w old result new = MatchBool result (Comes w (view old) (λ v. new ≡ at old v)) (BeginsOtherwise w (view old).rest × (new ≡ old))
 
 module _ {S T A : Type 0} (view : S → StreamView) (at : S → StreamView → S) where
-  -- the answer is the list of types that stands there, or its fault
+  -- the result is the list of types that comes next, or its fault
   abbrev pub MustTypes : (Text → Outcome (List T)) → S → Result (List T) (ParseFault A) → S → Type 0
   MustTypes outcome old result new = MustMean view at (Each ◌≡◌) outcome old result new
 
-  -- behind a first type, the answer is the list of types that stands there, or its fault
+  -- given a first type, the result is the list of types that continues it, or its fault
   abbrev pub TypesBehind : (Text → Outcome T) → T → S → Result (List T) (ParseFault A) → S → Type 0
   TypesBehind item first old result new = (view old).failed ≡ false → MustTypes (λ t. items_after 44 item (length t) (first ∷ []) t) old result new
 
-  -- the answer is the piece that stands there, or its fault
+  -- the result is the piece that comes next, or its fault
   abbrev pub MustPiece : List Text → Reader (Piece ℕ T A) → S → Result (ReadPiece T A) (ParseFault A) → S → Type 0
   MustPiece names outcome old result new = MustMean view at (IsPiece names (whole (view old))) outcome old result new

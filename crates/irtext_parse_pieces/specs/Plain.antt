@@ -1,4 +1,4 @@
--- Between functions: looks for numbers, lines and columns as they are mostly written.
+-- Between functions: the parsers of numbers, lines and columns in their usual form.
 use Rattle.std.specs.Prelude.{◌≡◌, ℕ, ℤ, true, Option, Some, None, codes, FitsSigned}
 use Rattle.std.specs.Int.{w32}
 use Rattle.std.specs.Char.{is_ascii_digit}
@@ -11,33 +11,33 @@ use Rattle.irtext_outcomes.specs.Readers.Positions.{spaced_at, labelled_at, posi
 use Rattle.irtext_outcomes.specs.Readers.Streams.{itself, replaced}
 use Rattle.irtext_stream.specs.declared.position.SourcePosition.{SourcePosition}
 
--- digits come next and were taken, and their number fits 64 bits
+-- digits come next and were consumed, and their number fits 64 bits
 pub record TakesDigits (old : StreamView) (n : ℕ) (new : StreamView) : Type 0 where
   pub some : begins is_ascii_digit old.rest ≡ true
   pub value : value_of (front is_ascii_digit old.rest) ≡ Some n
   pub takes : Takes itself replaced (front is_ascii_digit old.rest) (after is_ascii_digit old.rest) old new
 
--- digits come next and were taken, and they are what is read
+-- digits come next and were consumed, and they are the whole number that is parsed
 pub record TakesNumber {X : Type 0} (number_at : Reader X) (old : StreamView) (x : X) (new : StreamView) : Type 0 where
   pub some : begins is_ascii_digit old.rest ≡ true
   pub is : number_at old.rest ≡ Read x (front is_ascii_digit old.rest) (after is_ascii_digit old.rest)
   pub takes : Takes itself replaced (front is_ascii_digit old.rest) (after is_ascii_digit old.rest) old new
 
--- A look: this was found; or nothing was, and the stream stands anywhere in its text.
+-- This was found; or nothing was, and the position of the stream is unspecified.
 abbrev pub Looks : {X : Type 0} → (X → Type 0) → StreamView → Option X → StreamView → Type 0
 Looks Found old (Some x) new = Found x
 Looks Found old None new = Stands itself replaced old.failed old new
 
--- the same, where the stream stays if nothing is found
+-- the same, but the stream is unchanged if nothing was found
 abbrev pub Sees : {X : Type 0} → (X → Type 0) → StreamView → Option X → StreamView → Type 0
 Sees Found old (Some x) new = Found x
 Sees Found old None new = new ≡ old
 
--- this was read
+-- this was parsed
 abbrev pub Gets : {X : Type 0} → Reader X → StreamView → StreamView → X → Type 0
 Gets outcome old new x = Gives itself replaced (outcome old.rest) old x new
 
--- this number was read, and it fits 32 bits with a sign
+-- this number was parsed, and it fits 32 bits with a sign
 abbrev pub GetsInteger : Reader ℤ → StreamView → StreamView → ℤ → Type 0
 GetsInteger outcome old new z = Gets outcome old new z × FitsSigned w32 z
 

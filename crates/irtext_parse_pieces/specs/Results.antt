@@ -1,4 +1,4 @@
--- Between functions: a look for the names of an operation's results.
+-- Between functions: the look for the names of an operation's results.
 use Rattle.std.specs.Prelude.{◌≡◌, ℕ, Bool, true, false, List, [], ◌∷◌, length, Option, Some, None, Result, Ok, Err}
 use Rattle.irtext_base.specs.Text.{Text}
 use Rattle.irtext_base.specs.Stream.{StreamView}
@@ -11,24 +11,24 @@ use Rattle.irtext_nesting.specs.Heads.{name_at, results_at, named}
 use Rattle.irtext_parse_pieces.specs.declared.names.ReadName.{ReadName}
 use Rattle.irtext_parse_pieces.specs.Named.{whole, StandsFor, MustNames}
 
--- whether something is read
+-- whether the outcome is a value
 abbrev pub is_read : {X : Type 0} → Outcome X → Bool
 is_read (Read x taken rest) = true
 is_read (Missing cause) = false
 is_read (Bad cause upto) = false
 
--- the names of an operation's results where they stand, and else none
+-- the names of an operation's results if they come next; otherwise none
 abbrev pub results_if_at : Reader (List (Name ℕ))
 results_if_at text = named (results_at text) text
 
 module _ {S A : Type 0} (view : S → StreamView) (at : S → StreamView → S) where
-  -- A look whether names stand there: the names; or none, and the stream stands anywhere in its text; or memory was refused.
+  -- The names that come next were found; or there are none, and the position of the stream is unspecified; or an allocation failed.
   abbrev pub Looks : List Text → (Text → Outcome (List (Name ℕ))) → S → Result (Option (List ReadName)) (ParseFault A) → S → Type 0
   Looks names outcome old (Ok (Some found)) new = MustNames {A = A} view at names outcome old (Ok found) new
   Looks names outcome old (Ok None) new = (is_read (outcome (view old).rest) ≡ false) × Stands view at false old new
   Looks names outcome old (Err fault) new = Starves view at old fault new
 
-  -- a look behind a first name
+  -- the same after a first name
   abbrev pub LooksBehind : List Text → List Text → ReadName → S → Result (Option (List ReadName)) (ParseFault A) → S → Type 0
   LooksBehind before names first old result new = (name : Name ℕ) → StandsFor before (whole (view old)) first name → (view old).failed ≡ false
       → Looks names (λ t. items_after 44 name_at (length t) (name ∷ []) t) old result new

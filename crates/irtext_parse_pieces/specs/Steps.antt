@@ -1,4 +1,4 @@
--- Between functions: what the steps of the code are to the theory.
+-- Between functions: the steps of the code in the form of the definitions.
 use Rattle.irtext_base.specs.Format as format
 use Rattle.irtext_base.specs.Faults.{characters}
 use Rattle.irtext_formats.specs.Directives.{directive_of}
@@ -6,7 +6,7 @@ use Rattle.irtext_nesting.specs.Heads.{Step, flat, types, all, step_of}
 use Rattle.irtext_parse_pieces.specs.declared.steps.FormatStep.{FormatStep}
 use Rattle.irtext_parse_pieces.specs.declared.steps.FormatStep.TheVariants as step
 
--- the theory's step
+-- the step in the form of the definitions
 abbrev pub seen_step : FormatStep → Step
 seen_step (step.Directive d) = step_of (directive_of d.now)
 seen_step (step.Word w) = flat (format.word (characters w.now))

@@ -1,4 +1,4 @@
-//! Reading of the arguments of a block.
+//! Parsing of the arguments of a block.
 ghost use Rattle.irtext_read.specs.ListOutcomes.{separated_at};
 ghost use Rattle.irtext_read.specs.AttrTexts.{attr_at};
 ghost use Rattle.irtext_nesting.specs.Heads.{argument_at};
@@ -17,8 +17,8 @@ use irtext_read::parsable::OwnStream;
 use irtext_scopes::tracker::NameTracker;
 use std::alloc::AllocError;
 
-/// Reads an argument of a block: a name, `:` and a type. Where no name begins, the fault is uncommitted and the stream stays; other
-/// faults are committed.
+/// Parses an argument of a block: a name, `:` and a type. If no name comes next, the error is uncommitted and the stream is unchanged;
+/// other errors are committed.
 fn argument_parse<S: OwnStream, V: Copy, B: Copy, T: IrText<A>, A: AttrText>(
     stream: &mut S,
     names: &mut NameTracker<V, B>,
@@ -34,7 +34,7 @@ fn argument_parse<S: OwnStream, V: Copy, B: Copy, T: IrText<A>, A: AttrText>(
     Ok((name, ty))
 }
 
-/// Reads the arguments behind the first one, as long as `,` follows.
+/// Parses the arguments after the first one, as long as `,` comes next.
 fn more_arguments<S: OwnStream, V: Copy, B: Copy, T: IrText<A>, A: AttrText>(
     stream: &mut S,
     names: &mut NameTracker<V, B>,
@@ -59,8 +59,8 @@ fn more_arguments<S: OwnStream, V: Copy, B: Copy, T: IrText<A>, A: AttrText>(
     Ok(found)
 }
 
-/// Reads the arguments of a block, each a name, `:` and a type, with `,` between them and white space after each. Where no name begins,
-/// there are none. A fault is committed.
+/// Parses the arguments of a block, separated by `,` and with white space after each. Each is a name, `:` and a type, as
+/// `x: builtin.integer si64`. If no name comes next, returns an empty list. Every error is committed.
 pub fn arguments_parse<S: OwnStream, V: Copy, B: Copy, T: IrText<A>, A: AttrText>(
     stream: &mut S,
     names: &mut NameTracker<V, B>,

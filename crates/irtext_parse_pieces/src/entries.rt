@@ -1,4 +1,4 @@
-//! Reading of dictionaries: attributes under keys, whatever keys may stand there.
+//! Parsing of dictionaries: attributes under keys. Reserved and repeated keys are accepted here.
 ghost use Rattle.irtext_read.specs.AttrTexts.{attr_at};
 ghost use Rattle.irtext_read.specs.ListOutcomes.{separated_at};
 ghost use Rattle.irtext_read.specs.MustRead.{MustRead};
@@ -18,17 +18,17 @@ use irtext_read::irfmt::faults::{committed, next_is, out_of_memory, refuse};
 use irtext_read::irfmt::parsers::{attr_parse, identifier_parse, skip_white_space};
 use irtext_read::parsable::OwnStream;
 
-/// A key that was read, and where it stands.
+/// A parsed key, and the position where it begins.
 #[derive(Drop)]
 pub struct Key {
     pub name: Identifier,
     pub at: Place,
 }
 
-/// An entry of a dictionary that was read: a key and its attribute.
+/// A parsed entry of a dictionary: a key and its attribute.
 pub type ReadEntry<A> = (Key, AttrObj<A>);
 
-/// Reads an attribute, with its faults committed.
+/// Parses an attribute. Every error is committed.
 pub fn attr_demanded<S: OwnStream, A: AttrText>(stream: &mut S) -> ParseResult<AttrObj<A>, A>
     ensures { MustRead S.CharStream.view S.CharStream.at attribute_of (attribute_at (attr_at A.IrText.reading)) stream.old result stream.new }
 {
@@ -36,7 +36,7 @@ pub fn attr_demanded<S: OwnStream, A: AttrText>(stream: &mut S) -> ParseResult<A
     committed(stream, answer)
 }
 
-/// Reads a key. Where no name begins, the fault is uncommitted and the stream stays.
+/// Parses a key. If no name comes next, the error is uncommitted and the stream is unchanged.
 pub fn key_parse<S: CharStream, A>(stream: &mut S) -> ParseResult<Key, A>
     ensures { MayMean S.view S.at (IsKey (whole (S.view stream.old))) name_at stream.old result stream.new }
 {
@@ -45,8 +45,8 @@ pub fn key_parse<S: CharStream, A>(stream: &mut S) -> ParseResult<Key, A>
     Ok(Key { name, at })
 }
 
-/// Reads an entry of a dictionary: a key, `:` and an attribute. Where no name begins, the fault is uncommitted and the stream stays;
-/// other faults are committed.
+/// Parses an entry of a dictionary: a key, `:` and an attribute. If no name comes next, the error is uncommitted and the stream is
+/// unchanged; other errors are committed.
 fn entry_parse<S: OwnStream, A: AttrText>(stream: &mut S) -> ParseResult<ReadEntry<A>, A>
     ensures { MayMean S.CharStream.view S.CharStream.at (IsEntry (whole (S.CharStream.view stream.old)))
         (pair_at (attr_at A.IrText.reading)) stream.old result stream.new }
@@ -57,7 +57,7 @@ fn entry_parse<S: OwnStream, A: AttrText>(stream: &mut S) -> ParseResult<ReadEnt
     Ok((key, attr))
 }
 
-/// Reads the entries behind the first one, as long as `,` follows.
+/// Parses the entries after the first one, as long as `,` comes next.
 fn more_entries<S: OwnStream, A: AttrText>(
     stream: &mut S,
     first: ReadEntry<A>,
@@ -81,7 +81,8 @@ fn more_entries<S: OwnStream, A: AttrText>(
     Ok(found)
 }
 
-/// Reads entries with `,` between them and white space after each. Where no name begins, there are none. A fault is committed.
+/// Parses entries that are separated by `,`, with white space after each. If no name comes next, returns an empty list. Every error is
+/// committed.
 fn entries_parse<S: OwnStream, A: AttrText>(stream: &mut S) -> ParseResult<Vec<ReadEntry<A>>, A>
     ensures { MustEntries S.CharStream.view S.CharStream.at (separated_at 44 (pair_at (attr_at A.IrText.reading))) stream.old result stream.new }
 {
@@ -102,8 +103,9 @@ fn entries_parse<S: OwnStream, A: AttrText>(stream: &mut S) -> ParseResult<Vec<R
     }
 }
 
-/// Reads a dictionary: entries between brackets, each a key, `:` and an attribute, with `,` between them. Which keys may stand there,
-/// and how often, is not looked at. A dictionary with no entry takes no memory, and one with entries takes a vector. A fault is committed.
+/// Parses a dictionary: entries in brackets, separated by `,`, each a key, `:` and an attribute, as `[key: attribute]`. Reserved and
+/// repeated keys are accepted here. An empty dictionary allocates nothing, and one with entries allocates a vector. Every error is
+/// committed.
 pub fn dictionary_parse<S: OwnStream, A: AttrText>(
     stream: &mut S,
 ) -> ParseResult<Vec<ReadEntry<A>>, A>
@@ -116,7 +118,7 @@ pub fn dictionary_parse<S: OwnStream, A: AttrText>(
     Ok(entries)
 }
 
-/// Reads a dictionary as `dictionary_parse` does, where a `[` stands. A fault is committed.
+/// Parses a dictionary as `dictionary_parse` does if `[` comes next; otherwise returns `None`. Every error is committed.
 pub fn dictionary_if_parse<S: OwnStream, A: AttrText>(
     stream: &mut S,
 ) -> ParseResult<Option<Vec<ReadEntry<A>>>, A>

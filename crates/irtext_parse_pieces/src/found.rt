@@ -1,4 +1,4 @@
-//! The pieces that were read in front of an operation's first region. Of words only their number is kept.
+//! The pieces that were parsed before an operation's first region. Words, which are fixed texts, are only counted.
 ghost use Rattle.std.specs.Prelude.{◌≡◌, ◌++◌, ◌∷◌, ◌+◌, ◌<◌, ◌^◌, ℕ, [], length, IfOk, OnOk};
 ghost use Rattle.irtext_parse_pieces.specs.declared.pieces.ReadPiece.TheVariants as read;
 ghost use Rattle.irtext_parse_pieces.specs.Found.{with_words};
@@ -7,17 +7,17 @@ use crate::pieces::ReadPiece;
 use std::alloc::{AllocError, Global};
 use std::marker::Model;
 
-/// So many pieces that are no words find room at once: those of the form that any operation has.
+/// The capacity that is allocated at once, in pieces that are not words: enough for the canonical form.
 const ROOM: usize = 5;
 
-/// Pieces in the order of the text, words among them. A word takes no memory of its own.
+/// Pieces in the order of the text, including words. A word is not stored.
 #[derive(Drop)]
 pub struct Pieces<T, A> {
-    /// The pieces that are no words, each with how many words stand in front of it, behind the piece before.
+    /// The pieces that are not words, each with the number of words between the piece before and it.
     found: Vec<(usize, ReadPiece<T, A>)>,
-    /// How many words stand behind the last of these.
+    /// The number of words after the last of these.
     words: usize,
-    /// How many pieces there are.
+    /// The number of pieces.
     count: usize,
 }
 
@@ -34,14 +34,14 @@ impl<T, A> Model for Pieces<T, A> {
 }
 
 impl<T, A> Pieces<T, A> {
-    /// How many pieces there are.
+    /// Returns the number of pieces.
     pub fn len(&self) -> usize
         ensures { result ≡ length self.now }
     {
         self.count
     }
 
-    /// The pieces that are no words, each with how many words stand in front of it.
+    /// Returns the pieces that are not words, each with the number of words between the piece before and it.
     pub fn into_found(self) -> Vec<(usize, ReadPiece<T, A>)>
         ensures { (words : ℕ) × (self ≡ with_words result.items words) }
     {
@@ -50,7 +50,7 @@ impl<T, A> Pieces<T, A> {
 }
 
 impl<T: Drop, A: Drop> Pieces<T, A> {
-    /// No pieces, with room for some.
+    /// Returns an empty list, with capacity for some pieces.
     pub fn none(alloc: Global) -> Result<Pieces<T, A>, AllocError>
         ensures { IfOk result (λ pieces. pieces ≡ []) }
     {
@@ -62,7 +62,7 @@ impl<T: Drop, A: Drop> Pieces<T, A> {
         })
     }
 
-    /// Puts a word last.
+    /// Appends a word.
     pub fn push_word(&mut self)
         requires { length self.old + 1 < 2 ^ 64 }
         ensures { self.new ≡ self.old ++ read.Word ∷ [] }
@@ -71,7 +71,7 @@ impl<T: Drop, A: Drop> Pieces<T, A> {
         self.count = self.count + 1;
     }
 
-    /// Puts a piece last. Where memory is refused, what is there is not said.
+    /// Appends a piece. If an allocation fails, the contents are unspecified.
     pub fn push(&mut self, piece: ReadPiece<T, A>) -> Result<(), AllocError>
         requires { length self.old + 1 < 2 ^ 64 }
         ensures { OnOk result (self.new ≡ self.old ++ piece ∷ []) }

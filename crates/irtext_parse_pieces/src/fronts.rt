@@ -1,4 +1,4 @@
-//! Reading of what an operation's format has in front of its first region.
+//! Parsing of the parts of an operation that its format has before its first region.
 ghost use Rattle.std.specs.Prelude.{◌≡◌, ◌+◌, ◌<◌, ◌^◌, false, length, IfOk};
 ghost use Rattle.irtext_formats.specs.Directives.{format_of};
 ghost use Rattle.irtext_read.specs.AttrTexts.{attr_at};
@@ -21,7 +21,7 @@ use irtext_read::parsable::OwnStream;
 use irtext_scopes::tracker::NameTracker;
 use std::alloc::AllocError;
 
-/// Reads what a step of a format reads, where that is no region, and puts it behind the pieces that were found. A fault is committed.
+/// Parses what a step of a format describes, which is no region, and appends it to the pieces. Every error is committed.
 fn step_found<S: OwnStream, V: Copy, B: Copy, T: IrText<A>, A: AttrText>(
     stream: &mut S,
     names: &mut NameTracker<V, B>,
@@ -46,7 +46,7 @@ fn step_found<S: OwnStream, V: Copy, B: Copy, T: IrText<A>, A: AttrText>(
     }
 }
 
-/// Reads what the steps of a format read, up to the first that reads regions, with white space before each.
+/// Parses what the steps of a format describe, up to the first step that parses regions, with white space before each.
 fn pieces_parse<S: OwnStream, V: Copy, B: Copy, T: IrText<A>, A: AttrText>(
     stream: &mut S,
     names: &mut NameTracker<V, B>,
@@ -72,9 +72,9 @@ fn pieces_parse<S: OwnStream, V: Copy, B: Copy, T: IrText<A>, A: AttrText>(
     Ok(found)
 }
 
-/// Reads what the steps of a format in front of the first that reads regions read, one piece each, with white space before each, inside
-/// of some region or outside of each, where no name can be used. As many pieces are found as there are such steps. A fault is committed,
-/// and leaves the stream failed.
+/// Parses what the steps of a format describe, up to the first step that parses regions, one piece for each step, with white space before
+/// each. `inside` says whether it is inside of a region; outside of every region no name can be used. The result has as many pieces as
+/// there are such steps. Every error is committed, and leaves the stream failed.
 pub fn front_parse<S: OwnStream, V: Copy, B: Copy, T: IrText<A>, A: AttrText>(
     stream: &mut S,
     names: &mut NameTracker<V, B>,

@@ -1,4 +1,4 @@
-//! Reading of the headers of blocks.
+//! Parsing of the headers of blocks.
 ghost use Rattle.irtext_read.specs.AttrTexts.{attr_at};
 ghost use Rattle.irtext_parse_pieces.specs.Headers.{MustHead};
 ghost use Rattle.irtext_parse_pieces.specs.Named.{NamesRead};
@@ -15,8 +15,7 @@ use irtext_read::irfmt::parsers::skip_white_space;
 use irtext_read::parsable::OwnStream;
 use irtext_scopes::tracker::NameTracker;
 
-/// The header of a block that was read: its label, its arguments, the entries of its dictionary where one stands, and its mark where one
-/// stands.
+/// A parsed header of a block: its label, its arguments, the entries of its dictionary if it has one, and its mark if it has one.
 #[derive(Drop)]
 pub struct BlockHead<T, A> {
     pub label: ReadName,
@@ -25,8 +24,9 @@ pub struct BlockHead<T, A> {
     pub mark: Option<ReadMark>,
 }
 
-/// Reads the header of a block: `^` and its label, its arguments between parentheses, a dictionary where `[` stands, a mark where `!`
-/// stands, and `:`. Which keys may stand in the dictionary is not looked at. A fault is committed.
+/// Parses the header of a block: `^` and its label, its arguments in parentheses, a dictionary if `[` comes next, a mark if `!` comes
+/// next, and `:`, as `^b(x: builtin.integer si64) !0:`. Reserved and repeated keys of the dictionary are accepted here. Every error is
+/// committed.
 pub fn block_head_parse<S: OwnStream, V: Copy, B: Copy, T: IrText<A>, A: AttrText>(
     stream: &mut S,
     names: &mut NameTracker<V, B>,

@@ -1,4 +1,4 @@
-//! The ids of registered operations, found by their texts, and what stands in front of them.
+//! The ids of registered operations, looked up by their texts, and what precedes them.
 ghost use Rattle.std.specs.Prelude.{◌≡◌, List, cond, IfOk, IfErr, OnOk, IfSome, IfNone};
 ghost use Rattle.irtext_base.specs.Answers.{Stands, StarvesHere, DemandsOf};
 ghost use Rattle.irtext_nesting.specs.Heads.{lead_at, led_at};
@@ -21,8 +21,8 @@ use irtext_scopes::tracker::NameTracker;
 use std::alloc::AllocError;
 use std::convert::AsStr;
 
-/// Passes what may be an id, and looks it up: the id of a registered operation, as its dialect has it, with what is known of that.
-/// What is passed where none is found isn't told.
+/// Consumes what may be an id, and looks it up: returns the id of a registered operation, as its dialect has it, with its registered
+/// information. If there is none, how much was consumed is unspecified.
 fn look_up<'c, S: CharStream, T: IrText<A>, A: AttrText>(
     stream: &mut S,
     ctx: &'c Context<T, A>,
@@ -47,8 +47,8 @@ fn look_up<'c, S: CharStream, T: IrText<A>, A: AttrText>(
     ops.op_named(dialect.as_str(), stream.text_since(place))
 }
 
-/// The id of a registered operation, which is passed, with what the context has of it. Where none stands there, nothing is passed.
-/// It takes no memory.
+/// Consumes the id of a registered operation if one comes next, and returns it with its registered information. Otherwise nothing is
+/// consumed. Allocates nothing.
 fn known_op<'c, S: CharStream, T: IrText<A>, A: AttrText>(
     stream: &mut S,
     ctx: &'c Context<T, A>,
@@ -67,7 +67,7 @@ fn known_op<'c, S: CharStream, T: IrText<A>, A: AttrText>(
     }
 }
 
-/// A second id that shares the texts.
+/// Returns a copy of the id that shares its texts.
 fn copied(id: &OpId) -> Result<OpId, AllocError>
     ensures { IfOk result (λ copy. copy ≡ id.now) }
 {
@@ -76,8 +76,8 @@ fn copied(id: &OpId) -> Result<OpId, AllocError>
     Ok(OpId { dialect, name })
 }
 
-/// A second id that shares the texts, with what is known of its operation. It takes no memory, and is refused only where a text's
-/// counter is full.
+/// Returns a copy of the id that shares its texts, with the operation's registered information. Allocates nothing. Fails with `Memory`
+/// only if the counter of a shared text is full.
 fn shared<'c, S: CharStream, A>(
     stream: &mut S,
     id: &OpId,
@@ -94,7 +94,7 @@ fn shared<'c, S: CharStream, A>(
     }
 }
 
-/// The same answer, its fault committed where this is wanted.
+/// Returns the same result, with an error committed if `wanted` is set.
 fn demand_if<S: CharStream, X, A>(
     stream: &mut S,
     wanted: bool,
@@ -109,7 +109,8 @@ fn demand_if<S: CharStream, X, A>(
     }
 }
 
-/// The id with what is known of its operation, where that is registered. `start` is where the operation begins, `at` where its id does.
+/// Returns the id with the registered information of its operation. Fails with `UnregisteredDialect` or `UnregisteredOp` if it is not
+/// registered. `start` is where the operation begins, `at` where its id begins.
 #[cold]
 fn registered<'c, S: CharStream, T: IrText<A>, A: AttrText>(
     stream: &mut S,
@@ -130,8 +131,9 @@ fn registered<'c, S: CharStream, T: IrText<A>, A: AttrText>(
     }
 }
 
-/// The id of a registered operation behind a lead, which is empty or not, with what is known of the operation. `start` is where the
-/// lead begins. A registered id takes no memory.
+/// Parses the id of a registered operation after a lead, and returns it with the operation's registered information. A lead is what
+/// precedes an id: white space and the names of results; it may be empty. `start` is where the lead begins, and `led` says whether it is
+/// not empty; then every error is committed. A registered id allocates nothing.
 fn id_behind<'c, S: CharStream, T: IrText<A>, A: AttrText>(
     stream: &mut S,
     ctx: &'c Context<T, A>,
@@ -152,7 +154,7 @@ fn id_behind<'c, S: CharStream, T: IrText<A>, A: AttrText>(
     }
 }
 
-/// Reads what stands in front of an operation's id: white space, and the names of its results where they stand, with white space behind.
+/// Parses what precedes an operation's id: white space and, if they come next, the names of its results and white space after them.
 fn lead_parse<S: CharStream, V: Copy, B: Copy, A: Drop>(
     stream: &mut S,
     names: &mut NameTracker<V, B>,
@@ -169,11 +171,11 @@ fn lead_parse<S: CharStream, V: Copy, B: Copy, A: Drop>(
     Ok(results)
 }
 
-/// What stands in front of an operation's own parts: the names of its results, its id, and what is known of it.
+/// What precedes an operation's own parts: the names of its results, its id, and its registered information.
 pub type Led<'c> = (Few<ReadName>, OpId, &'c OpInfo);
 
-/// Reads the names of an operation's results, where they stand, and the id of a registered operation. Where neither begins, and no white
-/// space, the fault is uncommitted and the stream stays. A registered id takes no memory.
+/// Parses the names of an operation's results, if they come next, and the id of a registered operation, as `a, b = test.two`. If neither
+/// comes next, and no white space, the error is uncommitted and the stream is unchanged. A registered id allocates nothing.
 pub fn results_and_id_parse<'c, S: CharStream, V: Copy, B: Copy, T: IrText<A>, A: AttrText>(
     stream: &mut S,
     ctx: &'c Context<T, A>,

@@ -1,4 +1,4 @@
-//! Lists of names, with `,` between them: up to two take no memory.
+//! Lists of names, separated by `,`. Up to two names are stored without an allocation.
 ghost use Rattle.std.specs.Prelude.{◌≡◌, ◌++◌, ◌∷◌, [], ◌&&◌, not, IfOk};
 ghost use Rattle.irtext_base.specs.Text.{begins};
 ghost use Rattle.irtext_read.specs.ListOutcomes.{separated_at};
@@ -13,14 +13,14 @@ use irtext_read::irfmt::parsers::{Class, skip_white_space};
 use irtext_scopes::tracker::NameTracker;
 use std::alloc::{AllocError, Global};
 
-/// What a name stands for.
+/// What a name refers to.
 #[derive(Clone, Copy)]
 pub enum NameKind {
     Value,
     Block,
 }
 
-/// Three items or more, of which these are the last.
+/// Returns a list of three items.
 fn many<X: Drop>(alloc: Global, first: X, second: X, third: X) -> Result<Few<X>, AllocError>
     ensures { IfOk result (λ items. items ≡ first ∷ second ∷ third ∷ []) }
 {
@@ -31,7 +31,7 @@ fn many<X: Drop>(alloc: Global, first: X, second: X, third: X) -> Result<Few<X>,
     Ok(Few::from_vec(items))
 }
 
-/// The items with one more behind them. Where that is the first or the second, it takes no memory.
+/// Returns the items with one more appended. Allocates only if it is the third or a later one.
 pub(crate) fn with_item<X: Drop>(
     alloc: Global,
     items: Few<X>,
@@ -50,7 +50,7 @@ pub(crate) fn with_item<X: Drop>(
     }
 }
 
-/// Reads a name that is used, of a value or of a block. Where none begins, the fault is uncommitted and the stream stays.
+/// Parses a name that is used, of a value or of a block. If none comes next, the error is uncommitted and the stream is unchanged.
 fn named_parse<S: CharStream, V: Copy, B: Copy, A>(
     stream: &mut S,
     names: &mut NameTracker<V, B>,
@@ -66,7 +66,7 @@ fn named_parse<S: CharStream, V: Copy, B: Copy, A>(
     }
 }
 
-/// Reads the names behind the first one, as long as `,` follows.
+/// Parses the names after the first one, as long as `,` comes next.
 fn more_names<S: CharStream, V: Copy, B: Copy, A: Drop>(
     stream: &mut S,
     names: &mut NameTracker<V, B>,
@@ -92,7 +92,7 @@ fn more_names<S: CharStream, V: Copy, B: Copy, A: Drop>(
     Ok(found)
 }
 
-/// Whether no name of this kind begins here, seen by the next character alone. A stream that had failed does not say so.
+/// Whether no name of this kind comes next, judged by the next character alone. Returns false on a stream that has failed.
 #[inline]
 pub(crate) fn none_named<S: CharStream>(stream: &S, kind: NameKind) -> bool
     ensures { result ≡ (not (S.view stream.now).failed && not (begins (beginning kind) (S.view stream.now).rest)) }
@@ -106,8 +106,9 @@ pub(crate) fn none_named<S: CharStream>(stream: &S, kind: NameKind) -> bool
     }
 }
 
-/// Reads names that are used, of values or of blocks, with `,` between them and white space after each, inside of some region or
-/// outside of each. Where none begins, there are none. A fault is committed.
+/// Parses names that are used, of values or of blocks, separated by `,` and with white space after each. `inside` says whether they are
+/// inside of a region; outside of every region the first name is an error. If no name comes next, returns an empty list. Every error is
+/// committed.
 pub fn names_parse<S: CharStream, V: Copy, B: Copy, A: Drop>(
     stream: &mut S,
     names: &mut NameTracker<V, B>,

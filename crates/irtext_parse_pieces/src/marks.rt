@@ -1,4 +1,4 @@
-//! Reading of the marks of operations and of blocks.
+//! Parsing of the marks of operations and of blocks.
 ghost use Rattle.irtext_nesting.specs.Heads.{mark_if_at};
 ghost use Rattle.irtext_parse_pieces.specs.Marks.{IsMarkIf};
 ghost use Rattle.irtext_parse_pieces.specs.Named.{MustMean, whole};
@@ -8,14 +8,14 @@ use irtext_base::result::Cause;
 use irtext_read::irfmt::demanded::index_demanded;
 use irtext_read::irfmt::faults::{next_is, refuse};
 
-/// A mark that was read: its index, and where its `!` stands.
+/// A parsed mark: its index, and the position of its `!`.
 #[derive(Clone, Copy)]
 pub struct ReadMark {
     pub index: usize,
     pub at: Place,
 }
 
-/// Reads a mark, `!` and an index, where one stands. A fault is committed.
+/// Parses a mark, `!` and an index, as `!3`. If `!` does not come next, returns `None`. Every error is committed.
 pub fn mark_parse<S: CharStream, A>(stream: &mut S) -> ParseResult<Option<ReadMark>, A>
     ensures { MustMean S.view S.at (IsMarkIf (whole (S.view stream.old))) mark_if_at stream.old result stream.new }
 {

@@ -1,4 +1,4 @@
-//! Reading of names: each is kept once for the reading, and known by its number from then on.
+//! Parsing of names. Each distinct name is stored once per parse, and is known by its number from then on.
 ghost use Rattle.std.specs.Prelude.{false};
 ghost use Rattle.irtext_nesting.specs.Heads.{name_at, label_at, symbol_at, used_at, target_at};
 ghost use Rattle.irtext_parse_pieces.specs.Named.{whole, IsSymbol, MustMean, MayName, MustName, NamesRead, Misses};
@@ -12,21 +12,21 @@ use irtext_read::irfmt::faults::{begins, committed, out_of_memory, refuse, refus
 use irtext_read::irfmt::parsers::{Class, identifier_parse, skip_class, text_parse};
 use irtext_scopes::tracker::NameTracker;
 
-/// A name that was read: its number among the names of the reading, and where it stands.
+/// A parsed name: its number among the names of the parse, and its position.
 #[derive(Clone, Copy)]
 pub struct ReadName {
     pub name: usize,
     pub at: Place,
 }
 
-/// The name of a symbol that was read, which no reading keeps, and where its `@` stands.
+/// A parsed name of a symbol, which is not numbered, and the position of its `@`.
 #[derive(Drop)]
 pub struct Symbol {
     pub name: Identifier,
     pub at: Place,
 }
 
-/// Reads `@` and a symbol's name, with its faults committed.
+/// Parses `@` and a symbol's name, as `@main`. Every error is committed.
 pub fn symbol_demanded<S: CharStream, A>(stream: &mut S) -> ParseResult<Symbol, A>
     ensures { MustMean S.view S.at (IsSymbol (whole (S.view stream.old))) symbol_at stream.old result stream.new }
 {
@@ -35,7 +35,7 @@ pub fn symbol_demanded<S: CharStream, A>(stream: &mut S) -> ParseResult<Symbol, 
     Ok(Symbol { name, at })
 }
 
-/// Reads a name, and keeps it. Where none begins, the fault is uncommitted and the stream stays; other faults are committed.
+/// Parses a name, and stores it. If none comes next, the error is uncommitted and the stream is unchanged; other errors are committed.
 pub fn name_parse<S: CharStream, V: Copy, B: Copy, A>(
     stream: &mut S,
     names: &mut NameTracker<V, B>,
@@ -57,7 +57,7 @@ pub fn name_parse<S: CharStream, V: Copy, B: Copy, A>(
     }
 }
 
-/// Reads a name as `name_parse` does, with its faults committed.
+/// Parses a name as `name_parse` does, but every error is committed.
 pub fn name_demanded<S: CharStream, V: Copy, B: Copy, A>(
     stream: &mut S,
     names: &mut NameTracker<V, B>,
@@ -69,7 +69,7 @@ pub fn name_demanded<S: CharStream, V: Copy, B: Copy, A>(
     committed(stream, answer)
 }
 
-/// Reads `^` and a label, which stands at its `^`. A fault is committed.
+/// Parses `^` and a label, as `^b`. The position of the label is that of its `^`. Every error is committed.
 pub fn label_demanded<S: CharStream, V: Copy, B: Copy, A>(
     stream: &mut S,
     names: &mut NameTracker<V, B>,
@@ -86,7 +86,8 @@ pub fn label_demanded<S: CharStream, V: Copy, B: Copy, A>(
     })
 }
 
-/// The fault of a name that is used where no scope is open, at the name. Where none begins, it is uncommitted and the stream stays.
+/// Returns the error for a name that is used where no scope is open, at the name. If no name comes next, the error is uncommitted and the
+/// stream is unchanged.
 fn used_outside<S: CharStream, A>(stream: &mut S) -> ParseFault<A>
     ensures { Misses S.view S.at (used_at false) stream.old result stream.new }
 {
@@ -97,8 +98,8 @@ fn used_outside<S: CharStream, A>(stream: &mut S) -> ParseFault<A>
     }
 }
 
-/// Reads a name that is used, inside of some region or outside of each, where it is refused. Where none begins, the fault is
-/// uncommitted and the stream stays; other faults are committed.
+/// Parses a name that is used. `inside` says whether it is inside of a region; outside of every region it fails with `NoActiveScope` at
+/// the name. If no name comes next, the error is uncommitted and the stream is unchanged; other errors are committed.
 pub fn used_parse<S: CharStream, V: Copy, B: Copy, A>(
     stream: &mut S,
     names: &mut NameTracker<V, B>,
@@ -113,7 +114,7 @@ pub fn used_parse<S: CharStream, V: Copy, B: Copy, A>(
     Err(used_outside(stream))
 }
 
-/// Reads a name as `used_parse` does, with its faults committed.
+/// Parses a name as `used_parse` does, but every error is committed.
 pub fn used_demanded<S: CharStream, V: Copy, B: Copy, A>(
     stream: &mut S,
     names: &mut NameTracker<V, B>,
@@ -126,8 +127,8 @@ pub fn used_demanded<S: CharStream, V: Copy, B: Copy, A>(
     committed(stream, answer)
 }
 
-/// Reads `^` and a label that is used, which stands behind the `^`. Where no `^` stands, the fault is uncommitted and the stream stays;
-/// other faults are committed.
+/// Parses `^` and a label that is used, as `^b`. The position of the label is that after its `^`. If `^` does not come next, the error is
+/// uncommitted and the stream is unchanged; other errors are committed.
 pub fn target_parse<S: CharStream, V: Copy, B: Copy, A>(
     stream: &mut S,
     names: &mut NameTracker<V, B>,
@@ -140,7 +141,7 @@ pub fn target_parse<S: CharStream, V: Copy, B: Copy, A>(
     used_demanded(stream, names, inside)
 }
 
-/// Reads a label as `target_parse` does, with its faults committed.
+/// Parses a label as `target_parse` does, but every error is committed.
 pub fn target_demanded<S: CharStream, V: Copy, B: Copy, A>(
     stream: &mut S,
     names: &mut NameTracker<V, B>,

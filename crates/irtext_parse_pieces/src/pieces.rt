@@ -1,4 +1,4 @@
-//! Reading of what one step of a format reads, where that is no region.
+//! Parsing of one step of a format that is not a region.
 ghost use Rattle.std.specs.Prelude.{List};
 ghost use Rattle.irtext_base.specs.Answers.{Missing};
 ghost use Rattle.irtext_base.specs.Faults.{characters, Unexpected, AnOperation};
@@ -32,10 +32,10 @@ use irtext_read::irfmt::faults::{commit_unexpected, committed, out_of_memory, re
 use irtext_read::parsable::OwnStream;
 use irtext_scopes::tracker::NameTracker;
 
-/// What one directive of a format read, or a list of types of the form that any operation has.
+/// What one directive of a format parsed, or a list of types of the canonical form.
 #[derive(Drop)]
 pub enum ReadPiece<T, A> {
-    /// A fixed text, of which nothing is kept.
+    /// A fixed text, of which nothing is stored.
     Word,
     /// The name of the operand at this place.
     Operand(usize, ReadName),
@@ -45,7 +45,7 @@ pub enum ReadPiece<T, A> {
     Successor(usize, ReadName),
     /// The labels of the other successors.
     Successors(Few<ReadName>),
-    /// The attribute under this key, or none where the marker of an attribute of the section stands.
+    /// The attribute under this key; `None` if the text has the marker of an attribute that is in the section.
     Attr(Identifier, Option<AttrObj<A>>),
     /// The entries of a dictionary.
     Dictionary(Vec<ReadEntry<A>>),
@@ -57,14 +57,14 @@ pub enum ReadPiece<T, A> {
     Types(Few<T>),
 }
 
-/// Passes a fixed text where it stands whole, and answers whether it does.
+/// Consumes a fixed text if the whole of it comes next, and returns whether it does.
 fn accepts<S: CharStream>(stream: &mut S, text: &str) -> bool
     ensures { Accepts S.view S.at (characters text.now) stream.old result stream.new }
 {
     stream.accept(text)
 }
 
-/// Reads the marker of an attribute that the section has, or an attribute. A fault is committed.
+/// Parses an attribute, or the marker of an attribute that is in the section. Every error is committed.
 fn outlined_or_demanded<S: OwnStream, A: AttrText>(
     stream: &mut S,
 ) -> ParseResult<Option<AttrObj<A>>, A>
@@ -80,7 +80,7 @@ fn outlined_or_demanded<S: OwnStream, A: AttrText>(
     Ok(Some(attr))
 }
 
-/// Reads a fixed text.
+/// Parses a fixed text.
 fn word_piece<S: OwnStream, T: IrText<A>, A: AttrText>(
     stream: &mut S,
     text: &str,
@@ -92,7 +92,7 @@ fn word_piece<S: OwnStream, T: IrText<A>, A: AttrText>(
     Ok(ReadPiece::Word)
 }
 
-/// Reads the name of an operand.
+/// Parses the name of an operand.
 fn operand_piece<S: OwnStream, V: Copy, B: Copy, T: IrText<A>, A: AttrText>(
     stream: &mut S,
     names: &mut NameTracker<V, B>,
@@ -106,7 +106,7 @@ fn operand_piece<S: OwnStream, V: Copy, B: Copy, T: IrText<A>, A: AttrText>(
     Ok(ReadPiece::Operand(index, name))
 }
 
-/// Reads the names of operands.
+/// Parses the names of operands.
 fn operands_piece<S: OwnStream, V: Copy, B: Copy, T: IrText<A>, A: AttrText>(
     stream: &mut S,
     names: &mut NameTracker<V, B>,
@@ -120,7 +120,7 @@ fn operands_piece<S: OwnStream, V: Copy, B: Copy, T: IrText<A>, A: AttrText>(
     Ok(ReadPiece::Operands(found))
 }
 
-/// Reads the label of a successor.
+/// Parses the label of a successor.
 fn successor_piece<S: OwnStream, V: Copy, B: Copy, T: IrText<A>, A: AttrText>(
     stream: &mut S,
     names: &mut NameTracker<V, B>,
@@ -134,7 +134,7 @@ fn successor_piece<S: OwnStream, V: Copy, B: Copy, T: IrText<A>, A: AttrText>(
     Ok(ReadPiece::Successor(index, label))
 }
 
-/// Reads the labels of successors.
+/// Parses the labels of successors.
 fn successors_piece<S: OwnStream, V: Copy, B: Copy, T: IrText<A>, A: AttrText>(
     stream: &mut S,
     names: &mut NameTracker<V, B>,
@@ -148,7 +148,7 @@ fn successors_piece<S: OwnStream, V: Copy, B: Copy, T: IrText<A>, A: AttrText>(
     Ok(ReadPiece::Successors(found))
 }
 
-/// Reads the marker or the attribute of a directive, which names this key.
+/// Parses the marker or the attribute of a directive with this key.
 fn attr_piece<S: OwnStream, T: IrText<A>, A: AttrText>(
     stream: &mut S,
     key: &Identifier,
@@ -163,7 +163,7 @@ fn attr_piece<S: OwnStream, T: IrText<A>, A: AttrText>(
     }
 }
 
-/// Reads a dictionary.
+/// Parses a dictionary.
 fn dictionary_piece<S: OwnStream, T: IrText<A>, A: AttrText>(
     stream: &mut S,
 ) -> ParseResult<ReadPiece<T, A>, A>
@@ -174,7 +174,7 @@ fn dictionary_piece<S: OwnStream, T: IrText<A>, A: AttrText>(
     Ok(ReadPiece::Dictionary(entries))
 }
 
-/// Reads the type of a result.
+/// Parses the type of a result.
 fn type_piece<S: OwnStream, T: IrText<A>, A: AttrText>(
     stream: &mut S,
     index: usize,
@@ -187,7 +187,7 @@ fn type_piece<S: OwnStream, T: IrText<A>, A: AttrText>(
     Ok(ReadPiece::ResultType(index, ty))
 }
 
-/// Reads a symbol's name.
+/// Parses a symbol's name.
 fn header_piece<S: OwnStream, T: IrText<A>, A: AttrText>(
     stream: &mut S,
 ) -> ParseResult<ReadPiece<T, A>, A>
@@ -197,7 +197,7 @@ fn header_piece<S: OwnStream, T: IrText<A>, A: AttrText>(
     Ok(ReadPiece::Header(symbol))
 }
 
-/// Reads a list of types, as it stands in the form that any operation has.
+/// Parses a list of types, in the canonical form.
 fn types_piece<S: OwnStream, T: IrText<A>, A: AttrText>(
     stream: &mut S,
 ) -> ParseResult<ReadPiece<T, A>, A>
@@ -208,7 +208,7 @@ fn types_piece<S: OwnStream, T: IrText<A>, A: AttrText>(
     Ok(ReadPiece::Types(found))
 }
 
-/// The refusal where a region would be read.
+/// Returns the error for a step that parses a region, which is no piece: an operation was expected.
 fn no_piece<S: OwnStream, T: IrText<A>, A: AttrText>(
     stream: &mut S,
 ) -> ParseResult<ReadPiece<T, A>, A>
@@ -221,7 +221,7 @@ fn no_piece<S: OwnStream, T: IrText<A>, A: AttrText>(
     Err(commit_unexpected(stream, Expected::Operation))
 }
 
-/// Reads what a directive reads.
+/// Parses what a directive describes.
 fn piece_parse<S: OwnStream, V: Copy, B: Copy, T: IrText<A>, A: AttrText>(
     stream: &mut S,
     names: &mut NameTracker<V, B>,
@@ -247,9 +247,9 @@ fn piece_parse<S: OwnStream, V: Copy, B: Copy, T: IrText<A>, A: AttrText>(
     }
 }
 
-/// Reads what a step of a format reads, inside of some region or outside of each, where no name can be used. For an attribute the
-/// marker `!outlined` may stand; which keys a dictionary has is not looked at. Where the step reads regions, an operation is expected. A
-/// fault is committed, and leaves the stream failed.
+/// Parses what a step of a format describes. `inside` says whether it is inside of a region; outside of every region no name can be used.
+/// An attribute may be replaced by the marker `!outlined`; reserved and repeated keys of a dictionary are accepted here. If the step
+/// describes regions, fails with `Unexpected`: an operation was expected. Every error is committed, and leaves the stream failed.
 pub fn step_parse<S: OwnStream, V: Copy, B: Copy, T: IrText<A>, A: AttrText>(
     stream: &mut S,
     names: &mut NameTracker<V, B>,

@@ -1,4 +1,4 @@
-//! Reading of the names of an operation's results, which stand in front of its id.
+//! Parsing the names of an operation's results, which precede its id.
 ghost use Rattle.std.specs.Prelude.{◌≡◌, true, false};
 ghost use Rattle.irtext_read.specs.ListOutcomes.{separated_at};
 ghost use Rattle.irtext_nesting.specs.Heads.{name_at, results_at};
@@ -15,7 +15,7 @@ use irtext_read::irfmt::parsers::{skip_identifier, skip_white_space};
 use irtext_scopes::tracker::NameTracker;
 use std::alloc::AllocError;
 
-/// Whether a word with `.` behind it comes next, as an operation's id begins. Nothing is passed.
+/// Whether a word followed by `.` comes next, with which an operation's id begins. Nothing is consumed.
 fn begins_id<S: CharStream>(stream: &mut S) -> bool
     ensures no_results { result ≡ true → is_read (results_at (S.view stream.old).rest) ≡ false }
     ensures still { stream.new ≡ stream.old }
@@ -29,7 +29,7 @@ fn begins_id<S: CharStream>(stream: &mut S) -> bool
     dotted
 }
 
-/// Looks for the names behind the first one, as long as `,` follows. There are none where no name stands behind a `,`.
+/// Looks for the names after the first one, as long as `,` comes next. Returns `None` if a `,` is not followed by a name.
 fn more_results<S: CharStream, V: Copy, B: Copy, A: Drop>(
     stream: &mut S,
     names: &mut NameTracker<V, B>,
@@ -60,7 +60,7 @@ fn more_results<S: CharStream, V: Copy, B: Copy, A: Drop>(
     Ok(Some(found))
 }
 
-/// Looks for names with `,` between them.
+/// Looks for names that are separated by `,`.
 fn names_there<S: CharStream, V: Copy, B: Copy, A: Drop>(
     stream: &mut S,
     names: &mut NameTracker<V, B>,
@@ -82,7 +82,7 @@ fn names_there<S: CharStream, V: Copy, B: Copy, A: Drop>(
     }
 }
 
-/// Looks for names with `,` between them and `=`.
+/// Looks for names that are separated by `,`, and `=` after them.
 fn results_there<S: CharStream, V: Copy, B: Copy, A: Drop>(
     stream: &mut S,
     names: &mut NameTracker<V, B>,
@@ -100,8 +100,8 @@ fn results_there<S: CharStream, V: Copy, B: Copy, A: Drop>(
     Ok(Some(found))
 }
 
-/// Reads the names of an operation's results, with `,` between them and `=` behind them, where all of this stands; else nothing is
-/// passed, and there are none. A word with `.` behind it is an id, and not kept as a name. A fault is committed.
+/// Parses the names of an operation's results, separated by `,` and followed by `=`, as `a, b =`. If the whole of it does not come next,
+/// nothing is consumed and the list is empty. A word followed by `.` begins an id, and is not stored as a name. Every error is committed.
 pub fn results_parse<S: CharStream, V: Copy, B: Copy, A: Drop>(
     stream: &mut S,
     names: &mut NameTracker<V, B>,

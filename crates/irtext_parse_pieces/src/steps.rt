@@ -1,4 +1,4 @@
-//! The steps by which an operation's own parts are read: the directives of its format, or the steps of the form that any operation has.
+//! The steps by which an operation's own parts are parsed: the directives of its format, or the steps of the canonical form.
 ghost use Rattle.std.specs.Prelude.{◌≡◌, ◌+◌, ◌<◌, ◌^◌, slice_get, option_map, IfSome};
 ghost use Rattle.irtext_base.specs.Faults.{characters};
 ghost use Rattle.irtext_base.specs.Format.{is_any_region, word};
@@ -9,10 +9,10 @@ ghost use Rattle.irtext_parse_pieces.specs.Steps.{seen_step};
 
 use irtext_base::format::{Directive, OpFormat};
 
-/// One step of the reading of an operation's own parts.
+/// One step of parsing an operation's own parts.
 #[derive(Clone, Copy)]
 pub enum FormatStep<'f> {
-    /// What this directive reads.
+    /// What this directive describes.
     Directive(&'f Directive),
     /// This fixed text.
     Word(&'f str),
@@ -28,7 +28,7 @@ pub enum FormatStep<'f> {
     Regions,
 }
 
-/// A step of the form that any operation has.
+/// Returns the step of the canonical form at this index.
 fn canonical_step<'f>(index: usize) -> Option<FormatStep<'f>>
     ensures { option_map seen_step result ≡ slice_get canonical_steps index }
 {
@@ -55,7 +55,7 @@ fn canonical_step<'f>(index: usize) -> Option<FormatStep<'f>>
     }
 }
 
-/// The step of a format at this place, as `step_at` says. The place behind it is a number too.
+/// Returns the step of a format at this index, as `step_at` does. If there is one, the index after it does not overflow.
 #[inline]
 pub(crate) fn step_there(format: &OpFormat, index: usize) -> Option<FormatStep<'_>>
     ensures step { option_map seen_step result ≡ slice_get (steps_of (format_of format.now)) index }
@@ -70,21 +70,21 @@ pub(crate) fn step_there(format: &OpFormat, index: usize) -> Option<FormatStep<'
     }
 }
 
-/// The step of a format at this place: a directive of it, or a step of the form that any operation has. There is none behind the last.
+/// Returns the step of a format at this index: a directive, or a step of the canonical form. Returns `None` after the last.
 pub fn step_at(format: &OpFormat, index: usize) -> Option<FormatStep<'_>>
     ensures { option_map seen_step result ≡ slice_get (steps_of (format_of format.now)) index }
 {
     step_there(format, index)
 }
 
-/// Whether a directive reads regions.
+/// Whether a directive parses regions.
 fn reads_regions(directive: &Directive) -> bool
     ensures { result ≡ is_any_region (directive_of directive.now) }
 {
     matches!(directive, Directive::Region(_) | Directive::Regions)
 }
 
-/// Whether a step reads a piece, and no region.
+/// Whether a step parses a piece, which is anything but regions.
 pub(crate) fn reads_piece(step: FormatStep<'_>) -> bool
     ensures { result ≡ is_flat (seen_step step.entry) }
 {
@@ -95,7 +95,7 @@ pub(crate) fn reads_piece(step: FormatStep<'_>) -> bool
     }
 }
 
-/// The fixed text that a step is, if it is one.
+/// Returns the fixed text that a step is, if it is one.
 #[inline]
 pub(crate) fn word_of<'f>(step: FormatStep<'f>) -> Option<&'f str>
     ensures { IfSome result (λ text. seen_step step.entry ≡ flat (word (characters text.now))) }

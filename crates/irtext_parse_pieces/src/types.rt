@@ -1,4 +1,4 @@
-//! Lists of types, with `,` between them: up to two take no memory.
+//! Lists of types, separated by `,`. Up to two types are stored without an allocation.
 ghost use Rattle.std.specs.Prelude.{◌≡◌};
 ghost use Rattle.irtext_read.specs.ListOutcomes.{separated_at};
 ghost use Rattle.irtext_parse_pieces.specs.Pieces.{MustTypes, TypesBehind};
@@ -13,14 +13,14 @@ use irtext_read::irfmt::parsers::skip_white_space;
 use irtext_read::parsable::OwnStream;
 use std::alloc::AllocError;
 
-/// Reads a type by its own reader, whose faults are the answer.
+/// Parses a type with the type's own parser, and returns its errors unchanged.
 fn type_parse<S: OwnStream, T: IrText<A>, A>(stream: &mut S) -> ParseResult<T, A>
     ensures { MayMean S.CharStream.view S.CharStream.at ◌≡◌ T.IrText.reading stream.old result stream.new }
 {
     stream.read_own()
 }
 
-/// Reads the types behind the first one, as long as `,` follows.
+/// Parses the types after the first one, as long as `,` comes next.
 fn more_types<S: OwnStream, T: IrText<A>, A: Drop>(
     stream: &mut S,
     first: T,
@@ -42,7 +42,8 @@ fn more_types<S: OwnStream, T: IrText<A>, A: Drop>(
     Ok(found)
 }
 
-/// Reads types with `,` between them and white space after each. Where no type begins, there are none. A fault is committed.
+/// Parses types that are separated by `,`, with white space after each. If no type comes next, returns an empty list. Every error is
+/// committed.
 pub fn types_parse<S: OwnStream, T: IrText<A>, A: Drop>(stream: &mut S) -> ParseResult<Few<T>, A>
     ensures { MustTypes S.CharStream.view S.CharStream.at (separated_at 44 T.IrText.reading) stream.old result stream.new }
 {

@@ -1,4 +1,4 @@
--- For callers: what reading an operation promises on any state, where marks of earlier roots may be noted.
+-- For callers: what parsing an operation promises on any state, in which marks of earlier roots may be recorded.
 use Rattle.std.specs.Prelude.{◌≡◌, ℕ, Bool, true, cond, ◌&&◌, List, [], ◌++◌, length, Some}
 use Rattle.irtext_base.specs.Text.{Text}
 use Rattle.irtext_base.specs.Format.{Id}
@@ -47,13 +47,14 @@ use Rattle.irtext_parse_nested.specs.Located.{IsLocated}
 use Rattle.irtext_parse_section.specs.Said.{rules_of}
 use Rattle.irtext_parse_section.specs.Section.{ReadsSection}
 
--- the machine of names and marks stands behind no name, where these indices are marked
+-- the machine of names and marks before any name, with these indices marked
 abbrev pub start_with : List ℕ → history.State
 start_with marks = record start { marks = marks }
 
 module _ {T A : Type 0} (types_at : Text → Outcome T) (attr : Text → Outcome (AttrView A)) (dialects : List (Text × Table)) (earlier : List ℕ) where
-  -- The machine of names, begun where the earlier indices are marked, came through the text, the items of these places being named by these
-  -- paths, and what was made for these items stands where the machine stands, with nothing in hand; these indices are marked.
+  -- The machine of names starts with the earlier indices marked, and gets through the text; each item has the path of its place. The
+  -- names and the graph that were made for these items agree with the machine's final state, and nothing is in hand. These indices are
+  -- marked then.
   pub record StandsFrom (items : Made) (marks : List ℕ) (c : ContextView T A) (text rest : Text) (path : ℕ → Path) : Type 0 where
     pub names : NameTracker Value (Ptr BasicBlock)
     pub known : Known
@@ -63,8 +64,8 @@ module _ {T A : Type 0} (types_at : Text → Outcome T) (attr : Text → Outcome
     pub marked : state.marks ≡ marks
     pub came : operation_at dialects types_at attr (naming (format_of dialects) path) true text (going (start_with earlier)) ≡ Came tt (going state) rest
 
-  -- A tree was built of the text, it stands under the pointer, with each item at its place, nothing is open and nothing else came; and
-  -- whatever paths items are named by, the machine of names came through.
+  -- A tree was built from the text and is held under the pointer, with each item at its place; no frame is open, and nothing else was
+  -- created. Whatever paths the items have, the machine of names gets through the text.
   pub record LeavesFrom (IsLocation : ℕ → Location A → Type 0) (op : Ptr Operation) (marks : List ℕ) (old new : ContextView T A) (text rest : Text) : Type 0 where
     pub tree : Tree ℕ T A
     pub built : operation_at dialects types_at attr (building (format_of dialects)) true text nothing_open ≡ Came tt (finished tree) rest
@@ -73,9 +74,9 @@ module _ {T A : Type 0} (types_at : Text → Outcome T) (attr : Text → Outcome
     pub held : HoldsMade IsLocation old new items whole [] (Some op) (finished tree)
     pub machine : (path : ℕ → Path) → StandsFrom items marks new text rest path
 
-  -- The fault that a text has, where an operation must stand at the end of it: one of the text, and until then no name had failed, committed
-  -- unless no operation begins there; or the failure of a name or a mark, committed, and whatever the text is behind it. An index is marked
-  -- a second time also where it was marked earlier.
+  -- The fault of a text whose end is `rest`, at which an operation is expected. Either it is a fault of the text, and no name had failed
+  -- before it; it is committed unless no operation comes next. Or it is the failure of a name or a mark, committed, whatever follows in
+  -- the text. An index is marked twice also if it was marked earlier.
   pub data HasFaultFrom (text rest : Text) (fault : ParseFault A) : Type 0 where
     at_text : (cause : Fault) (place : ℕ) → fault_of fault.cause ≡ cause → StandsAt text place fault.pos → fault.committed ≡ is_committed (led_at dialects rest)
         → ((path : ℕ → Path) → (st : history.State) × (operation_at dialects types_at attr (naming (format_of dialects) path) true rest (going (start_with earlier)) ≡ Stuck (going st) cause place)) → HasFaultFrom text rest fault
@@ -83,9 +84,10 @@ module _ {T A : Type 0} (types_at : Text → Outcome T) (attr : Text → Outcome
         → ((path : ℕ → Path) → EndsIn (failed f) (operation_at dialects types_at attr (naming (format_of dialects) path) true rest (going (start_with earlier)))) → HasFaultFrom text rest fault
 
 module _ {T A U : Type 0} (types_at : Text → Outcome T) (attr : Text → Outcome (AttrView A)) where
-  -- An operation stood where the stream stood, up to where it stands now: a tree was built of the text, whose names resolve and whose marks
-  -- are none of those that were noted. What the tree alone builds stands under the pointer, and only that is new; nothing is open, and no
-  -- placeholder is left. Its marks are noted behind the earlier ones, each with the item that was made for its place, one item a place.
+  -- An operation was parsed from the old position of the stream to the new one. A tree was built from the text; its names resolve, and
+  -- its marks are none of those recorded before. What the tree alone builds is held under the pointer, and only that is new; no frame is
+  -- open, and no placeholder is left. Its marks are recorded after the earlier ones, each with the item that was created for its place;
+  -- each item has one place.
   pub record ReadsTree (op : Ptr Operation) (old new : StateStream T A U) : Type 0 where
     pub accepted : (id : Id) → IsAccepted old.state.ctx.now.dialects id
     pub moves : Moves old.stream new.stream
@@ -99,15 +101,14 @@ module _ {T A U : Type 0} (types_at : Text → Outcome T) (attr : Text → Outco
     pub falls : Falls (length old.stream.rest) leaves.items (length new.stream.rest)
     pub marked : indices_of marks ≡ tree_marks old.state.ctx.now.dialects leaves.tree
 
-  -- an operation was read where the stream stood, and then the section of all marks that are noted, the earlier ones too, where it is looked
-  -- for and one is noted
+  -- an operation was parsed; and then, if it is looked for and a mark is recorded, the section of all recorded marks, the earlier ones
+  -- too
   pub record ReadsAny (look : Bool) (op : Ptr Operation) (old new : StateStream T A U) : Type 0 where
     pub mid : StateStream T A U
     pub operation : ReadsTree op old mid
     pub section : cond (look && is_noted (marks_of mid.state)) (ReadsSection attr mid new) (new ≡ mid)
 
-  -- no operation was read where the stream stood; or no section of all marks that are noted behind the operation, for which the fault is
-  -- committed
+  -- no operation was parsed; or an operation was parsed, but not the section of all recorded marks after it, and the fault is committed
   pub data MissesAny (look : Bool) (old : StateStream T A U) (fault : ParseFault A) : Type 0 where
     no_operation : ((id : Id) → IsAccepted old.state.ctx.now.dialects id)
         → HasFaultFrom types_at attr old.state.ctx.now.dialects (indices_of (marks_of old.state)) (whole old.stream) old.stream.rest fault → MissesAny look old fault

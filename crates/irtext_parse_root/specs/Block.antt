@@ -1,4 +1,4 @@
--- For callers: how a block is refused where no region is open; and between functions, what of its header is.
+-- For callers: how a block is rejected where no region is open. Between functions: properties of a parsed header.
 use Rattle.std.specs.Prelude.{◌≡◌, ℕ, true, cond, List, [], ◌∷◌, Option, Some, None, is_some}
 use Rattle.std.specs.Map.{lookup}
 use Rattle.irtext_base.specs.Text.{Text}
@@ -26,31 +26,32 @@ use Rattle.irtext_promises.specs.Promises.{IsFirst}
 abbrev pub outside_with : List ℕ → Scopes Text
 outside_with marks = record no_scope { marks = marks }
 
--- the fault is committed, and the first failure of the header where no scope is open and these indices are marked
+-- the fault is committed, and is the first failure of the header when no scope is open and these indices are marked
 pub record FailsOutside {T A : Type 0} (marks : List ℕ) (text : Text) (head : Head ℕ T A) (fault : ParseFault A) : Type 0 where
   pub first : IsFirst text (failures same_text (outside_with marks) (does_all (header_acts [] head) done)) fault
   pub flag : fault.committed ≡ true
 
 module _ {T A : Type 0} (types_at : Text → Outcome T) (attr : Text → Outcome (AttrView A)) (marks : List ℕ) where
-  -- No block is read outside of each region: either its header does not read, and the fault is the one of the text, uncommitted where no `^`
-  -- stands; or it does, the fault is the first that its keys, its names and its mark are refused for, and the stream fails behind it.
+  -- A block outside of every region was rejected. Either its header does not parse, and the fault is that of the text, uncommitted if `^`
+  -- does not come next. Or it parses; then the fault is the first failure of its keys, names and mark, and the stream is left failed
+  -- after the header.
   pub data MissesBlock (old new : StreamView) (fault : ParseFault A) : Type 0 where
     no_header : Refuses itself replaced (head_at types_at attr old.rest) old fault new → MissesBlock old new fault
     by_header : (head : Head ℕ T A) (taken rest : Text) → head_at types_at attr old.rest ≡ Read head taken rest
         → new ≡ after_failure (behind old taken rest) → FailsOutside marks (whole old) head fault → MissesBlock old new fault
 
 -- ---- between functions
--- the key of the first entry whose attribute may not stand under its key in a block's dictionary
+-- the key of the first entry whose attribute is not allowed under its key in a block's dictionary
 abbrev pub first_reserved : {A : Type 0} → List (Key × AttrObj A) → Option Key
 first_reserved [] = None
 first_reserved (e ∷ es) = cond (block_may_hold e.0.name (attribute_of e.1)) (first_reserved es) (Some e.0)
 
--- the mark, where its index is noted already
+-- the mark, if its index is already recorded
 abbrev pub noted_twice : {X : Type 0} → Option ReadMark → List (ℕ × X) → Option ReadMark
 noted_twice None marks = None
 noted_twice (Some m) marks = cond (is_some (lookup (same_index m.index) marks)) (Some m) None
 
--- the header that was read stands for one of the text
+-- the parsed header represents a header of the text
 pub record IsRead {T A : Type 0} (names : List Text) (text : Text) (read : BlockHead T A) : Type 0 where
   pub head : Head ℕ T A
   pub is : IsHead names text read head

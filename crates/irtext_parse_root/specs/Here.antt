@@ -1,4 +1,5 @@
--- Between functions: that what is open in code is what is open in theory, each thing in what holds it.
+-- Between functions: that the open frames of the code agree with those of the definitions and proofs, and that each frame is nested in
+-- the next one.
 use Rattle.std.specs.Prelude.{◌≡◌, ◌+◌, ◌<◌, ℕ, Bool, List, [], ◌∷◌, length, Option, Some, ⊤}
 use Rattle.irtext_base.specs.Text.{Text}
 use Rattle.irtext_context.specs.Context.{ContextView}
@@ -14,50 +15,51 @@ use Rattle.irtext_parse_nested.specs.Items.{Names}
 use Rattle.irtext_parse_root.specs.declared.frames.Frame.{Frame}
 use Rattle.irtext_parse_root.specs.Levels.{Level, at_operation, at_region, at_block, first_frame, WaitIn, isolated_in, regions_in}
 
--- What is read: an operation that stands outside of each region, which came under this pointer; or the region under this one.
+-- What is parsed: an operation outside of every region, which was created under this pointer; or the region under this pointer.
 pub data Base : Type 0 where
   outermost : Ptr Operation → Base
   within : Ptr Region → Base
 
 module _ {T A : Type 0} (names : List Text) (text : Text) (ctx : ContextView T A) where
-  -- one thing that is open is, in code, what it is in theory
+  -- one open frame of the code agrees with its form in the proofs
   abbrev pub IsLevel : Level T A → Type 0
   IsLevel (at_operation b o own) = IsBegun names text ctx b o × HasBegun (format_of ctx.dialects) o own
   IsLevel (at_region r iso place last) = IsRegion names text ctx r iso place
   IsLevel (at_block b) = IsBlock names text ctx b b.first
 
-  -- so is each of them
+  -- the same of each frame
   abbrev pub AreLevels : List (Level T A) → Type 0
   AreLevels [] = ⊤
   AreLevels (l ∷ ls) = IsLevel l × AreLevels ls
 
 module _ {T A : Type 0} (base : Base) where
-  -- an operation stands in the block that is open, or is what is read
+  -- an operation is in the open block, or is what is parsed
   abbrev pub StandsInBlock : Ptr Operation → List (Level T A) → Type 0
   StandsInBlock p [] = base ≡ outermost p
   StandsInBlock p (at_block k ∷ ls) = ⊤
   StandsInBlock p (_ ∷ ls) = ⊥
 
-  -- a region stands in the operation that is open, which is isolated or not, or is what is read
+  -- a region is in the open operation, which is isolated or not as stated, or is what is parsed
   abbrev pub StandsInOperation : List (Text × Table) → Ptr Region → Bool → List (Level T A) → Type 0
   StandsInOperation dialects r iso [] = base ≡ within r
   StandsInOperation dialects r iso (at_operation b o own ∷ ls) = iso ≡ isolated dialects o.id
   StandsInOperation dialects r iso (_ ∷ ls) = ⊥
 
-  -- a block is the last of the region that is open
+  -- a block is the last one of the open region
   abbrev pub StandsInRegion : Ptr BasicBlock → List (Level T A) → Type 0
   StandsInRegion k (at_region r iso place last ∷ ls) = last ≡ Some k
   StandsInRegion k _ = ⊥
 
-  -- each thing that is open stands in the next one, and a scope of values is open in each region, where so many were open outside
+  -- each open frame is nested in the next one, and in each region a scope of values is open, given the number of those that are open
+  -- outside
   abbrev pub Nest : List (Text × Table) → ℕ → List (Level T A) → Type 0
   Nest dialects v [] = ⊤
   Nest dialects v (at_operation b o own ∷ ls) = StandsInBlock b.op ls × Nest dialects v ls
   Nest dialects v (at_region r iso place last ∷ ls) = StandsInOperation dialects r.region iso ls × (0 < isolated_in (at_region r iso place last ∷ ls) + v) × Nest dialects v ls
   Nest dialects v (at_block b ∷ ls) = StandsInRegion b.block ls × Nest dialects v ls
 
-  -- The frame that is next and those that wait are what is open, the innermost first, where so many scopes of values and of labels were
-  -- open outside.
+  -- The next frame and those that wait are the open frames, the innermost first. This many scopes of values and of labels are open
+  -- outside.
   pub record IsHere (v l : ℕ) (ls : List (Level T A)) (names : Names) (text : Text) (ctx : ContextView T A) (next : Option Frame) (frames : List Frame) : Type 0 where
     pub next_is : next ≡ first_frame ls
     pub others : WaitIn frames ls
@@ -66,7 +68,7 @@ module _ {T A : Type 0} (base : Base) where
     pub values : length names.values ≡ isolated_in ls + v
     pub labels : length names.labels ≡ regions_in ls + l
 
--- The frames are what is open somewhere.
+-- The frames are open frames for some base and some scopes outside.
 pub record AreHere (T A : Type 0) (text : Text) (ctx : ContextView T A) (names : Names) (next : Option Frame) (frames : List Frame) : Type 0 where
   pub base : Base
   pub v : ℕ

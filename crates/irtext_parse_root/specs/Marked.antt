@@ -1,4 +1,4 @@
--- Between functions: what an operation that was read with fresh names leaves, with the items that carry its marks.
+-- Between functions: what the context holds after an operation was parsed with new names, and the items that carry its marks.
 use Rattle.std.specs.Prelude.{ℕ, length}
 use Rattle.irtext_base.specs.Text.{Text}
 use Rattle.irtext_base.specs.Answers.{Outcome}
@@ -13,8 +13,8 @@ use Rattle.irtext_promises.specs.Leaves.{LeavesTree, LeavesClosed}
 use Rattle.irtext_parse_root.specs.Carried.{marks_in, AreCarried, Falls}
 use Rattle.irtext_parse_nested.specs.Located.{IsLocated}
 
--- A tree was built of the text and stands under the pointer, nothing is open and no placeholder is left; the marks that are noted are the
--- tree's, each with the item that was made for its place, one item a place.
+-- A tree was built from the text and is held under the pointer; no frame is open, and no placeholder is left. The recorded marks are
+-- those of the tree, each with the item that was created for its place; each item has one place.
 pub record LeavesMarked {T A U : Type 0} (types_at : Text → Outcome T) (attr : Text → Outcome (AttrView A)) (op : Ptr Operation) (old new : StateStream T A U) : Type 0 where
   pub leaves : LeavesTree types_at attr old.state.ctx.now.dialects (IsLocated old.state.src (whole old.stream)) op (indices_of (marks_of new.state)) old.state.ctx.now new.state.ctx.now old.stream.rest new.stream.rest
   pub closed : LeavesClosed old.state.ctx.now new.state.ctx.now

@@ -1,5 +1,5 @@
--- What the reading of an operation with all that nests in it promises: the tree that was built, what names came to, and what the context holds;
--- or the first fault in the order of reading.
+-- What parsing an operation with everything nested in it promises: the tree that was built, the names, and what the context holds; or the
+-- first fault in the order of the text.
 use Rattle.std.specs.Prelude.{◌≡◌, ℕ, true, List, [], ◌++◌, length, Some}
 use Rattle.irtext_base.specs.Faults.{Fault}
 use Rattle.irtext_base.specs.Locations.{AttrView}
@@ -29,9 +29,9 @@ use Rattle.irtext_parse_nested.specs.Located.{IsLocated}
 use Rattle.irtext_parse_root.specs.Carried.{marks_in, AreCarried, Falls}
 
 module _ {T A U : Type 0} (types_at : Reader T) (attr : Reader (AttrView A)) where
-  -- An operation was read with all that nests in it, up to where the stream stands now: this tree was built of it, names came to where the
-  -- machine stands that does what is read, the context holds the tree under the pointer, and the marks that were noted are those of the
-  -- tree, each with the item that was made for its place, one item a place.
+  -- An operation was parsed with everything nested in it, from the old position of the stream to the new one. This tree was built from
+  -- it, the names agree with the state of the machine that processes the text, and the context holds the tree under the pointer. The
+  -- recorded marks are those of the tree, each with the item that was created for its place; each item has one place.
   pub record ReadsNested (before : Names) (old : StateStream T A U) (p : Ptr Operation) (names : Names) (new : StateStream T A U) : Type 0 where
     pub tree : Tree ℕ T A
     pub moves : Moves old.stream new.stream
@@ -46,8 +46,8 @@ module _ {T A U : Type 0} (types_at : Reader T) (attr : Reader (AttrView A)) whe
     pub noted : marks_of new.state ≡ marks_of old.state ++ marks
     pub carried : AreCarried made (marks_in tree) marks
 
-  -- The fault is the first in the order of reading: the text is at fault, where all that names had come to had not failed; or what they come
-  -- to fails so. It is committed, unless it is of the text and no operation begins there.
+  -- The fault is the first in the order of the text: the text is at fault, and no name had failed before it; or a name fails so. It is
+  -- committed, unless it is a fault of the text and no operation comes next.
   pub data RefusesNested (before : Names) (old : StateStream T A U) (fault : ParseFault A) : Type 0 where
     at_text : (cause : Fault) (place : ℕ) → IsTextFault (whole old.stream) cause place fault → fault.committed ≡ is_committed (led_at old.state.ctx.now.dialects old.stream.rest)
         → ((path : ℕ → Path) (items : Made) (o : Outcome) → StandsAs path items [] before old.state o

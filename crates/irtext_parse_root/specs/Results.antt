@@ -1,4 +1,4 @@
--- For callers: why the names of an operation's results are refused outside of each region.
+-- For callers: why the names of an operation's results are rejected outside of every region.
 use Rattle.std.specs.Prelude.{◌≡◌, ℕ, true, length, List, ◌∷◌}
 use Rattle.irtext_base.specs.Text.{Text}
 use Rattle.irtext_base.specs.Faults as causes
@@ -8,8 +8,8 @@ use Rattle.irtext_base.specs.declared.location.Location.{Location}
 use Rattle.irtext_base.specs.declared.parsable.fault.ParseFault.{ParseFault}
 use Rattle.irtext_promises.specs.Alone.{IsOutermost}
 
--- The names are not as many as the operation's results, and the fault says so, where the stream stands; or they are as many, and the fault
--- says that no scope of names is open for the first one, at the place that is given with it.
+-- Either there are not as many names as results, and the fault is `ResultCount`, at the current position of the stream. Or there are as
+-- many; then the fault is `NoActiveScope` for the first name, at the position of its location.
 pub data RefusesResults {A : Type 0} (count : ℕ) (names : List (Text × Location A)) (old : StreamView) (fault : ParseFault A) : Type 0 where
   counted : (count ≡ length names → ⊥) → fault_of fault.cause ≡ causes.ResultCount count (length names) → fault.committed ≡ true
       → IsAt fault.pos.line fault.pos.column old.passed → RefusesResults count names old fault

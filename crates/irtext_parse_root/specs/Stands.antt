@@ -1,4 +1,4 @@
--- Between functions: whether one more operation of a block stands at a text, and the text there.
+-- Between functions: whether the text continues with another operation of a block, and what is left of the text then.
 use Rattle.std.specs.Prelude.{◌≡◌, Bool, true, false, cond}
 use Rattle.irtext_base.specs.Text.{Text, begins, after_space}
 use Rattle.irtext_base.specs.Reading.{the}
@@ -7,17 +7,17 @@ use Rattle.irtext_outcomes.specs.Promises.Section.{Moves}
 use Rattle.irtext_outcomes.specs.Readers.Parts.{without_first}
 use Rattle.irtext_nesting.specs.Reached.{begins_operation}
 
--- one stands there: the first of its block, or one behind `;`
+-- another operation comes next: the first of its block, or one after `;`
 abbrev pub one_stands : Bool → Text → Bool
 one_stands true text = begins_operation (after_space text)
 one_stands false text = begins (the 59) (after_space text)
 
--- the text where it stands, or what stands in its place
+-- the text of that operation, or what comes instead of it
 abbrev pub text_there : Bool → Text → Text
 text_there true text = after_space text
 text_there false text = cond (begins (the 59) (after_space text)) (after_space (without_first (after_space text))) (after_space text)
 
--- the stream passed some characters, up to this text
+-- some characters of the stream were consumed, up to this text
 pub record PassesTo (text : Text) (old new : StreamView) : Type 0 where
   pub moves : Moves old new
   pub rest : new.rest ≡ text

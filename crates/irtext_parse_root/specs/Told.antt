@@ -1,11 +1,12 @@
--- Between functions: all that items did as nested text was read, kept as a list, what was done last first. Whatever items do, this list says it.
+-- Between functions: everything that was done while nested text was parsed, as a list, the last action first. It does not depend on what
+-- the actions do to names or objects.
 use Rattle.std.specs.Prelude.{ℕ, Bool, List, [], ◌∷◌, Option}
 use Rattle.irtext_base.specs.Format.{Id}
 use Rattle.irtext_grammar.specs.Grammar.Tree.{Name, Mark, Piece, Part, Head}
 use Rattle.irtext_nesting.specs.Reached.{Doing}
 
--- what an item did: an operation's parts in front of its first region; a piece behind it; a region as it began and ended; an operation at
--- its end; its mark; a block's header
+-- one action: an operation's parts before its first region; a piece after a region; the beginning and the end of a region; the end of an
+-- operation; the mark of an operation; the header of a block
 pub data Did (T A : Type 0) : Type 0 where
   did_use : ℕ → Id → List (Part ℕ T A) → Did T A
   did_late : ℕ → Id → Piece ℕ T A → Did T A
@@ -16,7 +17,7 @@ pub data Did (T A : Type 0) : Type 0 where
   did_head : Head ℕ T A → Did T A
 
 module _ {T A : Type 0} where
-  -- what items do is told
+  -- the actions, each recorded in the list
   abbrev pub told : Doing T A (List (Did T A))
   told = record {
     uses = λ place id parts ds. did_use place id parts ∷ ds;
@@ -29,7 +30,7 @@ module _ {T A : Type 0} where
   }
 
 module _ {T A S : Type 0} (does : Doing T A S) where
-  -- one thing done, in one way of doing
+  -- one recorded action, done in another way
   abbrev pub one_done : Did T A → S → S
   one_done (did_use place id parts) s = does.uses place id parts s
   one_done (did_late place id piece) s = does.late place id piece s
@@ -39,7 +40,7 @@ module _ {T A S : Type 0} (does : Doing T A S) where
   one_done (did_mark mark) s = does.marks mark s
   one_done (did_head head) s = does.heads head s
 
-  -- all of it, the last thing first in the list
+  -- all recorded actions; the last one is first in the list
   abbrev pub all_done : List (Did T A) → S → S
   all_done [] s = s
   all_done (d ∷ ds) s = one_done d (all_done ds s)

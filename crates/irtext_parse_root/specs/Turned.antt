@@ -1,4 +1,4 @@
--- Between functions: what a turn of the reading of nested text does, and why there is none. Turns are put one behind the other.
+-- Between functions: what a step of the loop does, and how it fails. Steps compose.
 use Rattle.std.specs.Prelude.{◌≡◌, ◌≤◌, ◌<◌, ℕ, true, List, [], ◌++◌, length, option_to_list, Option, Some, None}
 use Rattle.irtext_base.specs.Text.{Text}
 use Rattle.irtext_base.specs.Faults.{Fault}
@@ -35,14 +35,14 @@ use Rattle.irtext_parse_root.specs.Here.{Base, IsHere}
 use Rattle.irtext_parse_root.specs.Levels.{Level, next_of, waiting, pledges_of, left_to_do, AreAllNew}
 use Rattle.irtext_parse_root.specs.Told.{Did, told, all_done}
 
--- ---- what is left of names, stream and context
--- each region that was there is there, and stands where it stood
+-- ---- names, stream and context after a step
+-- each region that was live is live, and has the same parent
 pub record RegionsStay {T A : Type 0} (old new : ContextView T A) : Type 0 where
   pub stay : (r : Ptr Region) (view : RegionView) → region old r ≡ Some view → (now : RegionView) × (region new r ≡ Some now) × (now.parent ≡ view.parent)
 
 module _ {T A U : Type 0} where
-  -- What a turn leaves: the source and the caller's data; names that were known; what is open; some of the text was read, and marks may have
-  -- been noted.
+  -- After a step, the source and the caller's data are unchanged, the known names keep their numbers, and what is open is still live.
+  -- Some of the text was consumed, and marks may have been recorded.
   pub record Carries (before : Names) (old : StateStream T A U) (names : Names) (new : StateStream T A U) : Type 0 where
     pub rest : KeepsRest old.state new.state
     pub moves : Moves old.stream new.stream
@@ -51,19 +51,20 @@ module _ {T A U : Type 0} where
     pub sound : (m : ℕ) → m ≤ old.state.ctx.now.graph.made → IsSound m before old.state → IsSound m names new.state
     pub gains : GainsMarks (marks_of old.state) (marks_of new.state)
 
-  -- what a turn that is refused leaves of the state: the source, the caller's data, and the marks that were noted
+  -- after a failed step, the source and the caller's data are unchanged, and the recorded marks are kept
   pub record Remains (old new : code.State T A U) : Type 0 where
     pub rest : KeepsRest old new
     pub gains : GainsMarks (marks_of old) (marks_of new)
 
-  -- names, labels and what waits for them are sound since some time
+  -- the names, the labels and what waits for them are sound since some count of created objects
   pub record IsSoundOnce (names : Names) (s : code.State T A U) : Type 0 where
     pub since : ℕ
     pub past : since ≤ s.ctx.now.graph.made
     pub sound : IsSound since names s
 
 module _ {T A U : Type 0} (types_at : Reader T) (attr : Reader (AttrView A)) (dialects : List (Text × Table)) (source : Source) (text : Text) (base : Base) where
-  -- What is open came from the one to the other, all that was done is this, and names, context and marks stand where it leads.
+  -- The first list of open frames became the second by these actions, and the names, the context and the marks agree with the result of
+  -- the actions.
   pub record Turned (ls : List (Level T A)) (before : Names) (old : StateStream T A U) (later : List (Level T A)) (names : Names) (new : StateStream T A U) : Type 0 where
     pub did : List (Did T A)
     pub made : Made
@@ -76,7 +77,8 @@ module _ {T A U : Type 0} (types_at : Reader T) (attr : Reader (AttrView A)) (di
     pub builds : (start : ContextView T A) (items : Made) (more : List (ℕ × Item)) (ds : List (Did T A)) → Built (format_of dialects) (IsLocated source text) base start old.state.ctx.now items more ls ds
         → Built (format_of dialects) (IsLocated source text) base start new.state.ctx.now (made ++ items) (more ++ marks) later (did ++ ds)
 
--- There is no turn: the text is at fault, and what had been done till there was done; or what is done fails, whatever the text is there.
+-- The step fails. Either the text is at fault, and the actions before the fault were done; or an action fails, whatever follows in the
+-- text.
 pub data Faulted {T A U : Type 0} (types_at : Reader T) (attr : Reader (AttrView A)) (dialects : List (Text × Table)) (ls : List (Level T A)) (before : Names) (old : StateStream T A U) (fault : ParseFault A) : Type 0 where
   at_text : (did : List (Did T A)) (made : Made) (names : Names) (mid : code.State T A U) (still : List Pledge) (cause : Fault) (place : ℕ)
       → StuckAt dialects types_at attr told (next_of ls) (waiting ls) [] old.stream.rest did cause place
@@ -86,19 +88,19 @@ pub data Faulted {T A U : Type 0} (types_at : Reader T) (attr : Reader (AttrView
       → ((path : ℕ → Path) (items : Made) (more : List Pledge) (o : Outcome) → StandsAs path items (more ++ pledges_of ls) before old.state o
       → EndsIn (failed failure) (theory.whole dialects types_at attr (doing dialects path) (next_of ls) (waiting ls) o old.stream.rest)) → Faulted types_at attr dialects ls before old fault
 
--- the last of the frames that wait was taken, where one waits
+-- the last of the waiting frames was removed, if there was one
 pub record TakesLast (old : List Frame) (next : Option Frame) (new : List Frame) : Type 0 where
   pub frames : old ≡ new ++ option_to_list next
   pub none : next ≡ None → length old ≡ 0
 
 module _ {T A U : Type 0} (types_at : Reader T) (attr : Reader (AttrView A)) where
-  -- what is open now, and how it came there
+  -- the open frames afterwards, and how they came about
   pub record Arrives (base : Base) (v l : ℕ) (ls : List (Level T A)) (before : Names) (old : StateStream T A U) (names : Names) (new : StateStream T A U) (next : Option Frame) (frames : List Frame) : Type 0 where
     pub later : List (Level T A)
     pub here : IsHere base v l later names (whole old.stream) new.state.ctx.now next frames
     pub turned : Turned types_at attr old.state.ctx.now.dialects old.state.src (whole old.stream) base ls before old later names new
 
-  -- A turn was made: wherever the frames were open, they are now, and less is left to do.
+  -- A step was made: whenever the frames were the open ones, the new frames are the open ones now; and less work is left.
   pub record Proceeds (frame : Frame) (waits : List Frame) (before : Names) (old : StateStream T A U) (names : Names) (new : StateStream T A U) (next : Option Frame) (frames : List Frame) : Type 0 where
     pub carries : Carries before old names new
     pub arrives : (base : Base) (v l : ℕ) (ls : List (Level T A)) → IsHere base v l ls before (whole old.stream) old.state.ctx.now (Some frame) waits
@@ -106,13 +108,14 @@ module _ {T A U : Type 0} (types_at : Reader T) (attr : Reader (AttrView A)) whe
     pub fresh : (m : ℕ) → m ≤ old.state.ctx.now.graph.made → AreAllNew m old.state.ctx.now.graph (Some frame) waits → AreAllNew m new.state.ctx.now.graph next frames
     pub less : left_to_do T A old.state.ctx.now.dialects next frames new.stream.rest < left_to_do T A old.state.ctx.now.dialects (Some frame) waits old.stream.rest
 
-  -- A turn was refused: the fault is committed, and where the frames were open, there is none.
+  -- A step failed: the fault is committed, and whenever the frames were the open ones, an allocation failed, or the fault is that of the
+  -- text or of an action.
   pub record Stops (frame : Frame) (waits : List Frame) (before : Names) (old : StateStream T A U) (fault : ParseFault A) : Type 0 where
     pub committed : fault.committed ≡ true
     pub stops : (base : Base) (v l : ℕ) (ls : List (Level T A)) → IsHere base v l ls before (whole old.stream) old.state.ctx.now (Some frame) waits
         → UnlessMemory (Faulted types_at attr old.state.ctx.now.dialects ls before old) fault
 
-  -- All that was left of a frame in which nothing else was open was read: wherever it was open, nothing is any more.
+  -- The rest of a frame was parsed, in which no other frame was open: whenever it was the open frame, no frame is open any more.
   pub record Finishes (frame : Frame) (before : Names) (old : StateStream T A U) (names : Names) (new : StateStream T A U) : Type 0 where
     pub carries : Carries before old names new
     pub arrives : (base : Base) (v l : ℕ) (ls : List (Level T A)) → IsHere base v l ls before (whole old.stream) old.state.ctx.now (Some frame) []

@@ -1,4 +1,4 @@
--- Between functions: what each turn gives the loop: what was read, what names came to, and what came to the context.
+-- Between functions: what each action of the loop promises: what was parsed, the names, and what was added to the context.
 use Rattle.std.specs.Prelude.{◌≡◌, ◌≤◌, ℕ, Bool, true, List, [], ◌∷◌, ◌++◌, length, map, Option, Some, None, slice_get, ⊤}
 use Rattle.irtext_base.specs.Text.{Text}
 use Rattle.irtext_base.specs.Answers.{Read}
@@ -42,8 +42,8 @@ use Rattle.irtext_parse_root.specs.Turned.{Carries}
 use Rattle.irtext_parse_root.specs.declared.coming.Coming.{Coming}
 use Rattle.irtext_parse_root.specs.declared.coming.Coming.TheVariants as comes
 
--- ---- which turn it is
--- the step that comes is of this kind
+-- ---- which action it is
+-- the next step is of this kind
 abbrev pub IsStep : Coming → Option Step → Type 0
 IsStep comes.Piece (Some step) = is_flat step ≡ true
 IsStep comes.Region (Some step) = (i : ℕ) × (step ≡ one i)
@@ -51,19 +51,19 @@ IsStep comes.Regions (Some step) = step ≡ all
 IsStep comes.End None = ⊤
 IsStep _ _ = ⊥
 
--- the step that comes next in an operation that is open is of this kind
+-- the next step of an open operation is of this kind
 abbrev pub IsNext : List (Text × Table) → BegunOperation → Coming → Type 0
 IsNext dialects b c = IsStep c (slice_get (steps_in dialects (id_of b.id)) b.step)
 
--- ---- what the turns give
--- as many scopes are open
+-- ---- what the actions promise
+-- the same number of scopes is open
 pub record SameDepth (before names : Names) : Type 0 where
   pub values : length names.values ≡ length before.values
   pub labels : length names.labels ≡ length before.labels
 
 module _ {T A U : Type 0} where
   module _ (types_at : Reader T) (attr : Reader (AttrView A)) (before : Names) (old : StateStream T A U) where
-    -- an operation was begun, outside of each region or in a block
+    -- an operation was begun, outside of every region or in a block
     pub record Begins (block : Option (Ptr BasicBlock)) (b : BegunOperation) (names : Names) (new : StateStream T A U) : Type 0 where
       pub begins : BeginsOperation types_at attr true before old b names new
       pub own : OwnSoFar T A
@@ -74,7 +74,7 @@ module _ {T A U : Type 0} where
       pub depth : SameDepth before names
       pub fresh : (m : ℕ) → m ≤ old.state.ctx.now.graph.made → IsNew m new.state.ctx.now.graph (TheOperation b.op)
 
-    -- a piece behind a region was read, by the next step of an operation that is open
+    -- a piece after a region was parsed, by the next step of an open operation
     pub record Continues (b : BegunOperation) (next : BegunOperation) (names : Names) (new : StateStream T A U) : Type 0 where
       pub op : next.op ≡ b.op
       pub results : next.results ≡ b.results

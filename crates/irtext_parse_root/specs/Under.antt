@@ -1,5 +1,5 @@
--- What the reading of one region under an operation that stands promises: what was done as its text was read, what names came to, and what
--- the context holds of it; or why it was refused.
+-- What parsing one region under a live operation promises: the actions, the names, and what the context holds of the region; or why the
+-- region was rejected.
 use Rattle.std.specs.Prelude.{◌≡◌, ◌≤◌, ℕ, Bool, true, false, List, [], ◌∷◌, ◌++◌, length, Some, codes}
 use Rattle.irtext_base.specs.Faults.{Fault, Unexpected, Word, fault_of, id_of}
 use Rattle.irtext_base.specs.Faults as causes
@@ -35,19 +35,19 @@ use Rattle.irtext_parse_root.specs.Carried.{Falls}
 use Rattle.irtext_parse_root.specs.Here.{within}
 use Rattle.irtext_parse_root.specs.Told.{Did, did_enter, told}
 
--- the operation is isolated from above, or not
+-- whether the operation is isolated from above
 abbrev pub IsolatedAs : {T A : Type 0} → ContextView T A → Ptr Operation → Bool → Type 0
 IsolatedAs {T} {A} c op iso = (view : OperationView T A) → operation c op ≡ Some view → iso ≡ isolated c.dialects (id_of view.id)
 
--- the position is that of the location, where it is a place of a source, or else the beginning of the text
+-- the position is that of the location, if it is a position in a source; otherwise the beginning of the text
 abbrev pub IsPositionOf : {A : Type 0} → Location A → SourcePosition → Type 0
 IsPositionOf (SrcPos source position) at = at ≡ position
 IsPositionOf _ at = IsAt at.line at.column []
 
 module _ {T A U : Type 0} (types_at : Reader T) (attr : Reader (AttrView A)) where
-  -- A region was read up to where the stream stands now, and came last into the operation: this was done as it was read, names came to
-  -- where the machine stands that does it, and before the region came there, the context held it whole, with its marks, and all that was
-  -- older stood as it did; and names wait with placeholders alone.
+  -- A region was parsed from the old position of the stream to the new one, and was appended to the operation. These actions were done,
+  -- and the names agree with the state of the machine that does them. Before the region was appended, the context held the complete
+  -- region with its marks, everything older was unchanged, and names waited with placeholders alone.
   pub record ReadsUnder (op : Ptr Operation) (before : Names) (old : StateStream T A U) (r : Ptr Region) (names : Names) (new : StateStream T A U) : Type 0 where
     pub iso : Bool
     pub isolation : IsolatedAs old.state.ctx.now op iso
@@ -67,9 +67,8 @@ module _ {T A U : Type 0} (types_at : Reader T) (attr : Reader (AttrView A)) whe
     pub places : Appends mid.state.ctx.now.graph new.state.ctx.now.graph (TheOperation op) (TheRegion r)
     pub with_it : new.state.ctx.now ≡ with_graph mid.state.ctx.now new.state.ctx.now.graph
 
-  -- The operation is not isolated, and no scope of values is open; or no region begins there, and nothing was read; or the fault is the
-  -- first in the order of reading, and committed: the text is at fault, where all that names had come to had not failed, or what they come
-  -- to fails so.
+  -- The operation is not isolated, and no scope of values is open; or no region comes next, and the fault is uncommitted; or the fault is
+  -- the first in the order of the text, and committed: the text is at fault, and no name had failed before it, or a name fails so.
   pub data RefusesUnder (op : Ptr Operation) (before : Names) (old : StateStream T A U) (fault : ParseFault A) : Type 0 where
     not_isolated : IsolatedAs old.state.ctx.now op false → is_open before.values ≡ false → fault_of fault.cause ≡ causes.NotIsolated → fault.committed ≡ true
         → ((view : OperationView T A) → operation old.state.ctx.now op ≡ Some view → IsPositionOf view.loc fault.pos) → RefusesUnder op before old fault

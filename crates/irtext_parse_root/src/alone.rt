@@ -1,4 +1,4 @@
-//! A region that is read before it stands anywhere.
+//! A region that is parsed before it has a parent.
 ghost use Rattle.std.specs.Prelude.{◌≡◌, ◌≤◌, ◌∷◌, ℕ, [], true, false, IfOk, IfErr, OnOk, OnErr};
 ghost use Rattle.irtext_base.specs.Faults.{fault_of};
 ghost use Rattle.irtext_context.specs.Context.{with_graph, KeepsOlder};
@@ -25,7 +25,7 @@ use irtext_read::irfmt::faults::out_of_memory;
 use irtext_state::parsable::StateStream;
 use std::alloc::AllocError;
 
-/// Makes a region that stands nowhere, in the context of a reading. A fault is want of memory.
+/// Creates a detached region in the context of the state. The only error is `Memory`, if an allocation fails.
 fn region_made<T: IrText<A>, A: AttrText, U>(
     s: &mut StateStream<'_, T, A, U>,
 ) -> ParseResult<Ptr<Region>, A>
@@ -45,8 +45,9 @@ fn region_made<T: IrText<A>, A: AttrText, U>(
     }
 }
 
-/// Enters a region that stands nowhere, of an operation that is isolated from above or not, and reads its brace and the white space behind
-/// it. A region that is not isolated is refused where no scope of values is open, at the beginning of the text. A fault is committed.
+/// Opens the scopes of a new detached region, creates it, and parses its `{` and the white space after it. `isolated` says whether its
+/// operation is isolated from above. If it is not, and no scope of values is open, fails at the beginning of the text. Every error is
+/// committed.
 pub(crate) fn region_alone<T: IrText<A>, A: AttrText, U>(
     s: &mut StateStream<'_, T, A, U>,
     names: &mut Names,
@@ -80,7 +81,7 @@ pub(crate) fn region_alone<T: IrText<A>, A: AttrText, U>(
     })
 }
 
-/// Puts a region that stands nowhere last into an operation. Where memory is refused, the context stays as it was.
+/// Appends a detached region to an operation. If an allocation fails, the context is unchanged.
 pub(crate) fn region_placed<T: IrText<A>, A: AttrText, U>(
     s: &mut StateStream<'_, T, A, U>,
     op: Ptr<Operation>,

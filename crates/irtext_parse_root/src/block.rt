@@ -1,4 +1,4 @@
-//! A block where no region is open. Its label is defined outside of each scope of labels, so that it is refused whatever it holds.
+//! A block outside of every region. Its label is defined where no scope of labels is open, so such a block is always an error.
 ghost use Rattle.std.specs.Prelude.{◌≡◌, ◌<◌, false, true, length, option_copied, IfErr, OnOk};
 ghost use Rattle.irtext_base.specs.Faults as fault;
 ghost use Rattle.irtext_base.specs.Faults.{fault_of};
@@ -59,21 +59,21 @@ fn is_label_key(key: &Identifier) -> bool
     key.as_str() == "builtin_block_label"
 }
 
-/// Whether an attribute may stand under a key, of whatever holds the dictionary.
+/// Whether an attribute is allowed under a key of any dictionary.
 fn may_hold<A>(key: &Identifier, attr: &AttrObj<A>) -> bool
     ensures { result ≡ acts.may_hold key.now (attribute_of attr.now) }
 {
     !is_names_key(key) || is_given(attr)
 }
 
-/// Whether an attribute may stand under a key of a block's dictionary.
+/// Whether an attribute is allowed under a key of a block's dictionary.
 fn block_may_hold<A>(key: &Identifier, attr: &AttrObj<A>) -> bool
     ensures { result ≡ acts.block_may_hold key.now (attribute_of attr.now) }
 {
     may_hold(key, attr) && !is_label_key(key)
 }
 
-/// The key of the first entry whose attribute may not stand under its key in a block's dictionary.
+/// Returns the key of the first entry whose attribute is not allowed under its key in a block's dictionary.
 fn first_reserved<A>(entries: &[ReadEntry<A>]) -> Option<&Key>
     ensures { option_copied result ≡ first_reserved entries.now }
 {
@@ -86,7 +86,7 @@ fn first_reserved<A>(entries: &[ReadEntry<A>]) -> Option<&Key>
     None
 }
 
-/// The same of a dictionary that may be missing.
+/// The same for a dictionary that may be missing.
 fn reserved_key<A>(attributes: &Option<Vec<ReadEntry<A>>>) -> Option<&Key>
     ensures { option_copied result ≡ first_reserved (entries_in attributes.now) }
 {
@@ -96,7 +96,7 @@ fn reserved_key<A>(attributes: &Option<Vec<ReadEntry<A>>>) -> Option<&Key>
     }
 }
 
-/// The mark of a header, where one was read whose index is noted already.
+/// Returns the mark of a header, if it has one and its index is already recorded.
 fn noted_twice<T: IrText<A>, A: AttrText, U>(
     state: &State<'_, T, A, U>,
     mark: Option<ReadMark>,
@@ -110,7 +110,7 @@ fn noted_twice<T: IrText<A>, A: AttrText, U>(
     }
 }
 
-/// The fault of a key that is reserved, at the key. The stream has failed.
+/// Returns the error for a reserved key, at the key. Leaves the stream failed.
 #[cold]
 fn key_fault<A>(stream: &mut TextStream, key: &Key) -> ParseFault<A>
     ensures says { UnlessMemory (IsKeyFault (whole stream.old) key.now) result }
@@ -122,7 +122,8 @@ fn key_fault<A>(stream: &mut TextStream, key: &Key) -> ParseFault<A>
     }
 }
 
-/// The fault of a name that is defined where no scope is open, at the name. The stream has failed.
+/// Returns the error for a name that is defined where no scope is open, at the name's position, which for a label is that of its `^`.
+/// Leaves the stream failed.
 #[cold]
 fn no_scope_error<A>(stream: &mut TextStream, names: &Names, read: ReadName) -> ParseFault<A>
     requires known { read.name < length names.now.names }
@@ -136,7 +137,7 @@ fn no_scope_error<A>(stream: &mut TextStream, names: &Names, read: ReadName) -> 
     }
 }
 
-/// The fault of a mark whose index is noted already, at the mark. The stream has failed.
+/// Returns the error for a mark whose index is already recorded, at the mark. Leaves the stream failed.
 #[cold]
 fn mark_fault<A>(stream: &mut TextStream, mark: ReadMark) -> ParseFault<A>
     ensures cause { fault_of result.cause ≡ fault.DuplicateIndex mark.index }
@@ -147,8 +148,8 @@ fn mark_fault<A>(stream: &mut TextStream, mark: ReadMark) -> ParseFault<A>
     refuse_at(stream, mark.at, Cause::DuplicateIndex(mark.index))
 }
 
-/// The fault of a header that was read where no scope is open: of the first key that is reserved, or else of the name of the first argument,
-/// or else of the mark where its index is noted already, or else of the label. The stream has failed.
+/// Returns the error for a header that was parsed where no scope is open: that of the first reserved key; otherwise of the name of the
+/// first argument; otherwise of the mark, if its index is already recorded; otherwise of the label. Leaves the stream failed.
 fn header_fault<T: IrText<A>, A: AttrText, U>(
     stream: &mut TextStream,
     state: &State<'_, T, A, U>,
@@ -173,7 +174,8 @@ fn header_fault<T: IrText<A>, A: AttrText, U>(
     }
 }
 
-/// Reads the header of a block. Where no `^` stands, the fault is uncommitted and the stream stays; other faults are committed.
+/// Parses the header of a block. If `^` does not come next, the error is uncommitted and the stream is unchanged; other errors are
+/// committed.
 fn header_parse<T: IrText<A>, A: AttrText>(
     stream: &mut TextStream,
     names: &mut Names,
@@ -192,10 +194,11 @@ fn header_parse<T: IrText<A>, A: AttrText>(
     }
 }
 
-/// Reads the header of a block where no region is open, and refuses it. It begins at `^`: white space in front of it is not passed. Where no
-/// `^` stands, the fault is uncommitted and the stream stays. Where the header reads, the fault is the first of these: a key of its
-/// dictionary is reserved; a name is defined outside of each scope, an argument's or, behind the mark, the label; the index of its mark is
-/// noted already. No mark is noted.
+/// Parses the header of a block where no region is open, as `^b(x: builtin.integer si64):`, and always fails. The header begins at `^`:
+/// white space before it is not skipped. If `^` does not come next, the error is uncommitted and the stream is unchanged. If the header
+/// parses, the error is the first of these: a key of its dictionary is reserved; a name is defined outside of every scope, that of the
+/// first argument or, after the mark, the label; the index of its mark is already recorded. If an allocation fails, the error is
+/// `Memory`. On a stream that has failed the error is `StreamFailed`. The state is unchanged: no mark is recorded.
 pub fn block_parse<T: IrText<A>, A: AttrText, U>(
     s: &mut StateStream<'_, T, A, U>,
 ) -> ParseResult<Ptr<BasicBlock>, A>

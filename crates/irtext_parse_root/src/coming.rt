@@ -1,4 +1,4 @@
-//! What comes next in an operation that is open, by its format.
+//! What comes next in an open operation, according to its format.
 ghost use Rattle.std.specs.Prelude.{◌≡◌, ◌≢◌, ◌+◌, ◌<◌, false, length, slice_get, Some, IsSome};
 ghost use Rattle.irtext_base.specs.Faults.{id_of};
 ghost use Rattle.irtext_formats.specs.Directives.{format_of};
@@ -15,20 +15,20 @@ use irtext_context::base::Context;
 use irtext_parse_nested::frame::BegunOperation;
 use irtext_parse_pieces::steps::{FormatStep, step_at};
 
-/// What comes next in an operation that is open.
+/// What comes next in an open operation.
 #[derive(Clone, Copy)]
 pub enum Coming {
-    /// What a step reads that is no region.
+    /// A step of the format that parses no region.
     Piece,
     /// One region.
     Region,
-    /// All regions that are left.
+    /// All remaining regions.
     Regions,
-    /// Its end.
+    /// The end of the operation.
     End,
 }
 
-/// What comes next in an operation, whether the operation is isolated from above, and the step behind.
+/// What comes next in an operation, whether the operation is isolated from above, and the index of the step after it.
 #[derive(Clone, Copy)]
 pub struct Next {
     pub coming: Coming,
@@ -36,7 +36,7 @@ pub struct Next {
     pub behind: usize,
 }
 
-/// What a step reads.
+/// What a step parses.
 fn kind_of(step: FormatStep<'_>) -> Coming
     ensures { IsStep result (Some (seen_step step.entry)) }
 {
@@ -51,7 +51,7 @@ fn kind_of(step: FormatStep<'_>) -> Coming
     }
 }
 
-/// The index behind that of a step.
+/// The index after that of a step.
 fn behind(format: &OpFormat, index: usize) -> usize
     requires { index < length (steps_of (format_of format.now)) }
     ensures { result ≡ index + 1 }
@@ -65,7 +65,7 @@ fn behind(format: &OpFormat, index: usize) -> usize
     }
 }
 
-/// Nothing is left of an operation but its end.
+/// Nothing of the operation is left but its end.
 fn ended(step: usize) -> Next
     ensures { result ≡ record { coming = comes.End; isolated = false; behind = step } }
 {
@@ -76,7 +76,7 @@ fn ended(step: usize) -> Next
     }
 }
 
-/// What comes next in an operation that is open. Its format is looked up but where all of its steps were read.
+/// Returns what comes next in an open operation. The format is looked up only if steps are left.
 pub(crate) fn next_turn<T: IrText<A>, A: AttrText>(
     ctx: &Context<T, A>,
     begun: &BegunOperation,

@@ -1,4 +1,4 @@
-//! What is open while nested text is read, from the outermost to the innermost, and what of it waits.
+//! The frames that are open while nested text is parsed: the innermost one, and a stack of those that wait for it.
 ghost use Rattle.std.specs.Prelude.{◌≡◌, ◌++◌, ◌∷◌, [], OnOk};
 ghost use Rattle.irtext_parse_root.specs.Turned.{TakesLast};
 
@@ -6,7 +6,7 @@ use irtext_parse_nested::frame::{BegunBlock, BegunOperation, BegunRegion};
 use std::alloc::{AllocError, Global};
 use std::marker::Model;
 
-/// One thing that is open.
+/// A frame: an operation, a region or a block whose text has begun and has not ended.
 #[derive(Drop)]
 pub enum Frame {
     Operation(BegunOperation),
@@ -14,7 +14,7 @@ pub enum Frame {
     Block(BegunBlock),
 }
 
-/// The frames that wait for the innermost one, the outermost first. The outermost stands in place, so one frame takes no memory of its own.
+/// The frames that wait for the innermost one, the outermost first. The outermost is stored inline, so a single frame allocates nothing.
 #[derive(Drop)]
 pub(crate) struct Waiting {
     outermost: Option<Frame>,
@@ -32,7 +32,7 @@ impl Model for Waiting {
 }
 
 impl Waiting {
-    /// No frame waits.
+    /// Returns an empty stack.
     pub(crate) fn new(alloc: Global) -> Waiting
         ensures { result ≡ [] }
     {
@@ -42,7 +42,7 @@ impl Waiting {
         }
     }
 
-    /// Puts a frame behind those that wait. Only a frame inside another takes memory.
+    /// Pushes a frame. Allocates only if another frame is on the stack.
     pub(crate) fn push(&mut self, frame: Frame) -> Result<(), AllocError>
         ensures { OnOk result (self.new ≡ self.old ++ frame ∷ []) }
     {
@@ -54,7 +54,7 @@ impl Waiting {
         Ok(())
     }
 
-    /// Takes the last of the frames that wait, which is next then.
+    /// Removes and returns the last of the frames that wait, which is the innermost one from then on.
     pub(crate) fn pop(&mut self) -> Option<Frame>
         ensures { TakesLast self.old result self.new }
     {

@@ -1,4 +1,4 @@
-//! Operations, regions and blocks from text.
+//! Parsers for operations, regions and blocks.
 
 mod parts;
 pub mod read;

@@ -1,4 +1,4 @@
-//! The marker of outlined items.
+//! The marker that is printed in place of an outlined attribute.
 
 mod marker;
 pub mod outlined;

@@ -1,4 +1,4 @@
-//! The loop over what is open.
+//! The loop over the open frames.
 ghost use Rattle.std.specs.Prelude.{◌≡◌, ◌≤◌, [], ℕ, false, IfErr, OnOk, OnErr, Some};
 ghost use Rattle.irtext_context.specs.Context.{KeepsOlder};
 ghost use Rattle.irtext_graph.specs.Back.{IsClosedBelow};
@@ -17,7 +17,7 @@ use irtext_base::text::{AttrText, IrText};
 use irtext_parse_nested::frame::Names;
 use irtext_state::parsable::StateStream;
 
-/// Reads all that is left of what is open, in which nothing else is open. A fault is committed, and leaves scopes open.
+/// Parses the rest of the text of a frame that is the only open one. Every error is committed. On an error, scopes may be left open.
 pub(crate) fn items_parse<T: IrText<A>, A: AttrText, U>(
     s: &mut StateStream<'_, T, A, U>,
     names: &mut Names,

@@ -1,5 +1,6 @@
-//! The parser of operations, regions and blocks with all that nests in them, as one loop over what is open; the outermost parsers: an
-//! operation, the section behind it, a whole text, a region alone; and the trait `Parsable` with all that implements it.
+//! The parser of operations, regions and blocks with everything nested in them, as one loop over the open frames; the outermost parsers,
+//! for an operation, for a root with the section after it, for a whole text and for a region alone; and the trait `Parsable` with its
+//! implementations.
 #![tactic(auto)]
 
 mod alone;

@@ -1,4 +1,4 @@
-//! Names that are used outside of each region: no scope of names is open there, so that each is refused.
+//! Names that are used outside of every region. No scope of names is open there, so each such name is an error.
 ghost use Rattle.std.specs.Prelude.{false, IfErr, OnOk};
 ghost use Rattle.irtext_nesting.specs.Heads.{used_at, target_at};
 ghost use Rattle.irtext_parse_pieces.specs.Named.{Misses};
@@ -9,7 +9,8 @@ use irtext_context::base::{BasicBlock, Ptr, Value};
 use irtext_read::irfmt::faults::{commit, refuse_at};
 use irtext_read::irfmt::parsers::{identifier_parse, text_parse};
 
-/// The fault of a name that is used where no scope is open, at the name. Where none begins, it is uncommitted and the stream stays.
+/// Returns the error for a name that is used where no scope is open, at the name. If no name comes next, the error is uncommitted and the
+/// stream is unchanged.
 fn used_outside<S: CharStream, A>(stream: &mut S) -> ParseFault<A>
     ensures { Misses S.view S.at (used_at false) stream.old result stream.new }
 {
@@ -20,8 +21,8 @@ fn used_outside<S: CharStream, A>(stream: &mut S) -> ParseFault<A>
     }
 }
 
-/// Reads the name of a value that is used. No scope of values is open where it is called, so that the name is refused. Where none begins,
-/// the fault is uncommitted and the stream stays.
+/// Parses the name of a value that is used, as `x`. It is called where no scope of values is open, so it always fails, with
+/// `NoActiveScope` at the name. If no name comes next, the error is uncommitted and the stream is unchanged.
 pub fn ssa_opd_parse<S: CharStream, A>(stream: &mut S) -> ParseResult<Value, A>
     ensures refused { IfErr result (λ fault. Misses S.view S.at (used_at false) stream.old fault stream.new) }
     ensures none { OnOk result ⊥ }
@@ -29,8 +30,8 @@ pub fn ssa_opd_parse<S: CharStream, A>(stream: &mut S) -> ParseResult<Value, A>
     Err(used_outside(stream))
 }
 
-/// Reads `^` and the label of a block that is used. No region is open where it is called, so that the label is refused. Where no `^`
-/// stands, the fault is uncommitted and the stream stays.
+/// Parses `^` and the label of a block that is used, as `^b`. It is called where no region is open, so it always fails, with
+/// `NoActiveScope` at the label. If `^` does not come next, the error is uncommitted and the stream is unchanged.
 pub fn block_opd_parse<S: CharStream, A>(stream: &mut S) -> ParseResult<Ptr<BasicBlock>, A>
     ensures refused { IfErr result (λ fault. Misses S.view S.at (target_at false) stream.old fault stream.new) }
     ensures none { OnOk result ⊥ }

@@ -1,4 +1,4 @@
-//! An operation with all that nests in it.
+//! The parser for an operation with everything nested in it.
 ghost use Rattle.std.specs.Prelude.{◌≡◌, ◌≤◌, ℕ, false, IfOk, IfErr, OnOk, OnErr};
 ghost use Rattle.irtext_context.specs.Context.{KeepsOlder};
 ghost use Rattle.irtext_graph.specs.Back.{IsClosedBelow};
@@ -23,8 +23,9 @@ use irtext_context::base::{Operation, Ptr};
 use irtext_parse_nested::frame::Names;
 use irtext_state::parsable::StateStream;
 
-/// Reads an operation that stands outside of each region, with all that nests in it. The fault is the first in the order of reading; it is
-/// committed, unless no operation begins there, where nothing was read. What was made stays where it is refused, and scopes of names stay open.
+/// Parses an operation outside of every region, with everything nested in it. The error is the first one in the order of the text. It is
+/// committed, unless no operation comes next; then nothing was consumed. On an error, the objects that were created stay in the context,
+/// and scopes of names may stay open.
 pub fn nested_parse<T: IrText<A>, A: AttrText, U>(
     s: &mut StateStream<'_, T, A, U>,
     names: &mut Names,

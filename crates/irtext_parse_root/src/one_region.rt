@@ -1,4 +1,4 @@
-//! One region of an operation that stands, with all that nests in it.
+//! The parser for one region of a live operation, with everything nested in it.
 ghost use Rattle.std.specs.Prelude.{◌≡◌, ◌≤◌, ℕ, true, false, Some, IfOk, IfErr, OnErr, IsSome};
 ghost use Rattle.irtext_base.specs.Faults as fault;
 ghost use Rattle.irtext_base.specs.Faults.{fault_of, id_of};
@@ -32,7 +32,7 @@ use irtext_read::irfmt::faults::{next_is, unexpected};
 use irtext_state::parsable::StateStream;
 use irtext_state::parsable::state::State;
 
-/// Whether operations of this id are isolated from above.
+/// Whether operations with this id are isolated from above.
 fn isolated_by<T: IrText<A>, A: AttrText>(ctx: &Context<T, A>, id: &OpId) -> bool
     ensures { result ≡ isolated ctx.now.dialects (id_of id.now) }
 {
@@ -50,7 +50,7 @@ fn is_isolated<T: IrText<A>, A: AttrText>(ctx: &Context<T, A>, op: Ptr<Operation
     isolated_by(ctx, op.get_opid(ctx))
 }
 
-/// Whether an operation of the context of a reading is isolated from above.
+/// Whether an operation of the state's context is isolated from above.
 fn isolated_here<T: IrText<A>, A: AttrText, U>(
     state: &State<'_, T, A, U>,
     op: Ptr<Operation>,
@@ -61,7 +61,7 @@ fn isolated_here<T: IrText<A>, A: AttrText, U>(
     is_isolated(state.ctx, op)
 }
 
-/// The position of a location that is a place of a source, or else that of a text's beginning.
+/// The position of a location that is a position in a source; for other locations the beginning of a text.
 fn position_of<A>(loc: &Location<A>) -> SourcePosition
     ensures { IsPositionOf loc.now result }
 {
@@ -82,7 +82,7 @@ fn position_in<T: IrText<A>, A: AttrText>(ctx: &Context<T, A>, op: Ptr<Operation
     position_of(op.loc(ctx))
 }
 
-/// The position of the location of an operation of the context of a reading.
+/// The position of the location of an operation of the state's context.
 fn position_here<T: IrText<A>, A: AttrText, U>(
     state: &State<'_, T, A, U>,
     op: Ptr<Operation>,
@@ -93,7 +93,8 @@ fn position_here<T: IrText<A>, A: AttrText, U>(
     position_in(state.ctx, op)
 }
 
-/// The fault of a region whose operation is not isolated where no scope of values is open, at a position. The stream has failed.
+/// Returns the error for a region whose operation is not isolated while no scope of values is open, at a position. Leaves the stream
+/// failed.
 #[cold]
 fn not_isolated<A>(stream: &mut TextStream, pos: SourcePosition) -> ParseFault<A>
     ensures cause { fault_of result.cause ≡ fault.NotIsolated }
@@ -110,10 +111,10 @@ fn not_isolated<A>(stream: &mut TextStream, pos: SourcePosition) -> ParseFault<A
     }
 }
 
-/// Reads a region with all that nests in it, and puts it last into an operation that stands. An operation that is not isolated from above is
-/// refused where no scope of values is open, at its own place; all other faults are the first in the order of reading. A fault is committed,
-/// unless no region begins there, where nothing was read. Where it is refused, the operation is as it was; what was made stays, and
-/// scopes of names stay open.
+/// Parses a region with everything nested in it, and appends it to a live operation. If the operation is not isolated from above and no
+/// scope of values is open, fails with `TopLevelOpRegionNotIsolatedFromAbove` at the position of the operation's location; any other
+/// error is the first one in the order of the text. An error is committed, unless `{` does not come next; then nothing was consumed. On
+/// an error, the operation is unchanged; the objects that were created stay in the context, and scopes of names may stay open.
 pub fn region_parse<T: IrText<A>, A: AttrText, U>(
     s: &mut StateStream<'_, T, A, U>,
     names: &mut Names,

@@ -1,4 +1,4 @@
-//! The outermost reading of an operation, with the section behind it or without: it gives back what it made where it is refused.
+//! The outermost parsers of an operation, with or without the section after it. On an error they remove the objects that they created.
 ghost use Rattle.std.specs.Prelude.{◌≡◌, ℕ, List, ◌++◌, true, false, IfOk, IfErr, OnOk, OnErr};
 ghost use Rattle.irtext_base.specs.Own.{texts_of};
 ghost use Rattle.irtext_context.specs.Context.{KeepsOlder};
@@ -24,7 +24,7 @@ use irtext_read::irfmt::faults::stands_at;
 use irtext_state::parsable::state::Noting;
 use irtext_state::parsable::{State, StateStream};
 
-/// The fault of a stream that has failed, where it stands.
+/// Returns the error for a stream that has already failed, at its current position.
 pub(crate) fn failed_fault<S: CharStream, A>(stream: &S) -> ParseFault<A>
     ensures { FailedRefusal (S.view stream.now) result (S.view stream.now) }
 {
@@ -35,7 +35,7 @@ pub(crate) fn failed_fault<S: CharStream, A>(stream: &S) -> ParseFault<A>
     }
 }
 
-/// How many objects were made in the context of a reading. Each that stands was made before as many.
+/// Returns how many objects have been created in the state's context. Each live object was created before this count was reached.
 pub(crate) fn made_in<T: IrText<A>, A: AttrText, U>(state: &State<'_, T, A, U>) -> u64
     ensures made { result ≡ state.now.ctx.now.graph.made }
     ensures older { AllOlder result state.now.ctx.now.graph }
@@ -44,8 +44,8 @@ pub(crate) fn made_in<T: IrText<A>, A: AttrText, U>(state: &State<'_, T, A, U>) 
     state.ctx.made()
 }
 
-/// An operation with all that nests in it and, where it is looked for and a mark is noted, the section behind it. What it made stays where
-/// it is refused.
+/// Parses an operation with everything nested in it and, if `look` is set and a mark is recorded, the section after it. On an error, the
+/// objects that were created stay in the context.
 fn marked_parse<T: IrText<A>, A: AttrText, U>(
     s: &mut StateStream<'_, T, A, U>,
     look: bool,
@@ -79,13 +79,14 @@ fn marked_parse<T: IrText<A>, A: AttrText, U>(
     Ok(op)
 }
 
-/// Reads an operation with all that nests in it and, where it is looked for and a mark is noted, the section behind it. Where it is
-/// refused, what it made is given back, and no mark of it stays.
+/// Parses an operation with everything nested in it and, if `look` is set and a mark is recorded, the section after it. On an error, the
+/// objects that were created are removed, and none of the operation's marks stays recorded. On a stream that has failed the error is
+/// `StreamFailed`; if an allocation fails, the error is `Memory`.
 ///
-/// Marks of roots that were read before may still be noted, where these were read without their sections. A mark with the index of one of
-/// them is then refused as `Cause::DuplicateIndex`. A section that is looked for is for all that is noted: it is read also behind an
-/// operation without a mark, its entries may be for any of the marks, each item gets what the entry of its mark gives, and no mark is noted
-/// behind it.
+/// Marks of roots that were parsed before may still be recorded, if they were parsed without their sections. A mark with the index of one
+/// of them is then an error, `Cause::DuplicateIndex`. A section covers all recorded marks: it is parsed after an operation without a mark
+/// too, its entries may be for any of the marks, each item gets what the entry of its mark gives, and no mark is recorded after it. An
+/// item is an operation or a block that carries a mark.
 pub fn outermost_parse<T: IrText<A>, A: AttrText, U>(
     s: &mut StateStream<'_, T, A, U>,
     look: bool,
@@ -124,8 +125,8 @@ pub fn outermost_parse<T: IrText<A>, A: AttrText, U>(
     }
 }
 
-/// Reads an operation with all that nests in it, and looks for no section: its marks stay noted. Where it is refused, what it made is
-/// given back, and no mark stays.
+/// Parses an operation with everything nested in it, and no section: its marks stay recorded. On an error, the objects that were created
+/// are removed, and none of the operation's marks stays recorded. The errors are those of `outermost_parse`.
 pub fn operation_parse<T: IrText<A>, A: AttrText, U>(
     s: &mut StateStream<'_, T, A, U>,
 ) -> ParseResult<Ptr<Operation>, A>
@@ -148,9 +149,11 @@ pub fn operation_parse<T: IrText<A>, A: AttrText, U>(
     outermost_parse(s, false)
 }
 
-/// Reads a root: an operation with all that nests in it and, exactly where it has a mark, the section behind it. Where it is refused, what
-/// it made is given back, no mark of it stays, and all that was there before is as it was: items of roots that were read before, whose
-/// marks are noted still, have what they had.
+/// Parses a root: an operation with everything nested in it and, if a mark is recorded, the section after it, as
+/// `builtin.module @m { ^a(): test.nop !0 } outlined_attributes: !0 = @[?], []`. On an error, the objects that were created are removed,
+/// none of the root's marks stays recorded, and everything older is unchanged: the items of roots that were parsed before, whose marks
+/// are still recorded, keep what they had. On a stream that has failed the error is `StreamFailed`; if an allocation fails, the error is
+/// `Memory`.
 pub fn root_parse<T: IrText<A>, A: AttrText, U>(
     s: &mut StateStream<'_, T, A, U>,
 ) -> ParseResult<Ptr<Operation>, A>

@@ -1,4 +1,4 @@
-//! What is parsable: the trait. Streams, the state of a reading and the faults of readers are handed on from below.
+//! The trait of types that can be parsed. Streams, the state of the parser and the errors of parsers are re-exported from lower crates.
 
 ghost use Rattle.std.specs.Prelude.{⊤};
 ghost use Rattle.irtext_state.specs.declared.parsable.state.StateStream.{StateStream};
@@ -16,17 +16,17 @@ pub use irtext_state::parsable::{
     State, StateStream, StreamLocation, parse_from_str, state_stream_from_iterator,
 };
 
-/// What is read from a stream with a context.
+/// A type that can be parsed from a stream with a context.
 pub trait Parsable<T: IrText<A>, A: AttrText, U> {
-    /// What the reading is told beside the stream.
+    /// The argument of the parser besides the stream.
     type Arg;
-    /// What it gives.
+    /// The value that the parser returns.
     type Parsed;
 
-    // whether it may be read with this argument, as where what the argument names is in the context
+    // when the parser may be called with this argument, for example only if the object that the argument refers to is in the context
     ghost can_parse: { Self.Arg → StateStream T A U → Type 0 } = { λ _ _. ⊤ };
 
-    /// Reads one from where the stream is.
+    /// Parses one value at the current position of the stream.
     fn parse(stream: &mut StateStream<'_, T, A, U>, arg: Self::Arg) -> ParseResult<Self::Parsed, A>
         requires { can_parse arg stream.old };
 }

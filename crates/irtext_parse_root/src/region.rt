@@ -1,4 +1,4 @@
-//! One region of an operation that stands, with names of its own: it gives back what it made where it is refused.
+//! The parser for one region of a live operation, with names of its own. On an error it removes the objects that it created.
 ghost use Rattle.std.specs.Prelude.{◌≡◌, true, false, None, IsSome, IfOk, IfErr, OnErr};
 ghost use Rattle.irtext_base.specs.Faults as fault;
 ghost use Rattle.irtext_base.specs.Faults.{fault_of, id_of};
@@ -32,7 +32,7 @@ use irtext_scopes::tracker::NameTracker;
 use irtext_state::parsable::state::Noting;
 use irtext_state::parsable::{State, StateStream};
 
-/// Whether operations of this id are isolated from above.
+/// Whether operations with this id are isolated from above.
 fn isolated_by<T: IrText<A>, A: AttrText>(ctx: &Context<T, A>, id: &OpId) -> bool
     ensures { result ≡ isolated ctx.now.dialects (id_of id.now) }
 {
@@ -42,7 +42,7 @@ fn isolated_by<T: IrText<A>, A: AttrText>(ctx: &Context<T, A>, id: &OpId) -> boo
     }
 }
 
-/// The position of a location that is a place of a source, or else that of a text's beginning.
+/// The position of a location that is a position in a source; for other locations the beginning of a text.
 pub(crate) fn position_of<A>(loc: &Location<A>) -> SourcePosition
     ensures { IsOutermost loc.now result }
 {
@@ -55,7 +55,7 @@ pub(crate) fn position_of<A>(loc: &Location<A>) -> SourcePosition
     }
 }
 
-/// The position of an operation that is not isolated from above; none of one that is.
+/// The position of an operation that is not isolated from above; `None` for an operation that is.
 fn unisolated_at<T: IrText<A>, A: AttrText>(
     ctx: &Context<T, A>,
     op: Ptr<Operation>,
@@ -69,7 +69,7 @@ fn unisolated_at<T: IrText<A>, A: AttrText>(
     Some(position_of(op.loc(ctx)))
 }
 
-/// The same of an operation of the context of a reading.
+/// The same for an operation of the state's context.
 fn unisolated_here<T: IrText<A>, A: AttrText, U>(
     state: &State<'_, T, A, U>,
     op: Ptr<Operation>,
@@ -80,7 +80,7 @@ fn unisolated_here<T: IrText<A>, A: AttrText, U>(
     unisolated_at(state.ctx, op)
 }
 
-/// The fault of a region whose operation is not isolated from above, at a position. The stream has failed.
+/// Returns the error for a region whose operation is not isolated from above, at a position. Leaves the stream failed.
 #[cold]
 fn not_isolated<A>(stream: &mut TextStream, pos: SourcePosition) -> ParseFault<A>
     ensures cause { fault_of result.cause ≡ fault.NotIsolated }
@@ -98,8 +98,8 @@ fn not_isolated<A>(stream: &mut TextStream, pos: SourcePosition) -> ParseFault<A
     }
 }
 
-/// Reads a region with all that nests in it, with fresh names, as the last of an operation that is isolated from above. What it made stays
-/// where it is refused, and nothing of it stands in the operation then.
+/// Parses a region with everything nested in it, with new names, and appends it to an operation that is isolated from above. On an error,
+/// the objects that were created stay in the context, but none of them is in the operation.
 fn isolated_parse<T: IrText<A>, A: AttrText, U>(
     s: &mut StateStream<'_, T, A, U>,
     parent: Ptr<Operation>,
@@ -133,8 +133,8 @@ fn isolated_parse<T: IrText<A>, A: AttrText, U>(
     }
 }
 
-/// The same of any operation: one that is not isolated from above is refused at the place where it stands, since no name of what stands round
-/// it is known.
+/// The same for any operation. If it is not isolated from above, fails at the position of the operation's location: no name of the
+/// enclosing scopes is known.
 fn alone_parse<T: IrText<A>, A: AttrText, U>(
     s: &mut StateStream<'_, T, A, U>,
     parent: Ptr<Operation>,
@@ -159,10 +159,11 @@ fn alone_parse<T: IrText<A>, A: AttrText, U>(
     }
 }
 
-/// Reads `{`, blocks and `}` where the stream stands, as the last region of an operation that is in the context. Names have a scope of their
-/// own, so an operation that is not isolated from above is refused, at the place where it stands. The region is put into the operation
-/// last, and only where nothing is refused: a refusal leaves all objects as they were, and no mark of it stays. This text is a region of
-/// one block, which has one argument and holds one operation:
+/// Parses `{`, blocks and `}` at the current position of the stream, and appends the region to an operation that is live in the context.
+/// The region has scopes of names of its own, so an operation that is not isolated from above is an error, at the position of its
+/// location. The region is appended only when all of it has been parsed: on an error, all objects and all recorded marks are unchanged.
+/// On a stream that has failed the error is `StreamFailed`; if an allocation fails, the error is `Memory`. This text is a region of one
+/// block, which has one argument and one operation:
 ///
 /// ```text
 /// { ^entry(x: i32): test.return x }

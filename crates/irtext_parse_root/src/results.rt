@@ -1,4 +1,4 @@
-//! Names of an operation's results outside of each region: no scope of names is open there, so that each is refused.
+//! Names of an operation's results outside of every region. No scope of names is open there, so each such name is an error.
 ghost use Rattle.std.specs.Prelude.{◌≡◌, [], length, true, false, IsSome, IfErr, OnOk};
 ghost use Rattle.irtext_base.specs.Faults as fault;
 ghost use Rattle.irtext_base.specs.Faults.{fault_of};
@@ -22,7 +22,7 @@ use irtext_graph::held::HasGraph;
 use irtext_read::irfmt::faults::{out_of_memory, stands_at};
 use irtext_state::parsable::{State, StateStream};
 
-/// How many results an operation of the context of a reading has.
+/// How many results an operation of the state's context has.
 fn result_count<T: IrText<A>, A: AttrText, U>(
     state: &State<'_, T, A, U>,
     op: Ptr<Operation>,
@@ -33,7 +33,7 @@ fn result_count<T: IrText<A>, A: AttrText, U>(
     state.ctx.graph().num_results(op)
 }
 
-/// A committed fault of this cause and position. The stream has failed.
+/// Returns a committed error with this cause and position. Leaves the stream failed.
 fn fail_with<A>(stream: &mut TextStream, pos: SourcePosition, cause: Cause<A>) -> ParseFault<A>
     ensures fault { result ≡ record { pos = pos; cause = cause; committed = true } }
     ensures refused { (fault_of cause ≡ fault.Failed → ⊥) → Refusal stream.old result stream.new }
@@ -46,7 +46,8 @@ fn fail_with<A>(stream: &mut TextStream, pos: SourcePosition, cause: Cause<A>) -
     }
 }
 
-/// The fault of names that are not as many as an operation's results, where the stream stands. The stream has failed.
+/// Returns the error for a number of names that differs from the number of an operation's results, at the current position of the stream.
+/// Leaves the stream failed.
 #[cold]
 fn count_fault<A>(stream: &mut TextStream, results: usize, names: usize) -> ParseFault<A>
     ensures cause { fault_of result.cause ≡ fault.ResultCount results names }
@@ -58,7 +59,7 @@ fn count_fault<A>(stream: &mut TextStream, results: usize, names: usize) -> Pars
     fail_with(stream, pos, Cause::ResultCount { results, names })
 }
 
-/// The fault of a name that is defined where no scope of names is open, at its location. The stream has failed.
+/// Returns the error for a name that is defined where no scope of names is open, at its location. Leaves the stream failed.
 #[cold]
 fn no_scope_error<A>(stream: &mut TextStream, name: &Identifier, loc: &Location<A>) -> ParseFault<A>
     ensures says { UnlessMemory (λ f. (fault_of f.cause ≡ fault.NoActiveScope name.now) × (f.committed ≡ true) × IsOutermost loc.now f.pos) result }
@@ -70,10 +71,11 @@ fn no_scope_error<A>(stream: &mut TextStream, name: &Identifier, loc: &Location<
     }
 }
 
-/// Defines names, each with its location, as the results of an operation. It is called outside of each region, where no scope of names is
-/// open, so that the first name is refused: where its location is a place of a source, the fault is there, and else at the beginning of the
-/// text. Where there are not as many names as results, that is refused, where the stream stands. So the answer is `Ok` only for no names
-/// of an operation without results. A fault is committed. The state stays as it is.
+/// Defines names, each with its location, as the results of an operation. It is called outside of every region, where no scope of names
+/// is open, so the first name is an error, `NoActiveScope`: at the position of the name's location if that is a position in a source,
+/// otherwise at the beginning of the text. If there are not as many names as results, the error is `ResultCount`, at the current position
+/// of the stream. So the call succeeds only for an operation without results and an empty list of names. Every error is committed. On a
+/// stream that has failed the error is `StreamFailed`; if an allocation fails, the error is `Memory`. The state is unchanged.
 pub fn process_parsed_ssa_defs<T: IrText<A>, A: AttrText, U>(
     s: &mut StateStream<'_, T, A, U>,
     results: &[(Identifier, Location<A>)],

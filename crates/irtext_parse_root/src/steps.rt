@@ -1,4 +1,4 @@
-//! One step of the loop: the turn of what is innermost, which begins something in it, goes on, or ends it.
+//! One step of the loop: for the innermost frame it begins a nested frame, continues the frame, or ends it.
 ghost use Rattle.std.specs.Prelude.{◌≡◌, ◌≢◌, ◌≤◌, ◌+◌, ◌++◌, ◌∷◌, [], ℕ, false, length, IfOk, IfErr, OnOk, OnErr, Some};
 ghost use Rattle.irtext_base.specs.Faults.{id_of};
 ghost use Rattle.irtext_context.specs.Context.{KeepsOlder};
@@ -27,7 +27,7 @@ use irtext_read::irfmt::faults::{next_is, out_of_memory};
 use irtext_state::parsable::StateStream;
 use irtext_state::parsable::state::State;
 
-/// What comes next in an operation that is open.
+/// What comes next in an open operation.
 fn coming_here<T: IrText<A>, A: AttrText, U>(
     state: &State<'_, T, A, U>,
     begun: &BegunOperation,
@@ -40,7 +40,7 @@ fn coming_here<T: IrText<A>, A: AttrText, U>(
     next_turn(state.ctx, begun)
 }
 
-/// An operation at another step.
+/// The same operation at another step of its format.
 fn at_step(begun: BegunOperation, step: usize) -> BegunOperation
     ensures { result ≡ record begun { step = step } }
 {
@@ -49,7 +49,7 @@ fn at_step(begun: BegunOperation, step: usize) -> BegunOperation
     begun
 }
 
-/// Reads a piece of an operation, behind a region.
+/// Parses a piece of an operation after its first region.
 fn piece_step<T: IrText<A>, A: AttrText, U>(
     s: &mut StateStream<'_, T, A, U>,
     names: &mut Names,
@@ -76,7 +76,7 @@ fn piece_step<T: IrText<A>, A: AttrText, U>(
     Ok(Some(Frame::Operation(begun)))
 }
 
-/// Begins the region of an operation that comes next.
+/// Begins the operation's region that comes next.
 fn region_step<T: IrText<A>, A: AttrText, U>(
     s: &mut StateStream<'_, T, A, U>,
     names: &mut Names,
@@ -112,7 +112,7 @@ fn region_step<T: IrText<A>, A: AttrText, U>(
     Ok(Some(Frame::Region(region)))
 }
 
-/// Begins one more region of an operation, or goes on behind the last.
+/// Begins one more region of an operation or, if there is none, goes on to the next step.
 fn regions_step<T: IrText<A>, A: AttrText, U>(
     s: &mut StateStream<'_, T, A, U>,
     names: &mut Names,
@@ -175,7 +175,7 @@ fn end_step<T: IrText<A>, A: AttrText, U>(
     Ok(frames.pop())
 }
 
-/// Goes on with an operation, by the step of its format that comes next.
+/// Continues an operation with the next step of its format.
 fn operation_step<T: IrText<A>, A: AttrText, U>(
     s: &mut StateStream<'_, T, A, U>,
     names: &mut Names,
@@ -205,7 +205,7 @@ fn operation_step<T: IrText<A>, A: AttrText, U>(
     }
 }
 
-/// Begins a block of a region, or ends the region where none stands.
+/// Begins a block of a region or, if there is none, ends the region.
 fn blocks_step<T: IrText<A>, A: AttrText, U>(
     s: &mut StateStream<'_, T, A, U>,
     names: &mut Names,
@@ -238,7 +238,7 @@ fn blocks_step<T: IrText<A>, A: AttrText, U>(
     Ok(Some(Frame::Block(block)))
 }
 
-/// Begins an operation of a block, or leaves the block where none stands.
+/// Begins an operation of a block or, if there is none, leaves the block.
 fn block_step<T: IrText<A>, A: AttrText, U>(
     s: &mut StateStream<'_, T, A, U>,
     names: &mut Names,
@@ -272,7 +272,7 @@ fn block_step<T: IrText<A>, A: AttrText, U>(
     Ok(Some(Frame::Operation(begun)))
 }
 
-/// Makes the turn of what is innermost, and answers what is next then.
+/// Makes one step for the innermost frame, and returns the frame that is innermost afterwards.
 pub(crate) fn step<T: IrText<A>, A: AttrText, U>(
     s: &mut StateStream<'_, T, A, U>,
     names: &mut Names,

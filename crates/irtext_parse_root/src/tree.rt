@@ -1,4 +1,4 @@
-//! An operation with all that nests in it, with names of its own.
+//! The parser for an operation with everything nested in it, with names of its own.
 ghost use Rattle.std.specs.Prelude.{◌≡◌, ℕ, List, ◌++◌, Some, cond, false, IfOk, IfErr, OnOk};
 ghost use Rattle.irtext_base.specs.Format.{Id};
 ghost use Rattle.irtext_base.specs.Stream.{after_failure};
@@ -28,8 +28,8 @@ use irtext_graph::held::HasGraph;
 use irtext_scopes::tracker::NameTracker;
 use irtext_state::parsable::{State, StateStream};
 
-/// What the context of a reading keeps, as this contract says of a call that changes nothing: each object stands in one place, all that
-/// stands was made before as many objects as there were, and the format of each operation is accepted.
+/// States, by its contract alone, what always holds of the state's context; the call changes nothing. Each object has at most one parent,
+/// every live object was created before the current count of created objects, and the format of each operation is accepted.
 pub(crate) fn context_keeps<T: IrText<A>, A: AttrText, U>(state: &State<'_, T, A, U>)
     ensures nest { Nested (children state.now.ctx.now.graph) (parent state.now.ctx.now.graph) }
     ensures holders { (c k : _) → parent state.now.ctx.now.graph c ≡ Some k → Stands state.now.ctx.now.graph k }
@@ -42,7 +42,7 @@ pub(crate) fn context_keeps<T: IrText<A>, A: AttrText, U>(state: &State<'_, T, A
     state.ctx.keeps_formats();
 }
 
-/// A committed fault fails the stream.
+/// Marks the stream as failed if the error is committed.
 pub(crate) fn failed_by<A>(stream: &mut TextStream, fault: &ParseFault<A>)
     ensures { stream.new ≡ cond fault.now.committed (after_failure stream.old) stream.old }
 {
@@ -51,8 +51,8 @@ pub(crate) fn failed_by<A>(stream: &mut TextStream, fault: &ParseFault<A>)
     }
 }
 
-/// Reads an operation with all that nests in it. What it made stays where it is refused. An index that was marked before is not marked
-/// again.
+/// Parses an operation with everything nested in it. On an error, the objects that were created stay in the context. A mark with an index
+/// that is already recorded is an error.
 pub fn tree_parse<T: IrText<A>, A: AttrText, U>(
     s: &mut StateStream<'_, T, A, U>,
 ) -> ParseResult<Ptr<Operation>, A>

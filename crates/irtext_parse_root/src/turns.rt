@@ -1,4 +1,4 @@
-//! The turns that the loop makes, with all that each gives it.
+//! The actions of the loop, each with its contract.
 ghost use Rattle.std.specs.Prelude.{◌≡◌, ◌≤◌, ◌∷◌, ℕ, List, false, true, length, is_some, IfOk, IfErr, IfSome, IsSome, OnOk, OnErr};
 ghost use Rattle.irtext_context.specs.Context.{operation, KeepsOlder};
 ghost use Rattle.irtext_graph.specs.Back.{IsClosedBelow};
@@ -33,7 +33,7 @@ use irtext_parse_nested::operation_end::operation_end;
 use irtext_parse_nested::regions::{region_begin, region_end};
 use irtext_state::parsable::StateStream;
 
-/// Begins an operation, the last of a block or outside of each region.
+/// Begins an operation: the last of a block, or one outside of every region.
 pub(crate) fn begin<T: IrText<A>, A: AttrText, U>(
     s: &mut StateStream<'_, T, A, U>,
     names: &mut Names,
@@ -56,7 +56,7 @@ pub(crate) fn begin<T: IrText<A>, A: AttrText, U>(
     operation_begin(s, names, block)
 }
 
-/// Reads a piece behind a region, by the next step of an operation that is open.
+/// Parses a piece after a region, by the next step of an open operation.
 pub(crate) fn go_on<T: IrText<A>, A: AttrText, U>(
     s: &mut StateStream<'_, T, A, U>,
     names: &mut Names,
@@ -110,7 +110,7 @@ pub(crate) fn end<T: IrText<A>, A: AttrText, U>(
     operation_end(s, names, begun)
 }
 
-/// Begins a region, the last of an operation, which is isolated from above or not.
+/// Begins a region, the last of an operation. `isolated` says whether the operation is isolated from above.
 pub(crate) fn enter<T: IrText<A>, A: AttrText, U>(
     s: &mut StateStream<'_, T, A, U>,
     names: &mut Names,

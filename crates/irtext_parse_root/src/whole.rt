@@ -1,4 +1,4 @@
-//! A whole text: a root, and white space up to the end.
+//! The parser for a whole text: a root, and white space up to the end.
 ghost use Rattle.std.specs.Prelude.{◌≡◌, [], IfOk, IfErr, OnErr};
 ghost use Rattle.irtext_base.specs.Own.{texts_of};
 ghost use Rattle.irtext_context.specs.Made.{SameObjects};
@@ -19,7 +19,8 @@ use irtext_read::irfmt::faults::commit_unexpected;
 use irtext_read::irfmt::parsers::skip_white_space;
 use irtext_state::parsable::StateStream;
 
-/// A root with its section, behind which nothing but white space is left. Where it is refused, what it made is given back.
+/// Parses a root with its section, as `root_parse` does, after which only white space may be left. Otherwise the error is `Unexpected` at
+/// the first other character: the end of the text was expected. On an error, the objects that were created are removed.
 pub fn whole_parse<T: IrText<A>, A: AttrText, U>(
     s: &mut StateStream<'_, T, A, U>,
 ) -> ParseResult<Ptr<Operation>, A>

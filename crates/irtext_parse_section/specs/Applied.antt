@@ -1,4 +1,5 @@
--- For callers: what items have once the entries of a section were applied: a location, attributes, and a block its label.
+-- For callers: what items have once the entries of a section were applied: a location, attributes, and for a block its label. An item is
+-- an operation or a block that carries a mark.
 use Rattle.std.specs.Prelude.{◌≡◌, ℕ, cond, not, is_some, List, [], ◌∷◌, Option, Some, None, flat_map, filter, nat_eq, ⊤}
 use Rattle.std.specs.Map.{lookup}
 use Rattle.std.specs.Option.{option_map}
@@ -27,12 +28,12 @@ use Rattle.irtext_parse_section.specs.declared.said.ItemEntry.{ItemEntry}
 
 -- ---- what entries give
 module _ {A : Type 0} (once : List (ℕ × AttrObj A)) where
-  -- the attribute that is given: the one that was written out, or the one that is written once, if there is one
+  -- the given attribute: the one in the entry, or the print-once attribute that it refers to, if there is one
   abbrev pub given_by : GivenAttr A → Option (Attribute A)
   given_by (given.Direct a) = Some (attribute_of a)
   given_by (given.Reference m) = option_map attribute_of (lookup (nat_eq m.index) once)
 
--- an attribute under a key, where there is one
+-- an attribute under a key, if there is one
 abbrev pub under : {A : Type 0} → Text → Option (Attribute A) → List (Text × Attribute A)
 under k None = []
 under k (Some a) = (k, a) ∷ []
@@ -47,7 +48,7 @@ module _ {A : Type 0} (once : List (ℕ × AttrObj A)) where
   all_stored pairs = flat_map stored_by pairs
 
 module _ {A : Type 0} where
-  -- all but the label
+  -- all attributes but the label
   abbrev pub no_label : List (Text × Attribute A) → List (Text × Attribute A)
   no_label es = filter (λ e. not (same_text e.0 block_label_key)) es
 
@@ -56,12 +57,12 @@ module _ {A : Type 0} where
   label_by None l = l
   label_by (Some a) l = elim a [ ident n ↦ Some n | _ ↦ l ]
 
-  -- the label that attributes give, the later of two, or else the one that is given
+  -- the label that attributes give, the last one if there are several, or else the one that is given
   abbrev pub label_in : Option Text → List (Text × Attribute A) → Option Text
   label_in l [] = l
   label_in l (e ∷ es) = label_in (cond (same_text e.0 block_label_key) (label_by (Some e.1) l) l) es
 
--- ---- what it does to a context
+-- ---- what entries do to a context
 module _ {T A : Type 0} where
   -- an operation has this location from now on, if one is given
   abbrev pub LocatesOperation : Ptr Operation → Option (Location A) → ContextView T A → ContextView T A → Type 0
@@ -73,13 +74,13 @@ module _ {T A : Type 0} where
     pub left : List (Text × AttrObj A)
     pub edits : EditsOperation old new p (with_attributes left)
 
-  -- these attributes were put into those of an operation, one after another
+  -- these attributes were stored in those of an operation, one after another
   pub record StoresOperation (p : Ptr Operation) (content : List (Text × Attribute A)) (old new : ContextView T A) : Type 0 where
     pub left : List (Text × AttrObj A)
     pub edits : EditsOperation old new p (with_attributes left)
     pub stored : (view : OperationView T A) → operation old p ≡ Some view → entries_of left ≡ put_all (entries_of view.attributes) content
 
-  -- an operation, where it stands, got a location, if one is given, and attributes
+  -- an operation, if it is live, got a location, if one is given, and attributes
   abbrev pub GivesOperation : Ptr Operation → Option (Location A) → List (Text × Attribute A) → ContextView T A → ContextView T A → Type 0
   GivesOperation p l content old new = cond (is_some (operation old p)) ((mid : ContextView T A) × LocatesOperation p l old mid × StoresOperation p content mid new) (new ≡ old)
 
@@ -93,7 +94,7 @@ module _ {T A : Type 0} where
     pub left : List (Text × AttrObj A)
     pub edits : EditsBlock old new p (with_block_attributes left)
 
-  -- these attributes were put into those of a block, one after another
+  -- these attributes were stored in those of a block, one after another
   pub record StoresBlock (p : Ptr BasicBlock) (content : List (Text × Attribute A)) (old new : ContextView T A) : Type 0 where
     pub left : List (Text × AttrObj A)
     pub edits : EditsBlock old new p (with_block_attributes left)
@@ -104,7 +105,7 @@ module _ {T A : Type 0} where
   LabelsBlock p None old new = new ≡ old
   LabelsBlock p (Some l) old new = EditsBlock old new p (with_label (Some l))
 
-  -- a block, where it stands, got a location, if one is given, attributes but for its label, and that label, if one is among them
+  -- a block, if it is live, got a location, if one is given, the attributes without the label, and the label, if one is among them
   abbrev pub GivesBlock : Ptr BasicBlock → Option (Location A) → List (Text × Attribute A) → ContextView T A → ContextView T A → Type 0
   GivesBlock p l content old new = cond (is_some (block old p))
       ((mid last : ContextView T A) × LocatesBlock p l old mid × StoresBlock p (no_label content) mid last × LabelsBlock p (label_in None content) last new) (new ≡ old)
@@ -114,22 +115,22 @@ module _ {T A : Type 0} where
   Gives (item.Operation p) l content old new = GivesOperation p l content old new
   Gives (item.Block b) l content old new = GivesBlock b l content old new
 
-  -- each item got what its entry gives, in the order of writing
+  -- each item got what its entry gives, in the order of the text
   abbrev pub GivesAll : List (ℕ × AttrObj A) → List (ItemEntry A) → ContextView T A → ContextView T A → Type 0
   GivesAll once [] old new = new ≡ old
   GivesAll once (e ∷ es) old new = (mid : ContextView T A) × Gives e.item e.location (all_stored once e.pairs.items) old mid × GivesAll once es mid new
 
-  -- an item is newer than a mark
+  -- an item is newer than a mark, which is a count of created objects
   abbrev pub IsNewer : ℕ → ContextView T A → Item → Type 0
   IsNewer mark c (item.Operation p) = before mark c.graph.operations p ≡ None
   IsNewer mark c (item.Block b) = before mark c.graph.blocks b ≡ None
 
-  -- the items of entries are
+  -- the items of the entries are newer than a mark
   abbrev pub ItemsAreNewer : ℕ → ContextView T A → List (ItemEntry A) → Type 0
   ItemsAreNewer mark c [] = ⊤
   ItemsAreNewer mark c (e ∷ es) = IsNewer mark c e.item × ItemsAreNewer mark c es
 
-  -- the items of marks are
+  -- the items of the marks of the text are newer than a mark
   abbrev pub AreNewer : ℕ → ContextView T A → List (ℕ × Item) → Type 0
   AreNewer mark c [] = ⊤
   AreNewer mark c (m ∷ ms) = IsNewer mark c m.1 × AreNewer mark c ms
@@ -144,7 +145,7 @@ module _ {T A : Type 0} where
       pub over : given_over paths location ≡ x
       pub gives : Gives item location content old new
 
-    -- so did the items of all these entries, in the order of writing
+    -- the items of all these entries got what their entries give, in the order of the text
     abbrev pub AppliesAll : List (Entry ℕ A (Written A)) → ContextView T A → ContextView T A → Type 0
     AppliesAll [] old new = new ≡ old
     AppliesAll (of_once m a ∷ es) old new = AppliesAll es old new

@@ -1,4 +1,4 @@
--- Between functions: what is wrong with the references of entries that were read, and what their check answers.
+-- Between functions: what is wrong with the references of the parsed entries, and the result of their check.
 use Rattle.std.specs.Prelude.{◌≡◌, ◌⊎◌, ℕ, Bool, cond, List, [], ◌∷◌, Option, Some, None, Result, Ok, Err, flat_map, nat_eq, ⊤}
 use Rattle.std.specs.Map.{lookup}
 use Rattle.irtext_base.specs.Text.{Text}
@@ -24,34 +24,34 @@ pub record Wrong : Type 0 where
   pub at : Place
 
 module _ {A : Type 0} where
-  -- what is wrong with a reference under a key, where this is the attribute that it names
+  -- what is wrong with a reference under a key, if this is the attribute that it refers to
   abbrev pub reference_wrong : Bool → Key → ℕ → Place → Option (AttrObj A) → List Wrong
   reference_wrong of_block key i at None = record { cause = UnknownPrintOnce i; at = at } ∷ []
   reference_wrong of_block key i at (Some a) = cond (rule_for of_block key.name (attribute_of a)) [] (record { cause = ReservedKey key.name; at = key.at } ∷ [])
 
-  -- what is wrong with a pair of the entry of a block, or of an operation, behind the last entry
+  -- what is wrong with a pair of the entry of a block, or of an operation, after the last entry
   abbrev pub pair_wrong : List (ℕ × AttrObj A) → Bool → Key × GivenAttr A → List Wrong
   pair_wrong once of_block (key, given.Direct a) = []
   pair_wrong once of_block (key, given.Reference m) = reference_wrong of_block key m.index m.at (lookup (nat_eq m.index) once)
 
-  -- so with pairs, one after another
+  -- what is wrong with pairs, one after another
   abbrev pub pairs_wrong : List (ℕ × AttrObj A) → Bool → List (Key × GivenAttr A) → List Wrong
   pairs_wrong once of_block pairs = flat_map (pair_wrong once of_block) pairs
 
-  -- and with entries
+  -- what is wrong with entries, one after another
   abbrev pub items_wrong : List (ℕ × AttrObj A) → List (ItemEntry A) → List Wrong
   items_wrong once items = flat_map (λ e. pairs_wrong once (is_block e.item) e.pairs.items) items
 
-  -- memory was refused, or the key is reserved, where it stands
+  -- an allocation failed, or the key is reserved, and the fault is at the key
   abbrev pub ReservesAt : Key → StreamView → ParseFault A → StreamView → Type 0
   ReservesAt key old fault new = StarvesHere itself replaced old fault new ⊎ RefusesAt itself replaced (fault_for (ReservedKey key.name)) key.at old fault new
 
-  -- memory was refused, or the fault is the first of these
+  -- an allocation failed, or the fault is the first of these
   abbrev pub RefusesFirst : List Wrong → StreamView → ParseFault A → StreamView → Type 0
   RefusesFirst [] old fault new = ⊥
   RefusesFirst (w ∷ ws) old fault new = StarvesHere itself replaced old fault new ⊎ RefusesAt itself replaced (fault_for w.cause) w.at old fault new
 
-  -- nothing is wrong, and the stream is as it was; or the first is refused, unless memory was
+  -- nothing is wrong, and the stream is unchanged; or the fault is the first of these, unless an allocation failed
   abbrev pub Checks : List Wrong → StreamView → Result ⊤ (ParseFault A) → StreamView → Type 0
   Checks ws old (Ok _) new = (ws ≡ []) × (new ≡ old)
   Checks ws old (Err fault) new = RefusesFirst ws old fault new

@@ -1,4 +1,4 @@
--- Between functions: what entries that were read stand for, over the paths that the context keeps, and what all of them are.
+-- Between functions: what the parsed entries represent, one by one and all together, with the paths that the context keeps.
 use Rattle.std.specs.Prelude.{◌≡◌, ◌≤◌, ℕ, true, false, cond, is_some, List, [], ◌∷◌, ◌++◌, length, Option, Some, None, Result, Vec, nat_eq, codes, ⊤}
 use Rattle.std.specs.Global.{Global}
 use Rattle.std.specs.Map.{lookup}
@@ -42,13 +42,13 @@ use Rattle.irtext_parse_section.specs.declared.said.Entries.{Entries}
 use Rattle.irtext_parse_section.specs.declared.said.Entries.TheVariants as said
 use Rattle.irtext_parse_section.specs.declared.said.NotedEntries.{NotedEntries}
 
--- the indices of earlier entries, where there are any
+-- the indices of earlier entries, if there are any
 abbrev pub earlier_indices : {X : Type 0} → Option (List (ℕ × X)) → List (ℕ × X)
 earlier_indices None = []
 earlier_indices (Some seen) = seen
 
 -- ---- one entry
--- what stands behind an entry's location
+-- what follows the location of an entry
 abbrev pub location_end_at : Reader ⊤
 location_end_at = spaced_at (codes "]") ▷ word (codes ",") ▷ space_at
 
@@ -56,23 +56,23 @@ location_end_at = spaced_at (codes "]") ▷ word (codes ",") ▷ space_at
 abbrev pub next_item : {X Y : Type 0} → List (ℕ × X) → List (ℕ × Y) → ℕ → Option X
 next_item marks seen i = cond (is_some (lookup (same_index i) seen)) None (lookup (same_index i) marks)
 
--- the head that was read has the index of the mark, which stands where it says
+-- the parsed head has the index of the mark, and is at its place
 abbrev pub IsHead : Text → EntryHead → Mark ℕ → Type 0
 IsHead text head mark = IsMark text head.mark mark
 
--- the item that carries the mark is known exactly where an item's entry goes on
+-- the item that carries the mark is known exactly if an item's entry continues
 pub record GoesOn (marks : List (ℕ × Item)) (rest : Text) (head : EntryHead) : Type 0 where
   pub known : is_some head.item ≡ begins_given rest
   pub carries : is_some head.item ≡ true → lookup (same_index head.mark.index) marks ≡ head.item
 
 module _ {A : Type 0} where
-  -- what was read of an item's entry stands for a location and pairs
+  -- what was parsed of an item's entry represents this location and these pairs
   pub record IsGivenOver (paths : List (List ℕ)) (text : Text) (read : Option (Location A) × Vec (Key × GivenAttr A) Global) (given : Option (Written A) × List (Name ℕ × section.Item ℕ A)) : Type 0 where
     pub known : known_given (length paths) read.0 ≡ true
     pub location : given_over paths read.0 ≡ given.0
     pub pairs : ArePairs text read.1 given.1
 
-  -- an item's entry that was read stands for one: its item carries the mark
+  -- the parsed entry of an item represents this one, and its item carries the mark
   pub record IsItemEntry (marks : List (ℕ × Item)) (paths : List (List ℕ)) (text : Text) (entry : ItemEntry A) (i : ℕ) (x : Option (Written A)) (ps : List (Name ℕ × section.Item ℕ A)) : Type 0 where
     pub item : lookup (same_index i) marks ≡ Some entry.item
     pub known : known_given (length paths) entry.location ≡ true
@@ -80,45 +80,45 @@ module _ {A : Type 0} where
     pub pairs : ArePairs text entry.pairs ps
 
   module _ (marks : List (ℕ × Item)) (paths : List (List ℕ)) (text : Text) where
-    -- an entry that was read stands for one
+    -- the parsed entry represents this entry
     abbrev pub IsEntry : ReadEntry A → Entry ℕ A (Written A) → Type 0
     IsEntry (read.OfItem i e) (of_item m x ps) = (i ≡ m.index) × IsItemEntry marks paths text e m.index x ps
     IsEntry (read.OfItem i e) (of_once m a) = ⊥
     IsEntry (read.OfOnce i b) (of_item m x ps) = ⊥
     IsEntry (read.OfOnce i b) (of_once m a) = (i ≡ m.index) × (attribute_of b ≡ a)
 
-    -- items' entries that were read stand for those among these
+    -- the parsed entries of items represent those of items among these
     abbrev pub AreItems : List (ItemEntry A) → List (Entry ℕ A (Written A)) → Type 0
     AreItems items [] = items ≡ []
     AreItems items (of_once m a ∷ es) = AreItems items es
     AreItems [] (of_item m x ps ∷ es) = ⊥
     AreItems (e ∷ items) (of_item m x ps ∷ es) = IsItemEntry marks paths text e m.index x ps × AreItems items es
 
-  -- the paths once that of an entry's location are kept, where the location is seen over the last of them
+  -- the paths, once those of an entry's location are kept; the location is given with the second list of paths
   abbrev pub entry_kept : List (List ℕ) → List (List ℕ) → ReadEntry A → List (List ℕ)
   entry_kept old new (read.OfItem i e) = given_kept old (given_over new e.location)
   entry_kept old new (read.OfOnce i b) = old
 
-  -- the paths once those of the locations of entries are kept, one entry after the other
+  -- the paths, once those of the locations of entries are kept, one entry after the other
   abbrev pub all_entries_kept : List (List ℕ) → List (Entry ℕ A (Written A)) → List (List ℕ)
   all_entries_kept paths [] = paths
   all_entries_kept paths (of_item m x ps ∷ es) = all_entries_kept (given_kept paths x) es
   all_entries_kept paths (of_once m a ∷ es) = all_entries_kept paths es
 
   -- ---- all entries
-  -- the entries of items, in the order of writing
+  -- the entries of items, in the order of the text
   abbrev pub items_of : Entries A → List (ItemEntry A)
   items_of said.Nothing = []
   items_of (said.Only e) = e ∷ []
   items_of (said.All es) = es.value.items.items
 
-  -- the attributes that are written once
+  -- the print-once attributes
   abbrev pub once_of : Entries A → List (ℕ × AttrObj A)
   once_of said.Nothing = []
   once_of (said.Only e) = []
   once_of (said.All es) = es.value.once.entries
 
-  -- the attributes that are written once are those of these entries, the last under each index
+  -- the print-once attributes are those of these entries, the last one for each index
   abbrev pub AreOnce : {X : Type 0} → List (ℕ × AttrObj A) → List (Entry ℕ A X) → Type 0
   AreOnce once es = (i : ℕ) → option_map attribute_of (lookup (nat_eq i) once) ≡ shared_attribute i es
 
@@ -126,50 +126,51 @@ module _ {A : Type 0} where
   abbrev pub AreSeen : {X : Type 0} → List (ℕ × ⊤) → List (Entry ℕ A X) → Type 0
   AreSeen seen es = (i : ℕ) → is_some (lookup (same_index i) seen) ≡ is_among i (indices es)
 
-  -- the entries of items that were read stand for those among these entries, and so do the attributes that are written once
+  -- the parsed entries of items represent those among these entries, and so do the print-once attributes
   pub record AreEntries (marks : List (ℕ × Item)) (paths : List (List ℕ)) (text : Text) (of_items : List (ItemEntry A)) (of_once : List (ℕ × AttrObj A)) (es : List (Entry ℕ A (Written A))) : Type 0 where
     pub items : AreItems marks paths text of_items es
     pub once : AreOnce of_once es
 
-  -- all that were read stand for these, and the context came from the one paths to the other by them
+  -- the parsed entries represent these, and they took the context from the old paths to the new ones
   pub record AreEntriesOver (marks : List (ℕ × Item)) (old paths : List (List ℕ)) (text : Text) (entries : Entries A) (es : List (Entry ℕ A (Written A))) : Type 0 where
     pub are : AreEntries marks paths text (items_of entries) (once_of entries) es
     pub kept : paths ≡ all_entries_kept old es
 
--- entries while more are read: those of items, their indices, and the attributes that are written once
+-- the entries so far: those of items, their indices, and the print-once attributes
 pub record Noted (A : Type 0) : Type 0 where
   pub items : List (ItemEntry A)
   pub seen : List (ℕ × ⊤)
   pub once : List (ℕ × AttrObj A)
 
 module _ {A : Type 0} where
-  -- those that are noted in vectors and maps
+  -- the entries so far, as the code has them
   abbrev pub noted : NotedEntries A → Noted A
   noted es = record { items = es.items.items; seen = es.seen; once = es.once.entries }
 
-  -- none
+  -- no entries
   abbrev pub nothing : Noted A
   nothing = record { items = []; seen = []; once = [] }
 
-  -- one
+  -- one entry
   abbrev pub one_noted : ReadEntry A → Noted A
   one_noted (read.OfItem i e) = record { items = e ∷ []; seen = (i, tt) ∷ []; once = [] }
   one_noted (read.OfOnce i a) = record { items = []; seen = []; once = (i, a) ∷ [] }
 
-  -- they stand for these, and the context came from the one paths to the other by them
+  -- the entries so far represent these, and they took the context from the old paths to the new ones
   pub record AreNoted (marks : List (ℕ × Item)) (old paths : List (List ℕ)) (text : Text) (entries : Noted A) (es : List (Entry ℕ A (Written A))) : Type 0 where
     pub are : AreEntries marks paths text entries.items entries.once es
     pub seen : AreSeen entries.seen es
     pub kept : paths ≡ all_entries_kept old es
 
-  -- an entry came to the others: an item's behind them, one that is written once in place of the one of its index, or else last
+  -- an entry was added to the others: that of an item as the last; a print-once attribute in place of the one with its index, or as the
+  -- last
   abbrev pub Notes : Noted A → ReadEntry A → Noted A → Type 0
   Notes old (read.OfItem i e) new = (new.items ≡ old.items ++ e ∷ []) × (lookup (same_index i) old.seen ≡ None → new.seen ≡ old.seen ++ (i, tt) ∷ []) × (new.once ≡ old.once)
   Notes old (read.OfOnce i a) new = (new.items ≡ old.items) × (new.seen ≡ old.seen) × (new.once ≡ insert_entry nat_eq old.once i a)
 
--- ---- how far their reading has come
--- Behind the section's first word these entries were read, in front of where the stream stands; what stands there completes what the
--- whole text is to the reader of entries.
+-- ---- how far the entries were parsed
+-- After the section's first word these entries were parsed, up to the current position of the stream. The outcome for the text that is
+-- left completes the outcome of the parser of entries for the whole text.
 pub record TextSoFar {A : Type 0} (attr : Text → Outcome (AttrView A)) (marks : List ℕ) (rules : ℕ → Rule A) (old now : StreamView) (found : List (Entry ℕ A (Written A))) : Type 0 where
   pub fine : old.failed ≡ false
   pub moves : Moves old now
@@ -177,8 +178,8 @@ pub record TextSoFar {A : Type 0} (attr : Text → Outcome (AttrView A)) (marks 
   pub enough : length now.rest ≤ room
   pub completes : demanded (entries_after attr marks rules (length old.rest) [] old.rest) ≡ prefixed moves.taken (entries_after attr marks rules room found now.rest)
 
--- The entries that were read so far stand for these of the text, and the context came to its paths by them. Nothing else of the state
--- changed.
+-- The entries that were parsed so far represent these of the text, and they took the context to its paths. The rest of the state is
+-- unchanged.
 pub record EntriesSoFar {T A U : Type 0} (attr : Text → Outcome (AttrView A)) (old now : StateStream T A U) (entries : Noted A) : Type 0 where
   pub rest : KeepsRest old.state now.state
   pub marks : marks_of now.state ≡ marks_of old.state
@@ -187,7 +188,7 @@ pub record EntriesSoFar {T A U : Type 0} (attr : Text → Outcome (AttrView A)) 
   pub are : AreNoted (marks_of old.state) old.state.ctx.now.paths now.state.ctx.now.paths (whole old.stream) entries found
   pub so_far : TextSoFar attr (indices_of (marks_of old.state)) (rules_of (marks_of old.state)) old.stream now.stream found
 
--- Behind what was read so far, the answer is all entries of the whole, or their fault.
+-- After what was parsed so far, the result is the list of all entries of the whole text, or its fault.
 abbrev pub MustGoOn : {T A U E : Type 0} → (Text → Outcome (AttrView A)) → Noted A → StateStream T A U → Result (Entries A) (ParseFault E) → StateStream T A U → Type 0
 MustGoOn {T} {A} {U} attr entries now result new = (old : StateStream T A U) → EntriesSoFar attr old now entries
     → MustMean itself replaced (AreEntriesOver (marks_of old.state) old.state.ctx.now.paths new.state.ctx.now.paths (whole old.stream))

@@ -13,13 +13,13 @@ use Rattle.irtext_grammar.specs.Grammar.Section.{Entry}
 use Rattle.irtext_grammar.specs.Grammar.Tree.{Mark}
 use Rattle.irtext_grammar.specs.Graphs.Build.{content, located, labelled, but_label, with_content}
 
--- the item carries this mark and no other, or none at all
+-- the item carries this mark and no other, or no mark at all
 abbrev pub CarriesOnly : List (ℕ × Item) → Item → Option (Mark ℕ) → Type 0
 CarriesOnly marks x None = (i : ℕ) → lookup (same_index i) marks ≡ Some x → ⊥
 CarriesOnly marks x (Some m) = (lookup (same_index m.index) marks ≡ Some x) × ((i : ℕ) → lookup (same_index i) marks ≡ Some x → i ≡ m.index)
 
 module _ {T A : Type 0} (es : List (Entry ℕ A (Written A))) (m : Option (Mark ℕ)) (c : ContextView T A) where
-  -- an operation stands as it stood, with what the entry of its mark gives it
+  -- an operation is unchanged, except that it has what the entry of its mark gives
   pub record OperationGiven (p : Ptr Operation) (view : OperationView T A) : Type 0 where
     pub after : OperationView T A
     pub is : operation c p ≡ Some after
@@ -29,7 +29,7 @@ module _ {T A : Type 0} (es : List (Entry ℕ A (Written A))) (m : Option (Mark 
     pub entries : entries_of after.attributes ≡ with_content (entries_of view.attributes) (content es m)
     pub location : location_over c.paths after.loc ≡ located (location_over c.paths view.loc) (content es m)
 
-  -- a block stands as it stood, with what the entry of its mark gives it
+  -- a block is unchanged, except that it has what the entry of its mark gives
   pub record BlockGiven (b : Ptr BasicBlock) (view : BlockView T A) : Type 0 where
     pub after : BlockView T A
     pub is : block c b ≡ Some after

@@ -1,4 +1,4 @@
--- What entries that were read stand for, and what applying them does
+-- What the parsed entries represent, and what applying them does
 pub mod Said
 pub mod Entries
 pub mod Checked

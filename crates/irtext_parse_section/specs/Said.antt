@@ -1,4 +1,4 @@
--- Between functions: what entries that were read stand for.
+-- Between functions: what the parsed entries represent.
 use Rattle.std.specs.Prelude.{◌≡◌, ℕ, Bool, true, false, cond, List, [], ◌∷◌, length, Option, Some, None, Result, Ok, Err, Vec}
 use Rattle.std.specs.Global.{Global}
 use Rattle.std.specs.Map.{lookup}
@@ -26,7 +26,7 @@ use Rattle.irtext_parse_pieces.specs.declared.entries.Key.{Key}
 use Rattle.irtext_parse_section.specs.declared.said.GivenAttr.{GivenAttr}
 use Rattle.irtext_parse_section.specs.declared.said.GivenAttr.TheVariants as given
 
--- what may stand under a key of the entry of a block, or of an operation
+-- what is allowed under a key of the entry of a block, or of an operation
 abbrev pub rule_for : {A : Type 0} → Bool → Rule A
 rule_for of_block = cond of_block keeps_label_key may_hold
 
@@ -35,48 +35,48 @@ abbrev pub is_block : Item → Bool
 is_block (item.Operation p) = false
 is_block (item.Block b) = true
 
--- what may stand in the entry of an item, if there is one
+-- what is allowed in the entry of an item, if there is one
 abbrev pub rule_of_item : {A : Type 0} → Option Item → Rule A
 rule_of_item None = rule_for false
 rule_of_item (Some x) = rule_for (is_block x)
 
--- what may stand in the entry of a mark, by the item that carries it
+-- what is allowed in the entry of a mark, by the item that carries it
 abbrev pub rules_of : {A : Type 0} → List (ℕ × Item) → ℕ → Rule A
 rules_of marks i = rule_of_item (lookup (same_index i) marks)
 
--- an attribute that was written out may stand under its key; nothing is known of a reference
+-- an attribute in the entry is allowed under its key; a reference always is
 abbrev pub stands_under : {A : Type 0} → Rule A → Text → GivenAttr A → Bool
 stands_under rule key (given.Direct a) = rule key (attribute_of a)
 stands_under rule key (given.Reference m) = true
 
--- what was read under a key stands for what is given there
+-- what was parsed under a key represents what is given there
 abbrev pub IsGiven : {A : Type 0} → Text → GivenAttr A → section.Item ℕ A → Type 0
 IsGiven text (given.Direct a) (direct b) = attribute_of a ≡ b
 IsGiven text (given.Direct a) (reference n) = ⊥
 IsGiven text (given.Reference m) (direct b) = ⊥
 IsGiven text (given.Reference m) (reference n) = IsMark text m n
 
--- a pair that was read stands for one
+-- a parsed pair represents this pair
 abbrev pub IsPair : {A : Type 0} → Text → Key × GivenAttr A → Name ℕ × section.Item ℕ A → Type 0
 IsPair text read pair = IsKey text read.0 pair.0 × IsGiven text read.1 pair.1
 
 module _ {A : Type 0} where
-  -- The same answer is given where its attribute may stand under its key: else the key is reserved, and the fault stands at the place.
+  -- The result is the same if its attribute is allowed under its key; otherwise the key is reserved, and the fault is at this place.
   abbrev pub Allows : Rule A → Place → Result (Key × GivenAttr A) (ParseFault A) → StreamView → Result (Key × GivenAttr A) (ParseFault A) → StreamView → Type 0
   Allows rule place (Ok p) old (Ok q) new = (stands_under rule p.0.name p.1 ≡ true) × (q ≡ p) × (new ≡ old)
   Allows rule place (Ok p) old (Err fault) new = (stands_under rule p.0.name p.1 ≡ false) × RefusesAt itself replaced (ReservedKey p.0.name) place old fault new
   Allows rule place (Err first) old (Ok q) new = ⊥
   Allows rule place (Err first) old (Err fault) new = (fault ≡ first) × (new ≡ old)
 
-  -- all that were read stand for these
+  -- the parsed pairs represent these
   abbrev pub ArePairs : Text → Vec (Key × GivenAttr A) Global → List (Name ℕ × section.Item ℕ A) → Type 0
   ArePairs text read pairs = Each (IsPair text) read.items pairs
 
-  -- the answer is the pairs that stand there, or their fault
+  -- the result is the list of pairs that comes next, or its fault
   abbrev pub MustPairs : (Text → Outcome (List (Name ℕ × section.Item ℕ A))) → StreamView → Result (Vec (Key × GivenAttr A) Global) (ParseFault A) → StreamView → Type 0
   MustPairs outcome old result new = MustMean itself replaced (ArePairs (whole old)) outcome old result new
 
-  -- behind a first pair, the answer is the pairs that stand there, or their fault
+  -- given a first pair, the result is the list of pairs that continues it, or its fault
   abbrev pub PairsBehind : (Text → Outcome (Name ℕ × section.Item ℕ A)) → Key × GivenAttr A → StreamView → Result (Vec (Key × GivenAttr A) Global) (ParseFault A) → StreamView → Type 0
   PairsBehind item first old result new = (pair : Name ℕ × section.Item ℕ A) → IsPair (whole old) first pair → old.failed ≡ false
       → MustPairs (λ t. items_after 44 item (length t) (pair ∷ []) t) old result new

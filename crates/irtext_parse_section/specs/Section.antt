@@ -1,4 +1,5 @@
--- For callers: what reading a section does: what it reads, and what each item has then.
+-- For callers: what parsing a section does: what it parses, and what each item has then. An item is an operation or a block that carries
+-- a mark.
 use Rattle.std.specs.Prelude.{◌≡◌, ℕ, List, []}
 use Rattle.irtext_base.specs.Text.{Text}
 use Rattle.irtext_base.specs.Answers.{Outcome, Read}
@@ -15,9 +16,8 @@ use Rattle.irtext_parse_section.specs.Applied.{AppliesAll}
 use Rattle.irtext_parse_section.specs.Entries.{all_entries_kept}
 use Rattle.irtext_parse_section.specs.Said.{rules_of}
 
--- A section stood where the stream stood, behind a root of these marks, and was read to where the stream stands now. The context keeps
--- the paths of the locations that its entries give, in the order of writing; then each item got what its entry gives; and no mark is
--- noted any more.
+-- A section was parsed from the old position of the stream to the new one, after a root with these marks. The context keeps the paths of
+-- the locations that the entries give, in the order of the text. Each item got what its entry gives, and no mark is recorded any more.
 pub record ReadsSection {T A U : Type 0} (attr : Text → Outcome (AttrView A)) (old new : StateStream T A U) : Type 0 where
   pub entries : List (Entry ℕ A (Written A))
   pub taken : Text

@@ -1,4 +1,5 @@
-//! What entries give, put where it belongs: locations, attributes and labels of the items that they are of.
+//! Applies what entries give: the locations, attributes and labels of their items. An item is an operation or a block that carries a
+//! mark.
 ghost use Rattle.std.specs.Prelude.{◌≡◌, ℕ, None, IsSome, IfOk, OnOk, [], ◌∷◌, option_map};
 ghost use Rattle.irtext_context.specs.Context.{KeepsOlder, operation, block};
 ghost use Rattle.irtext_graph.specs.Back.{IsClosedBelow};
@@ -22,7 +23,8 @@ use irtext_context::base::{
 use irtext_dict::base::AttributeDict;
 use std::alloc::{AllocError, Global};
 
-/// The attribute that is given: the one that was written out, or a copy of the one that is written once; none where no such is.
+/// Returns the given attribute: the one in the entry, or a copy of the print-once attribute that it refers to; `None` if there is no such
+/// attribute.
 fn attr_given<A: AttrText>(
     alloc: Global,
     once: &Once<A>,
@@ -40,7 +42,7 @@ fn attr_given<A: AttrText>(
     }
 }
 
-/// Puts an attribute under a key. It is refused only where memory is, where the attribute may stand there.
+/// Stores an attribute under a key. If the attribute is allowed there, fails only if an allocation fails.
 pub(crate) fn attr_stored<A: Drop>(
     attributes: &mut AttributeDict<A>,
     key: Identifier,
@@ -54,7 +56,7 @@ pub(crate) fn attr_stored<A: Drop>(
     Ok(())
 }
 
-/// Puts what a pair gives.
+/// Stores what a pair gives.
 fn pair_stored<A: AttrText>(
     alloc: Global,
     once: &Once<A>,
@@ -70,7 +72,7 @@ fn pair_stored<A: AttrText>(
     }
 }
 
-/// Puts what the pairs of an operation's entry give, one after another.
+/// Stores what the pairs of an operation's entry give, one after another.
 pub(crate) fn pairs_stored<A: AttrText>(
     alloc: Global,
     once: &Once<A>,
@@ -88,7 +90,7 @@ pub(crate) fn pairs_stored<A: AttrText>(
     Ok(())
 }
 
-/// The label that an attribute is, or else the one that is given.
+/// Returns the label that the attribute is, or else `label`.
 fn label_of<A: Drop>(attr: Option<AttrObj<A>>, label: Option<Identifier>) -> Option<Identifier>
     ensures { result ≡ label_by (option_map attribute_of attr) label }
 {
@@ -99,7 +101,7 @@ fn label_of<A: Drop>(attr: Option<AttrObj<A>>, label: Option<Identifier>) -> Opt
     }
 }
 
-/// Puts what a pair of a block's entry gives, or takes it for the block's label, under that key.
+/// Stores what a pair of a block's entry gives. Under the key of a label, returns it as the block's label instead.
 fn block_pair_stored<A: AttrText>(
     alloc: Global,
     once: &Once<A>,
@@ -118,7 +120,7 @@ fn block_pair_stored<A: AttrText>(
     Ok(label)
 }
 
-/// Puts what the pairs of a block's entry give, one after another, and answers the label that they give, the later of two.
+/// Stores what the pairs of a block's entry give, one after another. Returns the label that they give, the last one if there are several.
 pub(crate) fn block_pairs_stored<A: AttrText>(
     alloc: Global,
     once: &Once<A>,
@@ -136,7 +138,7 @@ pub(crate) fn block_pairs_stored<A: AttrText>(
     Ok(label)
 }
 
-/// Sets the location of an operation, where one is given.
+/// Sets the location of an operation, if one is given.
 pub(crate) fn operation_located<T: IrText<A>, A: AttrText>(
     ctx: &mut Context<T, A>,
     op: Ptr<Operation>,
@@ -151,7 +153,7 @@ pub(crate) fn operation_located<T: IrText<A>, A: AttrText>(
     }
 }
 
-/// Puts what pairs give into the attributes of an operation.
+/// Stores what the pairs give in the attributes of an operation.
 fn operation_stored<T: IrText<A>, A: AttrText>(
     ctx: &mut Context<T, A>,
     once: &Once<A>,
@@ -167,7 +169,7 @@ fn operation_stored<T: IrText<A>, A: AttrText>(
     pairs_stored(alloc, once, ctx.operation_attributes_mut(op), pairs)
 }
 
-/// Gives an operation, where it stands, a location and what pairs give.
+/// Gives an operation a location and what the pairs give, if the operation is live.
 #[inline(always)]
 fn operation_given<T: IrText<A>, A: AttrText>(
     ctx: &mut Context<T, A>,
@@ -187,7 +189,7 @@ fn operation_given<T: IrText<A>, A: AttrText>(
     operation_stored(ctx, once, op, pairs)
 }
 
-/// Sets the location of a block, where one is given.
+/// Sets the location of a block, if one is given.
 pub(crate) fn block_located<T: IrText<A>, A: AttrText>(
     ctx: &mut Context<T, A>,
     at: Ptr<BasicBlock>,
@@ -202,7 +204,7 @@ pub(crate) fn block_located<T: IrText<A>, A: AttrText>(
     }
 }
 
-/// Puts what pairs give into the attributes of a block, and answers the label that they give.
+/// Stores what the pairs give in the attributes of a block, and returns the label that they give.
 fn block_stored<T: IrText<A>, A: AttrText>(
     ctx: &mut Context<T, A>,
     once: &Once<A>,
@@ -219,7 +221,7 @@ fn block_stored<T: IrText<A>, A: AttrText>(
     block_pairs_stored(alloc, once, ctx.block_attributes_mut(at), pairs)
 }
 
-/// Sets the label of a block, where one is given.
+/// Sets the label of a block, if one is given.
 pub(crate) fn block_labelled<T: IrText<A>, A: AttrText>(
     ctx: &mut Context<T, A>,
     at: Ptr<BasicBlock>,
@@ -234,7 +236,7 @@ pub(crate) fn block_labelled<T: IrText<A>, A: AttrText>(
     }
 }
 
-/// Gives a block, where it stands, a location, and what pairs give: attributes, and its label.
+/// Gives a block a location, and the attributes and the label that the pairs give, if the block is live.
 #[inline(always)]
 fn block_given<T: IrText<A>, A: AttrText>(
     ctx: &mut Context<T, A>,
@@ -256,7 +258,7 @@ fn block_given<T: IrText<A>, A: AttrText>(
     Ok(())
 }
 
-/// Gives an item, where it stands, what its entry gives.
+/// Gives an item what its entry gives, if the item is live.
 #[inline(always)]
 pub(crate) fn item_given<T: IrText<A>, A: AttrText>(
     ctx: &mut Context<T, A>,
@@ -278,8 +280,7 @@ pub(crate) fn item_given<T: IrText<A>, A: AttrText>(
     }
 }
 
-/// Gives each item, where it stands, what its entry gives, in the order of writing. Where memory is refused, those before have been
-/// given theirs.
+/// Gives each live item what its entry gives, in the order of the text. If an allocation fails, the items before have got theirs.
 pub(crate) fn items_given<T: IrText<A>, A: AttrText>(
     ctx: &mut Context<T, A>,
     once: &Once<A>,

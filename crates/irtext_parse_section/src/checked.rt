@@ -1,4 +1,4 @@
-//! Whether references of entries are right, once all entries were read.
+//! Checks the references of entries, once all entries have been parsed.
 ghost use Rattle.std.specs.Prelude.{◌≡◌, option_copied, nat_eq};
 ghost use Rattle.std.specs.Map.{lookup};
 ghost use Rattle.irtext_parse_section.specs.Checked.{pair_wrong, pairs_wrong, items_wrong, ReservesAt, Checks};
@@ -11,14 +11,14 @@ use irtext_base::result::Cause;
 use irtext_parse_pieces::entries::Key;
 use irtext_read::irfmt::faults::{out_of_memory, refuse_at};
 
-/// The attribute that is written once under an index.
+/// Returns the print-once attribute with this index.
 pub(crate) fn written_once<A>(once: &Once<A>, index: usize) -> Option<&AttrObj<A>>
     ensures { option_copied result ≡ lookup (nat_eq index) once.now.entries }
 {
     once.get(&index)
 }
 
-/// The fault of a reserved key, where it stands.
+/// Returns the error for a reserved key, at the key.
 fn reserved<A>(stream: &mut TextStream, key: &Key) -> ParseFault<A>
     ensures { ReservesAt key.now stream.old result stream.new }
 {
@@ -28,7 +28,8 @@ fn reserved<A>(stream: &mut TextStream, key: &Key) -> ParseFault<A>
     }
 }
 
-/// Refuses a reference that names no attribute, at its `!`, or one to an attribute that may not stand under the key, at the key.
+/// Fails with `UnknownPrintOnce` at the `!` of a reference to no attribute, or with `ReservedKey` at the key if the attribute is not
+/// allowed under it.
 #[inline(always)]
 fn pair_checked<A: Drop>(
     stream: &mut TextStream,
@@ -50,7 +51,7 @@ fn pair_checked<A: Drop>(
     Err(reserved(stream, &pair.0))
 }
 
-/// Refuses the first of the references of one entry that is wrong.
+/// Fails at the first reference of one entry that is wrong.
 #[inline(always)]
 pub(crate) fn pairs_checked<A: Drop>(
     stream: &mut TextStream,
@@ -68,7 +69,7 @@ pub(crate) fn pairs_checked<A: Drop>(
     Ok(())
 }
 
-/// Refuses the first of the references of all entries that is wrong, in the order of writing.
+/// Fails at the first reference of all entries that is wrong, in the order of the text.
 pub(crate) fn items_checked<A: Drop>(
     stream: &mut TextStream,
     once: &Once<A>,

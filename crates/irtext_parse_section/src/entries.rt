@@ -1,4 +1,4 @@
-//! Reading of all entries of a section.
+//! Parsing of all entries of a section.
 ghost use Rattle.std.specs.Prelude.{◌≡◌, false, IfOk, OnOk, length, []};
 ghost use Rattle.irtext_read.specs.AttrTexts.{attr_at};
 ghost use Rattle.irtext_state.specs.States.{marks_of};
@@ -21,7 +21,7 @@ use irtext_state::parsable::StateStream;
 use irtext_state::parsable::numbered::Numbered;
 use std::alloc::{AllocError, Global};
 
-/// No entries. They take no memory yet.
+/// Returns an empty list of entries. Allocates nothing.
 fn none_noted<A>(alloc: Global) -> NotedEntries<A>
     ensures { noted result ≡ nothing }
 {
@@ -32,7 +32,7 @@ fn none_noted<A>(alloc: Global) -> NotedEntries<A>
     }
 }
 
-/// Notes an entry behind the others.
+/// Appends an entry.
 #[inline(always)]
 fn entry_noted<A: Drop>(
     entries: &mut NotedEntries<A>,
@@ -52,7 +52,7 @@ fn entry_noted<A: Drop>(
     Ok(())
 }
 
-/// A first entry, noted.
+/// Returns a list of one entry.
 fn first_noted<A: Drop>(alloc: Global, first: ReadEntry<A>) -> Result<NotedEntries<A>, AllocError>
     ensures { IfOk result (λ entries. noted entries ≡ one_noted first) }
 {
@@ -61,7 +61,7 @@ fn first_noted<A: Drop>(alloc: Global, first: ReadEntry<A>) -> Result<NotedEntri
     Ok(entries)
 }
 
-/// More entries behind those that are noted, as long as `!` follows, with white space behind each. A fault is committed.
+/// Parses more entries after those given, as long as `!` comes next, with white space after each. Every error is committed.
 fn more_parse<T: IrText<A>, A: AttrText, U>(
     s: &mut StateStream<'_, T, A, U>,
     entries: NotedEntries<A>,
@@ -86,7 +86,7 @@ fn more_parse<T: IrText<A>, A: AttrText, U>(
     }
 }
 
-/// A first entry, and more behind it, as long as `!` follows.
+/// Parses more entries after the first one, as long as `!` comes next.
 #[inline(never)]
 fn first_and_more<T: IrText<A>, A: AttrText, U>(
     s: &mut StateStream<'_, T, A, U>,
@@ -104,7 +104,7 @@ fn first_and_more<T: IrText<A>, A: AttrText, U>(
     }
 }
 
-/// Entries as long as `!` follows, with white space behind each. A fault is committed.
+/// Parses entries, as long as `!` comes next, with white space after each. Every error is committed.
 #[inline(always)]
 pub(crate) fn entries_parse<T: IrText<A>, A: AttrText, U>(
     s: &mut StateStream<'_, T, A, U>,

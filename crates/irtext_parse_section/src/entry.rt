@@ -1,4 +1,4 @@
-//! Reading of one entry: of an item, or of an attribute that is written once.
+//! Parsing of one entry: of an item, or of a print-once attribute. An item is an operation or a block that carries a mark.
 ghost use Rattle.std.specs.Prelude.{◌≡◌, IfOk, is_some, codes, option_copied};
 ghost use Rattle.std.specs.Map.{lookup};
 ghost use Rattle.irtext_read.specs.AttrTexts.{attr_at};
@@ -32,14 +32,14 @@ use irtext_read::irfmt::parsers::skip_white_space;
 use irtext_state::parsable::StateStream;
 use irtext_state::parsable::numbered::Numbered;
 
-/// The head of an entry: its index, and the item that carries that mark, where the entry goes on as an item's.
+/// The head of an entry: its index and, if the entry continues as an item's, the item that carries the mark of this index.
 #[derive(Clone, Copy)]
 pub(crate) struct EntryHead {
     pub mark: ReadMark,
     pub item: Option<Item>,
 }
 
-/// Whether an item's entry goes on here, and no attribute that is written once.
+/// Whether an item's entry continues here, and not a print-once attribute.
 #[inline(always)]
 fn begins_given(stream: &TextStream) -> bool
     ensures { result ≡ begins_given stream.now.rest }
@@ -50,7 +50,7 @@ fn begins_given(stream: &TextStream) -> bool
     }
 }
 
-/// `!` and digits behind it. Where they don't stand there, the stream stands anywhere in its text.
+/// Parses `!` and digits after it. If they do not come next, the new position of the stream is unspecified.
 #[inline(always)]
 fn marked_digits(stream: &mut TextStream) -> Option<u64>
     ensures { Looks (Gets index_at stream.old stream.new) stream.old result stream.new }
@@ -61,7 +61,7 @@ fn marked_digits(stream: &mut TextStream) -> Option<u64>
     digits_there(stream)
 }
 
-/// The same, as an index. Where it doesn't stand there, the stream stays.
+/// The same as an index. If it does not come next, the stream is unchanged.
 #[inline(always)]
 fn index_there(stream: &mut TextStream) -> Option<usize>
     ensures { Sees (Gets index_at stream.old stream.new) stream.old result stream.new }
@@ -76,7 +76,7 @@ fn index_there(stream: &mut TextStream) -> Option<usize>
     }
 }
 
-/// The same as `index_read`, for what is written in another way.
+/// The slow path of `index_read`, for other forms of the text.
 #[cold]
 #[inline(never)]
 fn index_missed<A>(stream: &mut TextStream) -> ParseResult<usize, A>
@@ -85,7 +85,7 @@ fn index_missed<A>(stream: &mut TextStream) -> ParseResult<usize, A>
     index_demanded(stream)
 }
 
-/// `!` and an index.
+/// Parses `!` and an index.
 #[inline(always)]
 fn index_read<A>(stream: &mut TextStream) -> ParseResult<usize, A>
     ensures { MustRead itself replaced (λ n. n) index_at stream.old result stream.new }
@@ -99,7 +99,7 @@ fn index_read<A>(stream: &mut TextStream) -> ParseResult<usize, A>
     }
 }
 
-/// The same as `equals_read`, for what is written in another way.
+/// The slow path of `equals_read`, for other forms of the text.
 #[cold]
 #[inline(never)]
 fn equals_missed<A>(stream: &mut TextStream) -> ParseResult<(), A>
@@ -108,7 +108,7 @@ fn equals_missed<A>(stream: &mut TextStream) -> ParseResult<(), A>
     spaced_text_demanded(stream, "=")
 }
 
-/// `=` with white space round it.
+/// Parses `=` with optional white space around it.
 #[inline(always)]
 fn equals_read<A>(stream: &mut TextStream) -> ParseResult<(), A>
     ensures { MustRead itself replaced (λ u. u) (spaced_at (codes "=")) stream.old result stream.new }
@@ -123,7 +123,7 @@ fn equals_read<A>(stream: &mut TextStream) -> ParseResult<(), A>
     equals_missed(stream)
 }
 
-/// An index, and `=` with white space round it. A fault is committed.
+/// Parses an index, and `=` with optional white space around it. Every error is committed.
 #[inline(always)]
 fn index_parse<A>(stream: &mut TextStream) -> ParseResult<ReadMark, A>
     ensures read { MustMean itself replaced (IsMark (whole stream.old)) entry_head_at stream.old result stream.new }
@@ -146,7 +146,7 @@ fn is_seen(seen: Option<&Numbered<()>>, index: usize) -> bool
     }
 }
 
-/// The item that carries a mark of this index, unless an earlier entry has the index.
+/// Returns the item that carries a mark of this index, unless an earlier entry has the index.
 #[inline(always)]
 fn next_item<T: IrText<A>, A: AttrText, U>(
     s: &StateStream<'_, T, A, U>,
@@ -161,8 +161,8 @@ fn next_item<T: IrText<A>, A: AttrText, U>(
     s.state.marked(index)
 }
 
-/// The head of an entry. Where it goes on as an item's, but no item carries its mark, or an earlier entry has it, it is refused at its
-/// `!`. A fault is committed.
+/// Parses the head of an entry. If it continues as an item's, but no item carries its mark or an earlier entry has its index, fails with
+/// `UnknownIndex` at its `!`. Every error is committed.
 #[inline(always)]
 fn head_parse<T: IrText<A>, A: AttrText, U>(
     s: &mut StateStream<'_, T, A, U>,
@@ -187,7 +187,7 @@ fn head_parse<T: IrText<A>, A: AttrText, U>(
     }
 }
 
-/// An entry, behind those of these indices. A fault is committed.
+/// Parses an entry; `seen` has the indices of the entries before it, if there are any. Every error is committed.
 #[inline(always)]
 pub(crate) fn entry_parse<T: IrText<A>, A: AttrText, U>(
     s: &mut StateStream<'_, T, A, U>,

@@ -1,4 +1,4 @@
-//! Reading of what an item's entry gives: a location, where one stands, and pairs.
+//! Parsing of what an item's entry gives: a location, if there is one, and pairs.
 ghost use Rattle.std.specs.Prelude.{◌≡◌, IfOk};
 ghost use Rattle.irtext_read.specs.AttrTexts.{attr_at};
 ghost use Rattle.irtext_read.specs.MustRead.{MustRead};
@@ -26,7 +26,7 @@ use irtext_read::irfmt::parsers::skip_white_space;
 /// What an item's entry gives: a location or none, and pairs.
 pub(crate) type Given<A> = (Option<Location<A>>, Vec<ReadPair<A>>);
 
-/// The same as `location_ended`, for what is written in another way.
+/// The slow path of `location_ended`, for other forms of the text.
 #[cold]
 #[inline(never)]
 fn end_missed<A>(stream: &mut TextStream) -> ParseResult<(), A>
@@ -38,7 +38,7 @@ fn end_missed<A>(stream: &mut TextStream) -> ParseResult<(), A>
     Ok(())
 }
 
-/// What stands behind an entry's location: `]` and `,`, with white space round them but between.
+/// Parses what follows the location of an entry: `]` and `,`, with optional white space around them but not between them.
 #[inline(always)]
 fn location_ended<A>(stream: &mut TextStream) -> ParseResult<(), A>
     ensures { MustRead itself replaced (λ u. u) location_end_at stream.old result stream.new }
@@ -53,7 +53,7 @@ fn location_ended<A>(stream: &mut TextStream) -> ParseResult<(), A>
     end_missed(stream)
 }
 
-/// The location of an entry, where it gives one.
+/// Parses the location of an entry, if it gives one.
 #[inline(always)]
 fn entry_location<T: IrText<A>, A: AttrText>(
     stream: &mut TextStream,
@@ -77,7 +77,7 @@ fn entry_location<T: IrText<A>, A: AttrText>(
     Ok(Some(location))
 }
 
-/// What the entry of a block, or of an operation, gives. A fault is committed.
+/// Parses what the entry of a block or of an operation gives. Every error is committed.
 #[inline(always)]
 pub(crate) fn given_parse<T: IrText<A>, A: AttrText>(
     stream: &mut TextStream,

@@ -1,5 +1,5 @@
-//! Reading of the section behind a root: the entries of the items that carry a mark, and attributes that are written once. All is read
-//! and checked first; then each item gets what its entry gives.
+//! Parsing of the section after a root: the entries of the items, and the print-once attributes. An item is an operation or a block that
+//! carries a mark. The section is first parsed and checked as a whole; then each item gets what its entry gives.
 #![tactic(auto)]
 
 mod applied;

@@ -1,4 +1,4 @@
-//! Reading of the pairs of an item's entry: what it gives under keys.
+//! Parsing of the pairs of an item's entry: what it gives under keys.
 ghost use Rattle.std.specs.Prelude.{◌≡◌, ◌++◌, ◌∷◌, [], IfOk};
 ghost use Rattle.irtext_read.specs.AttrTexts.{attr_at};
 ghost use Rattle.irtext_read.specs.ListOutcomes.{separated_at};
@@ -19,7 +19,7 @@ use irtext_read::irfmt::faults::{committed, next_is, out_of_memory, refuse, refu
 use irtext_read::irfmt::parsers::skip_white_space;
 use std::alloc::AllocError;
 
-/// What stands behind `=`: an attribute, or `!` and the index of one that is written once. A fault is committed.
+/// Parses what follows `=`: an attribute, or `!` and the index of a print-once attribute. Every error is committed.
 fn item_parse<A: AttrText>(stream: &mut TextStream) -> ParseResult<GivenAttr<A>, A>
     ensures { MustMean itself replaced (IsGiven (whole stream.old)) (item_at (attr_at A.IrText.reading)) stream.old result stream.new }
 {
@@ -35,7 +35,7 @@ fn item_parse<A: AttrText>(stream: &mut TextStream) -> ParseResult<GivenAttr<A>,
     Ok(GivenAttr::Direct(attr))
 }
 
-/// A key, `=`, and what is given under it. Where no key begins, the fault is uncommitted and the stream stays.
+/// Parses a key, `=`, and what is given under the key. If no key comes next, the error is uncommitted and the stream is unchanged.
 fn pair_parse<A: AttrText>(stream: &mut TextStream) -> ParseResult<ReadPair<A>, A>
     ensures { MayMean itself replaced (IsPair (whole stream.old)) (pair_at (attr_at A.IrText.reading)) stream.old result stream.new }
 {
@@ -45,7 +45,8 @@ fn pair_parse<A: AttrText>(stream: &mut TextStream) -> ParseResult<ReadPair<A>, 
     Ok((key, given))
 }
 
-/// The same answer, where its attribute may stand under its key. `at` is where the key stands.
+/// Returns the same result, unless it is a pair whose attribute is not allowed under its key: then fails with `ReservedKey` at `at`, the
+/// position of the key.
 fn allowed<A: AttrText>(
     stream: &mut TextStream,
     of_block: bool,
@@ -64,7 +65,7 @@ fn allowed<A: AttrText>(
     Ok((key, given))
 }
 
-/// A pair whose attribute may stand under its key.
+/// Parses a pair whose attribute is allowed under its key.
 fn kept_parse<A: AttrText>(stream: &mut TextStream, of_block: bool) -> ParseResult<ReadPair<A>, A>
     ensures { MayMean itself replaced (IsPair (whole stream.old))
         (λ t. kept (rule_for of_block) (pair_at (attr_at A.IrText.reading) t)) stream.old result stream.new }
@@ -74,7 +75,7 @@ fn kept_parse<A: AttrText>(stream: &mut TextStream, of_block: bool) -> ParseResu
     allowed(stream, of_block, at, answer)
 }
 
-/// The same pairs with one more behind them.
+/// Returns the pairs with one more appended.
 fn pushed<A: Drop>(
     found: Vec<ReadPair<A>>,
     pair: ReadPair<A>,
@@ -86,7 +87,7 @@ fn pushed<A: Drop>(
     Ok(found)
 }
 
-/// The pairs behind the first one, as long as `,` follows.
+/// Parses the pairs after the first one, as long as `,` comes next.
 fn more_pairs<A: AttrText>(
     stream: &mut TextStream,
     of_block: bool,
@@ -112,7 +113,8 @@ fn more_pairs<A: AttrText>(
     Ok(found)
 }
 
-/// Pairs with `,` between them and white space after each. Where no key begins, there are none. A fault is committed.
+/// Parses pairs that are separated by `,`, with white space after each. If no key comes next, returns an empty list. Every error is
+/// committed.
 fn list_parse<A: AttrText>(
     stream: &mut TextStream,
     of_block: bool,
@@ -133,7 +135,7 @@ fn list_parse<A: AttrText>(
     }
 }
 
-/// The pairs between brackets, with `,` between them.
+/// Parses pairs in brackets, separated by `,`.
 #[inline(never)]
 fn bracketed_parse<A: AttrText>(
     stream: &mut TextStream,
@@ -148,7 +150,8 @@ fn bracketed_parse<A: AttrText>(
     Ok(pairs)
 }
 
-/// Reads the pairs of the entry of a block, or of an operation, between brackets and with `,` between them. A fault is committed.
+/// Parses the pairs of the entry of a block or of an operation: in brackets, separated by `,`, as `[key = attribute]`. Every error is
+/// committed.
 #[inline(always)]
 pub(crate) fn pairs_parse<A: AttrText>(
     stream: &mut TextStream,

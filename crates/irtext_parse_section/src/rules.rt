@@ -1,4 +1,4 @@
-//! Which attributes may stand under the keys of an entry.
+//! Which attributes are allowed under the keys of an entry.
 ghost use Rattle.std.specs.Prelude.{◌≡◌};
 ghost use Rattle.irtext_base.specs.Format.{same_text, given_names_key, block_label_key};
 ghost use Rattle.irtext_grammar.specs.Contexts.Held.{attribute_of};
@@ -56,7 +56,7 @@ fn may_hold<A>(key: &Identifier, attr: &AttrObj<A>) -> bool
     !is_names_key(key) || is_given(attr)
 }
 
-/// Whether an attribute may stand under a key of the entry of a block, or of an operation.
+/// Whether an attribute is allowed under a key, in the entry of a block or of an operation.
 pub(crate) fn may_stand<A>(of_block: bool, key: &Identifier, attr: &AttrObj<A>) -> bool
     ensures { result ≡ rule_for of_block key.now (attribute_of attr.now) }
 {
@@ -69,7 +69,7 @@ pub(crate) fn may_stand<A>(of_block: bool, key: &Identifier, attr: &AttrObj<A>) 
     is_label(attr)
 }
 
-/// The same of what is given under the key: nothing is known of a reference yet.
+/// The same for what an entry gives under the key. A reference is allowed, since its attribute is not known yet.
 pub(crate) fn stands_under<A>(of_block: bool, key: &Identifier, given: &GivenAttr<A>) -> bool
     ensures { result ≡ stands_under (rule_for of_block) key.now given.now }
 {

@@ -1,4 +1,4 @@
-//! What entries say, as it was read.
+//! The parsed entries of a section. An item is an operation or a block that carries a mark.
 
 use indexmap::IndexMap;
 use irtext_base::base::AttrObj;
@@ -8,7 +8,7 @@ use irtext_parse_pieces::entries::Key;
 use irtext_parse_pieces::marks::ReadMark;
 use irtext_state::parsable::numbered::Numbered;
 
-/// What an entry gives under a key: an attribute, or a reference to one that is written once.
+/// What an entry gives under a key: an attribute, or a reference to a print-once attribute.
 #[derive(Drop)]
 pub enum GivenAttr<A> {
     Direct(AttrObj<A>),
@@ -26,18 +26,17 @@ pub struct ItemEntry<A> {
     pub pairs: Vec<ReadPair<A>>,
 }
 
-/// An entry, under its index: an item's, or that of an attribute that is written once.
+/// An entry with its index: that of an item, or of a print-once attribute.
 #[derive(Drop)]
 pub enum ReadEntry<A> {
     OfItem(usize, ItemEntry<A>),
     OfOnce(usize, AttrObj<A>),
 }
 
-/// Attributes that are written once, under their indices.
+/// The print-once attributes, by their indices.
 pub type Once<A> = IndexMap<usize, AttrObj<A>>;
 
-/// The entries that were read, where there may be any: those of items, in the order of writing, the indices of these, and the attributes
-/// that are written once.
+/// The parsed entries of a section: those of items in the order of the text, the indices of these, and the print-once attributes.
 #[derive(Drop)]
 pub struct NotedEntries<A> {
     pub items: Vec<ItemEntry<A>>,
@@ -45,7 +44,7 @@ pub struct NotedEntries<A> {
     pub once: Once<A>,
 }
 
-/// All entries of a section: none, that of one item, which takes no memory of its own, or any.
+/// All entries of a section: none; the entry of one item, which is stored without an allocation; or any others.
 #[derive(Drop)]
 pub enum Entries<A> {
     Nothing,

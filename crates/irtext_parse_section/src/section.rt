@@ -1,4 +1,4 @@
-//! The section behind a root.
+//! The parser of the section after a root.
 ghost use Rattle.std.specs.Prelude.{◌≡◌, ◌⊎◌, ℕ, true, false, IfErr, OnOk, OnErr};
 ghost use Rattle.irtext_context.specs.Context.{KeepsOlder};
 ghost use Rattle.irtext_graph.specs.Back.{IsClosedBelow};
@@ -27,7 +27,7 @@ use irtext_state::parsable::StateStream;
 use irtext_state::parsable::state::Noting;
 use std::alloc::AllocError;
 
-/// The section's first word, and all entries. A fault is committed.
+/// Parses the section's first word, and all entries. Every error is committed.
 fn all_parse<T: IrText<A>, A: AttrText, U>(
     s: &mut StateStream<'_, T, A, U>,
 ) -> ParseResult<Entries<A>, A>
@@ -44,7 +44,7 @@ fn all_parse<T: IrText<A>, A: AttrText, U>(
     entries_parse(s)
 }
 
-/// All of a section, whose references are right. A fault is committed.
+/// Parses a whole section, and checks its references. Every error is committed.
 fn right_parse<T: IrText<A>, A: AttrText, U>(
     s: &mut StateStream<'_, T, A, U>,
 ) -> ParseResult<Entries<A>, A>
@@ -62,7 +62,7 @@ fn right_parse<T: IrText<A>, A: AttrText, U>(
     Ok(entries)
 }
 
-/// Gives each item what its entry gives: all of them or, where memory is refused and marks were noted earlier, none.
+/// Gives each item what its entry gives. If an allocation fails and `earlier` is set, no item changes.
 fn entries_given<T: IrText<A>, A: AttrText, U>(
     s: &mut StateStream<'_, T, A, U>,
     entries: Entries<A>,
@@ -81,10 +81,11 @@ fn entries_given<T: IrText<A>, A: AttrText, U>(
     all_given(ctx, entries, earlier)
 }
 
-/// The section, which must stand there: it is read and checked as a whole; then each item that carries a mark gets what its entry gives,
-/// a location, attributes, and a block its label, and no mark is noted any more. `earlier` says whether marks were noted before the root
-/// was read: then a fault changes no item. Where none were, each item that carries a mark is the root's, and is given back with it: a
-/// fault of the text changes no item, and where memory is refused, items may have got what their entries give. A fault is committed.
+/// Parses the section, which is required, as `outlined_attributes: !0 = @[?], []`. It is parsed and checked as a whole. Then each item,
+/// which is an operation or a block that carries a mark, gets what its entry gives: a location, attributes, and for a block its label;
+/// and no mark is recorded any more. `earlier` says whether marks were recorded before the root was parsed; then an error changes no
+/// item. Otherwise every item is part of the root, which the caller removes on an error: an error of the text changes no item, but if an
+/// allocation fails, some items may have got what their entries give. Every error is committed, and leaves the recorded marks unchanged.
 pub fn section_parse<T: IrText<A>, A: AttrText, U>(
     s: &mut StateStream<'_, T, A, U>,
     earlier: bool,

@@ -1,4 +1,4 @@
-//! What entries give, put where it belongs: all of it or, where memory is refused, nothing.
+//! Applies what entries give, all of it; if an allocation fails, nothing. An item is an operation or a block that carries a mark.
 ghost use Rattle.std.specs.Prelude.{◌≡◌, ◌<◌, ◌++◌, ◌∷◌, ℕ, [], None, Some, IsSome, IfOk, OnOk, OnErr, option_map};
 ghost use Rattle.std.specs.Vec.{vec_len, vec_capacity};
 ghost use Rattle.irtext_context.specs.Context.{ContextView, KeepsOlder, EditsOperation, EditsBlock, operation, block, with_attributes, with_block_attributes};
@@ -22,7 +22,8 @@ use irtext_context::base::{
 use irtext_dict::base::AttributeDict;
 use std::alloc::{AllocError, Global};
 
-/// What an entry has done so far: the attributes that its item had before, where it stands; and what the item is still to get.
+/// An entry whose attributes have been stored: the attributes that its item had before, if the item is live, and what the item still has
+/// to get.
 #[derive(Drop)]
 pub(crate) struct Step<A> {
     pub item: Item,
@@ -31,7 +32,7 @@ pub(crate) struct Step<A> {
     pub label: Option<Identifier>,
 }
 
-/// Puts a copy of an entry into a dictionary.
+/// Stores a copy of an entry in a dictionary.
 fn entry_copied<A: AttrText>(
     alloc: Global,
     copy: &mut AttributeDict<A>,
@@ -45,7 +46,7 @@ fn entry_copied<A: AttrText>(
     attr_stored(copy, name, attr)
 }
 
-/// A copy of a dictionary, with equal attributes under its keys.
+/// Returns a copy of a dictionary, with equal attributes under its keys.
 fn copied<A: AttrText>(
     alloc: Global,
     attributes: &AttributeDict<A>,
@@ -60,7 +61,7 @@ fn copied<A: AttrText>(
     Ok(copy)
 }
 
-/// A copy of the attributes of an operation, with what pairs give put in.
+/// Returns a copy of the attributes of an operation, with what the pairs give stored in it.
 fn operation_next<T: IrText<A>, A: AttrText>(
     ctx: &Context<T, A>,
     once: &Once<A>,
@@ -76,7 +77,7 @@ fn operation_next<T: IrText<A>, A: AttrText>(
     Ok(next)
 }
 
-/// Gives an operation these attributes, and answers those that it had.
+/// Replaces the attributes of an operation, and returns those that it had.
 fn operation_swapped<T: IrText<A>, A: AttrText>(
     ctx: &mut Context<T, A>,
     op: Ptr<Operation>,
@@ -89,8 +90,8 @@ fn operation_swapped<T: IrText<A>, A: AttrText>(
     std::mem::replace(ctx.operation_attributes_mut(op), attributes)
 }
 
-/// Puts what pairs give into the attributes of an operation, where it stands, and answers those that it had. Where memory is refused
-/// nothing changes.
+/// Stores what the pairs give in the attributes of an operation, if it is live, and returns the attributes that it had. If an allocation
+/// fails, nothing changes.
 fn operation_stepped<T: IrText<A>, A: AttrText>(
     ctx: &mut Context<T, A>,
     once: &Once<A>,
@@ -108,7 +109,7 @@ fn operation_stepped<T: IrText<A>, A: AttrText>(
     Ok(Some(operation_swapped(ctx, op, next)))
 }
 
-/// A copy of the attributes of a block, with what pairs give put in, and the label that they give.
+/// Returns a copy of the attributes of a block, with what the pairs give stored in it, and the label that they give.
 fn block_next<T: IrText<A>, A: AttrText>(
     ctx: &Context<T, A>,
     once: &Once<A>,
@@ -125,7 +126,7 @@ fn block_next<T: IrText<A>, A: AttrText>(
     Ok((next, label))
 }
 
-/// Gives a block these attributes, and answers those that it had.
+/// Replaces the attributes of a block, and returns those that it had.
 fn block_swapped<T: IrText<A>, A: AttrText>(
     ctx: &mut Context<T, A>,
     at: Ptr<BasicBlock>,
@@ -138,8 +139,8 @@ fn block_swapped<T: IrText<A>, A: AttrText>(
     std::mem::replace(ctx.block_attributes_mut(at), attributes)
 }
 
-/// Puts what pairs give into the attributes of a block, where it stands, and answers those that it had, and the label that they give.
-/// Where memory is refused nothing changes.
+/// Stores what the pairs give in the attributes of a block, if it is live. Returns the attributes that it had, and the label that the
+/// pairs give. If an allocation fails, nothing changes.
 fn block_stepped<T: IrText<A>, A: AttrText>(
     ctx: &mut Context<T, A>,
     once: &Once<A>,
@@ -157,7 +158,7 @@ fn block_stepped<T: IrText<A>, A: AttrText>(
     Ok((Some(block_swapped(ctx, at, next)), label))
 }
 
-/// Puts what the pairs of an entry give into its item's attributes. Where memory is refused nothing changes.
+/// Stores what the pairs of an entry give in its item's attributes. If an allocation fails, nothing changes.
 fn step_made<T: IrText<A>, A: AttrText>(
     ctx: &mut Context<T, A>,
     once: &Once<A>,
@@ -194,7 +195,7 @@ fn step_made<T: IrText<A>, A: AttrText>(
     }
 }
 
-/// Notes a step behind the others. There is room for it.
+/// Appends a step to the others. There has to be capacity for it.
 fn noted<A: Drop>(steps: &mut Vec<Step<A>>, step: Step<A>)
     requires { vec_len steps.old < vec_capacity steps.old }
     ensures { steps.new.items ≡ steps.old.items ++ step ∷ [] }
@@ -205,7 +206,7 @@ fn noted<A: Drop>(steps: &mut Vec<Step<A>>, step: Step<A>)
     }
 }
 
-/// Puts what the pairs of an entry give into its item's attributes, and notes the step. Where memory is refused nothing changes.
+/// Stores what the pairs of an entry give in its item's attributes, and appends the step. If an allocation fails, nothing changes.
 fn step_taken<T: IrText<A>, A: AttrText>(
     ctx: &mut Context<T, A>,
     once: &Once<A>,
@@ -222,7 +223,7 @@ fn step_taken<T: IrText<A>, A: AttrText>(
     Ok(())
 }
 
-/// Gives an operation, where it stands, these attributes back.
+/// Sets the attributes of an operation back to these, if it is live.
 fn operation_undone<T: IrText<A>, A: AttrText>(
     ctx: &mut Context<T, A>,
     op: Ptr<Operation>,
@@ -236,7 +237,7 @@ fn operation_undone<T: IrText<A>, A: AttrText>(
     let _ = operation_swapped(ctx, op, before);
 }
 
-/// Gives a block, where it stands, these attributes back.
+/// Sets the attributes of a block back to these, if it is live.
 fn block_undone<T: IrText<A>, A: AttrText>(
     ctx: &mut Context<T, A>,
     at: Ptr<BasicBlock>,
@@ -250,7 +251,7 @@ fn block_undone<T: IrText<A>, A: AttrText>(
     let _ = block_swapped(ctx, at, before);
 }
 
-/// Gives an item the attributes back that it had before a step.
+/// Sets the attributes of an item back to those before a step.
 fn step_undone<T: IrText<A>, A: AttrText>(ctx: &mut Context<T, A>, step: Step<A>)
     ensures { PutsBack step.item step.before ctx.old ctx.new }
 {
@@ -269,7 +270,7 @@ fn step_undone<T: IrText<A>, A: AttrText>(ctx: &mut Context<T, A>, step: Step<A>
     }
 }
 
-/// Takes back what steps did, the last one first.
+/// Undoes the steps, the last one first.
 fn steps_undone<T: IrText<A>, A: AttrText>(ctx: &mut Context<T, A>, steps: Vec<Step<A>>)
     ensures { (mark : ℕ) (first : ContextView T A) → TakesAll mark steps.items first ctx.old → KeepsOlder mark first ctx.new }
 {
@@ -279,8 +280,8 @@ fn steps_undone<T: IrText<A>, A: AttrText>(ctx: &mut Context<T, A>, steps: Vec<S
     }
 }
 
-/// Puts what the pairs of entries give into the attributes of their items, in the order of writing. Where memory is refused all items
-/// have what they had.
+/// Stores what the pairs of the entries give in the attributes of their items, in the order of the text. If an allocation fails, all
+/// items have what they had before.
 fn steps_taken<T: IrText<A>, A: AttrText>(
     ctx: &mut Context<T, A>,
     once: &Once<A>,
@@ -299,7 +300,7 @@ fn steps_taken<T: IrText<A>, A: AttrText>(
     Ok(steps)
 }
 
-/// Gives an operation, where it stands, the location that it is still to get.
+/// Sets the location of an operation that is still missing, if the operation is live.
 fn operation_finished<T: IrText<A>, A: AttrText>(
     ctx: &mut Context<T, A>,
     op: Ptr<Operation>,
@@ -313,7 +314,7 @@ fn operation_finished<T: IrText<A>, A: AttrText>(
     operation_located(ctx, op, location);
 }
 
-/// Gives a block, where it stands, the location and the label that it is still to get.
+/// Sets the location and the label of a block that are still missing, if the block is live.
 fn block_finished<T: IrText<A>, A: AttrText>(
     ctx: &mut Context<T, A>,
     at: Ptr<BasicBlock>,
@@ -329,7 +330,7 @@ fn block_finished<T: IrText<A>, A: AttrText>(
     block_labelled(ctx, at, label);
 }
 
-/// Gives an item, where it stands, a location, where one is given. It takes no memory.
+/// Sets the location of an item if one is given and the item is live. Allocates nothing.
 #[inline(always)]
 pub(crate) fn item_located<T: IrText<A>, A: AttrText>(
     ctx: &mut Context<T, A>,
@@ -344,7 +345,7 @@ pub(crate) fn item_located<T: IrText<A>, A: AttrText>(
     }
 }
 
-/// Gives an item, where it stands, the location and the label that it is still to get. It takes no memory.
+/// Sets the location and the label of an item that are still missing, if the item is live. Allocates nothing.
 fn step_finished<T: IrText<A>, A: AttrText>(ctx: &mut Context<T, A>, step: Step<A>)
     ensures { Finishes step.item step.location step.label ctx.old ctx.new }
 {
@@ -360,7 +361,7 @@ fn step_finished<T: IrText<A>, A: AttrText>(ctx: &mut Context<T, A>, step: Step<
     }
 }
 
-/// Gives each item what it is still to get, in the order of writing.
+/// Sets the missing locations and labels of all items, in the order of the text.
 fn steps_finished<T: IrText<A>, A: AttrText>(ctx: &mut Context<T, A>, steps: Vec<Step<A>>)
     ensures { FinishesAll steps.items ctx.old ctx.new }
 {
@@ -369,8 +370,8 @@ fn steps_finished<T: IrText<A>, A: AttrText>(ctx: &mut Context<T, A>, steps: Vec
     }
 }
 
-/// Gives each item, where it stands, what its entry gives, in the order of writing. Where memory is refused all items are as they were:
-/// the attributes come first, since they alone take memory, and what an item had is kept beside until all have theirs.
+/// Gives each live item what its entry gives, in the order of the text. If an allocation fails, all items are unchanged. For this the
+/// attributes, which alone need allocations, are stored first, and the attributes that each item had are kept until all are stored.
 pub(crate) fn items_given_together<T: IrText<A>, A: AttrText>(
     ctx: &mut Context<T, A>,
     once: &Once<A>,

@@ -1,4 +1,4 @@
-//! All entries of a section: their check, and what they give.
+//! All entries of a section: checks them, and applies what they give.
 ghost use Rattle.std.specs.Prelude.{◌≡◌, ℕ, true, [], ◌∷◌, IfOk, OnOk, OnErr};
 ghost use Rattle.irtext_context.specs.Context.{KeepsOlder};
 ghost use Rattle.irtext_graph.specs.Back.{IsClosedBelow};
@@ -17,7 +17,7 @@ use irtext_base::text::{AttrText, IrText};
 use irtext_context::base::Context;
 use std::alloc::{AllocError, Global};
 
-/// Refuses the first of the references of the only entry: no attribute is written once.
+/// Fails at the first reference of the only entry: there are no print-once attributes.
 fn only_checked<A: Drop>(stream: &mut TextStream, entry: &ItemEntry<A>) -> ParseResult<(), A>
     ensures { Checks (items_wrong [] (entry.now ∷ [])) stream.old result stream.new }
 {
@@ -28,7 +28,7 @@ fn only_checked<A: Drop>(stream: &mut TextStream, entry: &ItemEntry<A>) -> Parse
     pairs_checked(stream, &once, is_block(entry.item), entry.pairs.as_slice())
 }
 
-/// Refuses the first of the references of all entries that is wrong, in the order of writing.
+/// Fails at the first reference of all entries that is wrong, in the order of the text.
 #[inline(always)]
 pub(crate) fn entries_checked<A: Drop>(
     stream: &mut TextStream,
@@ -43,7 +43,7 @@ pub(crate) fn entries_checked<A: Drop>(
     }
 }
 
-/// A vector of one entry.
+/// Returns a vector of one entry.
 fn one_item<A: Drop>(alloc: Global, entry: ItemEntry<A>) -> Result<Vec<ItemEntry<A>>, AllocError>
     ensures { IfOk result (λ items. items.items ≡ entry ∷ []) }
 {
@@ -52,7 +52,8 @@ fn one_item<A: Drop>(alloc: Global, entry: ItemEntry<A>) -> Result<Vec<ItemEntry
     Ok(items)
 }
 
-/// Gives the item of the only entry, where it stands, what the entry gives with its pairs: where memory is refused and `earlier`, nothing.
+/// Gives the item of the only entry what the entry gives, if the item is live. If an allocation fails and `earlier` is set, nothing
+/// changes.
 #[inline(never)]
 fn only_stored<T: IrText<A>, A: AttrText>(
     ctx: &mut Context<T, A>,
@@ -73,7 +74,7 @@ fn only_stored<T: IrText<A>, A: AttrText>(
     item_given(ctx, &once, entry)
 }
 
-/// The same of an entry with pairs or without: without, it takes no memory.
+/// The same for an entry with or without pairs. Without pairs nothing is allocated.
 #[inline(always)]
 fn only_given<T: IrText<A>, A: AttrText>(
     ctx: &mut Context<T, A>,
@@ -92,8 +93,7 @@ fn only_given<T: IrText<A>, A: AttrText>(
     only_stored(ctx, entry, earlier)
 }
 
-/// Gives each item of entries that are noted, where it stands, what its entry gives: all of them or, where memory is refused and
-/// `earlier`, none.
+/// Gives each live item of the entries what its entry gives. If an allocation fails and `earlier` is set, no item changes.
 fn many_given<T: IrText<A>, A: AttrText>(
     ctx: &mut Context<T, A>,
     entries: NotedEntries<A>,
@@ -115,7 +115,7 @@ fn many_given<T: IrText<A>, A: AttrText>(
     items_given(ctx, &once, items)
 }
 
-/// The same of all entries.
+/// The same for all entries of a section.
 #[inline(always)]
 pub(crate) fn all_given<T: IrText<A>, A: AttrText>(
     ctx: &mut Context<T, A>,

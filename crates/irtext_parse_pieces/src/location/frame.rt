@@ -1,29 +1,29 @@
-//! What the reader of locations has in its hands: the locations that are open, and how far it came in the innermost.
+//! The stack of the parser of locations: the open locations, and how far the innermost was parsed.
 
 use irtext_base::base::AttrObj;
 use irtext_base::location::Location;
 
-/// A location in which another one stands: what was read of it in front of that.
+/// A location that contains another one: what was parsed of it before that one.
 #[derive(Drop)]
 pub(crate) enum Frame<A> {
     /// The name of the location inside.
     Named(String),
-    /// Nothing in front of a callee's location.
+    /// A call site before its callee's location.
     Callee,
-    /// A callee's location, in front of its caller's.
+    /// A call site before its caller's location, with its callee's.
     Caller(Location<A>),
-    /// Locations in front of one more, as one.
+    /// A fused location before its next location: its metadata and the locations so far.
     Fused {
         metadata: Box<Option<AttrObj<A>>>,
         locations: Vec<Location<A>>,
     },
 }
 
-/// How far a location was read.
+/// How far a location was parsed.
 #[derive(Drop)]
 pub(crate) enum Progress<A> {
     /// To its end.
     Whole(Location<A>),
-    /// Up to where another location stands in it.
+    /// Up to a location inside of it.
     Inside(Frame<A>),
 }

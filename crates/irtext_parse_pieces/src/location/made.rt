@@ -1,4 +1,4 @@
-//! Locations made of those that stand inside them.
+//! Constructors of locations that contain other locations.
 ghost use Rattle.std.specs.Prelude.{◌≡◌, map, string_bytes, IfOk};
 ghost use Rattle.irtext_base.specs.Locations.{location_view, attr_view_in, in_row, fused, named, call_site};
 ghost use Rattle.irtext_outcomes.specs.Readers.NewPaths.{AnswersMade, Makes};
@@ -47,7 +47,7 @@ fn call_site<A: Drop>(
     Ok(Location::CallSite { callee, caller })
 }
 
-/// The answer where what was read is put together: a fault where memory was refused.
+/// Returns the location that was made, or the error `Memory` if an allocation failed.
 fn answered<A>(
     stream: &mut TextStream,
     made: Result<Location<A>, AllocError>,
@@ -60,7 +60,7 @@ fn answered<A>(
     }
 }
 
-/// Several locations as one.
+/// Makes a fused location.
 pub(crate) fn fused_made<A: Drop>(
     stream: &mut TextStream,
     metadata: Box<Option<AttrObj<A>>>,
@@ -72,7 +72,7 @@ pub(crate) fn fused_made<A: Drop>(
     answered(stream, made)
 }
 
-/// A name for a location.
+/// Makes a named location.
 pub(crate) fn named_made<A: Drop>(
     stream: &mut TextStream,
     name: String,
@@ -84,7 +84,7 @@ pub(crate) fn named_made<A: Drop>(
     answered(stream, made)
 }
 
-/// A callee's location with its caller's.
+/// Makes a call site of a callee's and a caller's location.
 pub(crate) fn call_site_made<A: Drop>(
     stream: &mut TextStream,
     callee: Location<A>,

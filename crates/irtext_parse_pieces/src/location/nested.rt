@@ -1,4 +1,4 @@
-//! Reading of locations of every kind. The context keeps the paths of their files from then on.
+//! Parsing of locations of every kind. The context keeps the paths of their files.
 ghost use Rattle.std.specs.Prelude.{◌≡◌, false, IfOk, map, string_bytes};
 ghost use Rattle.irtext_base.specs.Text.{begins};
 ghost use Rattle.irtext_base.specs.Locations.{attr_view, attr_view_in, in_row, location_view};
@@ -29,7 +29,7 @@ use irtext_read::irfmt::demanded::{spaced_text_demanded, text_demanded};
 use irtext_read::irfmt::faults::{commit, committed, next_is, out_of_memory, refuse, unexpected};
 use irtext_read::irfmt::parsers::{attr_parse, skip_white_space};
 
-/// Whether a source begins here.
+/// Whether the next character begins a source.
 pub(crate) fn begins_source(stream: &TextStream) -> bool
     ensures { result ≡ begins begins_source stream.now.rest }
 {
@@ -39,7 +39,7 @@ pub(crate) fn begins_source(stream: &TextStream) -> bool
     }
 }
 
-/// Whether a location begins here.
+/// Whether the next character begins a location.
 pub(crate) fn begins_location(stream: &TextStream) -> bool
     ensures { result ≡ begins begins_location stream.now.rest }
 {
@@ -49,7 +49,7 @@ pub(crate) fn begins_location(stream: &TextStream) -> bool
     }
 }
 
-/// An attribute, which must stand there.
+/// Parses an attribute, which is required: every error is committed.
 fn attr_demanded<A: AttrText>(stream: &mut TextStream) -> ParseResult<AttrObj<A>, A>
     ensures { MustRead itself replaced attr_view (attr_at A.IrText.reading) stream.old result stream.new }
 {
@@ -57,7 +57,7 @@ fn attr_demanded<A: AttrText>(stream: &mut TextStream) -> ParseResult<AttrObj<A>
     committed(stream, answer)
 }
 
-/// The attribute between `<` and `>`, where `<` stands.
+/// Parses an attribute in `<` and `>` if `<` comes next; otherwise returns `None`.
 fn metadata_demanded<A: AttrText>(stream: &mut TextStream) -> ParseResult<Option<AttrObj<A>>, A>
     ensures { MustRead itself replaced attr_view_in (metadata_at (attr_at A.IrText.reading)) stream.old result stream.new }
 {
@@ -75,7 +75,7 @@ fn metadata_demanded<A: AttrText>(stream: &mut TextStream) -> ParseResult<Option
     Ok(Some(attr))
 }
 
-/// A name, and what stands in front of the location that it names.
+/// Parses a name, and what comes before the location that it names.
 fn name_demanded<A>(stream: &mut TextStream) -> ParseResult<String, A>
     ensures { MustRead itself replaced (λ s. string_bytes s) name_at stream.old result stream.new }
 {
@@ -89,7 +89,7 @@ fn name_demanded<A>(stream: &mut TextStream) -> ParseResult<String, A>
     Ok(name)
 }
 
-/// Appends a location to a row, and passes the white space behind it.
+/// Appends a location to a list, and consumes the white space after it.
 fn push_location<A: Drop>(
     stream: &mut TextStream,
     found: &mut Vec<Location<A>>,
@@ -104,7 +104,7 @@ fn push_location<A: Drop>(
     Ok(())
 }
 
-/// Up to the next location of a row.
+/// A fused location, parsed up to its next location.
 fn row_opened<A>(metadata: Box<Option<AttrObj<A>>>, locations: Vec<Location<A>>) -> Progress<A>
     ensures { result ≡ Inside (Fused metadata locations) }
 {
@@ -114,7 +114,7 @@ fn row_opened<A>(metadata: Box<Option<AttrObj<A>>>, locations: Vec<Location<A>>)
     })
 }
 
-/// The end of a row, which makes several locations one.
+/// Parses the end of a fused location, and makes it.
 fn row_ended<A: Drop>(
     stream: &mut TextStream,
     metadata: Box<Option<AttrObj<A>>>,
@@ -128,7 +128,7 @@ fn row_ended<A: Drop>(
     Ok(Progress::Whole(location))
 }
 
-/// Several locations as one, up to the first.
+/// Parses a fused location up to its first location.
 fn fused_opened<A: AttrText>(stream: &mut TextStream) -> ParseResult<Progress<A>, A>
     ensures { ReadsProgress (fused_opening_at (attr_at A.IrText.reading)) stream.old result stream.new }
 {
@@ -147,7 +147,7 @@ fn fused_opened<A: AttrText>(stream: &mut TextStream) -> ParseResult<Progress<A>
     row_ended(stream, metadata, locations)
 }
 
-/// What stands in front of a callee's location.
+/// Parses what comes before a callee's location.
 fn call_site_head<A>(stream: &mut TextStream) -> ParseResult<(), A>
     ensures { MustRead itself replaced (λ u. u) call_site_head_at stream.old result stream.new }
 {
@@ -155,7 +155,7 @@ fn call_site_head<A>(stream: &mut TextStream) -> ParseResult<(), A>
     spaced_text_demanded(stream, "(")
 }
 
-/// A location, which must stand there, up to the first that stands in it.
+/// Parses a location, which is required, up to the first location inside of it.
 fn location_opened<T: IrText<A>, A: AttrText>(
     stream: &mut TextStream,
     ctx: &mut Context<T, A>,
@@ -190,7 +190,7 @@ fn location_opened<T: IrText<A>, A: AttrText>(
     Err(commit(stream, fault))
 }
 
-/// What stands behind a location in a row: `,` in front of one more, or the row's end.
+/// Parses what follows a location in a fused location: `,` before one more, or the end.
 fn row_behind<A: AttrText>(
     stream: &mut TextStream,
     metadata: Box<Option<AttrObj<A>>>,
@@ -209,7 +209,7 @@ fn row_behind<A: AttrText>(
     row_ended(stream, metadata, locations)
 }
 
-/// What stands behind a location in another, up to that one's end or to the next that stands in it.
+/// Parses what follows a location inside of another one, up to the end of that one or to its next location.
 fn location_behind<A: AttrText>(
     stream: &mut TextStream,
     frame: Frame<A>,
@@ -240,7 +240,7 @@ fn location_behind<A: AttrText>(
     }
 }
 
-/// A location of any kind, which must stand there.
+/// Parses a location of any kind, which is required: every error is committed.
 #[inline(never)]
 fn nested_demanded<T: IrText<A>, A: AttrText>(
     stream: &mut TextStream,
@@ -276,7 +276,8 @@ fn nested_demanded<T: IrText<A>, A: AttrText>(
     }
 }
 
-/// A location, which must stand there.
+/// Parses a location of any kind, which is required: every error is committed. The context keeps the paths of its files, also on an
+/// error.
 #[inline(always)]
 pub fn location_demanded<T: IrText<A>, A: AttrText>(
     stream: &mut TextStream,
@@ -293,7 +294,8 @@ pub fn location_demanded<T: IrText<A>, A: AttrText>(
     nested_demanded(stream, ctx)
 }
 
-/// A location, which may be missing.
+/// Parses a location of any kind, as `"a.mlir": line: 1, column: 2`. If the next character begins no location, the error is `Unexpected`,
+/// uncommitted, and the stream is unchanged; every other error is committed. The context keeps the paths of its files, also on an error.
 pub fn location_parse<T: IrText<A>, A: AttrText>(
     stream: &mut TextStream,
     ctx: &mut Context<T, A>,

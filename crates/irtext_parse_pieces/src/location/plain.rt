@@ -1,4 +1,4 @@
-//! Numbers, lines and columns as they are mostly written: one space behind each `:` and `,`, and no signs.
+//! Numbers, lines and columns in their usual form: one space after each `:` and `,`, and no signs.
 ghost use Rattle.std.specs.Prelude.{FitsSigned};
 ghost use Rattle.std.specs.Int.{w32};
 ghost use Rattle.irtext_read.specs.Tokens.{integer_at};
@@ -10,7 +10,8 @@ use irtext_read::irfmt::parsers::FromStrRadix;
 use irtext_read::irfmt::parsers::class::Class;
 use irtext_read::irfmt::parsers::digits::{Radix, take_digits};
 
-/// The number that digits write here, where it fits 64 bits. Where there is none, the stream stands anywhere in its text.
+/// Parses the digits that come next, and returns their number if it fits 64 bits. If there is none, the new position of the stream is
+/// unspecified.
 #[inline(always)]
 pub fn digits_there(stream: &mut TextStream) -> Option<u64>
     ensures { Looks (λ n. TakesDigits stream.old n stream.new) stream.old result stream.new }
@@ -21,7 +22,7 @@ pub fn digits_there(stream: &mut TextStream) -> Option<u64>
     take_digits(stream, Radix::Decimal)
 }
 
-/// The number that digits write here, where it fits 32 bits with a sign.
+/// Parses the digits that come next, and returns their number if it fits 32 bits with a sign.
 #[inline(always)]
 fn number_there(stream: &mut TextStream) -> Option<i32>
     ensures { Looks (λ z. TakesNumber integer_at stream.old z stream.new × FitsSigned w32 z) stream.old result stream.new }
@@ -30,7 +31,7 @@ fn number_there(stream: &mut TextStream) -> Option<i32>
     i32::from_magnitude(false, magnitude)
 }
 
-/// `:` and a line.
+/// Parses `:` and a line.
 #[inline(always)]
 fn line_there(stream: &mut TextStream) -> Option<i32>
     ensures { Looks (GetsInteger line_at stream.old stream.new) stream.old result stream.new }
@@ -41,7 +42,7 @@ fn line_there(stream: &mut TextStream) -> Option<i32>
     number_there(stream)
 }
 
-/// `,` and a column.
+/// Parses `,` and a column.
 #[inline(always)]
 fn column_there(stream: &mut TextStream) -> Option<i32>
     ensures { Looks (GetsInteger column_at stream.old stream.new) stream.old result stream.new }
@@ -52,7 +53,7 @@ fn column_there(stream: &mut TextStream) -> Option<i32>
     number_there(stream)
 }
 
-/// `:`, a line and a column.
+/// Parses `:`, a line and a column.
 #[inline(always)]
 fn both_there(stream: &mut TextStream) -> Option<SourcePosition>
     ensures { Looks (Gets behind_source_at stream.old stream.new) stream.old result stream.new }
@@ -62,7 +63,7 @@ fn both_there(stream: &mut TextStream) -> Option<SourcePosition>
     Some(SourcePosition { line, column })
 }
 
-/// `:`, a line and a column, where they are written so. Where they aren't, the stream stays.
+/// Parses `:`, a line and a column in this form. Otherwise returns `None`, and the stream is unchanged.
 #[inline(always)]
 pub(crate) fn position_there(stream: &mut TextStream) -> Option<SourcePosition>
     ensures { Sees (Gets behind_source_at stream.old stream.new) stream.old result stream.new }

@@ -1,4 +1,4 @@
-//! Reading of lines and columns.
+//! Parsing of lines and columns.
 ghost use Rattle.irtext_base.specs.Faults.{characters};
 ghost use Rattle.irtext_read.specs.MustRead.{MustRead};
 ghost use Rattle.irtext_outcomes.specs.Readers.Positions.{labelled_at, position_at};
@@ -9,7 +9,7 @@ use crate::location::plain::position_there;
 use irtext_base::parsable::{CharStream, ParseResult, SourcePosition, TextStream};
 use irtext_read::irfmt::demanded::{i32_demanded, spaced_text_demanded, text_demanded};
 
-/// A word, `:` and a number.
+/// Parses a word, `:` and a number.
 fn labelled_number<S: CharStream, A>(stream: &mut S, word: &str) -> ParseResult<i32, A>
     ensures { MustRead S.view S.at (λ z. z) (labelled_at (characters word.now)) stream.old result stream.new }
 {
@@ -18,7 +18,7 @@ fn labelled_number<S: CharStream, A>(stream: &mut S, word: &str) -> ParseResult<
     i32_demanded(stream)
 }
 
-/// A line and a column.
+/// Parses a line and a column, which are required: every error is committed.
 pub(crate) fn position_demanded<S: CharStream, A>(stream: &mut S) -> ParseResult<SourcePosition, A>
     ensures { MustRead S.view S.at (λ at. at) position_at stream.old result stream.new }
 {
@@ -28,7 +28,7 @@ pub(crate) fn position_demanded<S: CharStream, A>(stream: &mut S) -> ParseResult
     Ok(SourcePosition { line, column })
 }
 
-/// `:`, a line and a column, part by part.
+/// Parses `:`, a line and a column, part by part.
 #[cold]
 #[inline(never)]
 fn position_read<A>(stream: &mut TextStream) -> ParseResult<SourcePosition, A>
@@ -38,7 +38,7 @@ fn position_read<A>(stream: &mut TextStream) -> ParseResult<SourcePosition, A>
     position_demanded(stream)
 }
 
-/// `:`, a line and a column.
+/// Parses `:`, a line and a column, which are required: every error is committed.
 #[inline(always)]
 pub(crate) fn position_behind<A>(stream: &mut TextStream) -> ParseResult<SourcePosition, A>
     ensures { MustRead itself replaced (λ at. at) behind_source_at stream.old result stream.new }

@@ -1,4 +1,4 @@
-//! Reading of places: of sources, lines and columns.
+//! Parsing of sources, and of sources with a line and a column.
 ghost use Rattle.std.specs.Prelude.{◌≡◌, IfOk, string_bytes};
 ghost use Rattle.irtext_base.specs.Moves.{path_kept, all_kept};
 ghost use Rattle.irtext_base.specs.Paths.{path_of, is_known};
@@ -21,7 +21,7 @@ use irtext_read::irfmt::demanded::{spaced_text_demanded, text_demanded};
 use irtext_read::irfmt::faults::{commit, committed, next_is, out_of_memory, refuse, unexpected};
 use irtext_read::irfmt::parsers::{held, quoted_string_parse};
 
-/// A text between quotation marks.
+/// Parses a text in quotation marks, which is required: every error is committed.
 pub(crate) fn quoted_demanded<A>(stream: &mut TextStream) -> ParseResult<String, A>
     ensures { MustRead itself replaced (λ s. string_bytes s) bytes_at stream.old result stream.new }
 {
@@ -29,7 +29,7 @@ pub(crate) fn quoted_demanded<A>(stream: &mut TextStream) -> ParseResult<String,
     committed(stream, answer)
 }
 
-/// A path between quotation marks, which the context keeps from then on.
+/// Parses a path in quotation marks, which the context keeps from then on.
 fn path_demanded<T: IrText<A>, A: AttrText>(
     stream: &mut TextStream,
     ctx: &mut Context<T, A>,
@@ -45,7 +45,7 @@ fn path_demanded<T: IrText<A>, A: AttrText>(
     Ok(Source::File(key))
 }
 
-/// A source, which must stand there.
+/// Parses a source, which is required: every error is committed.
 fn source_demanded<T: IrText<A>, A: AttrText>(
     stream: &mut TextStream,
     ctx: &mut Context<T, A>,
@@ -68,7 +68,7 @@ fn source_demanded<T: IrText<A>, A: AttrText>(
     Err(commit(stream, fault))
 }
 
-/// A source, a line and a column, which must stand there.
+/// Parses a source, a line and a column, which are required: every error is committed.
 #[inline]
 pub(crate) fn place_demanded<T: IrText<A>, A: AttrText>(
     stream: &mut TextStream,
@@ -91,7 +91,7 @@ pub(crate) fn place_demanded<T: IrText<A>, A: AttrText>(
     place_parse(stream, ctx)
 }
 
-/// The same, whatever source it is of.
+/// The same for every kind of source: the slow path.
 #[inline(never)]
 fn place_parse<T: IrText<A>, A: AttrText>(
     stream: &mut TextStream,
@@ -106,7 +106,8 @@ fn place_parse<T: IrText<A>, A: AttrText>(
     Ok(Location::SrcPos { src, pos })
 }
 
-/// A source, which may be missing.
+/// Parses a source: a path in quotation marks, as `"a.mlir"`, or `<in-memory>`. If neither `"` nor `<` comes next, the error is
+/// `Unexpected`, uncommitted, and the stream is unchanged; every other error is committed. The context keeps the path.
 pub fn source_parse<T: IrText<A>, A: AttrText>(
     stream: &mut TextStream,
     ctx: &mut Context<T, A>,
@@ -124,7 +125,8 @@ pub fn source_parse<T: IrText<A>, A: AttrText>(
     source_demanded(stream, ctx)
 }
 
-/// A line and a column, which may be missing.
+/// Parses a line and a column, as `line: 1, column: 2`. If `l` does not come next, the error is `Unexpected`, uncommitted, and the stream
+/// is unchanged; every other error is committed.
 pub fn position_parse<A>(stream: &mut TextStream) -> ParseResult<SourcePosition, A>
     ensures { MayRead itself replaced (λ at. at) position_at stream.old result stream.new }
 {

@@ -1,4 +1,4 @@
-//! Regions and blocks read from text, each by a call of its own.
+//! Parsers for a single region and a single block.
 ghost use Rattle.std.specs.Prelude.{◌≡◌, false, IsSome, IfOk, IfErr, OnOk, OnErr};
 ghost use Rattle.irtext_base.specs.Own.{texts_of};
 ghost use Rattle.irtext_context.specs.Context.{operation};
@@ -22,20 +22,20 @@ use irtext_context::base::{BasicBlock, Operation, Ptr, Region};
 use irtext_state::parsable::StateStream;
 
 impl<T: IrText<A>, A: AttrText, U> Parsable<T, A, U> for Region {
-    /// The operation that gets the region. It has to be in the context.
+    /// The operation to which the region is appended. It has to be live in the context.
     type Arg = Ptr<Operation>;
 
     type Parsed = Ptr<Region>;
 
     ghost can_parse = { λ op s. IsSome (operation s.state.ctx.now op) };
 
-    /// Reads `{`, blocks and `}`, with all that nests in them, as the last region of an operation. Names have scopes of their own, so an
-    /// operation that is not isolated from above is refused, at the line and column of its location. The marks of the region are noted,
-    /// and no section is read.
+    /// Parses `{`, blocks and `}`, with everything nested in them, and appends the region to an operation. The region has scopes of names
+    /// of its own, so an operation that is not isolated from above is an error, at the line and column of its location. The marks of the
+    /// region are recorded, and no section is parsed.
     ///
-    /// The region is put into the operation last, and only where nothing is refused: a refusal leaves all objects and marks unchanged.
-    /// The fault is uncommitted where no `{` is there; else the stream has failed. This text is a region of one block, which has
-    /// one argument and holds one operation:
+    /// The region is appended only when all of it has been parsed, so on an error all objects and marks are unchanged. The error is
+    /// uncommitted if `{` does not come next; otherwise the stream is left failed. This text is a region of one block, which has one
+    /// argument and one operation:
     ///
     /// ```text
     /// { ^entry(x: builtin.integer si64): test.use x }
@@ -68,11 +68,12 @@ impl<T: IrText<A>, A: AttrText, U> Parsable<T, A, U> for BasicBlock {
 
     type Parsed = Ptr<BasicBlock>;
 
-    /// Reads the header of a block outside of every region, where it is always refused: no scope is open in which its label could be
-    /// defined. It begins at `^`: white space before it is not passed. The error is the first of these: the header does not read; a key
-    /// of its dictionary is reserved; a name has no scope, that of the first argument or, after the mark, the label; its mark is noted
-    /// already. The state is unchanged. The error is uncommitted where no `^` is there; else the stream has failed. The errors of these
-    /// texts are at column 1, at `b`, and at column 4, at `x`:
+    /// Parses the header of a block outside of every region, and always fails: no scope is open in which its label could be defined. It
+    /// begins at `^`: white space before it is not skipped. The error is the first of these: the header does not parse; a key of its
+    /// dictionary is reserved; a name has no scope, that of the first argument or, after the mark, the label; its mark is already
+    /// recorded. The state is unchanged. The error is uncommitted if `^` does not come next; otherwise the stream is left failed. The
+    /// error of the first of these texts is that of the label `b`, at its `^` in column 1. The error of the second is that of `x`, in
+    /// column 4.
     ///
     /// ```text
     /// ^b(): test.nop

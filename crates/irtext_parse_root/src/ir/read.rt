@@ -1,4 +1,4 @@
-//! Operations read from text.
+//! The parser for operations.
 ghost use Rattle.std.specs.Prelude.{◌≡◌, false, IfOk, IfErr, OnErr};
 ghost use Rattle.irtext_context.specs.Made.{SameObjects};
 ghost use Rattle.irtext_base.specs.Own.{texts_of};
@@ -17,10 +17,10 @@ use irtext_base::text::{AttrText, IrText};
 use irtext_context::base::{Operation, Ptr};
 use irtext_state::parsable::StateStream;
 
-/// How an operation is read.
+/// How an operation is parsed.
 #[derive(Clone, Copy)]
 pub struct OperationParserConfig {
-    /// Whether the section of its marked items is read after it.
+    /// Whether the section of its marked items is parsed after it. An item is an operation or a block that carries a mark.
     pub look_for_outlined_attrs: bool,
 }
 
@@ -29,8 +29,9 @@ impl<T: IrText<A>, A: AttrText, U> Parsable<T, A, U> for Operation {
 
     type Parsed = Ptr<Operation>;
 
-    /// Reads an operation with all that nests in it. Where the section is looked for and a mark is noted, the section of all noted marks
-    /// is read after it; else its marks stay noted. Errors, and what they leave unchanged, are those of `top_level_parse`.
+    /// Parses an operation with everything nested in it. If `look_for_outlined_attrs` is set and a mark is recorded, the section of all
+    /// recorded marks is parsed after it; otherwise the marks stay recorded. Errors, and what they leave unchanged, are those of
+    /// `top_level_parse`.
     fn parse(
         stream: &mut StateStream<'_, T, A, U>,
         config: OperationParserConfig,

@@ -1,4 +1,4 @@
-//! What stands in the place of an attribute that is written in the section.
+//! The marker in place of an attribute that is printed in the section.
 ghost use Rattle.irtext_base.specs.Faults.{characters};
 ghost use Rattle.irtext_read.specs.Lists.{AlwaysKeepsRules, Calls, KeepsRules, UnlessFailed};
 ghost use Rattle.irtext_outcomes.specs.Readers.Marker.{MarkerOr, TakesWord};
@@ -7,19 +7,20 @@ use irtext_base::parsable::{CharStream, ParseResult};
 use irtext_base::result::Cause;
 use irtext_read::irfmt::faults::refuse;
 
-/// What stands in the place of an attribute that is written in the section.
+/// The marker in place of an attribute that is printed in the section.
 pub const OUTLINED_ATTR_MARKER: &'static str = "!outlined";
 
-/// Passes white space and a fixed text behind it, where the text stands there whole, and answers whether it does. Where it
-/// doesn't, the stream stays.
+/// Consumes white space and a fixed text after it, if the whole text comes next, and returns whether it does. If it does not, the stream
+/// is unchanged.
 fn take_text<S: CharStream>(stream: &mut S, text: &str) -> bool
     ensures { TakesWord S.view S.at (characters text.now) stream.old result stream.new }
 {
     stream.accept_spaced(text)
 }
 
-/// Reads optional white space and the marker, and answers `None`. Where the marker doesn't stand whole, it reads the item where the
-/// call began, and answers `Some` of its value or its fault.
+/// Parses optional white space and the marker, as `!outlined`, and returns `Ok(None)`. If the whole marker does not come next, calls
+/// `item` on the unchanged stream, and returns its value in `Ok(Some(_))` or its error. On a stream that has failed the error is
+/// `StreamFailed`.
 pub fn outlined_marker_or<
     S: CharStream,
     X: Drop,

@@ -1,3 +1,3 @@
-//! What stands in the place of an attribute that is written in the section.
+//! The marker in place of an attribute that is printed in the section.
 
 pub use crate::irfmt::marker::{OUTLINED_ATTR_MARKER, outlined_marker_or};

@@ -1,4 +1,4 @@
-//! Locations and their parts as things that are read from a stream with a context.
+//! Implementations of `Parsable` for locations and their parts.
 ghost use Rattle.std.specs.Prelude.{◌≡◌, IfOk};
 ghost use Rattle.irtext_base.specs.Moves.{path_kept, all_kept};
 ghost use Rattle.irtext_base.specs.Paths.{path_of, is_known};
@@ -23,8 +23,9 @@ impl<T: IrText<A>, A: AttrText, U> Parsable<T, A, U> for SourcePosition {
 
     type Parsed = SourcePosition;
 
-    /// Reads `line: L, column: C`, with white space round each `:` and round `,`. Where it does not begin so the fault is
-    /// `Unexpected`, uncommitted; where a number does not fit, `NumberRange` at its beginning. Nothing but the stream changes.
+    /// Parses `line: L, column: C`, with optional white space around each `:` and around `,`. If `l` does not come next, the error is
+    /// `Unexpected`, uncommitted; every other error is committed. If a number does not fit, the error is `NumberRange`, at the beginning
+    /// of the number. Nothing but the stream changes.
     fn parse(stream: &mut StateStream<'_, T, A, U>, _arg: ()) -> ParseResult<SourcePosition, A>
         ensures read { MayRead itself replaced (λ at. at) position_at stream.old.stream result stream.new.stream }
         ensures state { stream.new.state ≡ stream.old.state }
@@ -38,8 +39,9 @@ impl<T: IrText<A>, A: AttrText, U> Parsable<T, A, U> for Source {
 
     type Parsed = Source;
 
-    /// Reads a quoted path, or `<in-memory>`. The context keeps the path from then on; nothing else of the state changes. Where
-    /// neither begins, the fault is `Unexpected`, uncommitted; else it is that of `quoted_string_parse`.
+    /// Parses a quoted path, or `<in-memory>`. The context keeps the path from then on; the rest of the state is unchanged. If neither
+    /// `"` nor `<` comes next, the error is `Unexpected`, uncommitted; every other error is committed. The errors in a quoted path are
+    /// those of `quoted_string_parse`.
     fn parse(stream: &mut StateStream<'_, T, A, U>, _arg: ()) -> ParseResult<Source, A>
         ensures lent { stream.new.state.ctx.ghost_name ≡ stream.old.state.ctx.ghost_name }
         ensures adds { AddsPaths stream.old.state.ctx.now stream.new.state.ctx.now }
@@ -60,10 +62,10 @@ impl<T: IrText<A>, A: AttrText, U> Parsable<T, A, U> for Location<A> {
 
     type Parsed = Location<A>;
 
-    /// Reads a location of any kind: a source with a line and a column, `fused[..]` or `fused<ATTRIBUTE>[..]`,
-    /// `name: "N", loc: (LOCATION)`, `callsite(LOCATION at LOCATION)`, or `?`. The context keeps the paths of its files from then
-    /// on, also where the location is refused; nothing else of the state changes. Where no location begins, the fault is
-    /// `Unexpected`, uncommitted; else it is committed and stands where a part of the location is missing or refused.
+    /// Parses a location of any kind: a source with a line and a column, `fused[..]` or `fused<ATTRIBUTE>[..]`,
+    /// `name: "N", loc: (LOCATION)`, `callsite(LOCATION at LOCATION)`, or `?`. The context keeps the paths of its files from then on,
+    /// also if the location has an error; the rest of the state is unchanged. If the next character begins no location, the error is
+    /// `Unexpected`, uncommitted; otherwise an error is committed, at the place where a part of the location is missing or has an error.
     fn parse(stream: &mut StateStream<'_, T, A, U>, _arg: ()) -> ParseResult<Location<A>, A>
         ensures lent { stream.new.state.ctx.ghost_name ≡ stream.old.state.ctx.ghost_name }
         ensures adds { AddsPaths stream.old.state.ctx.now stream.new.state.ctx.now }

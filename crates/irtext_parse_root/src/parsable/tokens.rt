@@ -1,4 +1,4 @@
-//! Numbers, truth values, identifiers, names of dialects and quoted texts as things that are read from a stream with a context.
+//! Implementations of `Parsable` for numbers, truth values, identifiers, names of dialects and quoted texts.
 ghost use Rattle.std.specs.Prelude.{◌≡◌, pos, string_bytes};
 ghost use Rattle.std.specs.Str.{encode_utf8_all};
 ghost use Rattle.irtext_base.specs.Answers.{mapped};
@@ -23,7 +23,7 @@ impl<T: IrText<A>, A: AttrText, U> Parsable<T, A, U> for usize {
 
     type Parsed = usize;
 
-    /// Reads a number as `int_parse` does, with its faults. Nothing but the stream changes.
+    /// Parses a number as `int_parse` does, with the same errors. Nothing but the stream changes.
     fn parse(stream: &mut StateStream<'_, T, A, U>, _arg: ()) -> ParseResult<usize, A>
         ensures read { MayRead itself replaced pos (int_at (unsigned_below 64)) stream.old.stream result stream.new.stream }
         ensures state { stream.new.state ≡ stream.old.state }
@@ -37,7 +37,7 @@ impl<T: IrText<A>, A: AttrText, U> Parsable<T, A, U> for u64 {
 
     type Parsed = u64;
 
-    /// Reads a number as `int_parse` does, with its faults. Nothing but the stream changes.
+    /// Parses a number as `int_parse` does, with the same errors. Nothing but the stream changes.
     fn parse(stream: &mut StateStream<'_, T, A, U>, _arg: ()) -> ParseResult<u64, A>
         ensures read { MayRead itself replaced pos (int_at (unsigned_below 64)) stream.old.stream result stream.new.stream }
         ensures state { stream.new.state ≡ stream.old.state }
@@ -51,7 +51,7 @@ impl<T: IrText<A>, A: AttrText, U> Parsable<T, A, U> for u32 {
 
     type Parsed = u32;
 
-    /// Reads a number as `int_parse` does, with its faults. Nothing but the stream changes.
+    /// Parses a number as `int_parse` does, with the same errors. Nothing but the stream changes.
     fn parse(stream: &mut StateStream<'_, T, A, U>, _arg: ()) -> ParseResult<u32, A>
         ensures read { MayRead itself replaced pos (int_at (unsigned_below 32)) stream.old.stream result stream.new.stream }
         ensures state { stream.new.state ≡ stream.old.state }
@@ -65,7 +65,7 @@ impl<T: IrText<A>, A: AttrText, U> Parsable<T, A, U> for u16 {
 
     type Parsed = u16;
 
-    /// Reads a number as `int_parse` does, with its faults. Nothing but the stream changes.
+    /// Parses a number as `int_parse` does, with the same errors. Nothing but the stream changes.
     fn parse(stream: &mut StateStream<'_, T, A, U>, _arg: ()) -> ParseResult<u16, A>
         ensures read { MayRead itself replaced pos (int_at (unsigned_below 16)) stream.old.stream result stream.new.stream }
         ensures state { stream.new.state ≡ stream.old.state }
@@ -79,7 +79,7 @@ impl<T: IrText<A>, A: AttrText, U> Parsable<T, A, U> for u8 {
 
     type Parsed = u8;
 
-    /// Reads a number as `int_parse` does, with its faults. Nothing but the stream changes.
+    /// Parses a number as `int_parse` does, with the same errors. Nothing but the stream changes.
     fn parse(stream: &mut StateStream<'_, T, A, U>, _arg: ()) -> ParseResult<u8, A>
         ensures read { MayRead itself replaced pos (int_at (unsigned_below 8)) stream.old.stream result stream.new.stream }
         ensures state { stream.new.state ≡ stream.old.state }
@@ -93,7 +93,7 @@ impl<T: IrText<A>, A: AttrText, U> Parsable<T, A, U> for i8 {
 
     type Parsed = i8;
 
-    /// Reads a number as `int_parse` does, with its faults. Nothing but the stream changes.
+    /// Parses a number as `int_parse` does, with the same errors. Nothing but the stream changes.
     fn parse(stream: &mut StateStream<'_, T, A, U>, _arg: ()) -> ParseResult<i8, A>
         ensures read { MayRead itself replaced (λ z. z) (int_at (signed_below 8)) stream.old.stream result stream.new.stream }
         ensures state { stream.new.state ≡ stream.old.state }
@@ -107,7 +107,7 @@ impl<T: IrText<A>, A: AttrText, U> Parsable<T, A, U> for i16 {
 
     type Parsed = i16;
 
-    /// Reads a number as `int_parse` does, with its faults. Nothing but the stream changes.
+    /// Parses a number as `int_parse` does, with the same errors. Nothing but the stream changes.
     fn parse(stream: &mut StateStream<'_, T, A, U>, _arg: ()) -> ParseResult<i16, A>
         ensures read { MayRead itself replaced (λ z. z) (int_at (signed_below 16)) stream.old.stream result stream.new.stream }
         ensures state { stream.new.state ≡ stream.old.state }
@@ -121,7 +121,7 @@ impl<T: IrText<A>, A: AttrText, U> Parsable<T, A, U> for i32 {
 
     type Parsed = i32;
 
-    /// Reads a number as `int_parse` does, with its faults. Nothing but the stream changes.
+    /// Parses a number as `int_parse` does, with the same errors. Nothing but the stream changes.
     fn parse(stream: &mut StateStream<'_, T, A, U>, _arg: ()) -> ParseResult<i32, A>
         ensures read { MayRead itself replaced (λ z. z) (int_at (signed_below 32)) stream.old.stream result stream.new.stream }
         ensures state { stream.new.state ≡ stream.old.state }
@@ -135,7 +135,7 @@ impl<T: IrText<A>, A: AttrText, U> Parsable<T, A, U> for i64 {
 
     type Parsed = i64;
 
-    /// Reads a number as `int_parse` does, with its faults. Nothing but the stream changes.
+    /// Parses a number as `int_parse` does, with the same errors. Nothing but the stream changes.
     fn parse(stream: &mut StateStream<'_, T, A, U>, _arg: ()) -> ParseResult<i64, A>
         ensures read { MayRead itself replaced (λ z. z) (int_at (signed_below 64)) stream.old.stream result stream.new.stream }
         ensures state { stream.new.state ≡ stream.old.state }
@@ -149,7 +149,7 @@ impl<T: IrText<A>, A: AttrText, U> Parsable<T, A, U> for bool {
 
     type Parsed = bool;
 
-    /// Reads a truth value as `bool_parse` does, with its faults. Nothing but the stream changes.
+    /// Parses a truth value as `bool_parse` does, with the same errors. Nothing but the stream changes.
     fn parse(stream: &mut StateStream<'_, T, A, U>, _arg: ()) -> ParseResult<bool, A>
         ensures read { MayRead itself replaced (λ b. b) bool_at stream.old.stream result stream.new.stream }
         ensures state { stream.new.state ≡ stream.old.state }
@@ -163,7 +163,7 @@ impl<T: IrText<A>, A: AttrText, U> Parsable<T, A, U> for Identifier {
 
     type Parsed = Identifier;
 
-    /// Reads an identifier as `identifier_parse` does, with its faults. Nothing but the stream changes.
+    /// Parses an identifier as `identifier_parse` does, with the same errors. Nothing but the stream changes.
     fn parse(stream: &mut StateStream<'_, T, A, U>, _arg: ()) -> ParseResult<Identifier, A>
         ensures read { MayRead itself replaced (λ name. name) identifier_at stream.old.stream result stream.new.stream }
         ensures state { stream.new.state ≡ stream.old.state }
@@ -177,8 +177,8 @@ impl<T: IrText<A>, A: AttrText, U> Parsable<T, A, U> for DialectName {
 
     type Parsed = DialectName;
 
-    /// Reads the name of a dialect that is registered. Where no identifier begins it answers as `identifier_parse` does,
-    /// uncommitted; where no dialect has the name, `UnregisteredDialect` at the name's beginning, committed. Nothing but the stream
+    /// Parses the name of a registered dialect. If no identifier comes next, fails as `identifier_parse` does, uncommitted. If no dialect
+    /// with this name is registered, the error is `UnregisteredDialect` at the beginning of the name, committed. Nothing but the stream
     /// changes.
     fn parse(stream: &mut StateStream<'_, T, A, U>, _arg: ()) -> ParseResult<DialectName, A>
         ensures read { MayRead itself replaced (λ name. name)
@@ -200,7 +200,7 @@ impl<T: IrText<A>, A: AttrText, U> Parsable<T, A, U> for String {
 
     type Parsed = String;
 
-    /// Reads a quoted text as `quoted_string_parse` does, with its faults. Nothing but the stream changes.
+    /// Parses a quoted text as `quoted_string_parse` does, with the same errors. Nothing but the stream changes.
     fn parse(stream: &mut StateStream<'_, T, A, U>, _arg: ()) -> ParseResult<String, A>
         ensures read { MayRead itself replaced (λ s. string_bytes s)
             (λ text. mapped encode_utf8_all (quoted_at text)) stream.old.stream result stream.new.stream }
