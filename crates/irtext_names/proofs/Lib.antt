@@ -5,7 +5,7 @@ pub mod Linked
 pub mod Lists
 pub mod Loses
 pub mod Made
-pub mod Named
+pub mod NamesOf
 pub mod Nested
 pub mod Pairs
 pub mod Results

@@ -22,7 +22,7 @@ use Rattle.irtext_names.specs.Linked.{Known, StandsAt, TakesDefinition, FailsBy}
 use Rattle.irtext_names.specs.Placeholders.{Defines}
 use Rattle.irtext_names.specs.Tied.{AreTied, IsNoPlaceholder}
 use Rattle.irtext_names.proofs.Loses.{Loses}
-use Rattle.irtext_names.proofs.Named.{one_value, no_block}
+use Rattle.irtext_names.proofs.NamesOf.{one_value, no_block}
 use Rattle.irtext_names.proofs.Pairs.{lost}
 use Rattle.irtext_names.proofs.Ties.{waited}
 use Rattle.irtext_names.proofs.Linked.Kept.{made_defined}

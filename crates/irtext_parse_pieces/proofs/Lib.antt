@@ -2,8 +2,6 @@
 pub mod EntrySteps
 pub mod FormatSteps
 pub mod Founds
-pub mod FrameOutcomes
-pub mod FrameSteps
 pub mod FrontSteps
 pub mod Interned
 pub mod Leads
@@ -14,5 +12,3 @@ pub mod MarkSteps
 pub mod Meanings
 pub mod NameSteps
 pub mod PieceSteps
-pub mod Places
-pub mod Plain

@@ -2,7 +2,6 @@
 pub mod Arguments
 pub mod Entries
 pub mod Found
-pub mod Frames
 pub mod Fronts
 pub mod Headers
 pub mod Ids
@@ -10,6 +9,5 @@ pub mod Kinds
 pub mod Marks
 pub mod Named
 pub mod Pieces
-pub mod Plain
 pub mod Results
 pub mod Steps

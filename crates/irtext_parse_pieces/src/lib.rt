@@ -1,5 +1,5 @@
-//! Parsers of locations, names, dictionaries and headers of blocks; and of operations: of what precedes an operation's own parts, and of
-//! these parts up to its first region. Each distinct name is stored once per parse, and parsed values refer to names by number.
+//! Parsers of names, dictionaries and headers of blocks; and of operations: of what precedes an operation's own parts, and of these parts
+//! up to its first region. Each distinct name is stored once per parse, and parsed values refer to names by number.
 #![tactic(auto)]
 
 pub mod arguments;
@@ -9,7 +9,6 @@ pub mod fronts;
 pub mod headers;
 pub mod ids;
 pub mod lists;
-pub mod location;
 pub mod marks;
 pub mod names;
 pub mod pieces;

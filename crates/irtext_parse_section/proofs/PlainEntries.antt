@@ -15,8 +15,8 @@ use Rattle.irtext_outcomes.specs.Readers.Streams.{itself, replaced}
 use Rattle.irtext_grammar.specs.Names.Acts.{Rule}
 use Rattle.irtext_parse_pieces.specs.declared.entries.Key.{Key}
 use Rattle.irtext_nesting.specs.Readers.{pairs_at}
-use Rattle.irtext_parse_pieces.specs.Plain.{TakesDigits, Looks, Gets}
-use Rattle.irtext_parse_pieces.proofs.Plain.{number_taken, behind_label, further, gets_must}
+use Rattle.irtext_parse_locations.specs.Plain.{TakesDigits, Looks, Gets}
+use Rattle.irtext_parse_locations.proofs.Plain.{number_taken, behind_label, further, gets_must}
 use Rattle.irtext_parse_section.specs.Entries.{location_end_at}
 use Rattle.irtext_parse_section.specs.Said.{MustPairs}
 use Rattle.irtext_parse_section.specs.declared.said.GivenAttr.{GivenAttr}

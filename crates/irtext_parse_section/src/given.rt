@@ -18,7 +18,7 @@ use irtext_base::parsable::{CharStream, ParseResult, TextStream};
 use irtext_base::result::Cause;
 use irtext_base::text::{AttrText, IrText};
 use irtext_context::base::Context;
-use irtext_parse_pieces::location::nested::location_demanded;
+use irtext_parse_locations::location::nested::location_demanded;
 use irtext_read::irfmt::demanded::{spaced_text_demanded, text_demanded};
 use irtext_read::irfmt::faults::{next_is, refuse};
 use irtext_read::irfmt::parsers::skip_white_space;

@@ -16,7 +16,7 @@ use Rattle.irtext_names.specs.Linked.{Known, Became, StandsAt, TakesDefinition, 
 use Rattle.irtext_names.specs.Placeholders.{Defines}
 use Rattle.irtext_names.specs.Tied.{AreTied}
 use Rattle.irtext_names.proofs.Loses.{Loses}
-use Rattle.irtext_names.proofs.Named.{one_value, one_block, no_value, no_block}
+use Rattle.irtext_names.proofs.NamesOf.{one_value, one_block, no_value, no_block}
 use Rattle.irtext_names.proofs.Pairs.{lost, other, held_if}
 use Rattle.irtext_names.proofs.Ties.{waited, not_lost}
 use Rattle.irtext_names.proofs.Linked.InPlace.{Moves, moves_settled_if}

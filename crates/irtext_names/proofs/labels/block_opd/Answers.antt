@@ -3,7 +3,7 @@ use Rattle.irtext_graph.specs.declared.object.Defined.TheVariants.{OfBlock}
 use Rattle.irtext_graph.proofs.Closed.{closed_kept, older_on}
 use Rattle.irtext_names.proofs.Gained.{back_again, made_label, block_same, block_placeholder, block_new}
 use Rattle.irtext_names.proofs.Loses.{loses_one}
-use Rattle.irtext_names.proofs.Named.{before_ties, label_made_ties, label_made_waits}
+use Rattle.irtext_names.proofs.NamesOf.{before_ties, label_made_ties, label_made_waits}
 use Rattle.irtext_names.proofs.Linked.Uses.{takes_label_use}
 use Rattle.irtext_names.proofs.Pairs.{there_here, accepted, refused, unknown_here, uses_known, uses_new}
 use Rattle.irtext_names.proofs.labels.block_opd.Goals as goal

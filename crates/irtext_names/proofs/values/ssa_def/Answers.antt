@@ -1,6 +1,6 @@
 use Rattle.std.proofs.Common.{◌∙◌, sym, refl}
 use Rattle.irtext_graph.specs.declared.object.Defined.TheVariants.{OfValue}
-use Rattle.irtext_names.proofs.Named.{one_value, value_defined_ties, value_defined_waits}
+use Rattle.irtext_names.proofs.NamesOf.{one_value, value_defined_ties, value_defined_waits}
 use Rattle.irtext_scopes.specs.Scopes.{find, innermost}
 use Rattle.irtext_scopes.specs.declared.scopes.DefineFault.TheVariants.{MultipleDefinitions}
 use Rattle.irtext_names.proofs.Linked.Definitions.{takes_value_definition, value_twice}

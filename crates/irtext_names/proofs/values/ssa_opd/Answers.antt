@@ -4,7 +4,7 @@ use Rattle.irtext_graph.specs.declared.object.Defined.TheVariants.{OfValue}
 use Rattle.irtext_graph.proofs.Closed.{closed_kept, older_on}
 use Rattle.irtext_names.proofs.Gained.{back_again, made_value, value_same, value_placeholder, value_new}
 use Rattle.irtext_names.proofs.Loses.{loses_one}
-use Rattle.irtext_names.proofs.Named.{before_ties, value_made_ties, value_made_waits}
+use Rattle.irtext_names.proofs.NamesOf.{before_ties, value_made_ties, value_made_waits}
 use Rattle.irtext_names.proofs.Linked.Uses.{takes_value_use}
 use Rattle.irtext_names.proofs.Pairs.{there_here, accepted, refused, unknown_here, uses_known, uses_new}
 use Rattle.irtext_names.proofs.values.ssa_opd.Goals as goal

@@ -1,0 +1,4 @@
+pub mod FrameOutcomes
+pub mod FrameSteps
+pub mod Places
+pub mod Plain
