@@ -1,4 +1,4 @@
--- No object is older than the mark 0, so everything can be rolled back to it.
+-- No object is older than the mark 0, so all can be given back to it.
 use Rattle.std.proofs.Common.{◌≡◌, ℕ, refl, arith, false, nat_lt, Option, Some, None}
 use Rattle.std.proofs.lemmas.Bool.Decides.{nat_tests}
 use Rattle.irtext_graph.specs.Back.{IsClosedBelow}
