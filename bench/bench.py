@@ -1,13 +1,13 @@
 #!/usr/bin/env -S python3 -B
 """Roots in a row on one stream, and lists of tokens: bench/bench.py [MEGABYTES]
 
-Reads and prints texts of that many megabytes (10 where none is given) with the program of crates/irtext_bench, which `rt ci` or
-`rt run` in that folder builds. One text of roots has newlines, one has none. Best of five runs; the start of the program is taken
-off, and where a text is printed its reading too. Printing is done ten times in a run, so that it is not lost in the noise of
-reading. Then come lists of integers and of quoted texts as they are read, a text that is printed between quotation marks, with a
-plain copy of the same bytes beside it, positions at the end of a text, and locations that stand in one another a million deep. Last
-come the instructions of an item, with what it may take, counted by valgrind where it is there (the program's reading of its input is
-taken off), and those of calls on graphs and names, by the program of crates/irtext_graph_bench: they are the same on a busy machine."""
+Parses and prints texts of that many megabytes (10 if none is given) with the program of crates/irtext_bench, which `rt ci` or
+`rt run` in that folder builds. One text of roots has newlines, one has none. Best of five runs; the start of the program is
+subtracted, and if a text is printed its parsing too. Printing is done ten times in a run, so that it is not lost in the noise of
+parsing. Then come lists of integers and of quoted texts that are parsed, a text that is printed between quotation marks, with a
+plain copy of the same bytes for comparison, positions at the end of a text, and locations nested in one another a million deep. Last
+come the instructions of an item, with its budget, counted by valgrind if it is installed (the program's reading of its input is
+subtracted), and those of calls on graphs and names, by the program of crates/irtext_graph_bench: they are the same on a busy machine."""
 import os
 import re
 import shutil
