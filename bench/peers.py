@@ -21,7 +21,7 @@ FEW, MANY, LARGE = 640, 7040, 102_400  # whole functions of 50 and towers of 64
 
 
 def found(name):
-    """The path of a peer, which Debian may have under its version."""
+    """The path of a peer, which may be installed under its version, as on Debian."""
     return next(filter(None, (shutil.which(name + it) for it in ("", "-14", "-22", "-21", "-20", "-19"))), None)
 
 
