@@ -1,13 +1,13 @@
 #!/usr/bin/env -S python3 -B
 """Roots in a row on one stream, and lists of tokens: bench/bench.py [MEGABYTES]
 
-Reads and prints texts of that many megabytes (10 where none is given) with the program of crates/irtext_bench, which `rt ci` or
-`rt run` in that folder builds. One text of roots has newlines, one has none. Best of five runs; the start of the program is taken
-off, and where a text is printed its reading too. Printing is done ten times in a run, so that it is not lost in the noise of
-reading. Then come lists of integers and of quoted texts as they are read, a text that is printed between quotation marks, with a
-plain copy of the same bytes beside it, positions at the end of a text, and locations that stand in one another a million deep. Last
-come the instructions of an item, with what it may take, counted by valgrind where it is there (the program's reading of its input is
-taken off), and those of calls on graphs and names, by the program of crates/irtext_graph_bench: they are the same on a busy machine."""
+Parses and prints texts of that many megabytes (10 if none is given) with the program of crates/irtext_bench, which `rt ci` or
+`rt run` in that folder builds. One text of roots has newlines, one has none. Best of five runs; the start of the program is
+subtracted, and if a text is printed its parsing too. Printing is done ten times in a run, so that it is not lost in the noise of
+parsing. Then come lists of integers and of quoted texts that are parsed, a text that is printed between quotation marks, with a
+plain copy of the same bytes for comparison, positions at the end of a text, and locations nested in one another a million deep. Last
+come the instructions of an item, with its budget, counted by valgrind if it is installed (the program's reading of its input is
+subtracted), and those of calls on graphs and names, by the program of crates/irtext_graph_bench: they are the same on a busy machine."""
 import os
 import re
 import shutil
@@ -26,7 +26,7 @@ LINES = "builtin.module @module_{} \n{{\n  \n}} !0\n\noutlined_attributes:\n!0 =
 
 
 def text(size, newlines):
-    """A text of about so many bytes, and how many roots it has."""
+    """A text of about so many bytes, and the number of its roots."""
     parts, length, roots = [], 0, 0
     while length < size:
         part = LINES.format(roots, roots + 1)
@@ -79,12 +79,12 @@ def seconds(path, words):
     return best
 
 
-# The C library copies and fills long runs of bytes by one instruction, which valgrind counts once for each byte; it shall take others.
+# The C library copies and fills long runs of bytes by one instruction, which valgrind counts once for each byte; make it use others.
 LOOPS = {"GLIBC_TUNABLES": ":".join("glibc.cpu.x86_rep_%sb_threshold=%d" % (it, 1 << 30) for it in ("movs", "stos"))}
 
 
 def counted(path, words, program, tool, count):
-    """What valgrind counts by this tool in a run, found in what it says by a pattern."""
+    """The count of this tool of valgrind for a run, found in its output by a pattern."""
     with open(path, "rb") as source:
         run = subprocess.run(["valgrind"] + tool + [program] + words, env={**os.environ, **LOOPS},
                              stdin=source, stdout=subprocess.DEVNULL, stderr=subprocess.PIPE, check=True)
@@ -92,7 +92,7 @@ def counted(path, words, program, tool, count):
 
 
 def reading(path, word):
-    """The instructions in which a text is read, less those in which the program reads its input."""
+    """The instructions for parsing a text, less those for reading the program's input."""
     return instructions(path, [word]) - instructions(path, ["copied"])
 
 
@@ -102,7 +102,7 @@ def instructions(path, words, program=PROGRAM):
 
 
 def allocations(path, words, program=PROGRAM):
-    """The requests for memory of a run."""
+    """The allocations of a run."""
     return counted(path, words, program, ["--tool=memcheck", "--leak-check=no"], rb"total heap usage: ([\d,]+) allocs")
 
 
@@ -128,7 +128,7 @@ def fused(count):
     return "builtin.module @m\n{\n}!0\n\noutlined_attributes:\n!0 = @[fused[%s]], []\n" % places
 
 
-# How locations stand in one another: what stands in front of the inner one, and what behind it.
+# How locations are nested in one another: the text before the inner one, and the text after it.
 NESTINGS = (
     ("under names", 'name: "a", loc: (', ")"),
     ("as callees", "callsite(", " at ?)"),
@@ -139,7 +139,7 @@ NESTINGS = (
 
 
 def nested(count, front, back):
-    """A root whose location stands in so many others."""
+    """A root whose location is nested in so many others."""
     return "builtin.module @m\n{\n}!0\n\noutlined_attributes:\n!0 = @[%s?%s], []\n" % (front * count, back * count)
 
 
@@ -148,8 +148,8 @@ def quoted(count):
     return '"%s"' % ("a line of plain characters " * (count // 27 + 1))[:count]
 
 
-# What is counted, the word of the program, the text of so many items, two numbers of items, and how many instructions an item may
-# take to be read, and to be printed where that is limited.
+# What is counted, the word of the program, the text of so many items, two numbers of items, and the budget of instructions for
+# parsing an item, and for printing it if that is limited.
 BUDGETS = (
     ("root with its section", "roots", roots, 2, 2002, 7000, 1800),
     ("entry of a dictionary", "roots", dictionary, 10, 10010, 3000, None),
@@ -158,7 +158,7 @@ BUDGETS = (
     ("byte of a quoted text", "strings", quoted, 1000, 1001000, 9, None),
 )
 
-# What is counted of graphs and names: the words of a run, those of one without it, and how often it is done between the two.
+# What is counted on graphs and names: the words of a run, those of a run without it, and how often it is done in the difference.
 CALLS = (
     ("operation with a result and an operand, made and erased", "make 1 11000", "make 1 1000", 10000),
     ("the same among 1,000 operations", "make 1000 11000", "make 1000 1000", 10000),
@@ -187,7 +187,7 @@ CALLS = (
 
 
 def print_positions(path, size):
-    """The time of a position at the end of a text of so many bytes, which the program asks for a million times."""
+    """The time of a position at the end of a text of so many bytes, which the program computes a million times."""
     for name, line in (("one line", "abcdefgh"), ("one line past ASCII", "abc\u00e4efg"), ("lines", "abcdefghi\n" * 4), ("lines past ASCII", "abc\u00e4efgh\n")):
         content = (line * (size // len(line.encode())))
         written(path, content)
@@ -196,14 +196,14 @@ def print_positions(path, size):
 
 
 def print_depths(path, depth):
-    """The time in which locations so deep in one another are read, printed and released under the default stack."""
+    """The time in which locations nested so deep in one another are parsed, printed and released with the default stack."""
     for name, front, back in NESTINGS:
         written(path, nested(depth, front, back))
         print("Locations %d deep, %s: %.2f s" % (depth, name, seconds(path, ["roots", "print"])))
 
 
 def print_instructions(path):
-    """The instructions and requests for memory of an item, with what it may take: a count of many items less one of few."""
+    """The instructions and allocations of an item, with its budget: a count of many items less one of few."""
     print("| Item | instructions, read | at most | requests for memory | instructions, printed | at most |")
     print("|---|---|---|---|---|---|")
     for name, word, make, few, many, read_most, print_most in BUDGETS:
@@ -220,7 +220,7 @@ def print_instructions(path):
 
 
 def print_shapes(path):
-    """The instructions of an operation, read and printed: of 6,400 more than 640, and of 64,000 more than those."""
+    """The instructions of an operation, parsed and printed: for 6,400 more than 640, and for 64,000 more than those."""
     print("| Shape | read, of 6,400 | of 64,000 | printed, of 6,400 | of 64,000 |")
     print("|---|---|---|---|---|")
     for name, make in SHAPES:
@@ -235,7 +235,7 @@ def print_shapes(path):
 
 
 def print_calls(path):
-    """The instructions and requests for memory of calls on graphs and names: a run with them less one without."""
+    """The instructions and allocations of calls on graphs and names: a run with them less one without."""
     print("| Call | instructions | requests for memory |")
     print("|---|---|---|")
     for name, more, less, times in CALLS:

@@ -1,10 +1,11 @@
 #!/usr/bin/env -S python3 -B
-"""The program irtext beside its peers, on texts of the same shape: bench/peers.py [PROGRAM]
+"""The program irtext compared with its peers, on texts of the same shape: bench/peers.py [PROGRAM]
 
-Each parses a text and prints it. Said are the instructions of an operation, counted by valgrind (a count of many operations less one of
-few, so what a start costs is off), and the nanoseconds of one, with the start, in a text of 100,000 operations: best of three. PROGRAM is
-the built irtext, crates/irtext/out/irtext where none is named. A peer that is not there is left out: Debian has them in
-mlir-14-tools, llvm-14 (or llvm) and wabt. MLIR takes its generic form, in which an operation is written as in the canonical form here."""
+Each parses a text and prints it. The output is the instructions of an operation, counted by valgrind (a count of many operations less
+one of few, so the cost of the start is subtracted), and the nanoseconds of one, including the start, in a text of 100,000 operations:
+best of three. PROGRAM is the built irtext, crates/irtext/out/irtext if none is named. A peer that is not installed is left out: Debian
+has them in mlir-14-tools, llvm-14 (or llvm) and wabt. MLIR takes its generic form, in which an operation is written as in the canonical
+form here."""
 import os
 import shutil
 import subprocess
@@ -20,7 +21,7 @@ FEW, MANY, LARGE = 640, 7040, 102_400  # whole functions of 50 and towers of 64
 
 
 def found(name):
-    """The path of a peer, which Debian may have under its version."""
+    """The path of a peer, which may be installed under its version, as on Debian."""
     return next(filter(None, (shutil.which(name + it) for it in ("", "-14", "-22", "-21", "-20", "-19"))), None)
 
 

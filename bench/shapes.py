@@ -1,6 +1,6 @@
 """Roots with blocks in the shapes that are measured, as this library's texts and as those of peers of the same shape."""
 
-# How deep regions are in one another in the shape of towers.
+# How deep regions are nested in the shape of towers.
 DEPTH = 64
 
 # The type of most values in the shapes below.
@@ -61,7 +61,7 @@ TARGETS = (3, 0, 4, 2, 1)
 
 
 def mlir_module(lines, section=""):
-    """A module of the generic form, in which operations that no dialect registers may stand."""
+    """A module of the generic form, which may have operations that no dialect registers."""
     return '"builtin.module"() ({\n%s\n}) : () -> ()\n%s' % ("\n".join(lines), section)
 
 
@@ -96,7 +96,7 @@ def mlir_nest(count):
 
 
 def mlir_locattr(count):
-    """The chain with attributes on each operation, and a location and a name for each behind the module."""
+    """The chain with attributes on each operation, and a location and a name for each after the module."""
     lines = ['%%x%d = "test.global"(%%x%d) {a = %d : si64, s = "v\\0A%d"} : (si64) -> si64 loc(#loc%d)' % (i + 1, i, i, i % 100, i + 1) for i in range(count)]
     places = "".join('#loc%d = loc("note %d"("f.c":%d:%d))\n' % (i + 1, i % 100, i // 8 + 1, i % 8 * 9 + 1) for i in range(count))
     return mlir_module(mlir_function("f", ["^b(%x0: si64):", *lines, '"test.return"() : () -> ()']), places)

@@ -4,7 +4,7 @@ import re
 import string
 from dataclasses import dataclass
 
-# ---- texts: in all but the whole text each blank stands where white space may stand, and BLANK for a blank itself
+# ---- texts: in all but the whole text each blank is where white space is allowed, and BLANK is a blank itself
 
 BLANK = "\0"
 LETTERS = string.ascii_letters + string.digits + "_"
@@ -15,7 +15,7 @@ STYLES = [[" "], ["", " "], ["", " ", "\n", "\t", "\r\n", "\u00a0", "\u2028", " 
 
 
 class Chance(random.Random):
-    """What a text is made by; quick, since a text takes hundreds of choices."""
+    """The random choices of a text; fast, since a text takes hundreds of them."""
 
     def choice(self, items):
         return items[int(self.random() * len(items))]
@@ -37,10 +37,10 @@ class Text:
 
     def __init__(self, chance, rooms):
         self.chance = chance
-        self.room = chance.choice(rooms)  # operations that may still come
+        self.room = chance.choice(rooms)  # operations that may still be made
         self.numbers = set()  # of marks
         self.entries = []
-        self.shared = {}  # marks of attributes that stand once, by what made them
+        self.shared = {}  # marks of attributes that the section has once, by what made them
 
     def whole(self):
         root = self.chance.choice([self.module, self.module, self.function, self.bare])(self.chance.randrange(1, 9))
@@ -122,7 +122,7 @@ class Text:
         return number
 
     def reference(self, attribute):
-        """Returns a reference to an attribute of the section, which is a new one or stands there already."""
+        """Returns a reference to an attribute of the section, which is a new one or is there already."""
         shared = self.shared.setdefault(attribute.__name__, [])
         if not shared or self.chance.random() < 0.5:
             shared.append(f"!{self.number()}")
@@ -130,8 +130,8 @@ class Text:
         return self.chance.choice(shared)
 
     def mark(self, own="", asks=""):
-        """Returns a mark or none. Its entry may have attributes that the section holds, and one that only its kind of item has; it has
-        those that are asked for."""
+        """Returns a mark or none. Its entry may have attributes that the section holds, and one that only its kind of item (operation
+        or block) has; it has those that are required."""
         if not asks and self.chance.random() < 0.6:
             return ""
         number = self.number()
@@ -158,7 +158,7 @@ class Text:
         return self.chance.choice(["", "= "]) + self.chance.choice(["test.nop ", "test.return "]) + self.mark()
 
     def held(self, key):
-        """Returns an attribute that stands in the text, or what says that the section has it, and what that asks of the section."""
+        """Returns an attribute in the text, or the marker that the section has it, and what the section has to have then."""
         if self.chance.random() < 0.7:
             return self.attribute(), ""
         return "!outlined", f"{key} = {self.reference(self.attribute)}"
@@ -173,7 +173,7 @@ class Text:
         return "{ " + " ".join(blocks) + " }"
 
     def block(self, deep, scope, label, labels, is_last):
-        """Returns a block; in the last one of a scope all is defined that was not."""
+        """Returns a block; the last one of a scope defines all names that are not defined yet."""
         arguments = self.some(2, lambda: f"{self.define(scope)} : {self.type()}")
         head = f"^{label} ( {arguments} ) {self.chance.choice(['', self.dictionary()])}"
         mark = self.mark(self.chance.choice(["", f"builtin_block_label = builtin.identifier {self.word()}"]))
@@ -219,7 +219,7 @@ class Text:
         return f"test.br ^{self.chance.choice(labels)} {self.mark()}"
 
     def general(self, deep, scope, labels):
-        """Returns an operation in the form that any operation has."""
+        """Returns an operation in the canonical form."""
         names = self.some(2, lambda: self.define(scope))
         operands = self.some(2, lambda: self.use(scope)) if scope.names else ""
         targets = self.some(2, lambda: "^" + self.chance.choice(labels))
@@ -239,7 +239,7 @@ WORD = re.compile(r"\w+|\W")
 
 
 def edited(chance, text):
-    """Returns the text with a word, a character or a longer piece left out, put twice, put elsewhere, or another in its place or before."""
+    """Returns the text with a word, a character or a longer piece removed, doubled, moved or replaced, or with another before it."""
     at, end = WORD.search(text, chance.randrange(len(text))).span()
     end = chance.choice([end, end, end, at + 1, min(len(text), at + 8), min(len(text), at + 60)])
     before, piece, behind = text[:at], text[at:end], text[end:]

@@ -1,6 +1,6 @@
-"""What the tools here know of this repository: its crates, its sources, its functions with their clauses, its definitions.
+"""What the tools here know about this repository: its crates, its sources, its functions with their clauses, its definitions.
 
-Everything is read from crates.txt and from the files as they stand, so a crate, a file or a folder that moves needs no change here.
+Everything is read from crates.txt and from the present files, so a crate, a file or a folder that moves needs no change here.
 """
 import functools
 import os
@@ -45,7 +45,7 @@ class Crate:
         return files_below(os.path.join(self.folder, "specs"), ".antt")
 
     def edits(self, folder):
-        """Returns the edits that stand right in this folder of the crate."""
+        """Returns the edits directly in this folder of the crate."""
         here = os.path.join(self.folder, folder)
         return [it for it in files_below(here, ".edit") if os.path.dirname(it) == here]
 
@@ -57,7 +57,7 @@ class Crate:
 
 
 def crates():
-    """Returns the crates, each after those of the repository that it stands on."""
+    """Returns the crates, each after those of the repository that it depends on."""
     rows = [line.partition("#")[0].strip() for line in text_of(os.path.join(TOP, "crates.txt")).split("\n")]
     named = {}
     for row in rows:
@@ -93,7 +93,7 @@ class Function:
     path: str
     line: int
     module: list
-    holder: str  # the head of the impl or the trait that it stands in
+    holder: str  # the head of the impl or the trait that it is in
     is_public: bool  # by its own `pub`
     doc: str
     clauses: list = field(default_factory=list)
@@ -106,7 +106,7 @@ CLAUSE = re.compile(r"(requires|ensures|decreases)\*?(?:\s+(\w+))?\s*\{")
 
 
 def past_braces(text, at):
-    """Returns the place behind the brace that closes the one at `at`; texts between quotation marks are passed."""
+    """Returns the place after the brace that closes the one at `at`; texts between quotation marks are skipped."""
     depth = 0
     while at < len(text):
         c = text[at]
@@ -156,14 +156,14 @@ def clauses_behind(text, at):
 
 
 def module_of(crate, path):
-    """Returns the module's path in its crate, from its file's."""
+    """Returns the module's path in its crate, from the path of its file."""
     parts = os.path.relpath(path, os.path.join(crate.folder, "src"))[: -len(".rt")].split(os.sep)
     return [it for it in parts if it not in ("lib", "main", "mod")]
 
 
 def functions(crate, path):
     """Returns the functions of a file in their order. A trait's or an impl's ghost members are one more, without a name, whose
-    clauses they are. What stands in a macro is left out."""
+    clauses they are. Functions in a macro are left out."""
     text = text_of(path)
     lines = text.split("\n")
     found, doc, holders, start = [], [], [], 0
@@ -210,7 +210,7 @@ class Word:
     kind: str  # data, record, abbrev (of a function that may be computed), or proof
     sentence: str
     parts: list  # of a `data`, its constructors; of a record, its fields
-    text: str  # its own lines, with the heads of the modules that it stands in
+    text: str  # its own lines, with the heads of the modules that it is in
     lines: int
 
 
@@ -222,7 +222,7 @@ class Module:
     sentence: str
     imported: dict  # the name here to (module, name)
     aliases: dict  # the name here to the module
-    handed: dict  # what it hands on by `pub use`, as `imported`
+    handed: dict  # what it re-exports by `pub use`, as `imported`
     handed_modules: list
     words: list
 
@@ -240,7 +240,7 @@ def named_in(path):
 
 
 def place_of(name):
-    """Returns where a module stands in the order of specs/Lib.antt, and in those of the folders that it is in."""
+    """Returns the index of a module in the order of specs/Lib.antt, and in those of the folders that it is in."""
     _, crate, _, *parts = name.split(".")
     folder, places = os.path.join(TOP, "crates", crate, "specs"), []
     for at, part in enumerate(parts):
@@ -250,7 +250,7 @@ def place_of(name):
 
 
 def imports_of(text):
-    """Returns the words that a file imports, the modules that it gives a name, and what it hands on."""
+    """Returns the words that a file imports, the modules that it names, and what it re-exports."""
     imported, aliases, handed, modules = {}, {}, {}, []
     for hands_on, module, names, alias in IMPORT.findall(text):
         if names:
@@ -267,7 +267,7 @@ def imports_of(text):
 
 
 def comment_above(lines, at):
-    """Returns the comment that stands right above the line, an operator's `infix` line apart."""
+    """Returns the comment directly above the line, ignoring an operator's `infix` line."""
     found = []
     at -= 1
     while at >= 0 and (lines[at].strip().startswith("--") or lines[at].strip().startswith("infix")):
@@ -354,13 +354,13 @@ class Definitions:
                     self.named[module.name, name] = word
 
     def find(self, module, name):
-        """Returns the definition that this module gives under this name, its own or one that it hands on."""
+        """Returns the definition that this module has under this name, its own or one that it re-exports."""
         word = self.named.get((module, name))
         if word:
             return word
         if module in self.modules and name in self.modules[module].handed:
             return self.find(*self.modules[module].handed[name])
-        # a crate hands on a module of another under its own name
+        # a crate re-exports a module of another under its own name
         parts = module.split(".")
         lib = self.modules.get(".".join([*parts[:3], "Lib"]))
         for it in lib.handed_modules if lib else []:
@@ -369,12 +369,12 @@ class Definitions:
         return None
 
     def is_own(self, module):
-        """Whether a module is one of specs/ as they are written, and not what the checker makes of the types of src/."""
+        """Whether a module is one of specs/ as they are written, and not one that the checker generates from the types of src/."""
         parts = module.split(".")
         return len(parts) > 3 and parts[2] == "specs" and parts[3] not in ("declared", "contracts")
 
     def cited(self, text, imported, aliases, home=None):
-        """Returns the definitions whose names stand in a text, by what its file imports; `home` is its own module."""
+        """Returns the definitions whose names are in a text, by what its file imports; `home` is its own module."""
         found, others = [], set()
         names = {}
         for name, (module, word) in imported.items():
@@ -399,7 +399,7 @@ class Definitions:
 
 
 def written(path, text, checks):
-    """Writes the text, or says whether the file has it; returns whether all is well."""
+    """Writes the text, or reports whether the file has it; returns whether all is well."""
     old = text_of(path) if os.path.isfile(path) else ""
     if old == text:
         return True
@@ -413,7 +413,7 @@ def written(path, text, checks):
 
 
 def between(text, name, made):
-    """Returns the text with what the tool `name` makes in place of what stands between its two marks."""
+    """Returns the text with the output of the tool `name` in place of the text between its two marks."""
     begin, end = f"<!-- made by tools/{name}: begin -->", f"<!-- made by tools/{name}: end -->"
     if begin not in text:
         return f"{text.rstrip()}\n\n{begin}\n{made}\n{end}\n"

@@ -1,4 +1,4 @@
-//! What an answer says as a text: its value, or why there is none.
+//! Results as texts: the value, or the error.
 ghost use Rattle.std.specs.Prelude.{◌≡◌, IfOk};
 
 use irtext_base::base::Identifier;
@@ -8,7 +8,7 @@ use std::alloc::Global;
 use std::fmt;
 use std::test::Fail;
 
-/// What an answer says: its value, or its error.
+/// The text of a result: its value, or its error.
 pub fn printed<X: fmt::Display, A>(alloc: Global, answer: &Answer<X, A>) -> Result<String, Fail> {
     match answer {
         Ok(value) => Ok(format!(in alloc; "{value}")?),
@@ -16,13 +16,13 @@ pub fn printed<X: fmt::Display, A>(alloc: Global, answer: &Answer<X, A>) -> Resu
     }
 }
 
-/// What a fault says: where and why, with `!` behind it where it is committed.
+/// The text of a fault: its place and its cause, and `!` if it is committed.
 pub fn told<A>(alloc: Global, fault: &ParseFault<A>) -> Result<String, Fail> {
     let mark = if fault.committed { "!" } else { "" };
     Ok(format!(in alloc; "{}: {}{mark}", fault.pos, fault.cause)?)
 }
 
-/// What the answer of a reading says: its value, or its fault.
+/// The text of the result of a parser: its value, or its fault.
 pub fn line<X: fmt::Display, A>(alloc: Global, answer: &ParseResult<X, A>) -> Result<String, Fail> {
     match answer {
         Ok(value) => Ok(format!(in alloc; "{value}")?),
@@ -30,7 +30,7 @@ pub fn line<X: fmt::Display, A>(alloc: Global, answer: &ParseResult<X, A>) -> Re
     }
 }
 
-/// What a fault says, and what stands where the stream was left, if it was.
+/// The text of a fault, and the next character of the stream if the fault is uncommitted.
 pub fn left<A>(alloc: Global, fault: &ParseFault<A>, next: Option<char>) -> Result<String, Fail> {
     if fault.committed {
         return told(alloc, fault);
@@ -38,7 +38,7 @@ pub fn left<A>(alloc: Global, fault: &ParseFault<A>, next: Option<char>) -> Resu
     Ok(format!(in alloc; "{}: {}|{next:?}", fault.pos, fault.cause)?)
 }
 
-/// What the answer of a reading says, and what stands behind the value.
+/// The text of the result of a parser: the value with the next character of the stream, or the fault.
 pub fn behind<X: fmt::Display, A>(
     alloc: Global,
     answer: &ParseResult<X, A>,
@@ -50,7 +50,7 @@ pub fn behind<X: fmt::Display, A>(
     }
 }
 
-/// What an answer says of a list: its items and what stands behind them, or its fault.
+/// The text of the result of a list's parser: its items, the stream's place and its next character, or the fault.
 pub fn listed<A>(
     alloc: Global,
     answer: &ParseResult<Vec<i32>, A>,
@@ -63,7 +63,7 @@ pub fn listed<A>(
     }
 }
 
-/// What the answer of a reader says to a text of its own.
+/// The text of what a parser returns for a text.
 pub fn said<
     X: fmt::Display + Drop,
     A: Drop,
@@ -76,7 +76,7 @@ pub fn said<
     line(alloc, &answer)
 }
 
-/// What the answer of a reader says where a stream stands.
+/// The text of what a parser returns on a stream.
 pub fn said_next<
     X: fmt::Display + Drop,
     A: Drop,
@@ -88,7 +88,7 @@ pub fn said_next<
     line(alloc, &answer)
 }
 
-/// The identifier of a text that is one.
+/// The identifier with this text; fails if the text is no identifier.
 pub fn named(alloc: Global, text: &str) -> Result<Identifier, Fail>
     ensures { IfOk result (λ name. name ≡ text.now) }
 {

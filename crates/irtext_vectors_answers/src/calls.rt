@@ -4,7 +4,7 @@ use crate::calls::Call::{
 };
 use crate::random::Random;
 
-/// What is asked of those who keep names.
+/// The kinds of calls on names.
 #[derive(Clone, Copy)]
 pub enum Call {
     Enter,
@@ -17,7 +17,7 @@ pub enum Call {
     DefineLabel,
 }
 
-// the calls, each as often as it is to come
+// the calls, repeated by how often each is to occur
 const KINDS: &[Call] = &[
     Enter,
     EnterIsolated,
@@ -37,7 +37,7 @@ const KINDS: &[Call] = &[
     DefineLabel,
 ];
 
-/// The names that a script speaks of.
+/// The names that a script uses.
 pub const NAMES: &[&str] = &[
     "a", "b", "c", "d", "e", "f", "g", "h", "aa", "ab", "ba", "bb", "block", "block_1", "v", "v_1",
 ];
@@ -49,7 +49,7 @@ impl Call {
     }
 }
 
-/// The next call, and the index of the name that it is about.
+/// The next call, and the index of its name.
 pub fn next_call(random: &mut Random) -> (Call, usize) {
     let name = random.below(NAMES.len());
     match KINDS.get(random.below(KINDS.len())) {

@@ -1,10 +1,10 @@
-//! Formats by letters, one for each directive.
+//! Formats written as letters, one for each directive.
 use crate::answers::named;
 use irtext_base::format::{Directive, OpFormat};
 use std::alloc::Global;
 use std::test::Fail;
 
-/// The directive without a text that a letter stands for: a place by its number or letter, a list by a capital.
+/// The directive without a text for a letter: an index by its number or letter, a list by a capital.
 fn plain(letter: char) -> Option<Directive> {
     match letter {
         '0' => Some(Directive::Operand(0)),
@@ -24,7 +24,7 @@ fn plain(letter: char) -> Option<Directive> {
     }
 }
 
-/// The key of the attribute that a letter stands for.
+/// The key of the attribute for a letter.
 fn key(letter: char) -> Option<&'static str> {
     match letter {
         'k' => Some("k"),
@@ -34,7 +34,7 @@ fn key(letter: char) -> Option<&'static str> {
     }
 }
 
-/// The literal that any other character stands for.
+/// The literal for any other character.
 fn literal(letter: char) -> &'static str {
     match letter {
         '_' => "",
@@ -48,7 +48,7 @@ fn literal(letter: char) -> &'static str {
     }
 }
 
-/// The directive that a character stands for.
+/// The directive for a character.
 fn directive(alloc: Global, letter: char) -> Result<Directive, Fail> {
     if let Some(directive) = plain(letter) {
         return Ok(directive);

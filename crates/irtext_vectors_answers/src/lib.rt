@@ -1,5 +1,5 @@
-//! What the tests share that needs no context: what an answer says as a text, tables of such texts, formats, and locations nested deep;
-//! and for random scripts numbers that look random, the calls of a script about names, and which names were mentioned.
+//! What the tests share that needs no context: results as texts, tables of such texts, formats, and deeply nested locations;
+//! and for random scripts pseudo-random numbers, the calls of a script on names, and which names were mentioned.
 #![tactic(auto)]
 
 pub mod answers;

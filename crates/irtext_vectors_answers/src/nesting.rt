@@ -1,8 +1,8 @@
-//! Locations that stand in one another deeper than a call for each would fit on the stack.
+//! Locations nested deeper than the stack allows for recursion.
 use irtext_base::location::Location;
 use std::alloc::{AllocError, Global};
 
-/// Where one location stands in the one round it.
+/// Where a location is in the one around it.
 #[derive(Clone, Copy)]
 pub enum Nesting {
     /// Under the name `a`.
@@ -11,9 +11,9 @@ pub enum Nesting {
     Callee,
     /// As the caller of an unknown callee.
     Caller,
-    /// In a row in front of an unknown location.
+    /// In a list before an unknown location.
     First,
-    /// In a row behind an unknown location.
+    /// In a list after an unknown location.
     Last,
 }
 
@@ -58,7 +58,7 @@ fn fused<A: Drop>(
     })
 }
 
-/// A location round another.
+/// A location with this one inside it.
 fn around<A: Drop>(
     alloc: Global,
     nesting: Nesting,
@@ -73,7 +73,7 @@ fn around<A: Drop>(
     }
 }
 
-/// A location with so many others round it.
+/// A location with so many others around it.
 pub fn nested<A: Drop>(
     alloc: Global,
     nesting: Nesting,
@@ -87,7 +87,7 @@ pub fn nested<A: Drop>(
     Ok(location)
 }
 
-/// The location inside another, as `nested` puts it there.
+/// The location inside another, where `nested` puts it.
 pub fn inside<A: Drop>(nesting: Nesting, location: &Location<A>) -> Option<&Location<A>> {
     match (nesting, location) {
         (Nesting::Child, Location::Named { child_loc, .. }) => Some(child_loc),

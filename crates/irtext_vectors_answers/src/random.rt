@@ -1,6 +1,6 @@
-//! Numbers that look random, the same in each run.
+//! Pseudo-random numbers, the same in each run.
 
-/// A generator of numbers: an xorshift over 64 bits, which never stands at 0.
+/// A generator of numbers: an xorshift over 64 bits, which is never 0.
 #[derive(Drop)]
 pub struct Random {
     pub state: u64,
@@ -14,7 +14,7 @@ impl Random {
         }
     }
 
-    /// A number below the bound, or 0 where the bound is 0.
+    /// A number below the bound, or 0 if the bound is 0.
     pub fn below(&mut self, bound: usize) -> usize {
         let mut x = self.state;
         x ^= x << 13;

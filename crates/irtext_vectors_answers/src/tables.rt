@@ -1,8 +1,8 @@
-//! Tables of what is said, line by line, of one value that the lines may change.
+//! Tables of expected texts, line by line, for one value that the lines may change.
 use std::alloc::Global;
 use std::test::Fail;
 
-/// The number of the first line of a table of which something else is said, with one value for all lines.
+/// The number of the first line of a table whose text differs from the expected one, with one value for all lines.
 pub fn differing<X, F: Fn(Global, &mut X, usize) -> Result<String, Fail>>(
     alloc: Global,
     wanted: &[&str],

@@ -1,4 +1,4 @@
-//! Contexts of the demo types, lent to a call: nothing else owns one here, so that a test has one call and no context.
+//! Contexts of the demo types, passed to a closure: nothing else owns one here, so that a test has one call and no context.
 ghost use Rattle.std.specs.Prelude.{◌≤◌};
 
 use irtext_base::location::Source;
@@ -17,7 +17,7 @@ pub type Ctx = Context<DemoType, DemoAttr>;
 /// A stream with its state.
 pub type Stream<'c> = StateStream<'c, DemoType, DemoAttr, ()>;
 
-/// What a call answers that is lent an empty context.
+/// The result of a call with an empty context.
 pub fn with_context<X, F: FnOnce(Global, &mut Ctx) -> Result<X, Fail> + Drop>(
     alloc: Global,
     call: F,
@@ -28,7 +28,7 @@ pub fn with_context<X, F: FnOnce(Global, &mut Ctx) -> Result<X, Fail> + Drop>(
     call(alloc, &mut ctx)
 }
 
-/// What a call answers that is lent an empty context whose next value has the number `values`, and whose places count from
+/// The result of a call with an empty context whose next value has the number `values`, and whose places count from
 /// `places`.
 pub fn with_counters<X, F: FnOnce(Global, &mut Ctx) -> Result<X, Fail> + Drop>(
     alloc: Global,
@@ -43,7 +43,7 @@ pub fn with_counters<X, F: FnOnce(Global, &mut Ctx) -> Result<X, Fail> + Drop>(
     call(alloc, &mut ctx)
 }
 
-/// What a call answers that is lent a context with the demo dialects.
+/// The result of a call with a context that has the demo dialects.
 pub fn with_demo<X, F: FnOnce(Global, &mut Ctx) -> Result<X, Fail> + Drop>(
     alloc: Global,
     call: F,
@@ -54,7 +54,7 @@ pub fn with_demo<X, F: FnOnce(Global, &mut Ctx) -> Result<X, Fail> + Drop>(
     registered(alloc, &mut ctx, call)
 }
 
-/// What a call answers that is lent this context with the demo dialects.
+/// Registers the demo dialects with this context, and returns the result of the call with it.
 fn registered<X, F: FnOnce(Global, &mut Ctx) -> Result<X, Fail> + Drop>(
     alloc: Global,
     ctx: &mut Ctx,
@@ -68,7 +68,7 @@ fn registered<X, F: FnOnce(Global, &mut Ctx) -> Result<X, Fail> + Drop>(
     }
 }
 
-/// What a call answers that is lent two empty contexts.
+/// The result of a call with two empty contexts.
 pub fn with_contexts<X, F: FnOnce(Global, &mut Ctx, &mut Ctx) -> Result<X, Fail> + Drop>(
     alloc: Global,
     call: F,
@@ -80,7 +80,7 @@ pub fn with_contexts<X, F: FnOnce(Global, &mut Ctx, &mut Ctx) -> Result<X, Fail>
     call(alloc, &mut ctx, &mut other)
 }
 
-/// What is said of a text that is read with a context of its own.
+/// The result of a function on a stream over a text, with a context of its own.
 pub fn in_context<F: FnOnce(Global, &mut Stream<'_>) -> Result<String, Fail> + Drop>(
     alloc: Global,
     text: &str,

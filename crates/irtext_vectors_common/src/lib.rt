@@ -1,4 +1,4 @@
-//! What the tests with contexts share: contexts of the demo types, streams over them, and tables of what is said of one; and, by the
+//! What the tests with contexts share: contexts of the demo types, streams over them, and tables of expected texts for one; and, by the
 //! same paths, what the other tests share.
 #![tactic(auto)]
 

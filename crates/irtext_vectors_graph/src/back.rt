@@ -1,4 +1,4 @@
-//! What was made since a point is given back.
+//! Everything made since a mark is rolled back.
 ghost use Rattle.std.specs.Prelude.{◌≡◌, ◌≤◌, ℕ, None};
 ghost use Rattle.irtext_graph.specs.Graph.{KeepsOlder, Stands};
 ghost use Rattle.irtext_graph.specs.Store.{get, before};
@@ -36,17 +36,17 @@ fn makes_three(graph: &mut Graph<u32, u32, u8>, data: u32) -> Result<Three, Allo
     })
 }
 
-/// Whether three objects stand.
+/// Whether three objects are live.
 fn all_stand(graph: &Graph<u32, u32, u8>, three: &Three) -> bool {
     graph.contains(three.operation) && graph.contains(three.block) && graph.contains(three.region)
 }
 
-/// Whether one of three objects stands.
+/// Whether one of three objects is live.
 fn one_stands(graph: &Graph<u32, u32, u8>, three: &Three) -> bool {
     graph.contains(three.operation) || graph.contains(three.block) || graph.contains(three.region)
 }
 
-/// What is made behind a mark is gone, what is older stands, and places come again under their next generation.
+/// Whether what was made after a mark is removed, older objects are live, and places are used again with their next generation.
 fn gives_back(graph: &mut Graph<u32, u32, u8>) -> Result<bool, AllocError> {
     let older = makes_three(graph, 1)?;
     let mark = graph.made();
@@ -68,7 +68,7 @@ fn what_is_newer_goes(rt: HostRuntime) -> Result<(), Fail> {
     Ok(())
 }
 
-/// Adds two regions to the only object, an operation, and says whether they stand in it in the order in which they came.
+/// Adds two regions to the only object, an operation, and returns whether they are in it in the order in which they were added.
 fn adds_two(graph: &mut Graph<u32, u32, u8>, op: Ptr<Operation>) -> Result<bool, AllocError>
     requires { Stands graph.old (TheOperation op) }
     ensures kept { (m : ℕ) → m ≤ graph.old.made → before m graph.old.operations op ≡ None → KeepsOlder m graph.old graph.new }
@@ -84,7 +84,7 @@ fn adds_two(graph: &mut Graph<u32, u32, u8>, op: Ptr<Operation>) -> Result<bool,
     Ok(two && in_it && graph.num_live() == 3)
 }
 
-/// Makes an operation with two regions, and says whether they stand in it.
+/// Makes an operation with two regions, and returns whether they are in it.
 fn makes_with_two(graph: &mut Graph<u32, u32, u8>) -> Result<bool, AllocError>
     ensures kept { (m : ℕ) → m ≤ graph.old.made → KeepsOlder m graph.old graph.new }
 {
@@ -92,7 +92,7 @@ fn makes_with_two(graph: &mut Graph<u32, u32, u8>) -> Result<bool, AllocError>
     adds_two(graph, op)
 }
 
-/// An operation with two regions is made and given back.
+/// Whether an operation with two regions is made and rolled back.
 fn gives_regions_back(graph: &mut Graph<u32, u32, u8>) -> Result<bool, AllocError>
     ensures operations { (p : Ptr Operation) → get graph.new.operations p ≡ get graph.old.operations p }
     ensures regions { (p : Ptr Region) → get graph.new.regions p ≡ get graph.old.regions p }

@@ -1,4 +1,4 @@
-//! Whether a graph and its model are the same: at one object, at the uses of one value or block, and in what each allows.
+//! Whether a graph and its model agree: on one object, on the uses of one value or block, and on which edits each allows.
 ghost use Rattle.std.specs.Prelude.{◌↔◌, IsTrue};
 ghost use Rattle.irtext_graph.specs.Used.{IsDefined};
 
@@ -15,7 +15,7 @@ pub(crate) fn type_of(number: u64) -> u8 {
     (number % 251) as u8
 }
 
-/// Whether the value or the block is there.
+/// Whether the value or the block is live.
 pub(crate) fn is_defined(graph: &Graph<u32, u32, u8>, d: Defined) -> bool
     ensures { IsTrue result ↔ IsDefined graph.now d }
 {
@@ -25,7 +25,7 @@ pub(crate) fn is_defined(graph: &Graph<u32, u32, u8>, d: Defined) -> bool
     }
 }
 
-/// Whether an object stands where the model says, and those in it too.
+/// Whether an object and its children are where the model has them.
 fn is_placed(graph: &Graph<u32, u32, u8>, item: &Item) -> bool {
     let o = item.object;
     if !graph.contains(o)
@@ -42,7 +42,7 @@ fn is_placed(graph: &Graph<u32, u32, u8>, item: &Item) -> bool {
     true
 }
 
-/// Whether an object is made of the parts that the model says.
+/// Whether an object has the parts that the model has.
 fn has_parts(graph: &Graph<u32, u32, u8>, item: &Item) -> bool {
     let parts = &item.parts;
     match item.object {
@@ -99,7 +99,7 @@ pub(crate) fn has_uses(
     )
 }
 
-/// Whether the graph allows what the model does: that k goes, and that c is put into k.
+/// Whether the graph allows what the model allows: that k is erased, and that c is put into k.
 fn allows(
     graph: &Graph<u32, u32, u8>,
     model: &Model,
@@ -117,7 +117,7 @@ fn allows(
     )
 }
 
-/// Whether both have as many objects, and made as many, and an object that is gone stays gone.
+/// Whether both have as many objects, and made as many, and an object that was erased stays erased.
 fn has_as_many(graph: &Graph<u32, u32, u8>, model: &Model, random: &mut Random) -> bool {
     if let Some(o) = model.gone.get(random.below(model.gone.len())) {
         if graph.contains(*o) {
@@ -127,7 +127,7 @@ fn has_as_many(graph: &Graph<u32, u32, u8>, model: &Model, random: &mut Random) 
     graph.num_live() == model.items.len() as u64 && graph.made() == model.made
 }
 
-/// Whether the two are the same at objects that the random numbers choose.
+/// Whether the two agree at objects that the random numbers choose.
 pub(crate) fn agree(
     graph: &Graph<u32, u32, u8>,
     model: &Model,

@@ -1,4 +1,4 @@
-//! Counters that are nearly full, the places and generations that are handed out, and the numbers of values.
+//! Counters that are nearly full, the places and generations of objects, and the numbers of values.
 ghost use Rattle.irtext_graph.specs.Parts.{ValueStands};
 
 use crate::nesting::erased;
@@ -14,7 +14,7 @@ fn is_at(graph: &Graph<u32, u32, u8>, p: Ptr<Region>, place: u64, generation: u3
     graph.number_of_place(p) == place && p.generation() == generation
 }
 
-/// Regions come to stand at 1v1, 2v1, 1v2, 3v1, 2v2, 1v3 and 4v1 as some go in between.
+/// Whether regions get the places 1v1, 2v1, 1v2, 3v1, 2v2, 1v3 and 4v1 while some are erased in between.
 fn places_come_again(graph: &mut Graph<u32, u32, u8>) -> Result<bool, AllocError> {
     let first = graph.make_region()?;
     let second = graph.make_region()?;
@@ -35,7 +35,7 @@ fn places_come_again(graph: &mut Graph<u32, u32, u8>) -> Result<bool, AllocError
     Ok(begun && gone && went_on && both && ended)
 }
 
-/// The last place is handed out, the next is refused and nothing changes, and a place that is given back comes again.
+/// Whether the last place is used, the next object fails and nothing changes, and a place that is freed is used again.
 fn places_end(graph: &mut Graph<u32, u32, u8>) -> Result<bool, AllocError> {
     let region = graph.make_region()?;
     let last = is_at(graph, region, 4294967294, 1);
@@ -45,7 +45,7 @@ fn places_end(graph: &mut Graph<u32, u32, u8>) -> Result<bool, AllocError> {
     Ok(last && refused && gone && is_at(graph, again, 4294967294, 2))
 }
 
-/// The last number of a value is handed out, the next is refused and nothing changes, and what needs none is made.
+/// Whether the last number of a value is used, the next value fails and nothing changes, and an object that needs none is made.
 fn numbers_end(graph: &mut Graph<u32, u32, u8>) -> Result<bool, AllocError> {
     let op = graph.make_operation(1, Few::one(5), &[], &[])?;
     let value = Value::Result(op, 0);
@@ -55,7 +55,7 @@ fn numbers_end(graph: &mut Graph<u32, u32, u8>) -> Result<bool, AllocError> {
     Ok(last && refused && graph.num_live() == 2)
 }
 
-/// Whether two values have different numbers, as they do where they are not the same value.
+/// Whether two values have different numbers, as they do unless they are the same value.
 fn numbers_differ(graph: &Graph<u32, u32, u8>, v: Value, w: Value) -> bool
     requires first { ValueStands graph.now v }
     requires second { ValueStands graph.now w }
@@ -64,12 +64,12 @@ fn numbers_differ(graph: &Graph<u32, u32, u8>, v: Value, w: Value) -> bool
     graph.number_of(v) != graph.number_of(w)
 }
 
-/// The same where they may not be there: then they have none.
+/// The same for values that may not be live: then they have none.
 fn stand_apart(graph: &Graph<u32, u32, u8>, v: Value, w: Value) -> bool {
     graph.contains_value(v) && graph.contains_value(w) && numbers_differ(graph, v, w)
 }
 
-/// Values that are made together, and those of an operation and of a block, have different numbers.
+/// Whether values that are made together, and those of an operation and of a block, have different numbers.
 fn numbers_are_apart(graph: &mut Graph<u32, u32, u8>) -> Result<bool, AllocError> {
     let op = graph.make_operation(1, Few::two(5, 6), &[], &[])?;
     let block = graph.make_block(2, Few::one(7))?;

@@ -1,4 +1,4 @@
-//! The calls on pointers, over something that holds a graph beside other things.
+//! The calls on pointers, over a type that holds a graph and something else.
 ghost use Rattle.std.specs.Prelude.{refl};
 
 use irtext_few::Few;
@@ -9,7 +9,7 @@ use irtext_graph::object::{BasicBlock, Object, Operation, Region};
 use std::alloc::AllocError;
 use std::test::Fail;
 
-/// A graph with a number beside it.
+/// A graph and a number.
 #[derive(Drop)]
 pub(crate) struct Holder {
     pub(crate) graph: Graph<u32, u32, u8>,
@@ -49,7 +49,7 @@ struct Chain {
     inner: Ptr<Operation>,
 }
 
-/// Puts a region last into an operation where that can be done, and says whether it could.
+/// Puts a region last into an operation if that is allowed, and returns whether it was.
 fn put_region(holder: &mut Holder, chain: Chain) -> Result<bool, AllocError> {
     let (op, region) = (chain.op, chain.region);
     if !holder.graph.contains(Object::TheOperation(op))
@@ -62,7 +62,7 @@ fn put_region(holder: &mut Holder, chain: Chain) -> Result<bool, AllocError> {
     Ok(true)
 }
 
-/// Puts a block last into a region where that can be done, and says whether it could.
+/// Puts a block last into a region if that is allowed, and returns whether it was.
 fn put_block(holder: &mut Holder, chain: Chain) -> Result<bool, AllocError> {
     let (region, block) = (chain.region, chain.block);
     if !holder.graph.contains(Object::TheRegion(region))
@@ -75,7 +75,7 @@ fn put_block(holder: &mut Holder, chain: Chain) -> Result<bool, AllocError> {
     Ok(true)
 }
 
-/// Puts an operation last into a block where that can be done, and says whether it could.
+/// Puts an operation last into a block if that is allowed, and returns whether it was.
 fn put_operation(holder: &mut Holder, chain: Chain) -> Result<bool, AllocError> {
     let (block, inner) = (chain.block, chain.inner);
     if !holder.graph.contains(Object::TheBlock(block))
@@ -88,7 +88,7 @@ fn put_operation(holder: &mut Holder, chain: Chain) -> Result<bool, AllocError> 
     Ok(true)
 }
 
-/// Whether each of the chain names those round it.
+/// Whether each object of the chain names those around it.
 fn looks_up(holder: &Holder, chain: Chain) -> bool {
     let Chain {
         op,
@@ -115,7 +115,7 @@ fn looks_up(holder: &Holder, chain: Chain) -> bool {
     of_inner && of_block && of_region && op.get_parent_op(holder) == None
 }
 
-/// Whether each of the chain holds the next alone.
+/// Whether each object of the chain has the next as its only child.
 fn looks_down(holder: &Holder, chain: Chain) -> bool {
     let Chain {
         op,
@@ -137,7 +137,7 @@ fn looks_down(holder: &Holder, chain: Chain) -> bool {
         && block.get_operation(holder, 0) == inner
 }
 
-/// Takes the three inner ones out of what they stand in, and says whether nothing is left in any.
+/// Detaches the three inner ones from their parents, and returns whether no parent has a child left.
 fn comes_apart(holder: &mut Holder, chain: Chain) -> bool {
     let Chain {
         op,

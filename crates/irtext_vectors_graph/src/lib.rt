@@ -1,5 +1,5 @@
-//! Worked rows of the graph: each call once, which places objects take, full counters, what is given back, uses that go in every
-//! order, a chain that is nested deep, walks over all inside an object, and a value that is used often; lists whose first item is
+//! Worked rows of the graph: each call once, the places of objects, full counters, roll-back, uses that are removed in every
+//! order, a deeply nested chain, walks over everything nested in an object, and a value with many uses; lists whose first item is
 //! held in place; and a random script beside a plain model.
 #![tactic(auto)]
 

@@ -13,7 +13,7 @@ fn digits(list: &Growing<u8>) -> u64 {
     number
 }
 
-/// Three items are put into a list, the first is taken out, and two more come behind the others.
+/// Three items are put into a list, the first is removed, and two more are added at the end.
 fn grows(alloc: Global) -> Result<bool, AllocError> {
     let mut list: Growing<u8> = Growing::new(alloc);
     let empty = list.len() == 0;
@@ -29,7 +29,7 @@ fn grows(alloc: Global) -> Result<bool, AllocError> {
     Ok(empty && three && two && digits(&list) == 24)
 }
 
-/// The only item, and one of two, of lists that are made of short ones, and lists that are made of their items.
+/// The only item, and one of two, of lists that are made from short ones, and lists that are made from their items.
 fn alone(alloc: Global) -> Result<bool, AllocError> {
     let mut one = Lone::from_few(alloc, Few::one(5))?;
     one[0] = 6;

@@ -1,11 +1,11 @@
-//! A plain model of a graph: its objects in one vector, in the order in which they were made. Everything is found by looking through
+//! A plain model of a graph: its objects in one vector, in the order in which they were made. Everything is found by searching
 //! it, and there are no lists of uses.
 use irtext_graph::arena::Ptr;
 use irtext_graph::object::{BasicBlock, Defined, Object, Operation, Site, Value};
 use irtext_vectors_answers::random::Random;
 use std::alloc::{AllocError, Global};
 
-/// What an object is made of: its data, how many results or arguments it has, and what it uses. What its kind does not have is
+/// The parts of an object: its data, how many results or arguments it has, and what it uses. Parts that its kind does not have are
 /// empty.
 #[derive(Drop)]
 pub(crate) struct Parts {
@@ -15,7 +15,7 @@ pub(crate) struct Parts {
     pub(crate) successors: Vec<Ptr<BasicBlock>>,
 }
 
-/// An object as the model knows it.
+/// An object in the model.
 #[derive(Drop)]
 pub(crate) struct Item {
     pub(crate) object: Object,
@@ -28,7 +28,7 @@ pub(crate) struct Item {
     pub(crate) parts: Parts,
 }
 
-/// The objects that stand, those that are gone, and how many objects and values were made.
+/// The live objects, the erased ones, and how many objects and values were made.
 #[derive(Drop)]
 pub(crate) struct Model {
     pub(crate) alloc: Global,
@@ -90,7 +90,7 @@ impl Parts {
         }
     }
 
-    /// Adds the places at which an operation of these parts uses d.
+    /// Appends the places at which an operation of these parts uses d.
     fn note_uses(
         &self,
         p: Ptr<Operation>,
@@ -112,7 +112,7 @@ impl Parts {
 }
 
 impl Item {
-    /// A value that the object defines, or the block that it is, where it defines any.
+    /// A value that the object defines, or the block that it is, if it defines any.
     fn defined(&self, random: &mut Random) -> Option<Defined> {
         let count = self.parts.count;
         let index = random.below(count);
@@ -128,7 +128,7 @@ impl Item {
 }
 
 impl Model {
-    /// The index of an object, or the number of objects where it is not there.
+    /// The index of an object, or the number of objects if it is not live.
     pub(crate) fn index_of(&self, o: Object) -> usize {
         for (i, item) in self.items.iter().enumerate() {
             if item.object == o {
@@ -143,7 +143,7 @@ impl Model {
         self.items.get(random.below(self.items.len()))
     }
 
-    /// What one of the objects defines, where it defines anything.
+    /// A value or a block that one of the objects defines, if it defines any.
     pub(crate) fn any_defined(&self, random: &mut Random) -> Option<Defined> {
         match self.any(random) {
             Some(item) => item.defined(random),
@@ -167,7 +167,7 @@ impl Model {
         Ok(())
     }
 
-    /// An object and all that stand in it.
+    /// An object and everything nested in it.
     pub(crate) fn inside(&self, o: Object) -> Result<Vec<Object>, AllocError> {
         let mut found = Vec::new(self.alloc);
         found.push(o)?;
@@ -185,7 +185,7 @@ impl Model {
         Ok(found)
     }
 
-    /// Whether nothing outside of an object uses what is inside.
+    /// Whether nothing outside of an object uses it or anything nested in it.
     pub(crate) fn can_erase(&self, o: Object) -> Result<bool, AllocError> {
         let inside = self.inside(o)?;
         for item in &self.items {
@@ -196,7 +196,7 @@ impl Model {
         Ok(true)
     }
 
-    /// The operands and the successors that name d.
+    /// The operands and the successors that are d.
     pub(crate) fn uses(&self, d: Defined) -> Result<Vec<Site>, AllocError> {
         let mut uses = Vec::new(self.alloc);
         for item in &self.items {
@@ -207,7 +207,7 @@ impl Model {
         Ok(uses)
     }
 
-    /// Whether c stands nowhere and k is not inside it.
+    /// Whether c is detached and k is not nested in it.
     pub(crate) fn can_insert(&self, k: Object, c: Object) -> Result<bool, AllocError> {
         let Some(item) = self.items.get(self.index_of(c)) else {
             return Ok(false);
@@ -228,7 +228,7 @@ impl Model {
         Ok(())
     }
 
-    /// Takes an object out of what it stands in.
+    /// Detaches an object from its parent.
     pub(crate) fn unlink(&mut self, c: Object) {
         let at = self.index_of(c);
         let Some(item) = self.items.get_mut(at) else {
@@ -252,7 +252,7 @@ impl Model {
         }
     }
 
-    /// Drops what the operations inside an object use.
+    /// Drops the uses by an object and by the operations nested in it.
     pub(crate) fn drop_uses(&mut self, o: Object) -> Result<(), AllocError> {
         let inside = self.inside(o)?;
         for item in self.items.iter_mut() {
@@ -264,7 +264,7 @@ impl Model {
         Ok(())
     }
 
-    /// Takes these objects out.
+    /// Removes these objects.
     pub(crate) fn take_out(&mut self, objects: &[Object]) -> Result<(), AllocError> {
         for o in objects {
             let at = self.index_of(*o);
@@ -276,7 +276,7 @@ impl Model {
         Ok(())
     }
 
-    /// The objects before which so many were made, or more.
+    /// The objects before which at least this many were made.
     pub(crate) fn since(&self, mark: u64) -> Result<Vec<Object>, AllocError> {
         let mut newer = Vec::new(self.alloc);
         for item in &self.items {

@@ -1,4 +1,4 @@
-//! What can be put where, and what is seen of it.
+//! Which objects can be put into which, and what the calls return then.
 ghost use Rattle.irtext_graph.specs.Objects.{Fits};
 
 use irtext_few::Few;
@@ -7,7 +7,7 @@ use irtext_graph::object::Object;
 use std::alloc::AllocError;
 use std::test::Fail;
 
-/// Puts c last into k where that can be done, and says whether it could.
+/// Puts c last into k if that is allowed, and returns whether it was.
 pub(crate) fn put(graph: &mut Graph<u32, u32, u8>, k: Object, c: Object) -> Result<bool, AllocError>
     requires { Fits k c }
 {
@@ -21,7 +21,7 @@ pub(crate) fn put(graph: &mut Graph<u32, u32, u8>, k: Object, c: Object) -> Resu
     Ok(true)
 }
 
-/// Whether c stands directly in k, at an index.
+/// Whether c is a child of k, at an index.
 pub(crate) fn stands_at(graph: &Graph<u32, u32, u8>, k: Object, c: Object, index: usize) -> bool {
     if !graph.contains(k) || !graph.contains(c) {
         return false;
@@ -32,7 +32,7 @@ pub(crate) fn stands_at(graph: &Graph<u32, u32, u8>, k: Object, c: Object, index
     graph.get_child(k, index) == c && graph.find_index_in_parent(k, c) == index
 }
 
-/// Takes an object out with all that stands in it, where nothing outside uses what it defines, and says whether it could.
+/// Erases an object with everything nested in it, if nothing outside uses what it defines, and returns whether it did.
 pub(crate) fn erased(graph: &mut Graph<u32, u32, u8>, o: Object) -> bool {
     if !graph.contains(o) {
         return false;
@@ -45,7 +45,7 @@ pub(crate) fn erased(graph: &mut Graph<u32, u32, u8>, o: Object) -> bool {
     true
 }
 
-/// An operation that holds a region that holds a block that holds two operations, of which the first is taken out again.
+/// An operation with a region with a block with two operations, of which the first is erased again.
 fn nests(graph: &mut Graph<u32, u32, u8>) -> Result<bool, AllocError> {
     let outer = graph.make_operation(1, Few::none(), &[], &[])?;
     let region = graph.make_region()?;
@@ -110,7 +110,7 @@ pub(crate) fn chain(
     Ok(Some(Ends { outer, inner }))
 }
 
-/// Whether the innermost stands in the outermost, which can go.
+/// Whether the innermost is nested in the outermost, which can be erased.
 fn is_chained(graph: &Graph<u32, u32, u8>, ends: Ends) -> bool {
     let Ends { outer, inner } = ends;
     if !graph.contains(outer) || !graph.contains(inner) {
@@ -119,7 +119,7 @@ fn is_chained(graph: &Graph<u32, u32, u8>, ends: Ends) -> bool {
     graph.is_inside(outer, inner) && !graph.is_inside(inner, outer) && graph.can_erase(outer)
 }
 
-/// A chain that goes with its outermost operation.
+/// A chain that is erased with its outermost operation.
 fn nests_deep(graph: &mut Graph<u32, u32, u8>, depth: usize) -> Result<bool, AllocError> {
     let Some(ends) = chain(graph, depth)? else {
         return Ok(false);
@@ -128,7 +128,7 @@ fn nests_deep(graph: &mut Graph<u32, u32, u8>, depth: usize) -> Result<bool, All
     Ok(chained && erased(graph, ends.outer))
 }
 
-/// A block with so many operations, which goes with them.
+/// A block with so many operations, which is erased with them.
 fn holds_many(graph: &mut Graph<u32, u32, u8>, count: usize) -> Result<bool, AllocError> {
     let block = Object::TheBlock(graph.make_block(0, Few::none())?);
     let mut all = true;
@@ -155,7 +155,7 @@ fn a_million_levels(rt: HostRuntime) -> Result<(), Fail> {
     let done = nests_deep(&mut graph, 333334).ok() == Some(true);
     assert!(rt; done);
     assert!(rt; graph.made() == 1000003 && graph.num_live() == 0);
-    // and another, which is released as it stands
+    // and another, which is released without being erased
     let left = chain(&mut graph, 333334)?;
     assert!(rt; left.is_some());
     Ok(())

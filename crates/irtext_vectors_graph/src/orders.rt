@@ -1,4 +1,4 @@
-//! The uses of a value and of a block go in every order.
+//! The uses of a value and of a block are removed in every order.
 use crate::compared::has_uses;
 use crate::model::Parts;
 use crate::script::{Kind, Script};
@@ -8,7 +8,7 @@ use std::test::Fail;
 
 const USERS: usize = 5;
 
-// in how many orders five users can go
+// the number of orders in which five users can be removed
 const ORDERS: usize = 120;
 
 /// A value and a block.
@@ -41,7 +41,7 @@ fn make_user(script: &mut Script, both: Both) -> Result<Option<Object>, AllocErr
     script.make(Kind::Operation, parts)
 }
 
-/// Makes five users, which go in the order of a number, or lose what they use, and says whether the uses are those of the others
+/// Makes five users, which are erased in the order of a number, or drop their uses, and returns whether the uses are those of the others
 /// after each.
 fn go_in_order(
     script: &mut Script,
@@ -77,7 +77,7 @@ fn go_in_order(
     Ok(all)
 }
 
-/// The number of the first order in which something is wrong.
+/// The number of the first order with a wrong result.
 fn differing(script: &mut Script) -> Result<Option<usize>, AllocError> {
     let Some(both) = make_both(script)? else {
         return Ok(Some(0));

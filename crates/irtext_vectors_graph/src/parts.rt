@@ -1,4 +1,4 @@
-//! What is seen of one object: data, operands, successors, results and arguments, each call once, and lists of any length.
+//! The view of one object: data, operands, successors, results and arguments, each call once, and lists of any length.
 use crate::nesting::erased;
 use irtext_few::Few;
 use irtext_graph::arena::Ptr;
@@ -7,12 +7,12 @@ use irtext_graph::object::{BasicBlock, Object, Operation, Value};
 use std::alloc::{AllocError, Global};
 use std::test::Fail;
 
-/// Whether the value is there, with this type and this number.
+/// Whether the value is live, with this type and this number.
 pub(crate) fn is_value(graph: &Graph<u32, u32, u8>, v: Value, of_type: u8, number: u64) -> bool {
     graph.contains_value(v) && *graph.type_of(v) == of_type && graph.number_of(v) == number
 }
 
-/// Whether the block stands, with this data and so many arguments.
+/// Whether the block is live, with this data and so many arguments.
 pub(crate) fn is_block(
     graph: &Graph<u32, u32, u8>,
     block: Ptr<BasicBlock>,
@@ -24,7 +24,7 @@ pub(crate) fn is_block(
         && graph.num_arguments(block) == arguments
 }
 
-/// Whether the operation stands, with this data and so many results.
+/// Whether the operation is live, with this data and so many results.
 pub(crate) fn is_operation(
     graph: &Graph<u32, u32, u8>,
     op: Ptr<Operation>,
@@ -36,7 +36,7 @@ pub(crate) fn is_operation(
         && graph.num_results(op) == results
 }
 
-/// Whether the operation stands, and uses these values and these blocks.
+/// Whether the operation is live, and uses these values and these blocks.
 pub(crate) fn uses(
     graph: &Graph<u32, u32, u8>,
     op: Ptr<Operation>,
@@ -85,7 +85,7 @@ fn has_parts(graph: &mut Graph<u32, u32, u8>) -> Result<bool, AllocError> {
     Ok(values && data && none && used)
 }
 
-/// Whether the value is there, with this type.
+/// Whether the value is live, with this type.
 fn has_type(graph: &Graph<u32, u32, u8>, v: Value, of_type: u8) -> bool {
     graph.contains_value(v) && *graph.type_of(v) == of_type
 }
@@ -99,7 +99,7 @@ fn has_results(graph: &Graph<u32, u32, u8>, op: Ptr<Operation>, count: u8) -> bo
     typed
 }
 
-/// An operation with so many results, from a vector of types, and one that uses them all; the first goes after the second.
+/// An operation with so many results, from a vector of types, and one that uses them all; the first is erased after the second.
 fn has_so_many(
     graph: &mut Graph<u32, u32, u8>,
     alloc: Global,
@@ -125,7 +125,7 @@ fn has_so_many(
     Ok(all && !too_early && gone && rest)
 }
 
-/// Writes the data of an operation and of a block, and says whether they are there and all else is as it was.
+/// Writes the data of an operation and of a block, and returns whether they are there and everything else is unchanged.
 fn writes(graph: &mut Graph<u32, u32, u8>) -> Result<bool, AllocError> {
     let block = graph.make_block(1, Few::one(10))?;
     let op = graph.make_operation(2, Few::one(11), &[Value::Argument(block, 0)], &[block])?;

@@ -1,4 +1,4 @@
-//! Which places and generations objects get as others come and go.
+//! The places and generations that objects get while others are made and erased.
 use crate::model::Parts;
 use crate::places::Call::{Clear, Erase, Make};
 use crate::script::{Kind, Script};
@@ -6,7 +6,7 @@ use irtext_graph::object::Object;
 use std::alloc::AllocError;
 use std::test::Fail;
 
-/// What is done: an object is made, and gets this place and generation; one goes, by its number among those made; or all go.
+/// A call: an object is made, and gets this place and generation; one is erased, by its number among those made; or all are.
 #[derive(Clone, Copy)]
 enum Call {
     Make(u64, u32),
@@ -14,7 +14,7 @@ enum Call {
     Clear,
 }
 
-// the place that was given back last is taken next, under its next generation
+// the place that was freed last is used next, with its next generation
 const CALLS: &[Call] = &[
     Make(1, 1),
     Make(2, 1),
@@ -51,7 +51,7 @@ fn place_of(o: Object) -> (u64, u32) {
     }
 }
 
-/// Does what a call says, and says whether it could be done, and whether what was made is where the call says.
+/// Makes a call, and returns whether it succeeded, and whether what was made is where the call says.
 fn does(
     script: &mut Script,
     kind: Kind,
@@ -74,7 +74,7 @@ fn does(
     }
 }
 
-/// The number of the first call that is not done as the table says.
+/// The number of the first call with another result than the table has.
 fn differing(script: &mut Script, kind: Kind) -> Result<Option<usize>, AllocError> {
     let mut objects = Vec::new(script.alloc);
     for (number, call) in CALLS.iter().enumerate() {

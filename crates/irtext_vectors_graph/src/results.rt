@@ -1,4 +1,4 @@
-//! Who uses the results of an operation, and the types of what it uses, over something that holds a graph: each call once.
+//! The uses of an operation's results, and the types of its operands, over a type that holds a graph: each call once.
 use crate::held::Holder;
 use irtext_few::Few;
 use irtext_graph::arena::Ptr;
@@ -8,7 +8,7 @@ use irtext_parts::operation::OperationParts;
 use std::alloc::AllocError;
 use std::test::Fail;
 
-/// Whether the operation stands, and uses values of these types in this order.
+/// Whether the operation is live, and uses values of these types in this order.
 fn has_operand_types(
     holder: &Holder,
     op: Ptr<Operation>,
@@ -25,7 +25,7 @@ fn has_operand_types(
     Ok(same)
 }
 
-/// Whether the operation stands, and its results are used at these places and nowhere else, by each of the three answers.
+/// Whether the operation is live, and its results are used at these places and nowhere else, by each of the three calls.
 fn has_uses(holder: &Holder, op: Ptr<Operation>, places: &[Site]) -> Result<bool, AllocError> {
     if !holder.graph.contains(Object::TheOperation(op)) {
         return Ok(false);
@@ -39,7 +39,7 @@ fn has_uses(holder: &Holder, op: Ptr<Operation>, places: &[Site]) -> Result<bool
     Ok(all && count == places.len() && op.has_use(holder) == (count > 0))
 }
 
-/// An operation without results that uses these values, where they are there.
+/// An operation without results that uses these values, if they are live.
 fn make_user(
     graph: &mut Graph<u32, u32, u8>,
     operands: &[Value],

@@ -14,13 +14,13 @@ use irtext_vectors_answers::random::Random;
 use std::alloc::{AllocError, Global};
 use std::test::Fail;
 
-// how many calls are made
+// the number of calls
 const STEPS: usize = 10000;
 
-// from how many objects on no more are made
+// from this number of objects on no more are made
 const MOST: usize = 200;
 
-/// A graph, its model, and the numbers that choose the next call.
+/// A graph, its model, and the random numbers that choose the next call.
 #[derive(Drop)]
 pub(crate) struct Script {
     pub(crate) alloc: Global,
@@ -29,7 +29,7 @@ pub(crate) struct Script {
     pub(crate) graph: Graph<u32, u32, u8>,
 }
 
-/// Whether an object of the one's kind can hold one of the other's.
+/// Whether an object of k's kind can hold one of c's kind.
 fn fits(k: Object, c: Object) -> bool
     ensures { IsTrue result ↔ Fits k c }
 {
@@ -67,7 +67,7 @@ pub(crate) enum Kind {
     Region,
 }
 
-/// The parts of an object of a kind: up to three results or arguments, and for an operation some of what is there to use.
+/// The parts of an object of a kind: up to three results or arguments, and for an operation some of the live values and blocks as uses.
 fn parts(model: &Model, random: &mut Random, kind: Kind) -> Result<Parts, AllocError> {
     let count = if kind == Kind::Region {
         0
@@ -88,7 +88,7 @@ fn parts(model: &Model, random: &mut Random, kind: Kind) -> Result<Parts, AllocE
     Ok(parts)
 }
 
-/// Makes an object of these parts, where all that it uses is there.
+/// Makes an object of these parts, if everything that it uses is live.
 fn make(
     graph: &mut Graph<u32, u32, u8>,
     kind: Kind,
@@ -131,7 +131,7 @@ impl Script {
         }
     }
 
-    /// Makes an object of these parts, where all that it uses is there.
+    /// Makes an object of these parts, if everything that it uses is live.
     pub(crate) fn make(&mut self, kind: Kind, parts: Parts) -> Result<Option<Object>, AllocError>
         ensures kept { (m : ℕ) → m ≤ self.old.graph.made → KeepsOlder m self.old.graph self.new.graph }
     {
@@ -143,7 +143,7 @@ impl Script {
         Ok(Some(object))
     }
 
-    /// Makes an object, and says whether the graph had all that it was to use.
+    /// Makes an object, and returns whether the graph had everything that it was to use.
     fn make_one(&mut self) -> Result<bool, AllocError>
         ensures kept { (m : ℕ) → m ≤ self.old.graph.made → KeepsOlder m self.old.graph self.new.graph }
     {
@@ -157,7 +157,7 @@ impl Script {
         Ok(made.is_some())
     }
 
-    /// Makes three objects, and says whether each could be made.
+    /// Makes three objects, and returns whether each could be made.
     fn make_three(&mut self) -> bool
         ensures kept { (m : ℕ) → m ≤ self.old.graph.made → KeepsOlder m self.old.graph self.new.graph }
     {
@@ -167,7 +167,7 @@ impl Script {
         first & second & third
     }
 
-    /// Makes nine objects, and says whether each could be made.
+    /// Makes nine objects, and returns whether each could be made.
     fn make_nine(&mut self) -> bool
         ensures kept { (m : ℕ) → m ≤ self.old.graph.made → KeepsOlder m self.old.graph self.new.graph }
     {
@@ -177,7 +177,7 @@ impl Script {
         first & second & third
     }
 
-    /// Makes nine objects, compares, and gives them back.
+    /// Makes nine objects, compares, and rolls them back.
     fn make_and_give_back(&mut self) -> Result<bool, AllocError> {
         let mark = self.graph.made();
         let made = self.make_nine();
@@ -188,7 +188,7 @@ impl Script {
         Ok(made && same)
     }
 
-    /// Gives all objects back.
+    /// Rolls all objects back.
     pub(crate) fn clear(&mut self) -> Result<bool, AllocError> {
         self.graph.roll_back(0);
         let all = self.model.since(0)?;
@@ -196,7 +196,7 @@ impl Script {
         Ok(self.graph.num_live() == 0)
     }
 
-    /// Puts an object into another where their kinds fit, and says whether that can be done exactly where the model says so.
+    /// Puts an object into another if their kinds fit, and returns whether the graph allows it exactly if the model does.
     fn insert(&mut self, k: Object, c: Object) -> Result<bool, AllocError> {
         if !fits(k, c) {
             return Ok(true);
@@ -226,7 +226,7 @@ impl Script {
         true
     }
 
-    /// Takes an object out with all in it, and says whether that can be done exactly where the model says so.
+    /// Erases an object with everything nested in it, and returns whether the graph allows it exactly if the model does.
     pub(crate) fn erase(&mut self, o: Object) -> Result<bool, AllocError> {
         let can = self.model.can_erase(o)?;
         if !self.graph.contains(o) {
@@ -242,7 +242,7 @@ impl Script {
         Ok(can)
     }
 
-    /// Takes an object out of what it stands in, or drops what the operations inside it use.
+    /// Detaches an object from its parent, or drops the uses by the operations nested in it.
     pub(crate) fn loosen(&mut self, o: Object, drops: bool) -> Result<bool, AllocError> {
         if !self.graph.contains(o) {
             return Ok(false);
@@ -257,7 +257,7 @@ impl Script {
         Ok(true)
     }
 
-    /// Changes what is there at one or two objects.
+    /// Changes the graph at one or two objects.
     fn change(&mut self, o: Object, p: Object) -> Result<bool, AllocError> {
         match self.random.below(24) {
             0..=10 => self.insert(o, p),

@@ -1,4 +1,4 @@
-//! The calls on pointers and values that say who uses what, and those that list, over something that holds a graph: each once.
+//! The calls on pointers and values that return uses, and those that return lists, over a type that holds a graph: each once.
 ghost use Rattle.std.specs.Prelude.{IsTrue};
 ghost use Rattle.irtext_graph.specs.Graph.{Stands};
 ghost use Rattle.irtext_graph.specs.declared.object.Object.TheVariants.{TheOperation, TheBlock, TheRegion};
@@ -27,7 +27,7 @@ struct Scene {
     user: Ptr<Operation>,
 }
 
-/// Puts an object last into another, where that can be done.
+/// Puts an object last into another, if that is allowed.
 fn put(graph: &mut Graph<u32, u32, u8>, k: Object, c: Object) -> Result<(), AllocError> {
     let fits = match (k, c) {
         (Object::TheOperation(_), Object::TheRegion(_)) => true,
@@ -41,7 +41,7 @@ fn put(graph: &mut Graph<u32, u32, u8>, k: Object, c: Object) -> Result<(), Allo
     Ok(())
 }
 
-/// An operation that uses these values and blocks, where they are there.
+/// An operation that uses these values and blocks, if they are live.
 fn make_using(
     graph: &mut Graph<u32, u32, u8>,
     operands: &[Value],
@@ -92,7 +92,7 @@ fn make_scene(graph: &mut Graph<u32, u32, u8>) -> Result<Scene, AllocError> {
     })
 }
 
-/// Whether all of a scene stands.
+/// Whether all of a scene is live.
 fn stands(holder: &Holder, s: Scene) -> bool
     ensures root { IsTrue result → Stands holder.now.graph (TheOperation s.root) }
     ensures region { IsTrue result → Stands holder.now.graph (TheRegion s.region) }
@@ -110,7 +110,7 @@ fn stands(holder: &Holder, s: Scene) -> bool
         && graph.contains(Object::TheOperation(s.user))
 }
 
-/// What stands in what, as lists.
+/// The children of each object, as lists.
 fn lists_children(holder: &Holder, s: Scene) -> Result<bool, AllocError> {
     if !stands(holder, s) {
         return Ok(false);
@@ -127,7 +127,7 @@ fn lists_children(holder: &Holder, s: Scene) -> Result<bool, AllocError> {
     )
 }
 
-/// At which index a region stands in its operation, where it stands in one.
+/// The index of a region in its operation, if it is in one.
 fn index_of_region(holder: &Holder, region: Ptr<Region>) -> Option<usize> {
     let o = Object::TheRegion(region);
     if !holder.graph.contains(o) || holder.graph.get_parent(o).is_none() {
@@ -136,7 +136,7 @@ fn index_of_region(holder: &Holder, region: Ptr<Region>) -> Option<usize> {
     Some(region.find_index_in_parent(holder))
 }
 
-/// At which index a block stands in its region, where it stands in one.
+/// The index of a block in its region, if it is in one.
 fn index_of_block(holder: &Holder, block: Ptr<BasicBlock>) -> Option<usize> {
     let o = Object::TheBlock(block);
     if !holder.graph.contains(o) || holder.graph.get_parent(o).is_none() {
@@ -145,7 +145,7 @@ fn index_of_block(holder: &Holder, block: Ptr<BasicBlock>) -> Option<usize> {
     Some(block.find_index_in_parent(holder))
 }
 
-/// At which index an operation stands in its block, where it stands in one.
+/// The index of an operation in its block, if it is in one.
 fn index_of_operation(holder: &Holder, op: Ptr<Operation>) -> Option<usize> {
     let o = Object::TheOperation(op);
     if !holder.graph.contains(o) || holder.graph.get_parent(o).is_none() {
@@ -154,7 +154,7 @@ fn index_of_operation(holder: &Holder, op: Ptr<Operation>) -> Option<usize> {
     Some(op.find_index_in_parent(holder))
 }
 
-/// What stands so many levels round an object, where it stands.
+/// The object so many levels around another, if that one is live.
 fn stands_round(holder: &Holder, o: Object, levels: usize) -> Option<Object> {
     if !holder.graph.contains(o) {
         return None;
@@ -162,7 +162,7 @@ fn stands_round(holder: &Holder, o: Object, levels: usize) -> Option<Object> {
     holder.graph.ancestor(o, levels)
 }
 
-/// At which index what stands, and what stands round it.
+/// The index of each object, and the objects around it.
 fn finds(holder: &Holder, s: Scene) -> bool {
     let user = Object::TheOperation(s.user);
     let indices = index_of_region(holder, s.region) == Some(0)
@@ -209,7 +209,7 @@ fn lists_results(holder: &Holder, s: Scene) -> Result<bool, AllocError> {
     Ok(typed && sum == 25 && results.as_slice() == [Value::Result(s.maker, 0), second].as_slice())
 }
 
-/// The arguments, one by one and as a list, and who goes to a block.
+/// The arguments, one by one and as a list, and the predecessors of a block.
 fn lists_arguments(holder: &Holder, s: Scene) -> Result<bool, AllocError> {
     if !stands(holder, s) || s.first.get_num_arguments(holder) != 2 {
         return Ok(false);
@@ -227,7 +227,7 @@ fn lists_arguments(holder: &Holder, s: Scene) -> Result<bool, AllocError> {
     )
 }
 
-/// Whether a value is there and has so many uses, all by one operation.
+/// Whether a value is live and has so many uses, all by one operation.
 fn is_used(
     holder: &Holder,
     v: Value,
@@ -245,7 +245,7 @@ fn is_used(
     Ok(all && v.num_uses(holder) == count && v.has_use(holder) == (count > 0))
 }
 
-/// Puts one value in the place of another, where both are there.
+/// Replaces one value by another, if both are live.
 fn replace(holder: &mut Holder, v: Value, w: Value) -> bool {
     if !holder.graph.contains_value(v) || !holder.graph.contains_value(w) {
         return false;
@@ -254,7 +254,7 @@ fn replace(holder: &mut Holder, v: Value, w: Value) -> bool {
     true
 }
 
-/// The uses of a result before and after the other takes its place.
+/// The uses of a result before and after the other replaces it.
 fn changes_hands(holder: &mut Holder, s: Scene) -> Result<bool, AllocError> {
     let (one, two) = (Value::Result(s.maker, 0), Value::Result(s.maker, 1));
     let before = is_used(holder, one, 2, s.user)? && is_used(holder, two, 0, s.user)?;
@@ -263,7 +263,7 @@ fn changes_hands(holder: &mut Holder, s: Scene) -> Result<bool, AllocError> {
     Ok(before && done && after)
 }
 
-/// Erases an operation where that can be done, and says whether it could.
+/// Erases an operation if that is allowed, and returns whether it was.
 fn erases(holder: &mut Holder, op: Ptr<Operation>) -> bool {
     if !holder.graph.contains(Object::TheOperation(op)) || !op.can_erase(holder) {
         return false;
@@ -272,7 +272,7 @@ fn erases(holder: &mut Holder, op: Ptr<Operation>) -> bool {
     true
 }
 
-/// What is used cannot go before its uses are dropped; then all goes.
+/// An object that is used cannot be erased before its uses are dropped; then everything is erased.
 fn goes(holder: &mut Holder, s: Scene) -> bool {
     let early = erases(holder, s.maker);
     if holder.graph.contains(Object::TheOperation(s.user)) {

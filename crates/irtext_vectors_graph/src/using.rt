@@ -1,4 +1,4 @@
-//! Who uses what, and how another takes its place.
+//! Uses, and how they are replaced.
 use crate::nesting::erased;
 use irtext_few::Few;
 use irtext_graph::arena::Ptr;
@@ -7,7 +7,7 @@ use irtext_graph::object::{BasicBlock, Defined, Object, Operation, Site, Value};
 use std::alloc::{AllocError, Global};
 use std::test::Fail;
 
-/// An operation with one operand, where the value is there.
+/// An operation with one operand, if the value is live.
 fn use_value(
     graph: &mut Graph<u32, u32, u8>,
     v: Value,
@@ -19,7 +19,7 @@ fn use_value(
     Ok(Some(op))
 }
 
-/// An operation with one successor, where the block is there.
+/// An operation with one successor, if the block is live.
 fn use_block(
     graph: &mut Graph<u32, u32, u8>,
     b: Ptr<BasicBlock>,
@@ -31,7 +31,7 @@ fn use_block(
     Ok(Some(op))
 }
 
-/// Whether a value is there and has so many uses, by each of the three answers.
+/// Whether a value is live and has so many uses, by each of the three calls.
 fn has_uses(graph: &Graph<u32, u32, u8>, v: Value, count: usize) -> Result<bool, AllocError> {
     if !graph.contains_value(v) {
         return Ok(false);
@@ -41,7 +41,7 @@ fn has_uses(graph: &Graph<u32, u32, u8>, v: Value, count: usize) -> Result<bool,
     Ok(graph.num_uses(d) == count && listed.len() == count && graph.has_use(d) == (count > 0))
 }
 
-/// Whether the use of a block stands in the list of its uses, alone.
+/// Whether the use of a block is the only one in the list of its uses.
 fn is_only_use(
     graph: &Graph<u32, u32, u8>,
     b: Ptr<BasicBlock>,
@@ -54,7 +54,7 @@ fn is_only_use(
     Ok(listed.len() == 1 && listed.get(0) == Some(&Site::AtSuccessor(op, 0)))
 }
 
-/// Makes each use of a value one of another, where both are there.
+/// Makes each use of a value one of another, if both are live.
 fn replace(graph: &mut Graph<u32, u32, u8>, v: Value, w: Value) -> bool {
     if !graph.contains_value(v) || !graph.contains_value(w) {
         return false;
@@ -88,7 +88,7 @@ fn uses(graph: &mut Graph<u32, u32, u8>) -> Result<bool, AllocError> {
     Ok(made && before && jumps && done && after)
 }
 
-/// A result that so many operations use, then the other result in its place, and then none, since all of them go.
+/// A result that so many operations use, then the other result in its place, and then none, since all of them are erased.
 fn uses_often(
     graph: &mut Graph<u32, u32, u8>,
     alloc: Global,

@@ -1,5 +1,5 @@
-//! Going through all that stands inside an object: what comes in which order, over a nest and over a deep chain, and data that are
-//! written on the way.
+//! Walks over everything nested in an object: the order of the walk, over a few nested objects and over a deep chain, and data that are
+//! written during it.
 ghost use Rattle.irtext_graph.specs.Graph.{Stands};
 ghost use Rattle.irtext_graph.specs.Throughout.{EditsObject, EditsInside};
 
@@ -11,7 +11,7 @@ use irtext_graph::object::{BasicBlock, Object, Operation};
 use std::alloc::AllocError;
 use std::test::Fail;
 
-/// What came on a walk: the data of each as a digit, 0 for a region, and how many.
+/// The result of a walk: the data of each object as a digit, 0 for a region, and the number of objects.
 #[derive(Clone, Copy, PartialEq, Eq)]
 struct Walked {
     digits: u64,
@@ -29,7 +29,7 @@ fn data_of(graph: &Graph<u32, u32, u8>, o: Object) -> u32
     }
 }
 
-/// Goes through all inside an object.
+/// Walks over everything nested in an object.
 fn walk(graph: &Graph<u32, u32, u8>, o: Object) -> Walked
     requires { Stands graph.now o }
 {
@@ -58,7 +58,7 @@ fn overwrite_one(graph: &mut Graph<u32, u32, u8>, o: Object)
     }
 }
 
-/// Writes 7 as the data of each operation and each block inside an object.
+/// Writes 7 as the data of each operation and each block nested in an object.
 fn overwrite(graph: &mut Graph<u32, u32, u8>, o: Object)
     requires { Stands graph.old o }
     ensures { EditsInside graph.old graph.new o (λ _. 7) (λ _. 7) }
@@ -105,7 +105,7 @@ fn add_leaf(graph: &mut Graph<u32, u32, u8>, level: Level, value: u32) -> Result
     )
 }
 
-/// Two levels, one in the other, with an operation before the inner one and an operation in it, and an operation beside all.
+/// Two levels, one in the other, with an operation before the inner one, an operation in it, and an operation after it.
 fn make_nest(graph: &mut Graph<u32, u32, u8>) -> Result<Option<(Level, Level)>, AllocError> {
     let Some(outer) = make_level(graph, 1, 2)? else {
         return Ok(None);
@@ -126,12 +126,12 @@ fn make_nest(graph: &mut Graph<u32, u32, u8>) -> Result<Option<(Level, Level)>, 
     Ok(None)
 }
 
-/// Whether the walk from an object meets these data in this order, so many.
+/// Whether the walk from an object visits these data in this order, so many.
 fn meets(graph: &Graph<u32, u32, u8>, o: Object, digits: u64, count: u64) -> bool {
     graph.contains(o) && walk(graph, o) == Walked { digits, count }
 }
 
-/// Writes 7 in all inside an object that stands, and says whether it does.
+/// Writes 7 to everything nested in an object if it is live, and returns whether it is.
 fn overwritten(graph: &mut Graph<u32, u32, u8>, o: Object) -> bool {
     if !graph.contains(o) {
         return false;
@@ -140,7 +140,7 @@ fn overwritten(graph: &mut Graph<u32, u32, u8>, o: Object) -> bool {
     true
 }
 
-/// Whether the walks over a nest meet what they should, and again when the data of the inner level are written.
+/// Whether the walks over the nested objects have the expected order, and again after the data of the inner level are written.
 fn goes_through(graph: &mut Graph<u32, u32, u8>) -> Result<bool, AllocError> {
     let Some((outer, inner)) = make_nest(graph)? else {
         return Ok(false);
@@ -153,7 +153,7 @@ fn goes_through(graph: &mut Graph<u32, u32, u8>) -> Result<bool, AllocError> {
     Ok(all && body && part && wrote && changed)
 }
 
-/// A chain that is gone through from its ends, written and gone through again.
+/// A chain that is walked from its ends, written and walked again.
 fn goes_deep(
     graph: &mut Graph<u32, u32, u8>,
     depth: usize,

@@ -1,9 +1,9 @@
-//! What the operations that use names hold.
+//! The values and blocks that the operations using names hold.
 use crate::steps::{Kind, Tested};
 use irtext_graph::arena::Ptr;
 use irtext_graph::object::{Defined, Object, Operation, Value};
 
-/// What a use holds: the definition of this number, or the placeholder that the use of this number got.
+/// What a use holds: the definition of this number, or the placeholder that the use of this number made.
 #[derive(Clone, Copy, PartialEq, Eq)]
 pub(crate) enum Held {
     Definition(usize),
@@ -22,7 +22,7 @@ fn used_by(graph: &Tested, user: Ptr<Operation>) -> Option<Defined> {
     }
 }
 
-/// Whether this is there as a placeholder that waits for a definition.
+/// Whether this is live and a placeholder that waits for a definition.
 fn is_placeholder(graph: &Tested, d: Defined) -> bool {
     match d {
         Defined::OfValue(Value::Result(p, _)) => {
@@ -33,7 +33,7 @@ fn is_placeholder(graph: &Tested, d: Defined) -> bool {
     }
 }
 
-/// Whether a user holds the definition, which is there.
+/// Whether a user holds the definition, which is live.
 fn holds_definition(made: &Kind, used: Defined, number: usize) -> bool {
     match made.definitions.get(number) {
         Some(definition) => *definition == used,
@@ -41,7 +41,7 @@ fn holds_definition(made: &Kind, used: Defined, number: usize) -> bool {
     }
 }
 
-/// Whether what a user holds is a placeholder, and the first user holds it too.
+/// Whether a user holds a placeholder, and the first user holds the same one.
 fn holds_placeholder(graph: &Tested, made: &Kind, used: Defined, first: usize) -> bool {
     match made.users.get(first) {
         Some(user) => used_by(graph, *user) == Some(used) && is_placeholder(graph, used),
@@ -49,7 +49,7 @@ fn holds_placeholder(graph: &Tested, made: &Kind, used: Defined, first: usize) -
     }
 }
 
-/// Whether the use of this number holds what it should.
+/// Whether the use of this number holds the expected definition or placeholder.
 pub(crate) fn holds(graph: &Tested, made: &Kind, number: usize, held: Held) -> bool {
     let Some(user) = made.users.get(number) else {
         return false;
@@ -63,7 +63,7 @@ pub(crate) fn holds(graph: &Tested, made: &Kind, number: usize, held: Held) -> b
     }
 }
 
-/// Whether there are so many uses, and each holds what it should.
+/// Whether there are so many uses, and each holds what is expected.
 pub(crate) fn holds_all(graph: &Tested, made: &Kind, helds: &[Held]) -> bool {
     for (number, held) in helds.iter().enumerate() {
         if !holds(graph, made, number, *held) {

@@ -1,5 +1,5 @@
 //! Worked rows of the scopes of names, and of names over a graph: values and labels that are used before they are defined, regions, and
-//! memory that is refused; and random scripts beside plain models.
+//! allocations that fail; and random scripts compared with plain models.
 #![tactic(auto)]
 
 #[cfg(test)]

@@ -1,4 +1,4 @@
-//! Memory that is refused, and counters that are full: scopes and objects are as they were, and the same call with room is accepted.
+//! Allocations that fail, and full counters: scopes and objects are unchanged, and the same call with memory succeeds.
 ghost use Rattle.irtext_names.specs.Tied.{AreTied};
 
 use crate::steps::{Names, Tested, defines, labels};
@@ -10,14 +10,14 @@ use irtext_names::regions::{enter_region, exit_region, no_names};
 use irtext_names::values::ssa_opd;
 use std::test::Fail;
 
-/// What can be seen of a name and of the graph: what the name stands for as a value and as a label, and how many objects there are.
+/// The observable state of a name and of the graph: what the name refers to as a value and as a label, and the number of objects.
 type Seen = (Option<Value>, Option<Ptr<BasicBlock>>, u64);
 
 fn seen(names: &Names, graph: &Tested, name: usize) -> Seen {
     (names.ssa_use(name), names.block_use(name), graph.num_live())
 }
 
-/// Whether a use of a name is refused, and nothing is seen of that.
+/// Whether a use of a name fails and leaves the observable state unchanged.
 fn refuses_value(names: &mut Names, graph: &mut Tested, name: usize) -> bool
     requires { AreTied names.old.values names.old.labels graph.old }
     ensures { AreTied names.new.values names.new.labels graph.new }
@@ -29,7 +29,7 @@ fn refuses_value(names: &mut Names, graph: &mut Tested, name: usize) -> bool
     ssa_opd(names, graph, name).is_err() && seen(names, graph, name) == before
 }
 
-/// Whether a use of a label is refused, and nothing is seen of that.
+/// Whether a use of a label fails and leaves the observable state unchanged.
 fn refuses_label(names: &mut Names, graph: &mut Tested, name: usize) -> bool
     requires { AreTied names.old.values names.old.labels graph.old }
     ensures { AreTied names.new.values names.new.labels graph.new }
@@ -41,7 +41,7 @@ fn refuses_label(names: &mut Names, graph: &mut Tested, name: usize) -> bool
     block_opd(names, graph, name, 0).is_err() && seen(names, graph, name) == before
 }
 
-/// The number of a name, asked for twice where memory is refused.
+/// The number of a name, interned a second time if an allocation fails.
 fn known(names: &mut Names, graph: &Tested, text: &str) -> Option<usize>
     requires { AreTied names.old.values names.old.labels graph.now }
     ensures { AreTied names.new.values names.new.labels graph.now }
@@ -53,7 +53,7 @@ fn known(names: &mut Names, graph: &Tested, text: &str) -> Option<usize>
     }
 }
 
-/// Whether a use of a value is accepted, at once or behind a refusal of which nothing is seen.
+/// Whether a use of a value succeeds, at once or after an error that leaves the observable state unchanged.
 fn uses_value(names: &mut Names, graph: &mut Tested, name: usize) -> bool
     requires { AreTied names.old.values names.old.labels graph.old }
     ensures { AreTied names.new.values names.new.labels graph.new }
@@ -68,7 +68,7 @@ fn uses_value(names: &mut Names, graph: &mut Tested, name: usize) -> bool
     seen(names, graph, name) == before && ssa_opd(names, graph, name).is_ok()
 }
 
-/// Whether a use of a label is accepted, at once or behind a refusal of which nothing is seen.
+/// Whether a use of a label succeeds, at once or after an error that leaves the observable state unchanged.
 fn uses_label(names: &mut Names, graph: &mut Tested, name: usize) -> bool
     requires { AreTied names.old.values names.old.labels graph.old }
     ensures { AreTied names.new.values names.new.labels graph.new }
@@ -83,7 +83,7 @@ fn uses_label(names: &mut Names, graph: &mut Tested, name: usize) -> bool
     seen(names, graph, name) == before && block_opd(names, graph, name, 0).is_ok()
 }
 
-/// Whether the definition of a value is accepted, at once or behind a refusal that left the name as it was.
+/// Whether the definition of a value succeeds, at once or after an error that leaves the name unchanged.
 fn defines_value(names: &mut Names, graph: &mut Tested, name: usize) -> bool
     requires { AreTied names.old.values names.old.labels graph.old }
     ensures { AreTied names.new.values names.new.labels graph.new }
@@ -95,7 +95,7 @@ fn defines_value(names: &mut Names, graph: &mut Tested, name: usize) -> bool
     names.ssa_use(name) == before && defines(names, graph, name).is_ok()
 }
 
-/// Whether the definition of a label is accepted, at once or behind a refusal that left the label as it was.
+/// Whether the definition of a label succeeds, at once or after an error that leaves the label unchanged.
 fn defines_label(names: &mut Names, graph: &mut Tested, name: usize) -> bool
     requires { AreTied names.old.values names.old.labels graph.old }
     ensures { AreTied names.new.values names.new.labels graph.new }
@@ -107,7 +107,7 @@ fn defines_label(names: &mut Names, graph: &mut Tested, name: usize) -> bool
     names.block_use(name) == before && labels(names, graph, name).is_ok()
 }
 
-/// Whether a region is entered, at once or behind a refusal that left the scopes as they were.
+/// Whether a region is entered, at once or after an error that leaves the scopes unchanged.
 fn enters(names: &mut Names, graph: &Tested, isolated: bool) -> bool
     requires { AreTied names.old.values names.old.labels graph.now }
     ensures { AreTied names.new.values names.new.labels graph.now }
@@ -120,7 +120,7 @@ fn enters(names: &mut Names, graph: &Tested, isolated: bool) -> bool
         && enter_region(names, graph, isolated).is_ok()
 }
 
-/// Whether all is accepted in the end, where memory is refused once: early uses, their definitions, and definitions of new names.
+/// Whether everything succeeds in the end if one allocation fails: early uses, their definitions, and definitions of new names.
 fn accepts_all(names: &mut Names, graph: &mut Tested) -> Option<bool>
     requires { AreTied names.old.values names.old.labels graph.old }
 {
@@ -135,7 +135,7 @@ fn accepts_all(names: &mut Names, graph: &mut Tested) -> Option<bool>
     Some(entered && used && defined && new && inner && outer)
 }
 
-/// No number of a value is left: a new name is refused, and a label is not, since its placeholder draws none.
+/// No number of a value is left: a new name fails, and a label does not, since its placeholder takes no number.
 fn numbers_end(names: &mut Names, graph: &mut Tested) -> Option<bool>
     requires { AreTied names.old.values names.old.labels graph.old }
 {
@@ -146,7 +146,7 @@ fn numbers_end(names: &mut Names, graph: &mut Tested) -> Option<bool>
     Some(refused && label && graph.num_live() == 1 && graph.made() == 1)
 }
 
-/// One place for a block is left: the second label is refused, and the first one is known all the same.
+/// One place for a block is left: the second label fails, and the first one is still known.
 fn places_end(names: &mut Names, graph: &mut Tested) -> Option<bool>
     requires { AreTied names.old.values names.old.labels graph.old }
 {

@@ -1,4 +1,4 @@
-//! A plain model of names over a graph: the scopes that are open as vectors of what they bind, which are searched, and what each use
+//! A plain model of names over a graph: the open scopes as vectors of their bindings, which are searched, and what each use
 //! has to hold.
 use crate::held::Held;
 use crate::steps::Answer;
@@ -6,7 +6,7 @@ use irtext_vectors_answers::calls::Call;
 use irtext_vectors_answers::mentioned::Mentioned;
 use std::alloc::{AllocError, Global};
 
-/// A name as a scope binds it, and the index of what it stands for.
+/// A name as a scope binds it, and the index of what it refers to.
 #[derive(Clone, Copy)]
 struct Bound {
     name: usize,
@@ -17,9 +17,9 @@ struct Bound {
 #[derive(Drop)]
 pub(crate) struct Table {
     alloc: Global,
-    // the scopes that are open, the innermost last
+    // the open scopes, the innermost last
     scopes: Vec<Vec<Bound>>,
-    // what each name that was ever bound stands for
+    // what each name that was ever bound refers to
     bound: Vec<Held>,
     // for each use the index of what it holds
     uses: Vec<usize>,
@@ -44,12 +44,12 @@ impl Table {
         Ok(())
     }
 
-    /// Whether what stands at this index waits for its definition.
+    /// Whether the entry at this index waits for its definition.
     fn waits(&self, index: usize) -> bool {
         matches!(self.bound.get(index), Some(Held::Waits(_)))
     }
 
-    /// Closes the innermost scope, and answers the first name in it that waits.
+    /// Closes the innermost scope, and returns the first name in it that waits.
     fn leave(&mut self) -> Option<usize> {
         let scope = self.scopes.pop()?;
         for bound in &scope {
@@ -60,7 +60,7 @@ impl Table {
         None
     }
 
-    /// The index of what a name stands for in the innermost scope.
+    /// The index of what a name refers to in the innermost scope.
     fn find(&self, name: usize) -> Option<usize> {
         for bound in self.scopes.last()? {
             if bound.name == name {
@@ -93,7 +93,7 @@ impl Table {
         Ok(Answer::Done)
     }
 
-    /// Binds a name to the next definition, in the place of the placeholder that waits at an index.
+    /// Binds a name to the next definition, in place of the placeholder that waits at an index.
     fn define(&mut self, name: usize, waiting: Option<usize>) -> Result<(), AllocError> {
         let held = Held::Definition(self.definitions);
         self.definitions = self.definitions.wrapping_add(1);
@@ -133,7 +133,7 @@ impl Table {
         Ok(helds)
     }
 
-    /// How many objects there are for names of this kind: what uses them, what was to define them, and what waits.
+    /// The number of objects for names of this kind: users, what was made as definitions, and placeholders.
     fn num_objects(&self) -> usize {
         let mut count = self.definitions.wrapping_add(self.refused);
         count = count.wrapping_add(self.uses.len());
@@ -169,7 +169,7 @@ impl Model {
         !self.values.scopes.is_empty() || !self.labels.scopes.is_empty()
     }
 
-    /// How many objects there are.
+    /// The number of objects.
     pub(crate) fn num_objects(&self) -> u64 {
         let labels = self.labels.num_objects();
         self.values.num_objects().wrapping_add(labels) as u64
@@ -185,14 +185,14 @@ impl Model {
         Ok(Answer::Done)
     }
 
-    /// Leaves a region, and answers the first name that it leaves without a definition: values come before labels.
+    /// Leaves a region, and returns the first name that is left without a definition: values come before labels.
     fn leave(&mut self, isolated: bool) -> Option<usize> {
         let value = if isolated { self.values.leave() } else { None };
         let label = self.labels.leave();
         value.or(label)
     }
 
-    /// The answer to a call, and the name that it is about: where a region is left, one that it lacks.
+    /// The result of a call, and its name: if a region is left, a name without a definition.
     pub(crate) fn answer(
         &mut self,
         call: Call,

@@ -14,7 +14,7 @@ use irtext_names::uses::ssa_opds;
 use std::alloc::{AllocError, Global};
 use std::test::Fail;
 
-/// A name by its number alone.
+/// A name given by its number alone.
 #[derive(Clone, Copy)]
 struct ByNumber {
     name: usize,
@@ -28,7 +28,7 @@ impl Named for ByNumber {
     }
 }
 
-/// The values that two names stand for where they are used one after the other.
+/// The values that two names refer to if they are used one after the other.
 fn used(
     names: &mut Names,
     graph: &mut Tested,
@@ -48,7 +48,7 @@ fn used(
     Ok(values)
 }
 
-/// Defines two names as the results of an operation that is made for them, and answers it.
+/// Defines two names as the results of an operation that is made for them, and returns it.
 fn defined(
     names: &mut Names,
     graph: &mut Tested,
@@ -71,8 +71,8 @@ fn defined(
     }
 }
 
-/// Whether two names that are used, defined and used again stand for the results of one operation, and a third definition in the row
-/// is refused.
+/// Whether two names that are used, defined and used again refer to the results of one operation, and a third definition in the row
+/// fails.
 fn goes_in_rows(names: &mut Names, graph: &mut Tested, alloc: Global) -> Result<bool, AllocError>
     requires tied { AreTied names.old.values names.old.labels graph.old }
 {

@@ -1,4 +1,4 @@
-//! Worked rows: calls in a row with their answers, what each use holds in the end, and how many objects there are.
+//! Worked rows: calls in a row with their results, what each use holds in the end, and the number of objects.
 ghost use Rattle.irtext_names.specs.Tied.{AreTied};
 
 use crate::held::Held::{Definition, Waits};
@@ -15,10 +15,10 @@ use irtext_vectors_answers::calls::Call::{
 use std::alloc::{AllocError, Global};
 use std::test::Fail;
 
-/// A call, the name that it is about, and the answer.
+/// A call, its name, and the result.
 type Row = (Call, &'static str, Answer);
 
-// a value is used twice before its definition, and once behind it: no placeholder is left
+// a value is used twice before its definition, and once after it: no placeholder is left
 const EARLY_USES: &[Row] = &[
     (EnterIsolated, "", Done),
     (Use, "x", Done),
@@ -28,7 +28,7 @@ const EARLY_USES: &[Row] = &[
     (ExitIsolated, "", Done),
 ];
 
-// two blocks that branch to one another: one of them is used twice before it is there, and once behind that
+// two blocks that branch to one another: one of them is used twice before it is defined, and once after that
 const EARLY_BRANCHES: &[Row] = &[
     (EnterIsolated, "", Done),
     (DefineLabel, "a", Done),
@@ -40,7 +40,7 @@ const EARLY_BRANCHES: &[Row] = &[
     (ExitIsolated, "", Done),
 ];
 
-// a region that is not isolated defines what is used round it, and its labels are its own
+// a region that is not isolated defines what is used around it, and its labels are its own
 const SHARED: &[Row] = &[
     (EnterIsolated, "", Done),
     (Use, "x", Done),
@@ -70,7 +70,7 @@ const DEFINED_TWICE: &[Row] = &[
     (ExitIsolated, "", Done),
 ];
 
-// a region uses a label of the one round it: the label is lacking, and both its scopes are closed all the same
+// a region uses a label of the one around it: the label is undefined, and both scopes of the region are closed all the same
 const OUTER_LABEL: &[Row] = &[
     (EnterIsolated, "", Done),
     (Define, "x", Done),
@@ -102,7 +102,7 @@ const OUTSIDE: &[Row] = &[
     (Define, "x", NoScope),
 ];
 
-// what was mentioned first is answered first, values before labels
+// the name that was mentioned first is returned first, values before labels
 const PENDING: &[Row] = &[
     (EnterIsolated, "", Done),
     (UseLabel, "b", Done),
@@ -115,7 +115,7 @@ const PENDING: &[Row] = &[
     (ExitIsolated, "c", Lacks),
 ];
 
-// an early use in a region that is isolated does not see the definition round it, which is seen again behind the region
+// an early use in an isolated region does not see the definition around it, which is visible again after the region
 const HIDDEN: &[Row] = &[
     (EnterIsolated, "", Done),
     (Define, "x", Done),
@@ -130,7 +130,7 @@ const HIDDEN: &[Row] = &[
     (ExitIsolated, "", Done),
 ];
 
-/// The number of the first row that is answered otherwise.
+/// The number of the first row with another result.
 fn differing(
     names: &mut Names,
     graph: &mut Tested,
@@ -148,7 +148,7 @@ fn differing(
     Ok(None)
 }
 
-/// Whether the rows are answered as they say, and then each use of a value and of a label holds this, and there are so many objects.
+/// Whether the rows have their results, and then each use of a value and of a label holds this, and there are so many objects.
 fn works(alloc: Global, rows: &[Row], values: &[Held], labels: &[Held], objects: u64) -> bool {
     let mut graph = Graph::new(alloc);
     let mut names = no_names(alloc, &graph);

@@ -1,4 +1,4 @@
-//! Worked rows of the scopes of names: each call of the tracker, step by step, with its answer, a random script beside a plain model, and many names and scopes.
+//! Worked rows of the scopes of names: each call of the tracker with its result, a random script and its model, many names and scopes.
 
 mod model;
 mod script;

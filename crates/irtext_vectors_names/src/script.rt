@@ -1,4 +1,4 @@
-//! A random script: names over a graph and a plain model of them are asked the same.
+//! A random script: names over a graph and a plain model of them get the same calls.
 ghost use Rattle.irtext_names.specs.Tied.{AreTied};
 
 use crate::held::holds_all;
@@ -11,12 +11,12 @@ use irtext_vectors_answers::random::Random;
 use std::alloc::{AllocError, Global};
 use std::test::Fail;
 
-// how many calls are made, and then how many regions are left
+// the number of calls, and then of regions that are left
 const CALLS: usize = 20000;
 
 const LEFT: usize = 1000;
 
-/// The next call, and the index of the name that it is about: regions alone are left behind the last one.
+/// The next call, and the index of its name: after the last one only regions are left.
 fn next(random: &mut Random, number: usize) -> (Call, usize) {
     let (call, name) = next_call(random);
     if number >= CALLS {
@@ -25,7 +25,7 @@ fn next(random: &mut Random, number: usize) -> (Call, usize) {
     (call, name)
 }
 
-/// Whether names and their model answer a call about the name of this index alike.
+/// Whether names and their model give the same result for a call on the name of this index.
 fn answer_alike(
     names: &mut Names,
     graph: &mut Tested,
@@ -48,7 +48,7 @@ fn answer_alike(
     Ok(step(names, graph, made, call, asked)? == answer)
 }
 
-/// The number of the first call that the two answer differently. To look at the call, let the script end there.
+/// The number of the first call with different results. To look at the call, let the script end there.
 fn differing(
     names: &mut Names,
     graph: &mut Tested,
@@ -67,7 +67,7 @@ fn differing(
     Ok(None)
 }
 
-/// Whether each use holds what the model says, and there are no other objects.
+/// Whether each use holds what the model has, and there are no other objects.
 fn ends_alike(graph: &Tested, made: &Made, model: &Model) -> Result<bool, AllocError> {
     let values = model.values.helds()?;
     let labels = model.labels.helds()?;
@@ -80,7 +80,7 @@ fn ends_alike(graph: &Tested, made: &Made, model: &Model) -> Result<bool, AllocE
     )
 }
 
-/// Whether a script is answered as its model says to its end.
+/// Whether a script has the results of its model up to its end.
 fn goes_alike(alloc: Global) -> bool {
     let mut graph = Graph::new(alloc);
     let mut names = no_names(alloc, &graph);

@@ -17,8 +17,8 @@ pub(crate) type Names = NameTracker<Value, Ptr<BasicBlock>>;
 
 pub(crate) type Tested = Graph<Option<u32>, u32, Option<u8>>;
 
-/// What is answered: that it was done, that no scope is open for it, that a region is not isolated where it has to be, that a name is
-/// defined already, that a region lacks this name or another one, or that memory was refused.
+/// The result: success, no scope is open for the call, a region is not isolated where it has to be, a name is
+/// defined already, a region lacks a definition of this name or of another one, or out of memory.
 #[derive(Clone, Copy, PartialEq, Eq)]
 pub(crate) enum Answer {
     Done,
@@ -76,7 +76,7 @@ impl Kind {
 }
 
 impl Made {
-    /// Nothing was made yet.
+    /// Nothing is made.
     pub(crate) fn new(alloc: Global) -> Made {
         Made {
             values: Kind::new(alloc),
@@ -85,7 +85,7 @@ impl Made {
     }
 }
 
-/// Makes an operation that uses what a name stands for.
+/// Makes an operation that uses what a name refers to.
 fn uses(names: &mut Names, graph: &mut Tested, name: usize) -> Option<Ptr<Operation>>
     requires { AreTied names.old.values names.old.labels graph.old }
     ensures { AreTied names.new.values names.new.labels graph.new }
@@ -101,7 +101,7 @@ fn uses(names: &mut Names, graph: &mut Tested, name: usize) -> Option<Ptr<Operat
         .ok()
 }
 
-/// Makes an operation with one result, and defines a name as that.
+/// Makes an operation with one result, and defines a name as this result.
 pub(crate) fn defines(
     names: &mut Names,
     graph: &mut Tested,
@@ -126,7 +126,7 @@ pub(crate) fn defines(
     }
 }
 
-/// Makes an operation that branches to what a label stands for.
+/// Makes an operation that branches to the block of a label.
 fn branches(names: &mut Names, graph: &mut Tested, name: usize) -> Option<Ptr<Operation>>
     requires { AreTied names.old.values names.old.labels graph.old }
     ensures { AreTied names.new.values names.new.labels graph.new }
@@ -142,7 +142,7 @@ fn branches(names: &mut Names, graph: &mut Tested, name: usize) -> Option<Ptr<Op
         .ok()
 }
 
-/// Makes a block with one argument, and defines a label as that.
+/// Makes a block with one argument, and defines a label as this block.
 pub(crate) fn labels(
     names: &mut Names,
     graph: &mut Tested,
@@ -193,7 +193,7 @@ fn left(names: &mut Names, graph: &Tested, isolated: bool, name: usize) -> Answe
     }
 }
 
-/// Asks for a value, and notes what was made for it.
+/// Makes a call on a value's name, and records what was made for it.
 fn step_value(
     names: &mut Names,
     graph: &mut Tested,
@@ -214,7 +214,7 @@ fn step_value(
     }
 }
 
-/// Asks for a label, and notes what was made for it.
+/// Makes a call on a label, and records what was made for it.
 fn step_label(
     names: &mut Names,
     graph: &mut Tested,
@@ -235,7 +235,7 @@ fn step_label(
     }
 }
 
-/// Makes one call, and notes what was made for it.
+/// Makes one call, and records what was made for it.
 pub(crate) fn step(
     names: &mut Names,
     graph: &mut Tested,

@@ -1,4 +1,4 @@
-//! Worked rows of operations that are printed with all that nests in them, of the pieces that they are written by, and of why one does
+//! Worked rows of operations that are printed with everything nested in them, of the pieces of their texts, and of why one does
 //! not fit its format.
 #![tactic(auto)]
 

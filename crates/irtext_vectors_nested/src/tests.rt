@@ -1,4 +1,4 @@
-//! The tests, a file for each thing that they are about, and what builds their contexts.
+//! The tests, a file for each subject, and what builds their contexts.
 mod building;
 mod misfits;
 mod nested;

@@ -1,5 +1,5 @@
-//! Worked rows of what prints itself: values, lists, causes, errors, locations and roots; the printing state, which operations fit their
-//! formats; the section behind a root; and of what is parsable.
+//! Worked rows of what is `Printable`: values, lists, causes, errors, locations and roots; the printing state, which operations fit their
+//! formats; the section after a root; and of what is `Parsable`.
 #![tactic(auto)]
 
 #[cfg(test)]

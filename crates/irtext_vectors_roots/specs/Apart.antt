@@ -1,4 +1,4 @@
--- A dialect with one operation, as a context has it in which nothing else is registered.
+-- A dialect with one operation, as it is in a context in which nothing else is registered.
 use Rattle.std.specs.Prelude.{true, List, [], ◌∷◌, codes}
 use Rattle.irtext_base.specs.Format.{Format, custom, word, region}
 use Rattle.irtext_base.specs.Text.{Text}

@@ -1,4 +1,4 @@
-//! Worked rows of roots, by the paths of `pliron_text`: what is parsed, what is printed, and what an error leaves; and of what
+//! Worked rows of roots, by the paths of `pliron_text`: what is parsed, what is printed, and what is left after an error; and of what
 //! `pliron_text` re-exports: dialects, objects, errors and macros.
 #![tactic(auto)]
 

@@ -1,4 +1,4 @@
-//! What a caller knows of a context once the reference to its dialect is given up.
+//! What a caller knows about a context once the reference to its dialect is dropped.
 ghost use Rattle.std.specs.Prelude.{◌≡◌, ◌⊎◌, OnOk, OnErr};
 ghost use Rattle.irtext_context.specs.Dialects.{with_op};
 ghost use Rattle.irtext_context.specs.DialectTable.{dialect_or_new, with_dialect};
@@ -10,8 +10,8 @@ use pliron_text::format::OpFormat;
 use pliron_text::result::Result;
 use pliron_text::text::{AttrText, IrText};
 
-/// Registers an operation with the dialect of a name, which is registered first where it isn't there. Where the operation is
-/// refused the dialect stays registered, as it was.
+/// Registers an operation with the dialect of a name, which is registered first if there is none. If the operation is
+/// rejected the dialect stays registered, unchanged.
 pub fn register_operation<T: IrText<A>, A: AttrText>(
     ctx: &mut Context<T, A>,
     name: &DialectName,

@@ -1,4 +1,4 @@
-//! The tests, a file for each thing that they are about.
+//! The tests, a file for each subject.
 mod concrete;
 mod directives;
 mod kept;

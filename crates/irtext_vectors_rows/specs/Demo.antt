@@ -28,7 +28,7 @@ format_of id = cond (same_text id.name (codes "module")) (Some (format.custom (f
 abbrev pub isolated : Id → Bool
 isolated id = same_text id.name (codes "module")
 
--- a value is written as its text; no row reads one
+-- a value is printed as its text; no row parses one
 abbrev pub texts : Texts Text
 texts = record { outcome = λ text. missing; written = λ text. text }
 
@@ -44,7 +44,7 @@ counted_demo = language texts texts format_of
 abbrev pub plain_printing : Printing Text Text
 plain_printing = record { given = λ value. None; label = λ block. None; type_of = λ value. None; own_outlined = λ attribute. true; own_once = λ attribute. true; same_own = same_text; format_of = format_of }
 
--- the same with attributes written where they stand
+-- the same with attributes printed in place
 abbrev pub inline_printing : Printing Text Text
 inline_printing = record plain_printing { own_outlined = λ attribute. false }
 

@@ -1,4 +1,4 @@
--- What is said of a format of its own.
+-- The condition that a format breaks.
 use Rattle.std.specs.Prelude.{◌≡◌, ℕ, List}
 use Rattle.irtext_base.specs.Format.{Directive, custom, first_fault}
 

@@ -26,7 +26,7 @@ block_on place column = record { place = (place, 1); arguments = []; attributes 
 abbrev pub first_block : GraphBlock Text Text
 first_block = record { place = (1, 1); arguments = []; attributes = []; location = None }
 
--- builtin.module @m { ^a(): test.br ^b ^b(): test.br ^a }, as it was read from a text in memory
+-- builtin.module @m { ^a(): test.br ^b ^b(): test.br ^a }, as it was parsed from a text in memory
 abbrev pub two_branches : Graph Text Text
 two_branches = record {
   own = module_m (on_line_one (codes "1"));

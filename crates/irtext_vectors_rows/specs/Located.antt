@@ -7,7 +7,7 @@ use Rattle.irtext_grammar.specs.Graphs.Graph.{Graph}
 use Rattle.irtext_grammar.specs.Graphs.Same.{Locations}
 use Rattle.irtext_vectors_rows.specs.Graphs.{first_block, module_m, noted, on_line_one}
 
--- a location is read up to `]`
+-- a location is parsed up to `]`
 abbrev pub up_to_bracket : Text → Standing Text
 up_to_bracket text = found (front (λ c. not (c == 93)) text) (after (λ c. not (c == 93)) text)
 

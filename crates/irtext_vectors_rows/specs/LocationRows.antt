@@ -1,4 +1,4 @@
--- Worked locations, over a reader that knows one attribute of the caller's.
+-- Worked locations, over a parser that knows one attribute of the caller's.
 use Rattle.std.specs.Prelude.{◌≡◌, ℕ, pos, Option, Some, None, List, [], codes, ⊤}
 use Rattle.irtext_base.specs.Text.{Text}
 use Rattle.irtext_base.specs.Answers.{Outcome, Read, mapped}
@@ -8,11 +8,11 @@ use Rattle.irtext_read.specs.Tokens.{text_at}
 use Rattle.irtext_outcomes.specs.Readers.Locations.{location_at}
 use Rattle.irtext_grammar.specs.Spelling.Locations.{written_text}
 
--- the one attribute is read as a word
+-- the one attribute is parsed as a word
 abbrev pub note_at : Text → Outcome (AttrView ⊤)
 note_at text = mapped (λ _. own tt) (text_at (codes "note") text)
 
--- and written as this word
+-- and printed as this word
 abbrev pub note_text : ⊤ → Text
 note_text a = codes "note"
 
@@ -28,10 +28,10 @@ name_alone name = named name unknown
 abbrev pub two_as_one : Option (AttrView ⊤) → Written ⊤
 two_as_one metadata = fused metadata (location (place None 3 4) (location unknown no_location))
 
--- a location with one of each other kind inside
+-- a location with one of each other kind nested in it
 abbrev pub nested : Written ⊤
 nested = call_site (named (codes "f") (call_site unknown unknown)) (two_as_one (Some (own tt)))
 
--- the location is written as this text, which reads as it, whole
+-- the location is printed as this text, and the whole text parses as it
 abbrev pub Says : Written ⊤ → Text → Type 0
 Says l text = (written_text note_text l ≡ text) × (location_at note_at text ≡ Read l text [])

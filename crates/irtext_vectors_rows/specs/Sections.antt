@@ -1,4 +1,4 @@
--- Worked roots with their sections. A place is a number that falls along the text.
+-- Worked roots with their sections. A place is a number that decreases along the text.
 use Rattle.std.specs.Prelude.{ℕ, List, [], ◌∷◌, codes, Some, None, ⊤}
 use Rattle.irtext_base.specs.Text.{Text}
 use Rattle.irtext_grammar.specs.Names.Acts.{failures_of}
@@ -34,11 +34,11 @@ module_three = record {
   regions = region (shown 75) no_blocks no_regions;
 }
 
--- what is wrong behind builtin.module @m {} !3
+-- the errors in entries after builtin.module @m {} !3
 abbrev pub wrong_behind : List TextEntry → List (Failure Text ℕ)
 wrong_behind entries = failures_of isolated module_three entries
 
--- a module with a dictionary behind its region: { ^a(x: t, x: t): } [builtin_given_names: test.dbg "s"]
+-- a module with a dictionary after its region: { ^a(x: t, x: t): } [builtin_given_names: test.dbg "s"]
 abbrev pub dictionary_behind : TextTree
 dictionary_behind = record module_three {
   own = record { place = 90; names = []; id = builtin (codes "module"); body = tree.custom (tree.region 0 ∷ tree.piece (tree.dictionary ((at 60 (codes "builtin_given_names"), own (codes "s")) ∷ [])) ∷ []); mark = None };
@@ -57,7 +57,7 @@ early_and_marked = record module_three {
 abbrev pub note_and_location : List TextEntry
 note_and_location = of_item (marked 30 4) (Some (codes "?")) ((at 28 (codes "dbg"), reference (marked 26 9)) ∷ []) ∷ of_once (marked 20 9) (own (codes "s")) ∷ []
 
--- the operand is the result behind it, the name read is a given name, and the entry's location is in the first one's place
+-- the operand is the result after it, the parsed name is a given name, and the entry's location replaces the first one
 abbrev pub early_built : Regions (BuiltOp Text Text Text) (BuiltBlock Text Text Text) ⊤
 early_built = region tt (block (record { label = codes "b"; argument_types = []; attributes = []; location = codes "first" })
     (operation (record { id = test (codes "use"); result_types = []; operands = Some (result (1 ∷ 0 ∷ 0 ∷ []) 0) ∷ []; successors = []; attributes = []; location = codes "first" }) no_regions

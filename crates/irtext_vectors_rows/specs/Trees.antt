@@ -13,7 +13,7 @@ use Rattle.irtext_grammar.specs.Grammar.Tree.{Name, Mark, own, Part, Op, Head, B
 use Rattle.irtext_vectors_rows.specs.Demo.{builtin, test, isolated}
 
 -- ---- a tree of no types and no attributes
--- nothing is of this kind, and no text is
+-- no value is of this kind, and no text is
 abbrev pub none : Texts ⊥
 none = record { outcome = λ text. missing; written = λ nobody. absurd nobody }
 
@@ -21,7 +21,7 @@ none = record { outcome = λ text. missing; written = λ nobody. absurd nobody }
 abbrev pub modules : Id → Option format.Format
 modules id = Some (format.custom (format.header ∷ format.region 0 ∷ []))
 
--- the language of modules alone, in which any place will do
+-- the language of modules only, in which any place will do
 abbrev pub only_modules : Language ℕ ⊥ ⊥
 only_modules = record { at = λ place text. ⊤; types = none; owns = none; format_of = modules; left_out = never }
 
@@ -51,7 +51,7 @@ TextOps = Operations TextOp (Head ℕ Text Text) (Brace ℕ)
 abbrev pub TextBlocks : Type 0
 TextBlocks = Blocks TextOp (Head ℕ Text Text) (Brace ℕ)
 
--- an operation with all inside
+-- an operation with everything nested in it
 abbrev pub TextTree : Type 0
 TextTree = Tree ℕ Text Text
 
@@ -106,7 +106,7 @@ module_of blocks = record {
 abbrev pub root_of : TextOp → TextTree
 root_of o = record { own = o; regions = no_regions }
 
--- what is wrong in a tree without a section
+-- the errors in a tree without a section
 abbrev pub wrong : TextTree → List (Failure Text ℕ)
 wrong t = failures_of {X = Text} isolated t []
 

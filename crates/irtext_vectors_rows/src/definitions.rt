@@ -1,4 +1,4 @@
-//! What the definitions say of worked texts, trees, graphs and formats. Each function does nothing: its contract is a row that
+//! What the definitions give for worked texts, trees, graphs and formats. Each function does nothing: its contract is a row that
 //! is computed.
 ghost use Rattle.std.specs.Prelude.{◌≡◌, ℕ, List, [], ◌∷◌, ◌++◌, codes, length, pos, Some, None, true};
 ghost use Rattle.irtext_base.specs.Format as format;
@@ -32,7 +32,7 @@ ghost use Rattle.irtext_grammar.specs.Spelling.SectionEntries.{SmallSection};
 ghost use Rattle.irtext_grammar.specs.Spelling.Spell.{spelled};
 ghost use Rattle.irtext_outcomes.specs.Promises.Root.{location_of};
 
-/// A module with an empty block: how it is written, and that it reads so.
+/// A module with an empty block: its printed text, and that this text parses as it.
 pub fn an_empty_block()
     ensures is_written { spelled only_modules 2 0 empty_block ≡ codes "builtin.module @bar \n{\n  ^block1v1():\n    \n}" }
     ensures is_read { (rest : List ℕ) × reads only_modules empty_block (codes "builtin.module @bar \n{\n  ^block1v1():\n    \n}" ++ []) rest × (after_space rest ≡ []) }
@@ -51,19 +51,19 @@ pub fn two_blocks_with_locations()
     ensures no_region { text demo labelled_printing two_branches 0 2 (Some 0) ≡ codes "builtin.module @m {..} !0\n\noutlined_attributes:\n!0 = @[<in-memory>: line: 1, column: 1], []\n" }
 {}
 
-/// Two operations with the same debug note: the section writes the note once, numbered on behind the entries.
+/// Two operations with the same debug note: the section has the note once, with the next number after the entries.
 pub fn a_shared_note()
     ensures { text demo plain_printing one_note_twice 0 2 None
         ≡ codes "builtin.module @m \n{\n  ^block1v1():\n    test.nop !0;\n    test.nop !1\n}\n\noutlined_attributes:\n!0 = [dbg = !2]\n!1 = [dbg = !2]\n!2 = test.dbg \"s\"\n" }
 {}
 
-/// An operation without a format of its own, which has a result and two attributes.
+/// An operation in the canonical form, which has a result and two attributes.
 pub fn the_canonical_text()
     ensures { spelled demo 2 0 (written inline_printing None global_pointer)
         ≡ codes "v1 = test.global () [] [builtin_sym_name: builtin.identifier global_0, test_global_op_const_val: builtin.integer <0: si64>]: <() -> (test.ptr )>" }
 {}
 
-/// Formats that are refused, by the condition that they break first.
+/// Formats that are rejected, by the condition that they break first.
 pub fn refused_formats()
     ensures words { Breaks 1 (format.word [] ∷ []) × Breaks 1 (format.word (codes "a b") ∷ []) × Breaks 1 (format.operand 1 ∷ format.word (codes "a b") ∷ []) }
     ensures operands { Breaks 2 (format.operand 1 ∷ []) × Breaks 2 (format.operand 0 ∷ format.operand 0 ∷ []) × Breaks 2 (format.operands ∷ format.operands ∷ []) }
@@ -79,7 +79,7 @@ pub fn refused_formats()
         × Breaks 8 (format.operands ∷ format.successors ∷ format.word (codes "x") ∷ []) × Breaks 8 (format.regions ∷ format.word (codes "{") ∷ []) }
 {}
 
-/// Formats that are accepted, close to the refused ones.
+/// Formats that are accepted, similar to the rejected ones.
 pub fn accepted_formats()
     ensures words { Kept [] × Kept (format.word (codes "a") ∷ format.word (codes "b") ∷ []) }
     ensures operands { Kept (format.operand 1 ∷ format.word (codes ",") ∷ format.operand 0 ∷ []) × Kept (format.operand 0 ∷ format.word (codes ",") ∷ format.operands ∷ []) }
@@ -105,7 +105,7 @@ pub fn names_defined_twice()
     ensures regions { wrong trees.defined_in_both ≡ failure (MultipleDefinitions (codes "x")) 104 ∷ [] }
 {}
 
-/// A use before its definition, and a use of what an inner region defines, are right.
+/// A use before its definition, and a use of what a nested region defines, are allowed.
 pub fn names_defined_late()
     ensures early { wrong trees.used_early ≡ [] }
     ensures inside { wrong trees.defined_inside ≡ [] }
@@ -117,14 +117,14 @@ pub fn result_counts()
     ensures fewer { wrong trees.too_few_names ≡ failure (ResultCount 1 0) 27 ∷ [] }
 {}
 
-/// A root has no results, and is isolated where it has regions.
+/// A root has no results, and is isolated if it has regions.
 pub fn wrong_roots()
     ensures result { wrong trees.root_with_result ≡ failure (NoActiveScope (codes "x")) 1 ∷ [] }
     ensures no_results { wrong trees.root_without_results ≡ [] }
     ensures not_isolated { wrong trees.root_not_isolated ≡ record { cause = NotIsolated; at = None } ∷ [] }
 {}
 
-/// A label that a root uses is outside of every region. It is refused at its name, one character behind the `^`.
+/// A label that a root uses is outside of every region. The error is at its name, one character after the `^`.
 pub fn a_label_of_no_region()
     ensures is_read { reads counted_demo trees.branch_of_root (codes "test.br ^a") [] }
     ensures is_refused { wrong trees.branch_of_root ≡ failure (NoActiveScope (codes "a")) (length (codes "a")) ∷ [] }
@@ -135,7 +135,7 @@ pub fn marks_of_one_index()
     ensures { wrong trees.one_index_twice ≡ failure (DuplicateIndex 0) 39 ∷ [] }
 {}
 
-/// Entries behind `builtin.module @m {} !3`.
+/// Entries after `builtin.module @m {} !3`.
 pub fn entries_of_a_section()
     ensures accepted { wrong_behind (for_item 60 3 (note_nine ∷ []) ∷ of_once (marked 40 9) (own (codes "s")) ∷ []) ≡ [] }
     ensures without_entry { wrong_behind [] ≡ [] }
@@ -145,14 +145,14 @@ pub fn entries_of_a_section()
     ensures reserved_key { wrong_behind (for_item 60 3 (wrong_names 50 ∷ []) ∷ []) ≡ failure (ReservedKey (codes "builtin_given_names")) 50 ∷ [] }
 {}
 
-/// Entries and keys are reported where they stand, references behind the last entry, and a dictionary behind a region after it.
+/// Entries and keys are reported in the order of the text, references after the last entry, and a dictionary after the region before it.
 pub fn order_of_reports()
     ensures section { wrong_behind (for_item 60 3 (note_nine ∷ []) ∷ for_item 45 7 (wrong_names 44 ∷ []) ∷ [])
         ≡ failure (UnknownIndex 7) 45 ∷ failure (ReservedKey (codes "builtin_given_names")) 44 ∷ failure (UnknownPrintOnce 9) 48 ∷ [] }
     ensures dictionary { wrong dictionary_behind ≡ failure (MultipleDefinitions (codes "x")) 72 ∷ failure (ReservedKey (codes "builtin_given_names")) 60 ∷ [] }
 {}
 
-/// What is built of a use before its definition, with an entry for the definition's mark.
+/// What is built from a use before its definition, with an entry for the definition's mark.
 pub fn a_built_root()
     ensures resolves { failures_of isolated early_and_marked note_and_location ≡ [] }
     ensures graph { (build isolated (λ (place : ℕ). codes "first") note_and_location early_and_marked).regions ≡ early_built }
@@ -160,7 +160,7 @@ pub fn a_built_root()
     ensures none_missing { Linked (build isolated (λ (place : ℕ). codes "first") note_and_location early_and_marked) }
 {}
 
-/// A key that comes twice keeps its first place and takes the later value.
+/// A key that occurs twice keeps its first place and takes the later value.
 pub fn a_key_twice()
     ensures { put_all {V = ℕ} [] ((codes "a", 1) ∷ (codes "b", 2) ∷ (codes "a", 3) ∷ []) ≡ (codes "a", 3) ∷ (codes "b", 2) ∷ [] }
 {}
@@ -171,7 +171,7 @@ pub fn premises_of_the_round_trip()
         × GraphKeepsKeys use_before_definition × Closed plain_printing isolated use_before_definition }
 {}
 
-/// A root whose section has a location, and a note that two items share: how it is written, and that it meets every premise of the
+/// A root whose section has a location, and a note that two items share: its printed text, and that it meets every premise of the
 /// round trip with a section.
 pub fn premises_of_a_section()
     ensures is_written { text demo plain_printing note_on_line_one 0 2 None
@@ -181,13 +181,13 @@ pub fn premises_of_a_section()
     ensures equality { ((a b : List ℕ) → plain_printing.same_own a b ≡ true → a ≡ b) × ((a : List ℕ) → plain_printing.same_own a a ≡ true) }
 {}
 
-/// Where a place stands behind a text, in lines and characters.
+/// The position of a place after a text, in lines and characters.
 pub fn lines_and_columns()
     ensures beginning { (line_behind [] ≡ 1) × (column_behind [] ≡ 1) }
     ensures second_line { (line_behind (codes "ab\nc") ≡ 2) × (column_behind (codes "ab\nc") ≡ 2) }
 {}
 
-/// The place one character before the end of two lines stands in the second.
+/// The place one character before the end of two lines is in the second.
 pub fn where_a_place_stands()
     ensures { location_of {A = ⊥} [] InMemory (codes "ab\ncd") 1 ≡ src_pos None (record { line = pos 2; column = pos 2 }) }
 {}

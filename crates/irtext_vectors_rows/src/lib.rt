@@ -1,4 +1,4 @@
-//! Worked rows: of each definition what it says of one text, tree, graph or format.
+//! Worked rows: for each definition what it gives for one text, tree, graph or format.
 #![tactic(auto)]
 
 pub mod definitions;

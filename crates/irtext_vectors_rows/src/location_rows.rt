@@ -1,4 +1,4 @@
-//! What the definitions say of worked locations. Each function does nothing: its contract is a row that is computed.
+//! What the definitions give for worked locations. Each function does nothing: its contract is a row that is computed.
 ghost use Rattle.std.specs.Prelude.{◌≡◌, [], ◌∷◌, ◌++◌, codes, None, Some};
 ghost use Rattle.irtext_base.specs.Answers.{Bad, Missing, Read};
 ghost use Rattle.irtext_base.specs.Faults.{ALocation, Unexpected, Word};
@@ -9,7 +9,7 @@ ghost use Rattle.irtext_vectors_rows.specs.LocationRows.{name_alone, nested, not
 ghost use Rattle.irtext_outcomes.specs.Readers.Locations.{location_at};
 ghost use Rattle.irtext_outcomes.specs.Promises.LocationsBack.{AllFit, AllRead};
 
-/// Locations of each kind: how each is written, and that the text reads as it, whole.
+/// Locations of each kind: the printed text of each, and that the whole text parses as it.
 pub fn texts_of_locations()
     ensures file { Says (place (Some (codes "foo.mlir")) 42 7) (codes "\"foo.mlir\": line: 42, column: 7") }
     ensures escaped_file { Says (place (Some (codes "a\"b\\c.mlir")) 1 1) (codes "\"a\\\"b\\\\c.mlir\": line: 1, column: 1") }
@@ -23,7 +23,7 @@ pub fn texts_of_locations()
     ensures none { Says unknown (codes "?") }
 {}
 
-/// Where white space may stand in a location, and where it may not: between `>` and `[`, and inside the parentheses of a name.
+/// Where white space is allowed in a location, and where it is not: between `>` and `[`, and inside the parentheses of a name.
 pub fn space_in_locations()
     ensures several { location_at note_at (codes "fused < note >[ ? , ? ] x") ≡ Read (fused (Some (own tt)) (location unknown (location unknown no_location))) (codes "fused < note >[ ? , ? ]") (codes " x") }
     ensures before_bracket { location_at note_at (codes "fused<note> [?]") ≡ Bad (Unexpected (Some 32) (Word (codes "["))) (codes "fused<note>") }
@@ -32,12 +32,12 @@ pub fn space_in_locations()
     ensures none { location_at note_at (codes "x") ≡ Missing (Unexpected (Some 120) ALocation) }
 {}
 
-/// A location with metadata that meets every premise of what is read back.
+/// A location with metadata that meets every premise of the law that it is parsed back.
 pub fn premises_of_a_location()
     ensures { AllRead note_at note_text nested × AllFit nested }
 {}
 
-/// A location in a context that keeps one of its two paths: the other comes last, and each file stands under its key there.
+/// A location in a context that keeps one of its two paths: the other comes last, and each file is under its key there.
 pub fn a_location_in_another_context()
     ensures paths { all_kept (codes "b" ∷ []) (call_site (place (Some (codes "a")) 1 2) (place (Some (codes "b")) 3 4)) ≡ codes "b" ∷ codes "a" ∷ [] }
     ensures keys { all_noted [] (all_under (codes "b" ∷ []) (call_site (place (Some (codes "a")) 1 2) (place (Some (codes "b")) 3 4))) ≡ File (record { index = 1 }) ∷ File (record { index = 0 }) ∷ [] }

@@ -1,25 +1,25 @@
-//! Texts that break off, or in which a character is replaced: what is said of each, by the place where it is broken.
+//! Texts that end early, or in which a character is replaced: the expected result of each, by the offset where it is broken.
 use crate::tests::standing::said;
 use irtext_vectors_common::contexts::{Ctx, with_demo};
 use irtext_vectors_roots::reading::{root, whole};
 use std::alloc::Global;
 use std::test::Fail;
 
-/// What is said of a text that is broken at a place.
+/// The expected result for a text that is broken at an offset.
 #[derive(Clone, Copy)]
 pub(crate) enum Outcome {
-    /// It is read, and printed as this text.
+    /// It is parsed, and printed as this text.
     Read(&'static str),
-    /// What stands where it is broken is not what is expected, which is named.
+    /// The character there is unexpected; this names what is expected.
     Here(&'static str),
-    /// These words, and behind them the word that begins at this offset and ends where the text is broken. The fault stands at the
+    /// These words, and after them the word from the first offset to the place where the text is broken. The fault is at the
     /// second offset.
     Word(&'static str, usize, usize),
-    /// The fault stands at this offset, with these words.
+    /// The fault is at this offset, with these words.
     At(usize, &'static str),
 }
 
-/// What is said of a text that is broken at one of the offsets from the first up to the second.
+/// The expected result for a text that is broken at an offset from the first up to, and without, the second.
 pub(crate) type Row = (usize, usize, Outcome);
 
 /// How a text is broken.
@@ -32,7 +32,7 @@ pub(crate) enum Break {
 }
 
 impl Break {
-    /// What is found there.
+    /// How an error names what is found there.
     fn found(self) -> &'static str {
         match self {
             Break::End => "end of input",
@@ -86,9 +86,9 @@ fn place(alloc: Global, text: &str, at: usize) -> Result<String, Fail> {
     Ok(format!(in alloc; "line: {line}, column: {column}")?)
 }
 
-/// What has to be said of the text that is broken at an offset.
+/// The expected text of the result for the text that is broken at an offset.
 fn wanted(alloc: Global, text: &str, at: usize, way: Break, row: Outcome) -> Result<String, Fail> {
-    // a fault is uncommitted where nothing was read
+    // a fault is uncommitted if nothing was consumed
     let mark = if at == 0 { "" } else { "!" };
     match row {
         Outcome::Read(_) => Ok(String::from_str(alloc, "read")?),
@@ -109,13 +109,13 @@ fn wanted(alloc: Global, text: &str, at: usize, way: Break, row: Outcome) -> Res
     }
 }
 
-/// What is printed of a text that is read.
+/// The printed text of the root that a text is parsed as.
 fn printed(alloc: Global, ctx: &mut Ctx, text: &str) -> Result<String, Fail> {
     let op = root(ctx, text).ok_or("refused")?;
     whole(alloc, ctx, op)
 }
 
-/// Whether a broken text that is read is printed as it has to be, in a context of its own.
+/// Whether a broken text that is expected to be parsed is printed as it has to be, in a context of its own.
 fn is_printed(alloc: Global, broken: &str, row: Outcome) -> Result<bool, Fail> {
     let Outcome::Read(wanted) = row else {
         return Ok(true);
@@ -124,7 +124,7 @@ fn is_printed(alloc: Global, broken: &str, row: Outcome) -> Result<bool, Fail> {
     Ok(text.as_str() == wanted)
 }
 
-/// Whether that is said of the text that is broken at an offset, and nothing changes where it is refused.
+/// Whether the text that is broken at an offset has the expected result, and an error leaves everything unchanged.
 fn holds(alloc: Global, text: &str, at: usize, way: Break, row: Outcome) -> Result<bool, Fail> {
     let broken = broken(alloc, text, at, way)?;
     let wanted = wanted(alloc, text, at, way, row)?;
@@ -132,7 +132,7 @@ fn holds(alloc: Global, text: &str, at: usize, way: Break, row: Outcome) -> Resu
     Ok(said.as_str() == wanted.as_str() && is_printed(alloc, broken.as_str(), row)?)
 }
 
-/// The first offset of a row at which something else is said.
+/// The first offset of a row with another result.
 fn differing_in(alloc: Global, text: &str, way: Break, row: Row) -> Result<Option<usize>, Fail> {
     for at in row.0..row.1 {
         if !holds(alloc, text, at, way, row.2)? {
@@ -142,7 +142,7 @@ fn differing_in(alloc: Global, text: &str, way: Break, row: Row) -> Result<Optio
     Ok(None)
 }
 
-/// The first offset at which something else is said than the rows say, which follow one another, or at which they end before this one.
+/// The first offset that has another result than its row, or no row: the rows have to follow one another from 0 up to the end.
 pub(crate) fn differing(
     alloc: Global,
     text: &str,

@@ -1,4 +1,4 @@
-//! Counters that are nearly full: a text that would pass the end of one is refused as for want of memory, and nothing of it is left.
+//! Counters that are nearly full: a text that would exceed one fails with out of memory, and leaves no objects.
 use irtext_types::DemoAttr;
 use irtext_types::dialects::register_demo;
 use irtext_vectors_common::contexts::{Ctx, with_counters};
@@ -8,7 +8,7 @@ use pliron_text::result::{Cause, Error};
 use std::alloc::Global;
 use std::test::Fail;
 
-/// The number of the next value, the place of the next object of each kind, and texts that are read one after the other, with what is said
+/// The number of the next value, the place of the next object of each kind, and texts that are parsed one after the other, with the result
 /// of each.
 type Row = (u64, u32, &'static [(&'static str, &'static str)]);
 
@@ -57,7 +57,7 @@ const ROWS: &[Row] = &[
     ),
 ];
 
-/// What an error says: its cause, or that of the fault that it holds.
+/// The text of an error: its cause, or that of the fault that it holds.
 fn told(alloc: Global, error: &Error<DemoAttr>) -> Result<String, Fail> {
     match &error.err {
         Cause::Parse { at: _, cause } => Ok(format!(in alloc; "{cause}")?),
@@ -65,10 +65,10 @@ fn told(alloc: Global, error: &Error<DemoAttr>) -> Result<String, Fail> {
     }
 }
 
-/// A root that stands, and its text.
+/// A live root, and its text.
 type Root = (Ptr<Operation>, String);
 
-/// What is said of a text, and how many objects there are then. A root that is read joins those that stand.
+/// The result for a text, and then the number of live objects. A root that is parsed is added to the live ones.
 fn said(alloc: Global, ctx: &mut Ctx, stand: &mut Vec<Root>, text: &str) -> Result<String, Fail> {
     let said = match read_root(ctx, text) {
         Ok(op) => {
@@ -80,7 +80,7 @@ fn said(alloc: Global, ctx: &mut Ctx, stand: &mut Vec<Root>, text: &str) -> Resu
     Ok(format!(in alloc; "{said}, {}", ctx.num_live())?)
 }
 
-/// Whether each root that stands has its text.
+/// Whether each live root still has its text.
 fn are_as_they_were(alloc: Global, ctx: &Ctx, stand: &[Root]) -> Result<bool, Fail> {
     for root in stand {
         if whole(alloc, ctx, root.0)?.as_str() != root.1.as_str() {
@@ -90,7 +90,7 @@ fn are_as_they_were(alloc: Global, ctx: &Ctx, stand: &[Root]) -> Result<bool, Fa
     Ok(true)
 }
 
-/// The first text of a row of which something else is said, or behind which a root that stood is not as it was.
+/// The first text of a row with another result, or after which a live root has changed.
 fn differing(alloc: Global, ctx: &mut Ctx, texts: &[(&str, &str)]) -> Result<Option<usize>, Fail> {
     if register_demo(ctx).is_err() {
         return Err(Fail::from("not registered"));

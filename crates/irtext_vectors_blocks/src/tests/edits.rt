@@ -1,4 +1,4 @@
-//! A text in which each character in turn is `#`: it is read where that ends its section, and else refused.
+//! A text in which each character in turn is replaced by `#`: it is parsed if that ends its section, and rejected otherwise.
 use crate::tests::broken::{Break, Outcome, Row, differing};
 use std::test::Fail;
 
@@ -6,7 +6,7 @@ use std::test::Fail;
 const TEXT: &str =
     "builtin.module @m \n{\n  ^a_block1v1() !0:\n    test.br ^b_block3v1 !1\n\n  ^b_block3v1() !2:\n    test.br ^a_block1v1 !3\n} !4\n\noutlined_attributes:\n!0 = @[<in-memory>: line: 1, column: 21], [builtin_block_label = builtin.identifier a]\n!1 = @[<in-memory>: line: 1, column: 27], []\n!2 = @[<in-memory>: line: 1, column: 38], [builtin_block_label = builtin.identifier b]\n!3 = @[<in-memory>: line: 1, column: 44], []\n!4 = @[<in-memory>: line: 1, column: 1], []\n";
 
-/// What is printed of the text without entries.
+/// The printed text if the section has no entries.
 const NO_ENTRY: &str =
     "builtin.module @m \n{\n  ^a_block1v1_block1v1() !0:\n    test.br ^b_block3v1_block3v1 !1\n\n  ^b_block3v1_block3v1() !2:\n    test.br ^a_block1v1_block1v1 !3\n} !4\n\noutlined_attributes:\n!0 = @[<in-memory>: line: 3, column: 3], [builtin_block_label = builtin.identifier a_block1v1]\n!1 = @[<in-memory>: line: 4, column: 5], []\n!2 = @[<in-memory>: line: 6, column: 3], [builtin_block_label = builtin.identifier b_block3v1]\n!3 = @[<in-memory>: line: 7, column: 5], []\n!4 = @[<in-memory>: line: 1, column: 1], []\n";
 
@@ -26,7 +26,7 @@ const THREE_ENTRIES: &str =
 const WHOLE: &str =
     "builtin.module @m \n{\n  ^a_block1v1() !0:\n    test.br ^b_block3v1 !1\n\n  ^b_block3v1() !2:\n    test.br ^a_block1v1 !3\n} !4\n\noutlined_attributes:\n!0 = @[<in-memory>: line: 1, column: 21], [builtin_block_label = builtin.identifier a]\n!1 = @[<in-memory>: line: 1, column: 27], []\n!2 = @[<in-memory>: line: 1, column: 38], [builtin_block_label = builtin.identifier b]\n!3 = @[<in-memory>: line: 1, column: 44], []\n!4 = @[<in-memory>: line: 1, column: 1], []\n";
 
-/// What is said where the character stands.
+/// The expected result by the offset of the character.
 const ROWS: &[Row] = &[
     (0, 1, Outcome::Here("operation")),
     (1, 8, Outcome::Here("`.`")),

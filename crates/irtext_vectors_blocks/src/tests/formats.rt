@@ -1,4 +1,4 @@
-//! Formats that read uniquely: an operation that fits one is read in a root, printed, and what was printed is read as the same text.
+//! Unambiguous formats: an operation that fits one is parsed in a root and printed, and the printed text is parsed and printed unchanged.
 use irtext_types::DemoAttr;
 use irtext_vectors_common::contexts::{Ctx, named, with_demo};
 use irtext_vectors_common::formats::format_of;
@@ -10,7 +10,7 @@ use pliron_text::result::Result as Answer;
 use std::alloc::Global;
 use std::test::Fail;
 
-/// The format of `test.z` by its letters, an operation, and what is printed of it up to its mark: the root round it has a block `b` with
+/// The format of `test.z` by its letters, an operation, and its printed text up to its mark: the root around it has a block `b` with
 /// the arguments `x` and `y`.
 const ROWS: &[(&str, &str, &str)] = &[
     ("xx", "test.z x x", "    test.z x x !"),
@@ -111,7 +111,7 @@ fn register(alloc: Global, ctx: &mut Ctx, letters: &str) -> Result<(), Fail> {
     Ok(answer.ok().ok_or("refused")?)
 }
 
-/// What is printed of a root.
+/// The printed text of a root.
 fn printed(alloc: Global, ctx: &mut Ctx, text: &str) -> Result<String, Fail> {
     let op = root(ctx, text).ok_or("refused")?;
     whole(alloc, ctx, op)
@@ -128,12 +128,12 @@ fn alone(alloc: Global, letters: &str, text: &str) -> Result<String, Fail> {
     with_demo(alloc, |alloc, ctx| registered(alloc, ctx, letters, text))
 }
 
-/// The root that holds an operation.
+/// The root around an operation.
 fn around(alloc: Global, op: &str) -> Result<String, Fail> {
     Ok(format!(in alloc; "builtin.module @m {{ ^b(x: builtin.integer si64, y: test.ptr): {op} }}")?)
 }
 
-/// Whether an operation is printed so, and its root's text comes back.
+/// Whether an operation is printed so, and its root's text is parsed back.
 fn comes_back(alloc: Global, letters: &str, op: &str, wanted: &str) -> Result<bool, Fail> {
     let text = around(alloc, op)?;
     let first = alone(alloc, letters, text.as_str())?;

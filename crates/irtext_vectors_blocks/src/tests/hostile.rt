@@ -1,10 +1,10 @@
-//! Texts that are refused beside a root that stands: what is said of each, while all that stood is as it was.
+//! Texts that are rejected beside a live root: the error of each; everything live is unchanged.
 use crate::tests::standing::said;
 use irtext_vectors_common::contexts::with_demo;
 use std::alloc::Global;
 use std::test::Fail;
 
-/// Texts, and the fault of each, with `!` behind it where it is committed.
+/// Texts, and the fault of each, with `!` if it is committed.
 const ROWS: &[(&str, &str)] = &[
     (
         "",
@@ -224,7 +224,7 @@ const ROWS: &[(&str, &str)] = &[
     ),
 ];
 
-/// What is said of a text in a context of its own.
+/// The result for a text in a context of its own.
 fn answered(alloc: Global, text: &str) -> Result<String, Fail> {
     with_demo(alloc, |alloc, ctx| said(alloc, ctx, text))
 }

@@ -1,4 +1,4 @@
-//! Names that are used, and results that are named, outside of every region: no scope is open there, so each is refused.
+//! Names that are used, and results that are named, outside of every region: no scope is open there, so each is an error.
 use crate::tests::parts::{Path, at};
 use irtext_types::DemoAttr;
 use irtext_vectors_common::answers::told;
@@ -13,7 +13,7 @@ use pliron_text::parsable::{
 use std::alloc::Global;
 use std::test::Fail;
 
-/// A text, and what is said of it as the use of a value, and as that of a block.
+/// A text, and its result as the use of a value, and as the use of a block.
 const USES: &[(&str, &str, &str)] = &[
     (
         "x",
@@ -32,7 +32,7 @@ const USES: &[(&str, &str, &str)] = &[
     ),
 ];
 
-/// What is said of a text as the use of a value.
+/// The result for a text as the use of a value.
 fn value(alloc: Global, text: &str) -> Result<String, Fail> {
     let mut stream = TextStream::new(alloc, text)?;
     let answer: ParseResult<Value, DemoAttr> = ssa_opd_parse(&mut stream);
@@ -42,7 +42,7 @@ fn value(alloc: Global, text: &str) -> Result<String, Fail> {
     }
 }
 
-/// What is said of a text as the use of a block.
+/// The result for a text as the use of a block.
 fn label(alloc: Global, text: &str) -> Result<String, Fail> {
     let mut stream = TextStream::new(alloc, text)?;
     let answer: ParseResult<Ptr<BasicBlock>, DemoAttr> = block_opd_parse(&mut stream);
@@ -64,13 +64,13 @@ fn names_are_refused_outside_of_regions(rt: HostRuntime) -> Result<(), Fail> {
 /// A root with an operation without results and one with a result.
 const ROOT: &str = "builtin.module @m { ^a(): test.nop; x = test.make: test.ptr }";
 
-/// The ways to these operations.
+/// The paths to these operations.
 const NO_RESULT: Path = &[(0, 0, 0)];
 
 const ONE_RESULT: Path = &[(0, 0, 1)];
 
-/// The way to an operation, the names that its results get, the line and column of each name's location where it has one, and what is
-/// said.
+/// The path to an operation, the names of its results, the line and column of each name's location if it has one, and the
+/// expected result.
 const RESULTS: &[(Path, &[(&str, Option<(i32, i32)>)], &str)] = &[
     (NO_RESULT, &[], "named"),
     (
@@ -117,7 +117,7 @@ fn names(
     Ok(names)
 }
 
-/// What is said of names for the results of an operation, where a stream is in its third column.
+/// The result for the names of an operation's results, with the stream in its third column.
 fn results(
     alloc: Global,
     ctx: &mut Ctx,

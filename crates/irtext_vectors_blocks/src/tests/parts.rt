@@ -1,4 +1,4 @@
-//! What stands in what, by index: an operation's region, a region's block, a block's operation.
+//! Parts by index: an operation's region, a region's block, a block's operation.
 use irtext_graph::held::HasGraph;
 use irtext_vectors_common::contexts::Ctx;
 use pliron_text::base::{BasicBlock, Operation, OperationParts, Ptr, Value, ValueUses};
@@ -33,10 +33,10 @@ pub(crate) fn operation(
     Ok(block.get_operation(ctx, index))
 }
 
-/// The way from an operation to one inside: the region, the block and the operation at each level.
+/// The path from an operation to a nested one: the indices of region, block and operation at each level.
 pub(crate) type Path = &'static [(usize, usize, usize)];
 
-/// The operation that a way leads to.
+/// The operation at a path.
 pub(crate) fn at(ctx: &Ctx, root: Ptr<Operation>, path: Path) -> Result<Ptr<Operation>, Fail> {
     let mut op = root;
     for step in path {
@@ -65,7 +65,7 @@ pub(crate) fn successor(
     Ok(op.get_successor(ctx, index))
 }
 
-/// How many operands name a value.
+/// The number of operands that are a value.
 pub(crate) fn num_uses(ctx: &Ctx, value: Value) -> Result<usize, Fail> {
     if !ctx.graph().contains_value(value) {
         return Err(Fail::from("no such value"));

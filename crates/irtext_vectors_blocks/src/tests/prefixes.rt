@@ -1,5 +1,5 @@
-//! A text that breaks off at each of its characters: it is read where all of its root is there and no entry of its section is begun, else
-//! refused.
+//! A text that ends at each of its characters: it is parsed if its root is complete and no entry of its section is begun, and rejected
+//! otherwise.
 use crate::tests::broken::{Break, Outcome, Row, differing};
 use std::test::Fail;
 
@@ -7,7 +7,7 @@ use std::test::Fail;
 const TEXT: &str =
     "builtin.module @bar \n{\n  ^block1v1():\n    builtin.func @foo: builtin.function <()->(builtin.integer si64)> \n    {\n      ^entry_block2v1() !0:\n        c0_v0 = test.constant builtin.integer <0: si64>: builtin.integer si64 !1;\n        test.return c0_v0\n    }\n}\n\noutlined_attributes:\n!0 = [builtin_block_label = builtin.identifier entry]\n!1 = [builtin_given_names = builtin.given_names [c0]]\n";
 
-/// What is printed of the text without entries.
+/// The printed text if the section has no entries.
 const UNNAMED: &str =
     "builtin.module @bar \n{\n  ^block1v1_block1v1() !0:\n    builtin.func @foo: builtin.function <()->(builtin.integer si64)> \n    {\n      ^entry_block2v1_block2v1() !1:\n        c0_v0_v0 = test.constant builtin.integer <0: si64>: builtin.integer si64 !2;\n        test.return c0_v0_v0 !3\n    } !4\n} !5\n\noutlined_attributes:\n!0 = @[<in-memory>: line: 3, column: 3], [builtin_block_label = builtin.identifier block1v1]\n!1 = @[<in-memory>: line: 6, column: 7], [builtin_block_label = builtin.identifier entry_block2v1]\n!2 = @[<in-memory>: line: 7, column: 9], [builtin_given_names = builtin.given_names [c0_v0]]\n!3 = @[<in-memory>: line: 8, column: 9], []\n!4 = @[<in-memory>: line: 4, column: 5], []\n!5 = @[<in-memory>: line: 1, column: 1], []\n";
 
@@ -19,7 +19,7 @@ const LABELLED: &str =
 const NAMED: &str =
     "builtin.module @bar \n{\n  ^block1v1_block1v1() !0:\n    builtin.func @foo: builtin.function <()->(builtin.integer si64)> \n    {\n      ^entry_block2v1() !1:\n        c0_v0 = test.constant builtin.integer <0: si64>: builtin.integer si64 !2;\n        test.return c0_v0 !3\n    } !4\n} !5\n\noutlined_attributes:\n!0 = @[<in-memory>: line: 3, column: 3], [builtin_block_label = builtin.identifier block1v1]\n!1 = @[<in-memory>: line: 6, column: 7], [builtin_block_label = builtin.identifier entry]\n!2 = @[<in-memory>: line: 7, column: 9], [builtin_given_names = builtin.given_names [c0]]\n!3 = @[<in-memory>: line: 8, column: 9], []\n!4 = @[<in-memory>: line: 4, column: 5], []\n!5 = @[<in-memory>: line: 1, column: 1], []\n";
 
-/// What is said where it breaks off.
+/// The expected result by the offset at which the text ends.
 const ROWS: &[Row] = &[
     (0, 1, Outcome::Here("operation")),
     (1, 8, Outcome::Here("`.`")),

@@ -1,4 +1,4 @@
-//! Roots with blocks that were read, printed under a limit, with another layout, without locations, and with a state that was lent before.
+//! Roots with blocks that were parsed, printed under a limit, with another layout, without locations, and with a state used before.
 use crate::tests::parts::at;
 use irtext_vectors_common::contexts::{Ctx, with_demo};
 use irtext_vectors_roots::reading::{concrete, root, whole};
@@ -11,7 +11,7 @@ use std::test::Fail;
 /// A module of two blocks that branch to one another.
 const BRANCHES: &str = "builtin.module @m { ^a(): test.br ^b ^b(): test.br ^a }";
 
-/// The module with its regions elided: what is inside is not marked.
+/// The module with its regions elided: nested items are not marked.
 const ELIDED: &str =
     "builtin.module @m {..} !0\n\noutlined_attributes:\n!0 = @[<in-memory>: line: 1, column: 1], []\n";
 
@@ -19,7 +19,7 @@ const ELIDED: &str =
 const WIDE: &str =
     "builtin.module @m \n {\n     ^a_block1v1() !0:\n         test.br ^b_block3v1 !1\n\n     ^b_block3v1() !2:\n         test.br ^a_block1v1 !3\n } !4\n\noutlined_attributes:\n!0 = @[<in-memory>: line: 1, column: 21], [builtin_block_label = builtin.identifier a]\n!1 = @[<in-memory>: line: 1, column: 27], []\n!2 = @[<in-memory>: line: 1, column: 38], [builtin_block_label = builtin.identifier b]\n!3 = @[<in-memory>: line: 1, column: 44], []\n!4 = @[<in-memory>: line: 1, column: 1], []\n";
 
-/// The module once its first branch was printed with the same state, and erased since.
+/// The module after its first branch was printed with the same state, and then erased.
 const BEHIND: &str =
     "builtin.module @m \n{\n  ^a_block1v1() !1:\n    \n\n  ^b_block3v1() !2:\n    test.br ^a_block1v1 !3\n} !4\n\noutlined_attributes:\n!1 = @[<in-memory>: line: 1, column: 21], [builtin_block_label = builtin.identifier a]\n!2 = @[<in-memory>: line: 1, column: 38], [builtin_block_label = builtin.identifier b]\n!3 = @[<in-memory>: line: 1, column: 44], []\n!4 = @[<in-memory>: line: 1, column: 1], []\n";
 
@@ -31,7 +31,7 @@ const UNKNOWN: &str =
 const CONCRETE: &str =
     "builtin.module @m \n{\n  ^a_block1v1() !0:\n    test.br ^b_block3v1\n\n  ^b_block3v1() !1:\n    test.br ^a_block1v1\n}";
 
-/// What is printed with a state of this layout.
+/// The printed text with a state of this layout.
 fn printed(
     alloc: Global,
     ctx: &Ctx,
@@ -44,7 +44,7 @@ fn printed(
     Ok(format!(in alloc; "{}", op.print(ctx, state))?)
 }
 
-/// Whether the module is printed so under a limit that shows no region, and where it is indented more.
+/// Whether the module is printed so under a limit that shows no region, and with more indentation.
 fn with_layouts(alloc: Global, ctx: &mut Ctx) -> Result<bool, Fail> {
     let op = root(ctx, BRANCHES).ok_or("refused")?;
     let none = State::with_layout(alloc, 2, 0, RegionPrintDepthLimit::Max(0), ());
@@ -61,7 +61,7 @@ fn layouts_hold_inside(rt: HostRuntime) -> Result<(), Fail> {
     Ok(())
 }
 
-/// What is appended with a state that is lent.
+/// The text that is appended with a state that is passed as `&mut`.
 fn appended(
     alloc: Global,
     ctx: &Ctx,
@@ -88,7 +88,7 @@ fn erased(ctx: &mut Ctx, op: Ptr<Operation>) -> Result<(), Fail> {
     Ok(())
 }
 
-/// Whether an item that was marked, and is erased, keeps its index and has no entry.
+/// Whether an item (an operation or a block with a mark) that was printed and then erased keeps its index and has no entry.
 fn with_one_state(alloc: Global, ctx: &mut Ctx) -> Result<bool, Fail> {
     let op = root(ctx, BRANCHES).ok_or("refused")?;
     let first = at(ctx, op, &[(0, 0, 0)])?;
@@ -105,7 +105,7 @@ fn an_erased_item_keeps_its_index(rt: HostRuntime) -> Result<(), Fail> {
     Ok(())
 }
 
-/// Takes the locations of an operation away, and of all that stands in it.
+/// Removes the locations of an operation and of everything nested in it.
 fn unlocated(ctx: &mut Ctx, op: Ptr<Operation>) -> Result<(), Fail> {
     if !ctx.contains_operation(op) {
         return Err(Fail::from("no such operation"));

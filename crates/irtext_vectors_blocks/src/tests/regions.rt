@@ -1,4 +1,4 @@
-//! Regions that are read alone, into an operation that stands; and blocks that are read outside of every region, which are refused.
+//! Regions that are parsed alone, into a live operation; and blocks that are parsed outside of every region, which is an error.
 use crate::tests::standing::{STANDS, faulted};
 use irtext_types::{DemoAttr, DemoType};
 use irtext_vectors_common::answers::told;
@@ -10,8 +10,8 @@ use pliron_text::parsable::{Parsable, ParseResult, State, StateStream, TextStrea
 use std::alloc::Global;
 use std::test::Fail;
 
-/// The text of an operation, that of a region that is read into it, what is said of the reading, whether a mark is noted then, and how many
-/// regions the operation has.
+/// The text of an operation, that of a region that is parsed into it, and the expected text: the result, whether a mark is recorded then,
+/// and how many regions the operation has.
 const ROWS: &[(&str, &str, &str)] = &[
     (
         "builtin.module @m {}",
@@ -61,7 +61,7 @@ const ROWS: &[(&str, &str, &str)] = &[
     ),
 ];
 
-/// What is said of an answer: whether the region is the operation's last, or the fault.
+/// The text of a result: whether the region is the operation's last, or the fault.
 fn answered(
     alloc: Global,
     ctx: &Ctx,
@@ -81,8 +81,8 @@ fn answered(
     }
 }
 
-/// What is said of a region that is read into an operation, and whether a mark is noted then. One more call on the stream has to say that it
-/// has failed, where it has.
+/// The result for a region that is parsed into an operation, and whether a mark is recorded then. After an error one more call checks
+/// whether the stream has failed.
 fn read(
     alloc: Global,
     ctx: &mut Ctx,
@@ -112,7 +112,7 @@ fn count(ctx: &Ctx, op: Ptr<Operation>) -> Result<usize, Fail> {
     Ok(op.num_regions(ctx))
 }
 
-/// What is said of a row. Where the region is refused, no object may be left of it, and the operation's text has to be as before.
+/// The result for a row. If the region is rejected, no object of it may be left, and the operation's text has to be unchanged.
 fn said(alloc: Global, ctx: &mut Ctx, op: &str, text: &str) -> Result<String, Fail> {
     let op = root(ctx, op).ok_or("refused")?;
     let before = whole(alloc, ctx, op)?;
@@ -164,7 +164,7 @@ const BLOCKS: &[(&str, &str)] = &[
     ),
 ];
 
-/// What is said of a block, and whether a mark is noted then. One more call on the stream has to say that it has failed, where it has.
+/// The result for a block, and whether a mark is recorded then. After an error one more call checks whether the stream has failed.
 fn block_read(alloc: Global, ctx: &mut Ctx, text: &str) -> Result<(String, bool), Fail> {
     let stream = TextStream::new(alloc, text)?;
     let state = State::new(ctx, Source::InMemory, ());
@@ -177,7 +177,7 @@ fn block_read(alloc: Global, ctx: &mut Ctx, text: &str) -> Result<(String, bool)
     }
 }
 
-/// What is said of a block beside a root that stands, which has to be as it was, with no object and no mark beside it.
+/// The result for a block beside a live root, which has to be unchanged; no object and no mark may be added.
 fn block(alloc: Global, ctx: &mut Ctx, text: &str) -> Result<String, Fail> {
     let stands = root(ctx, STANDS).ok_or("refused")?;
     let before = whole(alloc, ctx, stands)?;

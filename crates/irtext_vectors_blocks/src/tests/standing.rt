@@ -1,4 +1,4 @@
-//! Texts that are read in a context in which a root stands already: what is said of them, where nothing of what stood changed.
+//! Texts that are parsed in a context with a live root: the result of each, with all live objects unchanged.
 use irtext_types::DemoAttr;
 use irtext_vectors_common::answers::told;
 use irtext_vectors_common::contexts::{Ctx, Stream};
@@ -11,11 +11,11 @@ use pliron_text::result::Cause;
 use std::alloc::Global;
 use std::test::Fail;
 
-/// A module with a function that returns a constant, which stands before any other text is read.
+/// A module with a function that returns a constant, which is parsed before any other text.
 pub(crate) const STANDS: &str =
     "builtin.module @bar \n{\n  ^block1v1():\n    builtin.func @foo: builtin.function <()->(builtin.integer si64)> \n    {\n      ^entry_block2v1() !0:\n        c0_v0 = test.constant builtin.integer <0: si64>: builtin.integer si64 !1;\n        test.return c0_v0\n    }\n}\n\noutlined_attributes:\n!0 = [builtin_block_label = builtin.identifier entry]\n!1 = [builtin_given_names = builtin.given_names [c0]]\n";
 
-/// Whether an answer is that the stream had failed.
+/// Whether a result is that the stream had failed.
 fn says_failed(answer: &Result<Ptr<Operation>, ParseFault<DemoAttr>>) -> bool {
     match answer {
         Ok(_) => false,
@@ -23,7 +23,7 @@ fn says_failed(answer: &Result<Ptr<Operation>, ParseFault<DemoAttr>>) -> bool {
     }
 }
 
-/// What a fault says. Where it is committed, one more call has to say that the stream has failed; else it has to say something else.
+/// The text of a fault. If it is committed, one more call has to return that the stream has failed; else it has to return something else.
 pub(crate) fn faulted(
     alloc: Global,
     s: &mut Stream<'_>,
@@ -37,7 +37,7 @@ pub(crate) fn faulted(
     Ok(said)
 }
 
-/// What is said of a root that is read from a stream.
+/// The result for a root that is parsed from a stream.
 fn answered(alloc: Global, s: &mut Stream<'_>) -> Result<String, Fail> {
     match Operation::top_level_parse(s) {
         Ok(_) => Ok(String::from_str(alloc, "read")?),
@@ -45,7 +45,7 @@ fn answered(alloc: Global, s: &mut Stream<'_>) -> Result<String, Fail> {
     }
 }
 
-/// What is said of a text, whether a mark is noted, and how many objects there are then.
+/// The result for a text, whether a mark is recorded, and the number of live objects then.
 fn read(alloc: Global, ctx: &mut Ctx, text: &str) -> Result<(String, bool, u64), Fail> {
     let stream = TextStream::new(alloc, text)?;
     let state = State::new(ctx, Source::InMemory, ());
@@ -56,7 +56,7 @@ fn read(alloc: Global, ctx: &mut Ctx, text: &str) -> Result<(String, bool, u64),
     Ok((said?, marks, live))
 }
 
-/// The same where a root stands, which has to be as it was where the text is refused, with no object and no mark beside it.
+/// The same beside a live root, which has to be unchanged if the text is rejected; no object and no mark may be added then.
 fn compared(
     alloc: Global,
     ctx: &mut Ctx,
@@ -75,7 +75,7 @@ fn compared(
     Ok(said)
 }
 
-/// What is said of a text that is read beside a root that stands: `read`, or its fault.
+/// The result for a text that is parsed beside a live root: `read`, or its fault.
 pub(crate) fn said(alloc: Global, ctx: &mut Ctx, text: &str) -> Result<String, Fail> {
     let stands = root(ctx, STANDS).ok_or("refused")?;
     compared(alloc, ctx, stands, text)

@@ -8,7 +8,7 @@ use pliron_text::parsable::{State, StateStream, TextStream};
 use std::alloc::Global;
 use std::test::Fail;
 
-/// Two roots, in both of which one name, one label and one mark stand.
+/// Two roots, both with the same name, the same label and the same mark.
 const TWO: &str =
     "builtin.module @m { ^a(): x = test.make: test.ptr !0; test.use x } outlined_attributes: !0 = [dbg = !1] !1 = test.dbg \"s\"\nbuiltin.module @n { ^a(): test.use x !0; test.br ^a; x = test.make: test.ptr } outlined_attributes: !0 = [dbg = !1] !1 = test.dbg \"t\"";
 

@@ -1,4 +1,4 @@
-//! Who uses what in a root that was read: each operand is the value, and each successor the block, that its name means.
+//! The uses in a root that was parsed: each operand is the value, and each successor the block, that its name refers to.
 use crate::tests::parts::{Path, at, block, num_uses, operand, successor};
 use irtext_graph::held::HasGraph;
 use irtext_vectors_common::contexts::{Ctx, with_demo};
@@ -7,14 +7,14 @@ use pliron_text::base::{BlockParts, Operation, Ptr, UniqueName, Value};
 use std::alloc::Global;
 use std::test::Fail;
 
-/// A value: the result of an index of an operation, or the argument of an index of the block of an index in its first region.
+/// A value: a result of an operation by index, or an argument by index of a block by index in its first region.
 #[derive(Clone, Copy)]
 enum Defined {
     Result(Path, usize),
     Argument(Path, usize, usize),
 }
 
-/// An operand: its operation and its index, the value that it is, how that is printed, and how many operands it is.
+/// An operand: its operation and its index, the value that it is, the printed name, and the number of operands that are this value.
 type Use = (Path, usize, Defined, &'static str, usize);
 
 /// Texts, and operands in each.
@@ -35,7 +35,7 @@ const USES: &[(&str, &[Use])] = &[
             1,
         )],
     ),
-    // one name in an isolated region and round it
+    // one name in an isolated region and around it
     (
         "builtin.module @m { ^a(): x = test.make: builtin.integer si64; builtin.func @f: builtin.function <()->()> { ^b(): x = test.make: builtin.integer si64; test.use x }; test.use x }",
         &[
@@ -49,7 +49,7 @@ const USES: &[(&str, &[Use])] = &[
             (&[(0, 0, 2)], 0, Defined::Result(&[(0, 0, 0)], 0), "x_v0", 1),
         ],
     ),
-    // an argument, used in a region inside, and again behind it
+    // an argument, used in a nested region, and again after it
     (
         "builtin.module @m { ^a(): test.scope { ^b(): test.use y }; test.return y, y ^c(x: test.ptr, y: test.ptr): test.use y }",
         &[
@@ -64,7 +64,7 @@ const USES: &[(&str, &[Use])] = &[
             (&[(0, 1, 0)], 0, Defined::Argument(&[], 1, 1), "y_v2", 4),
         ],
     ),
-    // the form that any operation has: two results, one used by itself
+    // the canonical form: two results, one used by its own operation
     (
         "builtin.module @m { ^a(): p, q = test.global (q, r) [] []: <() -> (test.ptr, test.ptr)> { ^b(): test.use p }; r = test.make: test.ptr }",
         &[
@@ -81,7 +81,7 @@ const USES: &[(&str, &[Use])] = &[
     ),
 ];
 
-/// The value that is meant.
+/// The value that is described.
 fn value(ctx: &Ctx, root: Ptr<Operation>, defined: Defined) -> Result<Value, Fail> {
     match defined {
         Defined::Result(path, index) => Ok(Value::Result(at(ctx, root, path)?, index)),
@@ -100,7 +100,7 @@ fn name(ctx: &Ctx, value: Value) -> Result<String, Fail> {
     Ok(value.unique_name(ctx)?)
 }
 
-/// Whether an operand is as it is to be.
+/// Whether an operand is as expected.
 fn is_used(ctx: &Ctx, root: Ptr<Operation>, wanted: &Use) -> Result<bool, Fail> {
     let user = at(ctx, root, wanted.0)?;
     let found = operand(ctx, user, wanted.1)?;
@@ -112,7 +112,7 @@ fn is_used(ctx: &Ctx, root: Ptr<Operation>, wanted: &Use) -> Result<bool, Fail> 
     )
 }
 
-/// The index of the first operand that is not as it is to be.
+/// The index of the first operand that is not as expected.
 fn differing(ctx: &mut Ctx, text: &str, uses: &[Use]) -> Result<Option<usize>, Fail> {
     let root = root(ctx, text).ok_or("refused")?;
     for (index, wanted) in uses.iter().enumerate() {
@@ -132,8 +132,8 @@ fn each_operand_is_what_its_name_means(rt: HostRuntime) -> Result<(), Fail> {
     Ok(())
 }
 
-/// A successor: its operation and its index, the block that it is, by the operation round it and its index there, and how many uses in
-/// blocks that has.
+/// A successor: its operation and its index, the block that it is, by the operation around it and its index there, and the number of its
+/// uses in blocks.
 type Branch = (Path, usize, Path, usize, usize);
 
 /// Texts, and successors in each.
@@ -143,7 +143,7 @@ const BRANCHES: &[(&str, &[Branch])] = &[
         "builtin.module @m { ^a(): test.br ^b ^b(): test.br ^a }",
         &[(&[(0, 0, 0)], 0, &[], 1, 1), (&[(0, 1, 0)], 0, &[], 0, 1)],
     ),
-    // one label in regions side by side and round them
+    // one label in regions side by side and around them
     (
         "builtin.module @m { ^a(): test.scope { ^a(): test.br ^a }; test.scope { ^b(): test.br ^a ^a(): test.br ^b }; test.br ^a }",
         &[
@@ -165,7 +165,7 @@ const BRANCHES: &[(&str, &[Branch])] = &[
     ),
 ];
 
-/// Whether a successor is as it is to be.
+/// Whether a successor is as expected.
 fn is_taken(ctx: &Ctx, root: Ptr<Operation>, wanted: &Branch) -> Result<bool, Fail> {
     let user = at(ctx, root, wanted.0)?;
     let found = successor(ctx, user, wanted.1)?;
@@ -176,7 +176,7 @@ fn is_taken(ctx: &Ctx, root: Ptr<Operation>, wanted: &Branch) -> Result<bool, Fa
     Ok(found == target && target.num_preds(ctx) == wanted.4)
 }
 
-/// The index of the first successor that is not as it is to be.
+/// The index of the first successor that is not as expected.
 fn differing_branch(ctx: &mut Ctx, text: &str, branches: &[Branch]) -> Result<Option<usize>, Fail> {
     let root = root(ctx, text).ok_or("refused")?;
     for (index, wanted) in branches.iter().enumerate() {
@@ -196,7 +196,7 @@ fn each_successor_is_what_its_label_means(rt: HostRuntime) -> Result<(), Fail> {
     Ok(())
 }
 
-/// Texts, and how many objects there are where each was read alone: operations, blocks and regions, and nothing that stood for a name.
+/// Texts, and the number of live objects after each was parsed alone: operations, blocks and regions, and no placeholder.
 const LIVE: &[(&str, u64)] = &[
     (
         "builtin.module @m { ^b(): test.use x; x = test.make: builtin.integer si64 }",
@@ -209,7 +209,7 @@ const LIVE: &[(&str, u64)] = &[
     ),
 ];
 
-/// How many objects there are behind a text.
+/// The number of live objects after a text was parsed.
 fn live(_: Global, ctx: &mut Ctx, text: &str) -> Result<u64, Fail> {
     root(ctx, text).ok_or("refused")?;
     Ok(ctx.num_live())

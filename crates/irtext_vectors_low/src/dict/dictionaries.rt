@@ -1,5 +1,5 @@
-//! A dictionary of up to twenty keys and given names: they are put in, replaced and taken out, and stand in the order in which
-//! they came.
+//! A dictionary of up to twenty keys and given names: they are inserted, replaced and removed, and are in the order in which
+//! they were inserted.
 use crate::dict::pairs::put;
 use irtext_base::base::{AttrObj, GIVEN_NAMES_KEY, Identifier};
 use irtext_dict::base::AttributeDict;
@@ -8,7 +8,7 @@ use irtext_vectors_answers::tables::differing;
 use std::alloc::Global;
 use std::test::Fail;
 
-/// What is done with keys of one letter: they take this attribute, or are taken out where there is none. No letters stand for the
+/// The edits, by keys of one letter: the key gets this attribute, or is removed if there is none. No letters denote the
 /// given names.
 const EDITS: &[(&str, &str)] = &[
     ("abcde", "x"),
@@ -28,7 +28,7 @@ const EDITS: &[(&str, &str)] = &[
     ("cpqrstab", ""),
 ];
 
-/// The entries behind each edit, with `!` for the given names, and then the attribute under `c`.
+/// The entries after each edit, with `!` for the given names, and then the attribute under `c`.
 const LISTED: &[&str] = &[
     "axbxcxdxex|x",
     "axbxcxdxex!|x",
@@ -47,7 +47,7 @@ const LISTED: &[&str] = &[
     "!|-",
 ];
 
-/// What stands under a key.
+/// The text of the attribute under a key.
 fn shown(attr: &AttrObj<()>) -> &str {
     match attr {
         AttrObj::Ident(name) => name.as_str(),
@@ -71,7 +71,7 @@ fn listed(alloc: Global, dictionary: &AttributeDict<()>) -> Result<String, Fail>
     Ok(format!(in alloc; "{text}|{found}")?)
 }
 
-/// The attribute that stands under a key: given names, or an identifier of this name.
+/// The attribute for a key: given names, or an identifier of this name.
 fn attr_for(alloc: Global, key: &str, name: &str) -> Result<AttrObj<()>, Fail> {
     if key == GIVEN_NAMES_KEY {
         return Ok(AttrObj::GivenNames(Vec::new(alloc)));
@@ -79,7 +79,7 @@ fn attr_for(alloc: Global, key: &str, name: &str) -> Result<AttrObj<()>, Fail> {
     Ok(AttrObj::Ident(named(alloc, name)?))
 }
 
-/// Puts an attribute under a key, or takes what is there out where it has no name.
+/// Inserts an attribute under a key, or removes the entry if there is no name.
 fn edit(
     alloc: Global,
     dictionary: &mut AttributeDict<()>,
@@ -97,7 +97,7 @@ fn edit(
     Ok(())
 }
 
-/// What is said behind an edit.
+/// The text after an edit.
 fn step(alloc: Global, dictionary: &mut AttributeDict<()>, number: usize) -> Result<String, Fail> {
     let Some((letters, name)) = EDITS.get(number) else {
         return Err(Fail::from("no edit"));
@@ -112,7 +112,7 @@ fn step(alloc: Global, dictionary: &mut AttributeDict<()>, number: usize) -> Res
     listed(alloc, dictionary)
 }
 
-/// The number of the first edit behind which something else stands.
+/// The number of the first edit with another text than expected.
 fn first_differing(alloc: Global) -> Result<Option<usize>, Fail> {
     let mut dictionary: AttributeDict<()> = AttributeDict::new(alloc);
     differing(alloc, LISTED, &mut dictionary, step)

@@ -5,7 +5,7 @@ use irtext_base::result::Result as Answer;
 use std::alloc::Global;
 use std::test::Fail;
 
-/// The texts of a dialect and of a name, and the id that they make, or why they make none.
+/// The texts of a dialect and of a name, and the id of these, or the error.
 const IDS: &[(&str, &str, &str)] = &[
     ("builtin", "module", "builtin.module"),
     ("1a", "b-", "Unexpected `1`, expected identifier"),
@@ -13,7 +13,7 @@ const IDS: &[(&str, &str, &str)] = &[
     ("a", "", "Unexpected end of input, expected identifier"),
 ];
 
-/// The id of two texts, or why they make none.
+/// The id of two texts, or the error.
 fn id(alloc: Global, dialect: &str, name: &str) -> Result<String, Fail> {
     let answer: Answer<OpId, ()> = OpId::try_new(alloc, dialect, name);
     value_or_cause(alloc, &answer)

@@ -1,4 +1,4 @@
-//! Identifiers, and a dictionary that takes them, one call of each kind.
+//! Identifiers, and a dictionary with them, one call of each kind.
 use irtext_base::base::{AttrObj, Identifier, Refusal};
 use irtext_base::result::Result as Answer;
 use irtext_dict::base::AttributeDict;
@@ -8,7 +8,7 @@ use std::alloc::Global;
 use std::fmt;
 use std::test::Fail;
 
-/// Texts, and the identifier that each is, or why it is none.
+/// Texts, and the identifier of each, or the error.
 const WORDS: &[(&str, &str)] = &[
     ("a_1", "a_1"),
     ("", "Unexpected end of input, expected identifier"),
@@ -16,7 +16,7 @@ const WORDS: &[(&str, &str)] = &[
     ("a-b", "Unexpected `-`, expected identifier"),
 ];
 
-/// What an answer says: its value, or the cause of the refusal.
+/// The text of a result: its value, or the cause of its error.
 pub fn value_or_cause<X: fmt::Display>(
     alloc: Global,
     answer: &Answer<X, ()>,
@@ -27,7 +27,7 @@ pub fn value_or_cause<X: fmt::Display>(
     }
 }
 
-/// The identifier of a text, or why it is none.
+/// The identifier of a text, or the error.
 fn word(alloc: Global, text: &str) -> Result<String, Fail> {
     let answer: Answer<Identifier, ()> = Identifier::try_new(alloc, text);
     value_or_cause(alloc, &answer)
@@ -49,12 +49,12 @@ fn identifiers_are_words(rt: HostRuntime) -> Result<(), Fail> {
     Ok(())
 }
 
-/// What is said of each step, one behind the other, with one dictionary.
+/// The text of each step, one after the other, with one dictionary.
 const STEPS: &[&str] = &[
     "reserved", "kept", "kept", "kept", "2", "y", "true", "true", "true", "1", "1",
 ];
 
-/// Puts an attribute into a dictionary.
+/// Inserts an attribute into a dictionary.
 pub fn put(dictionary: &mut AttributeDict<()>, key: Identifier, attr: AttrObj<()>) -> &'static str {
     match dictionary.insert(key, attr) {
         Ok(()) => "kept",
@@ -63,7 +63,7 @@ pub fn put(dictionary: &mut AttributeDict<()>, key: Identifier, attr: AttrObj<()
     }
 }
 
-/// Puts an identifier into a dictionary.
+/// Inserts an identifier into a dictionary.
 fn insert(
     alloc: Global,
     dictionary: &mut AttributeDict<()>,
@@ -76,7 +76,7 @@ fn insert(
     Ok(String::from_str(alloc, word)?)
 }
 
-/// Puts given names into a dictionary.
+/// Inserts given names into a dictionary.
 fn insert_given(alloc: Global, dictionary: &mut AttributeDict<()>) -> Result<String, Fail> {
     let key = named(alloc, "builtin_given_names")?;
     let word = put(dictionary, key, AttrObj::GivenNames(Vec::new(alloc)));
@@ -92,7 +92,7 @@ fn get(alloc: Global, dictionary: &AttributeDict<()>) -> Result<String, Fail> {
     }
 }
 
-/// Whether `k` stands at place 1.
+/// Whether `k` is at index 1.
 fn at_one(alloc: Global, dictionary: &AttributeDict<()>) -> Result<bool, Fail> {
     let key = named(alloc, "k")?;
     let there = dictionary.get_str("k").is_some();
@@ -105,19 +105,19 @@ fn two_pairs(dictionary: &AttributeDict<()>) -> bool {
     pairs.next().is_some() && pairs.next().is_some() && pairs.next().is_none()
 }
 
-/// Whether given names were there, which are taken out.
+/// Removes the given names, and returns whether there were any.
 fn remove(alloc: Global, dictionary: &mut AttributeDict<()>) -> Result<bool, Fail> {
     let given = named(alloc, "builtin_given_names")?;
     Ok(dictionary.remove(&given).is_some())
 }
 
-/// How many pairs there are behind the call for what a dictionary keeps.
+/// The number of pairs after the call of `keeps_keys`.
 fn kept(dictionary: &AttributeDict<()>) -> usize {
     dictionary.keeps_keys();
     dictionary.len()
 }
 
-/// What is said of a step.
+/// The text of a step.
 fn step(alloc: Global, dictionary: &mut AttributeDict<()>, number: usize) -> Result<String, Fail> {
     match number {
         0 => insert(alloc, dictionary, "builtin_given_names", "x"),
@@ -133,7 +133,7 @@ fn step(alloc: Global, dictionary: &mut AttributeDict<()>, number: usize) -> Res
     }
 }
 
-/// The number of the first step of which something else is said, with a dictionary of its own.
+/// The number of the first step with another text than expected, with a dictionary of its own.
 fn first_differing(alloc: Global) -> Result<Option<usize>, Fail> {
     let mut dictionary: AttributeDict<()> = AttributeDict::new(alloc);
     differing(alloc, STEPS, &mut dictionary, step)

@@ -8,7 +8,7 @@ use irtext_vectors_answers::answers::listed;
 use std::alloc::Global;
 use std::test::Fail;
 
-/// The readers of lists.
+/// The parsers of lists.
 #[derive(Clone, Copy)]
 enum Reader {
     Commas,
@@ -19,7 +19,7 @@ enum Reader {
     Lines,
 }
 
-/// Readers, texts, and what is said of the list that each begins with.
+/// Parsers, texts, and the result for the list that each text begins with.
 const LISTS: &[(Reader, &str, &str)] = &[
     (
         Reader::Commas,
@@ -61,7 +61,7 @@ const LISTS: &[(Reader, &str, &str)] = &[
     ),
 ];
 
-/// Two readers one behind the other on a text, and what is said of the two lists, one line each.
+/// Two parsers one after the other on a text, and the results for the two lists, one line each.
 const FOLLOWING: &[(Reader, Reader, &str, &str)] = &[
     (
         Reader::Commas,
@@ -77,7 +77,7 @@ const FOLLOWING: &[(Reader, Reader, &str, &str)] = &[
     ),
 ];
 
-/// What a reader of lists answers.
+/// The result of a parser of lists.
 fn items(stream: &mut TextStream, reader: Reader) -> ParseResult<Vec<i32>, ()> {
     match reader {
         Reader::Commas => list_parser(stream, ',', int_parse),
@@ -89,7 +89,7 @@ fn items(stream: &mut TextStream, reader: Reader) -> ParseResult<Vec<i32>, ()> {
     }
 }
 
-/// What is said of the list that is read.
+/// The text of the result of a list's parser.
 fn read(alloc: Global, stream: &mut TextStream, reader: Reader) -> Result<String, Fail> {
     let answer = items(stream, reader);
     let at = stream.locate(stream.position());
@@ -110,7 +110,7 @@ fn lists_of_a_text(rt: HostRuntime) -> Result<(), Fail> {
     Ok(())
 }
 
-/// What is said of two lists of a text, one line each.
+/// The texts of the results for two lists of a text, one line each.
 fn two(alloc: Global, first: Reader, second: Reader, text: &str) -> Result<String, Fail> {
     let mut stream = TextStream::new(alloc, text)?;
     let mut said = read(alloc, &mut stream, first)?;

@@ -1,4 +1,4 @@
-//! Numbers of every type, in decimal and hexadecimal digits and as their text, and truth values.
+//! Numbers of every type, in decimal and hexadecimal digits and as their text, and booleans.
 ghost use Rattle.std.specs.Prelude.{◌≤◌};
 
 use irtext_base::parsable::{CharStream, TextStream};
@@ -10,7 +10,7 @@ use std::alloc::Global;
 use std::fmt;
 use std::test::Fail;
 
-/// What is read: an integer of a type, one in hexadecimal digits, the text of a number, or a truth value.
+/// What is parsed: an integer of a type, one in hexadecimal digits, the text of a number, or a boolean.
 #[derive(Clone, Copy)]
 enum Kind {
     U8,
@@ -33,7 +33,7 @@ enum Kind {
     Truth,
 }
 
-/// What a text is read as, and what is said of it.
+/// What a text is parsed as, the text, and the result.
 const READ: &[(Kind, &str, &str)] = &[
     (Kind::I8, "-128", "-128"),
     (Kind::I8, "127", "127"),
@@ -186,7 +186,7 @@ const READ: &[(Kind, &str, &str)] = &[
     ),
 ];
 
-/// What is read behind so many characters: an integer of eight bits, and then a truth value.
+/// The results after so many characters were skipped: an integer of eight bits, and then a boolean.
 const BEHIND: &[(u8, &str, &str)] = &[
     (
         0,
@@ -219,12 +219,12 @@ fn text_of(alloc: Global, text: &str) -> Result<String, Fail> {
     said(alloc, text, number_as_string_parse::<TextStream, ()>)
 }
 
-/// A truth value.
+/// A boolean.
 fn truth(alloc: Global, text: &str) -> Result<String, Fail> {
     said(alloc, text, bool_parse::<TextStream, ()>)
 }
 
-/// What a text is read as.
+/// The result for a text that is parsed as this kind.
 fn read(alloc: Global, kind: Kind, text: &str) -> Result<String, Fail> {
     match kind {
         Kind::U8 => int::<u8>(alloc, text),
@@ -248,7 +248,7 @@ fn read(alloc: Global, kind: Kind, text: &str) -> Result<String, Fail> {
     }
 }
 
-/// An integer of eight bits, and then a truth value.
+/// An integer of eight bits, and then a boolean.
 fn two(alloc: Global, stream: &mut TextStream) -> Result<String, Fail> {
     let mut said = said_next(alloc, stream, int_parse::<TextStream, i8, ()>)?;
     said.push(' ')?;
@@ -257,7 +257,7 @@ fn two(alloc: Global, stream: &mut TextStream) -> Result<String, Fail> {
     Ok(said)
 }
 
-/// The same behind so many characters.
+/// The same after so many characters.
 fn behind(alloc: Global, skipped: u8, text: &str) -> Result<String, Fail> {
     let mut stream = TextStream::new(alloc, text)?;
     for _ in 0..skipped {
@@ -282,7 +282,7 @@ fn a_refused_number_leaves_the_stream_failed(rt: HostRuntime) -> Result<(), Fail
     Ok(())
 }
 
-/// Types, texts and their radices, and the number that each text is, or `-` where it is none.
+/// Types, texts and their radices, and the number of each text, or `-` if it is none.
 const RADICES: &[(Kind, &str, u32, &str)] = &[
     (Kind::U8, "ff", 16, "255"),
     (Kind::U16, "zz", 36, "1295"),
@@ -296,7 +296,7 @@ const RADICES: &[(Kind, &str, u32, &str)] = &[
     (Kind::Isize, "8", 8, "-"),
 ];
 
-/// The number that a text is in a radix, or `-` where it is none.
+/// The number of a text in a radix, or `-` if it is none.
 fn number<N: FromStrRadix + fmt::Display + Drop>(
     alloc: Global,
     text: &str,
@@ -311,7 +311,7 @@ fn number<N: FromStrRadix + fmt::Display + Drop>(
     }
 }
 
-/// The number of a type that a text is in a radix.
+/// The number of a text in a radix, for a type.
 fn in_radix(alloc: Global, kind: Kind, text: &str, radix: u32) -> Result<String, Fail> {
     if radix < 2 || radix > 36 {
         return Err(Fail::from("no radix"));

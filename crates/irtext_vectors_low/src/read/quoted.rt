@@ -1,11 +1,11 @@
-//! Quoted texts as they are read.
+//! Quoted texts and their parser.
 use irtext_base::parsable::TextStream;
 use irtext_read::irfmt::parsers::quoted_string_parse;
 use irtext_vectors_answers::answers::behind;
 use std::alloc::Global;
 use std::test::Fail;
 
-/// Texts, and what is said of the quoted text that each begins with.
+/// Texts, and the result for the quoted text that each begins with.
 const QUOTED: &[(&str, &str)] = &[
     ("\"\\u{41}b\"", "Ab|None"),
     ("\"a\\\"b\\\\c\\nd\\te\\u{7f}\"", "a\"b\\c\nd\te\u{7f}|None"),
@@ -44,7 +44,7 @@ const QUOTED: &[(&str, &str)] = &[
     ("\"\\'\" x", "'|Some(' ')"),
 ];
 
-/// What `quoted_string_parse` answers to a text: the characters, or the fault, and what stands behind.
+/// The result of `quoted_string_parse` for a text: the characters, or the fault, and the next character.
 fn read(alloc: Global, text: &str) -> Result<String, Fail> {
     let mut stream = TextStream::new(alloc, text)?;
     let answer = quoted_string_parse::<TextStream, ()>(&mut stream);

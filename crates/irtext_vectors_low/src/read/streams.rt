@@ -1,4 +1,4 @@
-//! The stream of a text, places, faults and tokens.
+//! The stream over a text, places, faults and tokens.
 use irtext_base::parsable::{
     CharStream, ParseFault, ParseResult, Place, SourcePosition, TextStream,
 };
@@ -15,7 +15,7 @@ use irtext_vectors_answers::tables::differing;
 use std::alloc::Global;
 use std::test::Fail;
 
-/// What is said of the words and fixed texts of ` \t_a1 builtin.module ->x`, one behind the other.
+/// The results for the words and fixed texts of ` \t_a1 builtin.module ->x`, one after the other.
 const WORDS: &[&str] = &[
     "_a1",
     "builtin.module",
@@ -25,7 +25,7 @@ const WORDS: &[&str] = &[
     "line: 1, column: 25: The stream has failed!",
 ];
 
-/// What is said of faults behind `a` in `ab`.
+/// The texts of faults after `a` in `ab`.
 const FAULTS: &[&str] = &[
     "line: 1, column: 2: Unexpected escaped character \\q",
     "line: 1, column: 2: Unexpected `b`, expected digit!",
@@ -33,7 +33,7 @@ const FAULTS: &[&str] = &[
     "line: 1, column: 1: Duplicate outline index: 3!",
 ];
 
-/// Texts, whether the stream had failed, whether white space and `->` are passed, where the stream then stands, and whether it
+/// Texts, whether the stream had failed, and then: whether white space and `->` are skipped, the position of the stream, and whether it
 /// has failed.
 const ACCEPTED: &[(&str, bool, &str)] = &[
     ("->x", false, "true line: 1, column: 3 false"),
@@ -51,7 +51,7 @@ const ACCEPTED: &[(&str, bool, &str)] = &[
     ("", false, "false line: 1, column: 1 false"),
 ];
 
-/// Texts, whether the stream had failed, and what is said of `->` with white space round it that must stand there.
+/// Texts, whether the stream had failed, and the result for an expected `->` with white space around it.
 const ARROWS: &[(&str, bool, &str)] = &[
     ("->x", false, "line: 1, column: 3"),
     ("\u{2028} ->\u{3000}\n x", false, "line: 2, column: 2"),
@@ -73,13 +73,13 @@ const ARROWS: &[(&str, bool, &str)] = &[
     ),
 ];
 
-/// Where a stream stands, what comes next, and whether it has failed.
+/// The position of a stream, the next character, and whether it has failed.
 fn stands(alloc: Global, stream: &TextStream) -> Result<String, Fail> {
     let at = stream.locate(stream.position());
     Ok(format!(in alloc; "{at} {:?} {}", stream.peek(), stream.has_failed())?)
 }
 
-/// How many characters of `é\nb` are taken, the last of them, and where the stream then stands.
+/// How many characters of `é\nb` are taken, the last of them, and the position of the stream then.
 const TAKEN: &[(usize, &str)] = &[
     (0, "None line: 1, column: 1 Some('é') false"),
     (1, "Some('é') line: 1, column: 2 Some('\\n') false"),
@@ -88,7 +88,7 @@ const TAKEN: &[(usize, &str)] = &[
     (4, "None line: 2, column: 2 None false"),
 ];
 
-/// The last of so many characters, and where the stream then stands.
+/// The last of so many characters, and the position of the stream after it.
 fn taken(alloc: Global, text: &str, number: usize) -> Result<String, Fail> {
     let mut stream = TextStream::new(alloc, text)?;
     let mut last = None;
@@ -99,7 +99,7 @@ fn taken(alloc: Global, text: &str, number: usize) -> Result<String, Fail> {
     Ok(format!(in alloc; "{last:?} {stands}")?)
 }
 
-/// The text since the beginning of `é\nb` behind two characters, and what comes next once the stream is back there.
+/// The text from the beginning of `é\nb` to the place after two characters, and the next character once the stream is reset to the start.
 fn given_back(alloc: Global) -> Result<String, Fail> {
     let mut stream = TextStream::new(alloc, "é\nb")?;
     let start = stream.position();
@@ -130,7 +130,7 @@ fn a_stream_counts_lines_and_characters(rt: HostRuntime) -> Result<(), Fail> {
     Ok(())
 }
 
-/// What is said of a fixed text.
+/// The result for a fixed text.
 fn fixed(alloc: Global, stream: &mut TextStream, text: &str) -> Result<String, Fail> {
     match text_parse::<TextStream, ()>(stream, text) {
         Ok(()) => Ok(String::from_str(alloc, "read")?),
@@ -138,19 +138,19 @@ fn fixed(alloc: Global, stream: &mut TextStream, text: &str) -> Result<String, F
     }
 }
 
-/// What is said of the identifier behind white space.
+/// The result for the identifier after white space.
 fn identifier(alloc: Global, stream: &mut TextStream) -> Result<String, Fail> {
     skip_white_space(stream);
     said_next(alloc, stream, identifier_parse::<TextStream, ()>)
 }
 
-/// What is said of the operation's id behind white space.
+/// The result for the operation's id after white space.
 fn id(alloc: Global, stream: &mut TextStream) -> Result<String, Fail> {
     skip_class(stream, Class::WhiteSpace);
     said_next(alloc, stream, id_parse::<TextStream, ()>)
 }
 
-/// What is said of the word or fixed text of a line.
+/// The result for the word or fixed text of a line.
 fn word(alloc: Global, stream: &mut TextStream, number: usize) -> Result<String, Fail> {
     match number {
         0 => identifier(alloc, stream),
@@ -165,7 +165,7 @@ fn word(alloc: Global, stream: &mut TextStream, number: usize) -> Result<String,
     }
 }
 
-/// The number of the first word or fixed text of which something else is said.
+/// The number of the first word or fixed text with another result than expected.
 fn words(alloc: Global, text: &str) -> Result<String, Fail> {
     let mut stream = TextStream::new(alloc, text)?;
     let number = differing(alloc, WORDS, &mut stream, word)?;
@@ -179,7 +179,7 @@ fn words_and_fixed_texts(rt: HostRuntime) -> Result<(), Fail> {
     Ok(())
 }
 
-/// The fault of a line, where the stream stands, or at its start.
+/// The fault of a line, at the position of the stream, or at its start.
 fn fault(number: usize, stream: &mut TextStream, start: Place) -> ParseFault<()> {
     match number {
         0 => pass(stream, Cause::BadEscape('q')),
@@ -192,7 +192,7 @@ fn fault(number: usize, stream: &mut TextStream, start: Place) -> ParseFault<()>
     }
 }
 
-/// What is said of the fault of a line, behind a character.
+/// The text of the fault of a line, after a character.
 fn refused(alloc: Global, text: &str, number: usize) -> Result<String, Fail> {
     let mut stream = TextStream::new(alloc, text)?;
     let start = stream.position();
@@ -201,7 +201,7 @@ fn refused(alloc: Global, text: &str, number: usize) -> Result<String, Fail> {
     told(alloc, &fault)
 }
 
-/// What begins in front of a character and behind it.
+/// What begins at the start of a text, and after its first character.
 fn classes(alloc: Global, text: &str) -> Result<String, Fail> {
     let mut stream = TextStream::new(alloc, text)?;
     let (next, class) = (next_is(&stream, 'a'), begins(&stream, Class::Beginning));
@@ -210,7 +210,7 @@ fn classes(alloc: Global, text: &str) -> Result<String, Fail> {
     Ok(format!(in alloc; "{next} {class} {behind} {space}")?)
 }
 
-/// A value as that of a reader.
+/// A value as the result of a parser.
 fn value(stream: &mut TextStream) -> ParseResult<u8, ()> {
     committed(stream, Ok(7))
 }
@@ -228,7 +228,7 @@ fn faults_are_committed_or_not(rt: HostRuntime) -> Result<(), Fail> {
     Ok(())
 }
 
-/// Whether two fixed texts are passed behind white space, and where the stream then stands.
+/// Whether two fixed texts are skipped after white space, and the position of the stream then.
 fn slices(alloc: Global, text: &str) -> Result<String, Fail> {
     let mut stream = TextStream::new(alloc, text)?;
     stream.skip(Class::WhiteSpace);
@@ -254,7 +254,7 @@ fn fail_if(stream: &mut TextStream, failed: bool) {
     }
 }
 
-/// Whether `->` is passed behind white space, where the stream then stands, and whether it has failed.
+/// Whether `->` is skipped after white space, the position of the stream then, and whether it has failed.
 fn accepted(alloc: Global, text: &str, failed: bool) -> Result<String, Fail> {
     let mut stream = TextStream::new(alloc, text)?;
     fail_if(&mut stream, failed);
@@ -263,7 +263,7 @@ fn accepted(alloc: Global, text: &str, failed: bool) -> Result<String, Fail> {
     Ok(format!(in alloc; "{accepted} {at} {}", stream.has_failed())?)
 }
 
-/// What is said of `->` with white space round it, or where the stream stands behind it.
+/// The error for an expected `->` with white space around it, or the position of the stream after it.
 fn arrow(alloc: Global, text: &str, failed: bool) -> Result<String, Fail> {
     let mut stream = TextStream::new(alloc, text)?;
     fail_if(&mut stream, failed);
@@ -284,7 +284,7 @@ fn a_fixed_text_behind_white_space(rt: HostRuntime) -> Result<(), Fail> {
     Ok(())
 }
 
-/// A line that begins behind the first line end.
+/// A line that begins after the first newline.
 fn long_line(alloc: Global) -> Result<String, Fail> {
     let mut text = String::from_str(alloc, "\n")?;
     for _ in 0..600 {

@@ -1,4 +1,4 @@
-//! Blocks of a context: how they are made, labelled and written.
+//! Blocks of a context: how they are made, labelled and changed.
 use crate::tests::locations::{at, make};
 use irtext_base::base::{AttrObj, GIVEN_NAMES_KEY, SYM_NAME_KEY};
 use irtext_base::location::Source;
@@ -36,7 +36,7 @@ fn begins_with_pointer(ctx: &Ctx, block: Ptr<BasicBlock>) -> bool {
     graph.contains_value(first) && *graph.type_of(first) == Some(DemoType::Pointer)
 }
 
-/// What is said of a block: its label, how many arguments and attributes it has, and whether its location is not known.
+/// The text of a block: its label, how many arguments and attributes it has, and whether its location is unknown.
 fn shown(alloc: Global, ctx: &Ctx, block: Ptr<BasicBlock>) -> Result<String, Fail> {
     if !ctx.contains_block(block) {
         return Err(Fail::from("no such block"));
@@ -51,7 +51,7 @@ fn shown(alloc: Global, ctx: &Ctx, block: Ptr<BasicBlock>) -> Result<String, Fai
     Ok(format!(in alloc; "{label} {arguments} {attributes} {unknown}")?)
 }
 
-/// What is written to a block.
+/// A change of a block.
 #[derive(Clone, Copy)]
 enum Step {
     Label,
@@ -61,14 +61,14 @@ enum Step {
     GivenNames,
 }
 
-/// Puts an identifier under a key of a block, and says whether that was allowed.
+/// Puts an identifier under a key of a block, and returns whether that was allowed.
 fn put(alloc: Global, ctx: &mut Ctx, block: Ptr<BasicBlock>, key: &str) -> Result<bool, Fail> {
     let key = named(alloc, key)?;
     let attr = AttrObj::Ident(named(alloc, "main")?);
     Ok(ctx.contains_block(block) && block.set_attribute(ctx, key, attr).is_ok())
 }
 
-/// Writes to a block, and says whether that was allowed.
+/// Changes a block, and returns whether that was allowed.
 fn write(alloc: Global, ctx: &mut Ctx, block: Ptr<BasicBlock>, step: Step) -> Result<bool, Fail> {
     let label = named(alloc, "entry")?;
     if !ctx.contains_block(block) {
@@ -84,7 +84,7 @@ fn write(alloc: Global, ctx: &mut Ctx, block: Ptr<BasicBlock>, step: Step) -> Re
     Ok(true)
 }
 
-/// What is written, one after the other, whether it is allowed, and what is said of the block then.
+/// Changes, one after the other, whether each is allowed, and the text of the block after it.
 const STEPS: &[(Step, bool, &str)] = &[
     (Step::Label, true, "entry 3 0 true"),
     (Step::Name, true, "entry 3 1 true"),
@@ -93,7 +93,7 @@ const STEPS: &[(Step, bool, &str)] = &[
     (Step::NoLabel, true, "- 3 1 false"),
 ];
 
-/// The first step behind which something else is said of a block that begins with three arguments.
+/// The first step with another result than expected, for a block that begins with three arguments.
 fn differing(alloc: Global, ctx: &mut Ctx) -> Result<Option<usize>, Fail> {
     let block = made(alloc, ctx, 3)?.ok().ok_or("refused")?;
     if !begins_with_pointer(ctx, block) || shown(alloc, ctx, block)?.as_str() != "- 3 0 true" {
@@ -116,7 +116,7 @@ fn blocks_are_labelled_and_written(rt: HostRuntime) -> Result<(), Fail> {
     Ok(())
 }
 
-/// What is said where one number is left for values: of a block of two arguments, how many objects stand then, and whether a block
+/// The result if one number is left for values: for a block of two arguments, the number of live objects then, and whether a block
 /// of one is made.
 fn filled(alloc: Global, ctx: &mut Ctx) -> Result<String, Fail> {
     let said = match made(alloc, ctx, 2)? {
@@ -137,7 +137,7 @@ fn arguments_end_at_the_greatest_number(rt: HostRuntime) -> Result<(), Fail> {
     Ok(())
 }
 
-/// Puts a block into a region, and says whether it could.
+/// Puts a block into a region, and returns whether it could.
 fn holds_block(
     ctx: &mut Ctx,
     region: Ptr<Region>,
@@ -153,7 +153,7 @@ fn holds_block(
     Ok(true)
 }
 
-/// Puts an operation into a block, and says whether it could.
+/// Puts an operation into a block, and returns whether it could.
 fn holds_operation(
     ctx: &mut Ctx,
     block: Ptr<BasicBlock>,
@@ -183,7 +183,7 @@ fn known(
     )
 }
 
-/// Whether locations are known in an operation with a block and an operation inside, and none once they are erased.
+/// Whether locations are known in an operation with a block and an operation in it, and none once they are erased.
 fn erased_inside(alloc: Global, ctx: &mut Ctx) -> Result<bool, Fail> {
     let (outer, inner) = (make(alloc, ctx)?, make(alloc, ctx)?);
     let block = made(alloc, ctx, 0)?.ok().ok_or("refused")?;

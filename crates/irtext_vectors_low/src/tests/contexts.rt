@@ -1,4 +1,4 @@
-//! The objects of a context: how they are made, kept and given back.
+//! The objects of a context: how they are made, kept and erased.
 ghost use Rattle.std.specs.Prelude.{◌≤◌, ℕ};
 ghost use Rattle.irtext_context.specs.Context.{KeepsOlder};
 
@@ -26,7 +26,7 @@ fn make(alloc: Global, ctx: &mut Ctx, id: OpId) -> Result<Ptr<Operation>, AllocE
     ctx.make_operation(id, AttributeDict::new(alloc), Location::Unknown)
 }
 
-/// What is said of a module without attributes: its id, its regions, and whether its location is not known.
+/// The text of a module without attributes: its id, its regions, and whether its location is unknown.
 fn shown(alloc: Global, ctx: &Ctx, op: Ptr<Operation>) -> Result<String, Fail> {
     if !ctx.contains_operation(op) || op.attributes(ctx).len() != 0 {
         return Err(Fail::from("no such operation"));
@@ -35,7 +35,7 @@ fn shown(alloc: Global, ctx: &Ctx, op: Ptr<Operation>) -> Result<String, Fail> {
     Ok(format!(in alloc; "{} {} {unknown}", op.get_opid(ctx), op.num_regions(ctx))?)
 }
 
-/// Makes an operation, counts the objects that stand, and gives it back.
+/// Makes an operation, counts the live objects, and rolls back.
 fn passes(alloc: Global, ctx: &mut Ctx, id: OpId) -> Result<(Ptr<Operation>, u64), Fail> {
     let made = ctx.made();
     let op = make(alloc, ctx, id)?;
@@ -44,7 +44,7 @@ fn passes(alloc: Global, ctx: &mut Ctx, id: OpId) -> Result<(Ptr<Operation>, u64
     Ok((op, live))
 }
 
-/// Makes a module with a region, and another behind a mark to which the context is then rolled back, and says what stands.
+/// Makes a module with a region, and another after a mark to which the context is then rolled back; returns what is live.
 fn rolled_back(alloc: Global, ctx: &mut Ctx) -> Result<String, Fail> {
     let first = make(alloc, ctx, module_id(alloc)?)?;
     if !ctx.contains_operation(first) {
@@ -73,7 +73,7 @@ fn objects_are_made_kept_and_given_back(rt: HostRuntime) -> Result<(), Fail> {
     Ok(())
 }
 
-/// Whether one operation is made, and then another, and how many stand.
+/// Whether one operation is made, and then another, and the number of live objects.
 fn filled(alloc: Global, ctx: &mut Ctx) -> Result<String, Fail> {
     let first = make(alloc, ctx, module_id(alloc)?).is_ok();
     let second = make(alloc, ctx, module_id(alloc)?).is_ok();

@@ -1,4 +1,4 @@
-//! The demo types and attributes, as they are read and printed.
+//! The demo types and attributes, as they are parsed and printed.
 use irtext_base::parsable::{ParseResult, TextStream};
 use irtext_base::text::IrText;
 use irtext_types::{DemoAttr, DemoType};
@@ -6,7 +6,7 @@ use irtext_vectors_common::answers::told;
 use std::alloc::Global;
 use std::test::Fail;
 
-/// Texts of types, and what is printed of what is read.
+/// Texts of types, and the printed text of the parsed type, or the fault.
 const TYPES: &[(&str, &str)] = &[
     ("builtin.integer si64", "builtin.integer si64"),
     ("builtin.integer\n\tui008", "builtin.integer ui8"),
@@ -35,7 +35,7 @@ const TYPES: &[(&str, &str)] = &[
     ("?", "line: 1, column: 1: Unexpected `?`, expected type"),
 ];
 
-/// Texts of attributes, and what is printed of what is read.
+/// Texts of attributes, and the printed text of the parsed attribute, or the fault.
 const ATTRIBUTES: &[(&str, &str)] = &[
     (
         "builtin.integer <-9223372036854775808: si64>",
@@ -79,14 +79,14 @@ const ATTRIBUTES: &[(&str, &str)] = &[
     ),
 ];
 
-/// The text that is printed of what is read, or the fault.
+/// The printed text of the value that is parsed, or the fault.
 fn again<X: IrText<DemoAttr>>(alloc: Global, text: &str) -> Result<String, Fail> {
     let mut stream = TextStream::new(alloc, text)?;
     let answer = X::read(&mut stream);
     written(alloc, &answer)
 }
 
-/// The text of what was read, or the fault.
+/// The text of a parsed value, or the fault.
 fn written<X: IrText<DemoAttr>>(
     alloc: Global,
     answer: &ParseResult<X, DemoAttr>,

@@ -1,4 +1,4 @@
-//! Attributes that are set on an operation, and refusals as errors.
+//! Attributes that are set on an operation, and `Refusal`s as errors.
 use irtext_base::base::{AttrObj, GIVEN_NAMES_KEY, Identifier, OpId, SYM_NAME_KEY};
 use irtext_base::location::Location;
 use irtext_base::result::{Error, Result as Answer};
@@ -10,7 +10,7 @@ use irtext_vectors_common::contexts::{Ctx, named, with_context};
 use std::alloc::{AllocError, Global};
 use std::test::Fail;
 
-/// What is said where an attribute is set under a key of an operation.
+/// The result of setting an attribute under a key of an operation.
 fn set(
     ctx: &mut Ctx,
     op: Ptr<Operation>,
@@ -26,7 +26,7 @@ fn set(
     }
 }
 
-/// This word for a call that succeeded, or the cause of its refusal.
+/// This word for a call that succeeded, or the cause of its error.
 fn cause_or(alloc: Global, answer: &Answer<(), DemoAttr>, word: &str) -> Result<String, Fail> {
     match answer {
         Ok(()) => Ok(String::from_str(alloc, word)?),
@@ -34,7 +34,7 @@ fn cause_or(alloc: Global, answer: &Answer<(), DemoAttr>, word: &str) -> Result<
     }
 }
 
-/// The keys that are set, one after the other, and what is said of each.
+/// The keys that are set, one after the other, and the result for each.
 const KEYS: &[(&str, &str)] = &[
     (SYM_NAME_KEY, "set"),
     (
@@ -44,7 +44,7 @@ const KEYS: &[(&str, &str)] = &[
     (SYM_NAME_KEY, "set"),
 ];
 
-/// Sets an identifier under a key of an operation, and says how that went.
+/// Sets an identifier under a key of an operation, and returns the text of the result.
 fn step(alloc: Global, ctx: &mut Ctx, op: Ptr<Operation>, key: &str) -> Result<String, Fail> {
     let key = named(alloc, key)?;
     let attr = AttrObj::Ident(named(alloc, "main")?);
@@ -52,7 +52,7 @@ fn step(alloc: Global, ctx: &mut Ctx, op: Ptr<Operation>, key: &str) -> Result<S
     cause_or(alloc, &answer, "set")
 }
 
-/// The first key of which something else is said, with an operation without attributes.
+/// The first key with another result than expected, with an operation without attributes.
 fn differing(alloc: Global, ctx: &mut Ctx) -> Result<Option<usize>, Fail> {
     let id = OpId {
         dialect: named(alloc, "builtin")?,
@@ -71,12 +71,12 @@ fn differing(alloc: Global, ctx: &mut Ctx) -> Result<Option<usize>, Fail> {
     Ok(None)
 }
 
-/// What an error says.
+/// The text of an error.
 fn text_of(alloc: Global, error: &Error<DemoAttr>) -> Result<String, Fail> {
     Ok(format!(in alloc; "{error}")?)
 }
 
-/// What the error of refused memory says.
+/// The text of the error for out of memory.
 fn no_memory(alloc: Global) -> Result<String, Fail> {
     let error: Error<DemoAttr> = Error::from(AllocError);
     text_of(alloc, &error)

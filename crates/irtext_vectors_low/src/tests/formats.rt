@@ -1,4 +1,4 @@
-//! Which formats are accepted, and by which condition the others are refused; and the operations of a dialect.
+//! Which formats are accepted, and by which condition the others are rejected; and the operations of a dialect.
 use irtext_base::base::{Identifier, OpId};
 use irtext_base::format::{Directive, FormatFault, OpFormat};
 use irtext_base::result::Result as Answer;
@@ -48,7 +48,7 @@ const REFUSED: &[(&str, FormatFault)] = &[
     ("R{", FormatFault::C8),
 ];
 
-/// The condition by which the format of these letters is refused.
+/// The condition by which the format of these letters is rejected.
 fn refused(alloc: Global, letters: &str) -> Result<Option<FormatFault>, Fail> {
     let format = format_of(alloc, letters)?;
     Ok(check_format(&format).err())
@@ -76,7 +76,7 @@ fn dialect_name(alloc: Global, text: &str) -> Result<DialectName, Fail> {
     Ok(DialectName::from(named(alloc, text)?))
 }
 
-/// Whether a name's copy and its identifier equal what it was made of.
+/// Whether a name's copy and its identifier equal the text that it was made from.
 fn comes_back(alloc: Global) -> Result<bool, Fail> {
     let name = dialect_name(alloc, "test")?;
     let copy: Answer<DialectName, DemoAttr> = name.try_clone();
@@ -85,7 +85,7 @@ fn comes_back(alloc: Global) -> Result<bool, Fail> {
     Ok(same && name.as_str() == "test" && Identifier::from(name) == word)
 }
 
-/// What an answer says: its value, or the cause of the refusal.
+/// The text of a result: its value, or the cause of its error.
 fn value_or_cause<X: fmt::Display>(
     alloc: Global,
     answer: &Answer<X, DemoAttr>,
@@ -96,13 +96,13 @@ fn value_or_cause<X: fmt::Display>(
     }
 }
 
-/// The name of a dialect as a text, or why a text is none.
+/// The name of a dialect as a text, or the error.
 fn told(alloc: Global, text: &str) -> Result<String, Fail> {
     let answer: Answer<DialectName, DemoAttr> = DialectName::try_new(alloc, text);
     value_or_cause(alloc, &answer)
 }
 
-/// Nothing for a call that succeeded, or what its error says.
+/// Nothing for a call that succeeded, or the text of its error.
 fn nothing_or_error(alloc: Global, answer: &Answer<(), DemoAttr>) -> Result<String, Fail> {
     match answer {
         Ok(()) => Ok(String::new(alloc)),
@@ -110,7 +110,7 @@ fn nothing_or_error(alloc: Global, answer: &Answer<(), DemoAttr>) -> Result<Stri
     }
 }
 
-/// What is said of registering an operation under the name `test.z`: an empty text, or why it is refused.
+/// The result of registering an operation under the name `test.z`: an empty text, or the error.
 fn registered(
     alloc: Global,
     dialect: &mut Dialect,
@@ -126,7 +126,7 @@ fn registered(
     nothing_or_error(alloc, &answer)
 }
 
-/// Formats that are registered one behind the other under one name, whether as isolated, and what is said of them.
+/// Formats that are registered one after the other under one name, whether as isolated, and the result for each.
 const REGISTERED: &[(&str, bool, &str)] = &[
     ("0", false, ""),
     ("", true, ""),
@@ -157,7 +157,7 @@ fn last_is_kept(alloc: Global) -> Result<bool, Fail> {
     keeps(alloc, &mut dialect)
 }
 
-/// Whether a format is the first operand alone.
+/// Whether a format is only the first operand.
 fn is_first_operand(format: &OpFormat) -> bool {
     match format {
         OpFormat::Custom(directives) => matches!(directives.as_slice(), [Directive::Operand(0)]),
@@ -165,7 +165,7 @@ fn is_first_operand(format: &OpFormat) -> bool {
     }
 }
 
-/// Whether `test.z` is isolated, and written as its first operand.
+/// Whether `test.z` is isolated, and has the format of its first operand.
 fn is_as_it_was(alloc: Global, dialect: &Dialect) -> Result<bool, Fail> {
     let id = OpId {
         dialect: named(alloc, "test")?,
@@ -177,7 +177,7 @@ fn is_as_it_was(alloc: Global, dialect: &Dialect) -> Result<bool, Fail> {
     })
 }
 
-/// What is said of registering `test.z` again, with a format that is refused: what was registered first has to stay.
+/// The result of registering `test.z` again, with a format that is rejected: the first registration has to stay.
 fn refused_behind(alloc: Global, dialect: &mut Dialect, letters: &str) -> Result<String, Fail> {
     if !registered(alloc, dialect, "0", true)?.as_str().is_empty() {
         return Err(Fail::from("not registered"));
@@ -195,7 +195,7 @@ fn refused_by_add_op(alloc: Global, letters: &str) -> Result<String, Fail> {
     refused_behind(alloc, &mut dialect, letters)
 }
 
-/// What has to be said of a format that fails this condition first.
+/// The expected text for a format that fails this condition first.
 fn refusal(alloc: Global, fault: FormatFault) -> Result<String, Fail> {
     Ok(format!(in alloc; "Compilation error: invalid argument.\n{fault}")?)
 }
@@ -211,7 +211,7 @@ fn a_refused_format_leaves_the_table_unchanged(rt: HostRuntime) -> Result<(), Fa
     Ok(())
 }
 
-/// What is said of registering `test.z` with another dialect.
+/// The result of registering `test.z` with another dialect.
 fn of_another(alloc: Global) -> Result<String, Fail> {
     let mut dialect = Dialect::new(alloc, dialect_name(alloc, "builtin")?);
     registered(alloc, &mut dialect, "", false)

@@ -1,4 +1,4 @@
-//! Attributes that a context lends for writing: what is put under a key is there, a reserved key is refused, and other objects stay.
+//! Attributes that are borrowed mutably from a context: an inserted key is there, a reserved one is rejected, other objects are unchanged.
 use crate::tests::locations::make;
 use irtext_base::base::{AttrObj, GIVEN_NAMES_KEY, SYM_NAME_KEY};
 use irtext_context::base::{BasicBlock, BlockAccess, NewBlock, Operation, OperationAccess, Ptr};
@@ -9,7 +9,7 @@ use irtext_vectors_common::contexts::{Ctx, named, with_context};
 use std::alloc::Global;
 use std::test::Fail;
 
-/// Puts an identifier under a key of a dictionary, and says whether that was allowed.
+/// Puts an identifier under a key of a dictionary, and returns whether that was allowed.
 fn put(alloc: Global, attributes: &mut AttributeDict<DemoAttr>, key: &str) -> Result<bool, Fail> {
     let key = named(alloc, key)?;
     let attr = AttrObj::Ident(named(alloc, "main")?);
@@ -21,7 +21,7 @@ fn is_named(attributes: &AttributeDict<DemoAttr>) -> bool {
     attributes.len() == 1 && matches!(attributes.get_str(SYM_NAME_KEY), Some(AttrObj::Ident(_)))
 }
 
-/// Puts an identifier under a key of an operation, and says whether that was allowed.
+/// Puts an identifier under a key of an operation, and returns whether that was allowed.
 fn put_there(alloc: Global, ctx: &mut Ctx, op: Ptr<Operation>, key: &str) -> Result<bool, Fail> {
     if !ctx.contains_operation(op) {
         return Err(Fail::from("no such operation"));
@@ -29,7 +29,7 @@ fn put_there(alloc: Global, ctx: &mut Ctx, op: Ptr<Operation>, key: &str) -> Res
     put(alloc, ctx.operation_attributes_mut(op), key)
 }
 
-/// Whether of two operations the first is named through its dictionary, and not under the key that is reserved.
+/// Whether of two operations the first is named through its dictionary, and the reserved key is rejected.
 fn names_one(alloc: Global, ctx: &mut Ctx) -> Result<bool, Fail> {
     let (op, other) = (make(alloc, ctx)?, make(alloc, ctx)?);
     let allowed = put_there(alloc, ctx, op, SYM_NAME_KEY)?;
@@ -55,7 +55,7 @@ fn make_block(ctx: &mut Ctx) -> Result<Ptr<BasicBlock>, Fail> {
     )
 }
 
-/// Puts an identifier under a key of a block, and says whether that was allowed.
+/// Puts an identifier under a key of a block, and returns whether that was allowed.
 fn put_into(alloc: Global, ctx: &mut Ctx, block: Ptr<BasicBlock>, key: &str) -> Result<bool, Fail> {
     if !ctx.contains_block(block) {
         return Err(Fail::from("no such block"));
@@ -63,7 +63,7 @@ fn put_into(alloc: Global, ctx: &mut Ctx, block: Ptr<BasicBlock>, key: &str) -> 
     put(alloc, ctx.block_attributes_mut(block), key)
 }
 
-/// Whether of two blocks the first is named through its dictionary, and not under the key that is reserved.
+/// Whether of two blocks the first is named through its dictionary, and the reserved key is rejected.
 fn names_one_block(alloc: Global, ctx: &mut Ctx) -> Result<bool, Fail> {
     let (block, other) = (make_block(ctx)?, make_block(ctx)?);
     let allowed = put_into(alloc, ctx, block, SYM_NAME_KEY)?;

@@ -7,7 +7,7 @@ use irtext_vectors_common::contexts::{Stream, in_context};
 use std::alloc::Global;
 use std::test::Fail;
 
-/// What is said of a list on a stream with its state.
+/// The result for a list on a stream with its state.
 fn read(alloc: Global, s: &mut Stream<'_>) -> Result<String, Fail> {
     let answer: ParseResult<Vec<i32>, DemoAttr> = list_parser(s, ',', int_parse);
     listed(alloc, &answer, s.locate(s.position()), s.peek())

@@ -42,7 +42,7 @@ fn fused(
     })
 }
 
-/// The hash that a new hasher has once a location of the context's paths is written to it.
+/// The hash of a new hasher after a location of the context's paths is hashed.
 fn hash_of(ctx: &Ctx, location: &Location<DemoAttr>) -> u64 {
     let mut state = DefaultHasher::new();
     if ctx.contains_paths(location) {
@@ -71,7 +71,7 @@ fn path_of(ctx: &Ctx, source: Source) -> &str {
     ""
 }
 
-/// Whether sources stand in the order of their first mention.
+/// Whether sources are in the order of their first mention.
 fn in_order(alloc: Global, b: Source) -> Result<bool, Fail> {
     let one = fused(alloc, at(b), at(b))?;
     let single = one.source() == Some(b);
@@ -96,7 +96,7 @@ fn attribute_copied(alloc: Global) -> Result<bool, Fail> {
     Ok(copy == attribute)
 }
 
-/// Whether the hash of a place is made of its path.
+/// Whether the hash of a place is computed from its path.
 fn hashed(ctx: &mut Ctx) -> Result<bool, Fail> {
     let place = at(file(ctx, "b")?);
     let mut wanted = DefaultHasher::new();
@@ -137,7 +137,7 @@ fn moved(from: &mut Ctx, to: &mut Ctx) -> Result<bool, Fail> {
     Ok(a == b && moved != b && same && place == Some(position))
 }
 
-/// Whether a location moves to another context with the same text, and keeps there only the path that is new.
+/// Whether a location moves to another context with the same text, and adds only the path that is new there.
 fn carried(alloc: Global, from: &mut Ctx, to: &mut Ctx) -> Result<bool, Fail> {
     let location = fused(alloc, at(file(from, "d")?), at(file(from, "a")?))?;
     if !from.contains_paths(&location) {
@@ -169,7 +169,7 @@ fn erased(alloc: Global, ctx: &mut Ctx) -> Result<bool, Fail> {
     Ok(ctx.contains_operation(op) && op.loc(ctx).is_unknown())
 }
 
-/// Whether what a line asks holds.
+/// Whether the condition of a line holds.
 fn holds(alloc: Global, ctx: &mut Ctx, other: &mut Ctx, number: usize) -> Result<bool, Fail> {
     match number {
         0 => once(alloc, ctx, other),

@@ -1,4 +1,4 @@
-//! Operations of a context that are made with results, operands, successors and regions, or refused.
+//! Operations of a context that are made with results, operands, successors and regions, or fail.
 use irtext_base::base::OpId;
 use irtext_base::result::Result as Answer;
 use irtext_context::base::{
@@ -21,7 +21,7 @@ fn byte() -> Option<DemoType> {
     Some(DemoType::Integer(IntegerType { kind, width }))
 }
 
-/// What is answered where an operation is made with two results, a pointer and a byte, with these operands and successors, and with
+/// The result of making an operation with two results, a pointer and a byte, with these operands and successors, and with
 /// two regions.
 fn answered(
     alloc: Global,
@@ -81,7 +81,7 @@ fn is_typed(ctx: &Ctx, op: Ptr<Operation>) -> bool {
         && *op.get_type(ctx, 1) == byte()
 }
 
-/// How many operands name a value, where it is there.
+/// The number of operands that are a value, if it is live.
 fn num_uses(ctx: &Ctx, value: Value) -> Option<usize> {
     if !ctx.graph().contains_value(value) {
         return None;
@@ -89,7 +89,7 @@ fn num_uses(ctx: &Ctx, value: Value) -> Option<usize> {
     Some(value.num_uses(ctx))
 }
 
-/// Whether a region that is added to an operation with two regions stands in it as the third.
+/// Whether a region that is added to an operation with two regions is its third.
 fn grows(ctx: &mut Ctx, op: Ptr<Operation>) -> Result<bool, AllocError> {
     if !ctx.contains_operation(op) || op.num_regions(ctx) != 2 {
         return Ok(false);
@@ -103,7 +103,7 @@ fn grows(ctx: &mut Ctx, op: Ptr<Operation>) -> Result<bool, AllocError> {
     )
 }
 
-/// Whether an operation that uses a result twice, an argument and a block is seen as it was made.
+/// Whether an operation that uses a result twice, an argument and a block has the parts that it was made with.
 fn linked(alloc: Global, ctx: &mut Ctx) -> Result<bool, Fail> {
     let first = made(alloc, ctx, &[], &[])?;
     let block = made_block(ctx)?;
@@ -124,7 +124,7 @@ fn operations_are_made_with_all_that_they_have(rt: HostRuntime) -> Result<(), Fa
     Ok(())
 }
 
-/// What is said of an answer.
+/// The text of a result.
 fn said(alloc: Global, answer: &Answer<Ptr<Operation>, DemoAttr>) -> Result<String, Fail> {
     match answer {
         Ok(_) => Ok(String::from_str(alloc, "made")?),
@@ -132,13 +132,13 @@ fn said(alloc: Global, answer: &Answer<Ptr<Operation>, DemoAttr>) -> Result<Stri
     }
 }
 
-/// Ids that are not registered with the demo dialects, and why an operation of each is refused.
+/// Ids that are not registered with the demo dialects, and the error for an operation of each.
 const UNREGISTERED: &[(&str, &str, &str)] = &[
     ("other", "module", "Unregistered dialect other"),
     ("builtin", "other", "Unregistered Op builtin.other"),
 ];
 
-/// The first id of which an operation that is to use a result is not refused so, or leaves a trace.
+/// The first id for which an operation that is to use a result has another error, or leaves a trace.
 fn differing(alloc: Global, ctx: &mut Ctx) -> Result<Option<usize>, Fail> {
     let used = Value::Result(made(alloc, ctx, &[], &[])?, 0);
     for number in 0..UNREGISTERED.len() {
@@ -160,7 +160,7 @@ fn what_is_not_registered_is_not_made(rt: HostRuntime) -> Result<(), Fail> {
     Ok(())
 }
 
-/// What is said of an operation that is to use a result of another, and whether all objects and uses are as before it then.
+/// The result for an operation that is to use a result of another, and whether all objects and uses are unchanged then.
 fn filled(alloc: Global, ctx: &mut Ctx) -> Result<String, Fail> {
     let used = Value::Result(made(alloc, ctx, &[], &[])?, 0);
     let block = made_block(ctx)?;

@@ -1,4 +1,4 @@
-//! Locations nested deeper than the stack is: looked through, compared, copied, carried into another context and released.
+//! Locations nested deeper than the stack allows: searched, compared, copied, moved into another context and released.
 use crate::tests::locations::{at, file};
 use irtext_base::location::{Location, Source};
 use irtext_types::DemoAttr;
@@ -7,15 +7,15 @@ use irtext_vectors_common::nesting::{NESTINGS, Nesting, inside, nested};
 use std::alloc::Global;
 use std::test::Fail;
 
-/// How many locations stand round the innermost one.
+/// The number of locations around the innermost one.
 const DEPTH: usize = 100_000;
 
-/// Whether the location inside stands last, so that calls which take no memory go along a loop.
+/// Whether the nested location is the last, so that calls without allocation follow it by a loop.
 fn stands_last(nesting: Nesting) -> bool {
     matches!(nesting, Nesting::Child | Nesting::Caller | Nesting::Last)
 }
 
-/// Whether so many locations stand round a place of the source.
+/// Whether so many locations are around a place of the source.
 fn is_nested(nesting: Nesting, location: &Location<DemoAttr>, source: Source) -> bool {
     let mut innermost = location;
     for _ in 0..DEPTH {
@@ -27,7 +27,7 @@ fn is_nested(nesting: Nesting, location: &Location<DemoAttr>, source: Source) ->
     *innermost == at(source)
 }
 
-/// Whether a location has the source of a text in memory alone.
+/// Whether a text in memory is the only source of a location.
 fn has_one_source(
     alloc: Global,
     nesting: Nesting,
@@ -69,7 +69,7 @@ pub fn copied(alloc: Global) -> Result<bool, Fail> {
     Ok(true)
 }
 
-/// Whether locations move to another context, however deep they nest where one stands last in another.
+/// Whether locations move to another context, at any depth if each is the last in the one around it.
 pub fn carried(alloc: Global, from: &mut Ctx, to: &mut Ctx) -> Result<bool, Fail> {
     for nesting in NESTINGS {
         if stands_last(*nesting) && !is_carried(alloc, *nesting, from, to)? {

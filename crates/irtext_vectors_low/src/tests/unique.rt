@@ -13,7 +13,7 @@ use irtext_vectors_common::contexts::{Ctx, named, with_context, with_counters};
 use std::alloc::Global;
 use std::test::Fail;
 
-/// The name of a value, or `-` where it is not there.
+/// The name of a value, or `-` if it is not live.
 fn value_name(alloc: Global, ctx: &Ctx, v: Value) -> Result<String, Fail> {
     if !ctx.graph().contains_value(v) {
         return Ok(String::from_str(alloc, "-")?);
@@ -21,7 +21,7 @@ fn value_name(alloc: Global, ctx: &Ctx, v: Value) -> Result<String, Fail> {
     Ok(v.unique_name(ctx)?)
 }
 
-/// The name of a block, or `-` where it is not there.
+/// The name of a block, or `-` if it is not live.
 fn block_name(alloc: Global, ctx: &Ctx, block: Ptr<BasicBlock>) -> Result<String, Fail> {
     if !ctx.contains_block(block) {
         return Ok(String::from_str(alloc, "-")?);
@@ -29,7 +29,7 @@ fn block_name(alloc: Global, ctx: &Ctx, block: Ptr<BasicBlock>) -> Result<String
     Ok(block.unique_name(ctx)?)
 }
 
-/// The names of values, each with a space behind it.
+/// The names of values, each with a space after it.
 fn value_names(alloc: Global, ctx: &Ctx, values: &[Value]) -> Result<String, Fail> {
     let mut names = String::new(alloc);
     for v in values {
@@ -40,7 +40,7 @@ fn value_names(alloc: Global, ctx: &Ctx, values: &[Value]) -> Result<String, Fai
     Ok(names)
 }
 
-/// A name, where there is a text.
+/// A name, if there is a text.
 fn name_of(alloc: Global, text: Option<&str>) -> Result<Option<Identifier>, Fail> {
     match text {
         Some(text) => Ok(Some(named(alloc, text)?)),
@@ -120,7 +120,7 @@ fn arguments_have_their_blocks_names(rt: HostRuntime) -> Result<(), Fail> {
     Ok(())
 }
 
-/// What a context holds of a module whose first result has the name `c0`.
+/// The data of a module whose first result has the name `c0`.
 fn named_data(alloc: Global, ctx: &mut Ctx) -> Result<Option<OperationData<DemoAttr>>, Fail> {
     let op = make(alloc, ctx)?;
     let key = named(alloc, GIVEN_NAMES_KEY)?;
@@ -167,14 +167,14 @@ fn results_have_their_operations_names(rt: HostRuntime) -> Result<(), Fail> {
     Ok(())
 }
 
-/// Takes a block out, where nothing uses it.
+/// Erases a block, if nothing uses it.
 fn erase(ctx: &mut Ctx, block: Ptr<BasicBlock>) {
     if ctx.contains_block(block) && block.can_erase(ctx) {
         block.erase(ctx);
     }
 }
 
-/// The names of two blocks, the second with a label, and of one that stands where the first stood.
+/// The names of two blocks, the second with a label, and of one that is at the place of the first.
 fn of_blocks(alloc: Global, ctx: &mut Ctx) -> Result<String, Fail> {
     let first = made(alloc, ctx, None, 1)?;
     let second = made(alloc, ctx, Some("entry"), 0)?;

@@ -1,4 +1,4 @@
-//! A plain model of a tracker: the scopes that are open as vectors of what they bind, which are searched.
+//! A plain model of a tracker: the open scopes as vectors of their bindings, which are searched.
 use crate::scopes::steps::Answer;
 use irtext_vectors_answers::calls::Call;
 use irtext_vectors_answers::mentioned::Mentioned;
@@ -32,7 +32,7 @@ impl Table {
         Ok(())
     }
 
-    /// Closes the innermost scope, and answers the first name in it that waits.
+    /// Closes the innermost scope, and returns the first name in it that waits.
     fn leave(&mut self) -> Option<usize> {
         let scope = self.scopes.pop()?;
         for bound in &scope {
@@ -52,7 +52,7 @@ impl Table {
         None
     }
 
-    /// Binds a name in the innermost scope, in the place of what it stood for there.
+    /// Binds a name in the innermost scope, in place of its earlier binding there.
     fn bind(&mut self, new: Bound) -> Result<(), AllocError> {
         let Some(scope) = self.scopes.last_mut() else {
             return Ok(());
@@ -130,14 +130,14 @@ impl Model {
         Ok(Answer::Done)
     }
 
-    /// Leaves a region, and answers the first name that it leaves without a definition: values come before labels.
+    /// Leaves a region, and returns the first name that is left without a definition: values come before labels.
     fn leave(&mut self, isolated: bool) -> Option<usize> {
         let value = if isolated { self.values.leave() } else { None };
         let label = self.labels.leave();
         value.or(label)
     }
 
-    /// The answer to a call, and the name that it is about: where a region is left, one that it lacks.
+    /// The result of a call, and its name: if a region is left, a name without a definition.
     pub(crate) fn answer(
         &mut self,
         call: Call,

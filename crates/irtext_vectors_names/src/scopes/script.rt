@@ -1,4 +1,4 @@
-//! A random script: a tracker and a plain model of it are asked the same.
+//! A random script: a tracker and a plain model of it get the same calls.
 use crate::scopes::model::Model;
 use crate::scopes::steps::{Tracker, step};
 use irtext_scopes::tracker::NameTracker;
@@ -7,10 +7,10 @@ use irtext_vectors_answers::random::Random;
 use std::alloc::AllocError;
 use std::test::Fail;
 
-// how many calls are made
+// the number of calls
 const CALLS: usize = 20000;
 
-/// Whether a tracker and its model answer the next call alike.
+/// Whether a tracker and its model give the same result for the next call.
 fn answer_alike(
     tracker: &mut Tracker,
     model: &mut Model,
@@ -29,7 +29,7 @@ fn answer_alike(
     Ok(asked < tracker.num_names() && step(tracker, call, asked, value)? == answer)
 }
 
-/// The number of the first call that the two answer differently. To look at the call, let the script end there.
+/// The number of the first call with different results. To look at the call, let the script end there.
 fn differing(
     tracker: &mut Tracker,
     model: &mut Model,

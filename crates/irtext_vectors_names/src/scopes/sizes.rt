@@ -9,7 +9,7 @@ use irtext_vectors_answers::calls::Call::{
 use std::alloc::{AllocError, Global};
 use std::test::Fail;
 
-/// Whether a call about a name is answered so.
+/// Whether a call on a name has this result.
 fn answers(
     tracker: &mut Tracker,
     call: Call,
@@ -21,7 +21,7 @@ fn answers(
     Ok(step(tracker, call, name, value)? == answer)
 }
 
-/// Makes a call about each of so many names, and says whether each is answered so: with its number, or that it is done.
+/// Makes a call on each of so many names, and returns whether each has the expected result: the name's number, or success.
 fn answers_each(
     alloc: Global,
     tracker: &mut Tracker,
@@ -52,7 +52,7 @@ fn holds_many(alloc: Global, tracker: &mut Tracker, count: u32) -> Result<bool, 
     Ok(entered && values && labels && left && tracker.num_names() == count as usize)
 }
 
-/// Uses a name so often before it is defined, and as often behind that.
+/// Uses a name so often before it is defined, and as often after that.
 fn uses_often(tracker: &mut Tracker, count: u32) -> Result<bool, AllocError> {
     let mut all = answers(tracker, EnterIsolated, "x", 0, Done)?;
     for _ in 0..count {

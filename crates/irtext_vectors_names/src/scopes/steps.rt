@@ -1,4 +1,4 @@
-//! One step on a tracker, and whether a table of steps is answered as it says.
+//! One step on a tracker, and whether a table of steps has the expected results.
 ghost use Rattle.std.specs.Prelude.{◌<◌, length};
 
 use irtext_scopes::tracker::NameTracker;
@@ -7,8 +7,8 @@ use std::alloc::{AllocError, Global};
 
 pub(crate) type Tracker = NameTracker<u32, u32>;
 
-/// What it answers: that it was done, that it was refused, what a name stands for or stood for, or that a
-/// region lacks this name.
+/// The result: success, an error, what a name refers to or referred to before, or that a
+/// region lacks a definition of this name.
 #[derive(Clone, Copy, PartialEq, Eq)]
 pub(crate) enum Answer {
     Done,
@@ -17,7 +17,7 @@ pub(crate) enum Answer {
     Lacks,
 }
 
-/// A call, the name that it is about, its placeholder or definition, and the answer.
+/// A call, its name, its placeholder or definition, and the result.
 pub(crate) type Row = (Call, &'static str, u32, Answer);
 
 fn entered(tracker: &mut Tracker, isolated: bool) -> Answer {
@@ -114,7 +114,7 @@ pub(crate) fn step(
     }
 }
 
-/// The number of the first row that a fresh tracker answers otherwise.
+/// The number of the first row with another result of a fresh tracker.
 pub(crate) fn differing(alloc: Global, rows: &[Row]) -> Result<Option<usize>, AllocError> {
     let mut tracker: Tracker = NameTracker::new(alloc);
     for (number, row) in rows.iter().enumerate() {

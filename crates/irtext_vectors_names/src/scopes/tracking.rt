@@ -1,4 +1,4 @@
-//! What names stand for in scopes that begin, hide one another and end.
+//! What names refer to in scopes that begin, hide one another and end.
 use crate::scopes::steps::Answer::{Done, Holds, Lacks, Refused};
 use crate::scopes::steps::{Row, Tracker, differing};
 use irtext_scopes::tracker::NameTracker;
@@ -21,7 +21,7 @@ const EARLY_USE: &[Row] = &[
     (ExitIsolated, "", 0, Done),
 ];
 
-// a region whose operation is isolated hides the names round it, and they are back when it is left
+// a region whose operation is isolated hides the names around it, and they are visible again when it is left
 const HIDDEN: &[Row] = &[
     (EnterIsolated, "", 0, Done),
     (Define, "x", 1, Done),
@@ -40,7 +40,7 @@ const HIDDEN: &[Row] = &[
     (Use, "x", 105, Refused),
 ];
 
-// a region whose operation is not isolated has the names of values round it, and labels of its own
+// a region whose operation is not isolated has the names of values around it, and labels of its own
 const SHARED: &[Row] = &[
     (Enter, "", 0, Refused),
     (EnterIsolated, "", 0, Done),
@@ -58,7 +58,7 @@ const SHARED: &[Row] = &[
     (ExitIsolated, "", 0, Done),
 ];
 
-// the first name that was mentioned is answered, values before labels, and the scopes are left all the same
+// the first name that was mentioned is returned, values before labels, and the scopes are left all the same
 const PENDING: &[Row] = &[
     (EnterIsolated, "", 0, Done),
     (EnterIsolated, "", 0, Done),

@@ -1,4 +1,4 @@
-//! What a context is built of: operations of the dialect `lab`, blocks, and what they are given.
+//! The parts of a context: operations of the dialect `lab`, blocks, and their attributes and locations.
 use irtext_base::base::{AttrObj, OpId};
 use irtext_base::format::OpFormat;
 use irtext_base::location::{Location, Source};
@@ -17,7 +17,7 @@ use irtext_vectors_common::formats::format_of;
 use std::alloc::Global;
 use std::test::Fail;
 
-/// The format of these letters: that of any operation for `-`, else one directive for each.
+/// The format of these letters: the canonical one for `-`, else one directive for each.
 fn format(alloc: Global, letters: &str) -> Result<OpFormat, Fail> {
     if letters == "-" {
         return Ok(OpFormat::Canonical);
@@ -51,7 +51,7 @@ pub(crate) fn register(
     Ok(answer.ok().ok_or("refused")?)
 }
 
-/// The type that a letter stands for: a pointer, or signed integers of eight bits.
+/// The type for a letter: a pointer, or signed integers of eight bits.
 fn demo_type(letter: char) -> Option<DemoType> {
     if letter == 'p' {
         return Some(DemoType::Pointer);
@@ -61,7 +61,7 @@ fn demo_type(letter: char) -> Option<DemoType> {
     Some(DemoType::Integer(IntegerType { kind, width }))
 }
 
-/// The types that letters stand for.
+/// The types for letters.
 fn types(alloc: Global, letters: &str) -> Result<Few<DemoType>, Fail> {
     let mut types = Vec::new(alloc);
     for letter in letters.chars() {
@@ -70,7 +70,7 @@ fn types(alloc: Global, letters: &str) -> Result<Few<DemoType>, Fail> {
     Ok(Few::from_vec(types))
 }
 
-/// Makes an operation, where what it uses is there.
+/// Makes an operation, if what it uses is live.
 pub(crate) fn new_operation(
     ctx: &mut Ctx,
     id: OpId,
@@ -100,7 +100,7 @@ pub(crate) fn operation(
     new_operation(ctx, id, types, operands, successors, regions)
 }
 
-/// Makes a block with this label, or none where it is empty, and arguments of these types.
+/// Makes a block with this label, or none if it is empty, and arguments of these types.
 pub(crate) fn block(
     alloc: Global,
     ctx: &mut Ctx,
@@ -158,7 +158,7 @@ pub(crate) fn placeholder(ctx: &mut Ctx, block: Ptr<BasicBlock>) -> Result<(), F
     into_block(ctx, op, block)
 }
 
-/// A text that is an attribute.
+/// A text as an attribute.
 fn characters(alloc: Global) -> Result<Characters, Fail> {
     Ok(Characters::new(String::from_str(alloc, "x")?))
 }
@@ -170,7 +170,7 @@ fn given(alloc: Global) -> Result<AttrObj<DemoAttr>, Fail> {
     Ok(AttrObj::GivenNames(names))
 }
 
-/// The attribute that a letter stands for: given names, one that is outlined, a text, or an identifier.
+/// The attribute for a letter: given names, one that is outlined, a text, or an identifier.
 fn attribute(alloc: Global, letter: char) -> Result<AttrObj<DemoAttr>, Fail> {
     match letter {
         'g' => given(alloc),
@@ -180,7 +180,7 @@ fn attribute(alloc: Global, letter: char) -> Result<AttrObj<DemoAttr>, Fail> {
     }
 }
 
-/// The key of the attribute that a letter stands for.
+/// The key of the attribute for a letter.
 fn key(letter: char) -> &'static str {
     match letter {
         'g' => "builtin_given_names",
@@ -190,7 +190,7 @@ fn key(letter: char) -> &'static str {
     }
 }
 
-/// Gives an operation the attribute that a letter stands for.
+/// Gives an operation the attribute for a letter.
 pub(crate) fn give_operation(
     alloc: Global,
     ctx: &mut Ctx,
@@ -205,7 +205,7 @@ pub(crate) fn give_operation(
     Ok(op.set_attribute(ctx, key, attr).ok().ok_or("refused")?)
 }
 
-/// Gives a block the attribute that a letter stands for.
+/// Gives a block the attribute for a letter.
 pub(crate) fn give_block(
     alloc: Global,
     ctx: &mut Ctx,

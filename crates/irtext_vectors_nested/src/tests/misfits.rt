@@ -9,11 +9,11 @@ use irtext_vectors_common::contexts::{Ctx, with_context};
 use std::alloc::Global;
 use std::test::Fail;
 
-/// How many operands, successors and regions.
+/// The number of operands, successors and regions.
 type Counts = (usize, usize, usize);
 
-/// The format of `lab.d` by its letters, the types of the results of such an operation, how many parts it has, the attributes that it is
-/// given, and what is said of it.
+/// The format of `lab.d` by its letters, the types of the results of such an operation, the numbers of its parts, its attributes,
+/// and the expected text.
 type Row = (
     &'static str,
     &'static str,
@@ -22,7 +22,7 @@ type Row = (
     &'static str,
 );
 
-/// Operations with their formats. Where several things don't fit, the first in the order of `FitFault` is said.
+/// Operations with their formats. If several things don't fit, the first in the order of `FitFault` is returned.
 const ROWS: &[Row] = &[
     ("?", "", (0, 0, 0), "", "not registered"),
     ("-", "pb", (2, 1, 2), "kng", "fits"),
@@ -45,7 +45,7 @@ const ROWS: &[Row] = &[
     ("d", "", (0, 0, 0), "kn", "fits"),
 ];
 
-/// What is said of an answer.
+/// The text of a result.
 fn told(alloc: Global, answer: Result<(), FitFault<'_>>) -> Result<String, Fail> {
     match answer {
         Ok(()) => Ok(String::from_str(alloc, "fits")?),
@@ -102,7 +102,7 @@ fn registered(alloc: Global, ctx: &mut Ctx, row: &Row) -> Result<Ptr<Operation>,
     Ok(op)
 }
 
-/// What is said of an operation.
+/// The text of the result for an operation.
 fn checked(alloc: Global, ctx: &Ctx, op: Ptr<Operation>) -> Result<String, Fail> {
     if !ctx.contains_operation(op) {
         return Err(Fail::from("no such operation"));
@@ -110,7 +110,7 @@ fn checked(alloc: Global, ctx: &Ctx, op: Ptr<Operation>) -> Result<String, Fail>
     told(alloc, check_fits(ctx, op))
 }
 
-/// What is said of the operation of a row.
+/// The text of the result for the operation of a row.
 fn said(alloc: Global, ctx: &mut Ctx, row: &Row) -> Result<String, Fail> {
     let op = if row.0 == "?" {
         unregistered(alloc, ctx)?

@@ -1,4 +1,4 @@
-//! Operations that are printed with all that nests in them, with the marked items; or why they are refused.
+//! Operations that are printed with everything nested in them, with the items (operations and blocks with a mark); or why they are not.
 use crate::tests::steps::{FUNCTION, Made, Shape, Step, Used, built, operation_of};
 use irtext_context::base::Item;
 use irtext_print::printable::{RegionPrintDepthLimit, State};
@@ -10,10 +10,10 @@ use irtext_vectors_common::contexts::{Ctx, with_context};
 use std::alloc::Global;
 use std::test::Fail;
 
-/// How it is printed: the width of an indentation, the indentation, how many levels of regions, and whether with its own mark.
+/// The layout: the width of an indentation, the indentation, the limit on levels of regions, and whether with its own mark.
 type Layout = (u16, u16, RegionPrintDepthLimit, bool);
 
-/// How the context is built, how its first operation is printed, and what is printed then.
+/// The steps that build the context, the layout in which its first operation is printed, and the expected text.
 type Row = (&'static [Step], Layout, &'static str);
 
 /// No limit.
@@ -25,7 +25,7 @@ const ONE: RegionPrintDepthLimit = RegionPrintDepthLimit::Max(1);
 /// No level.
 const NONE: RegionPrintDepthLimit = RegionPrintDepthLimit::Max(0);
 
-/// Operations that are written as any can be, with operands, results, a successor and a block.
+/// Operations in the canonical form, with operands, results, a successor and a block.
 const ANY: &[Step] = &[
     Step::Register("any", "-"),
     Step::Operation(Shape {
@@ -138,7 +138,7 @@ const BLOCKS: &[Step] = &[
     Step::IntoBlock(2, 1),
 ];
 
-/// What is printed: the text, and behind it the marked items.
+/// The printed text, and after it the items.
 const ROWS: &[Row] = &[
     (
         ANY,
@@ -181,7 +181,7 @@ const ROWS: &[Row] = &[
     ),
 ];
 
-/// Appends the letter and the number of a marked item.
+/// Appends the letter and the number of an item.
 fn fmt_item(made: &Made, item: Item, text: &mut String) -> Result<(), Fail> {
     let (letter, number) = match item {
         Item::Operation(op) => ('o', made.operations.iter().position(|p| *p == op)),
@@ -193,7 +193,7 @@ fn fmt_item(made: &Made, item: Item, text: &mut String) -> Result<(), Fail> {
     }
 }
 
-/// The text with the letters and numbers of the marked items behind it.
+/// The text with the letters and numbers of the items after it.
 fn with_items(made: &Made, items: &[Item], mut text: String) -> Result<String, Fail> {
     text.push_str("|")?;
     for item in items {
@@ -202,7 +202,7 @@ fn with_items(made: &Made, items: &[Item], mut text: String) -> Result<String, F
     Ok(text)
 }
 
-/// What is printed of the first operation.
+/// The printed text of the first operation.
 fn printed(alloc: Global, ctx: &Ctx, made: &Made, layout: Layout) -> Result<String, Fail> {
     let op = operation_of(made, 0)?;
     if !ctx.contains_operation(op) {
@@ -217,7 +217,7 @@ fn printed(alloc: Global, ctx: &Ctx, made: &Made, layout: Layout) -> Result<Stri
     }
 }
 
-/// What is printed for a row.
+/// The printed text for a row.
 fn said(alloc: Global, ctx: &mut Ctx, row: &Row) -> Result<String, Fail> {
     let made = built(alloc, ctx, row.0)?;
     printed(alloc, ctx, &made, row.1)
@@ -236,7 +236,7 @@ fn operations_are_printed_with_all_that_nests_in_them(rt: HostRuntime) -> Result
     Ok(())
 }
 
-/// What the walk prints of the first operation with the heads of all operations, without its items.
+/// The text that the walk prints of the first operation with the heads of all operations, without its items.
 fn walked(alloc: Global, ctx: &Ctx, made: &Made, layout: Layout) -> Result<String, Fail> {
     let op = operation_of(made, 0)?;
     if !ctx.contains_operation(op) {
@@ -253,7 +253,7 @@ fn walked(alloc: Global, ctx: &Ctx, made: &Made, layout: Layout) -> Result<Strin
     }
 }
 
-/// How the walk is tested: the layouts, and what it prints of three regions, the second with three more.
+/// The tests of the walk: the layouts, and the printed text of three regions, the second with three more.
 const WALKS: &[(Layout, &str)] = &[
     (
         (2, 0, ONE, false),
@@ -263,7 +263,7 @@ const WALKS: &[(Layout, &str)] = &[
     ((2, 65534, ALL, true), "Depth"),
 ];
 
-/// The number of the first layout at which the walk prints something else.
+/// The number of the first layout with another text.
 fn differing_walk(alloc: Global, ctx: &mut Ctx) -> Result<Option<usize>, Fail> {
     let made = built(alloc, ctx, PAIRS)?;
     for (number, row) in WALKS.iter().enumerate() {

@@ -1,4 +1,4 @@
-//! The pieces that operations and blocks are written by, each by its own call.
+//! The pieces of the texts of operations and blocks, each by its own call.
 use crate::tests::steps::{FUNCTION, Made, block_of, built, operation_of};
 use irtext_base::format::Directive;
 use irtext_context::base::{BasicBlock, Operation, OperationAccess, Ptr, Value};
@@ -16,7 +16,7 @@ use irtext_vectors_common::contexts::{Ctx, with_context};
 use std::alloc::Global;
 use std::test::Fail;
 
-/// A call that writes something of an operation or a block, by its number.
+/// A call that prints a piece of an operation or a block, given by its number.
 #[derive(Clone, Copy)]
 enum Call {
     /// The name of a result.
@@ -25,19 +25,19 @@ enum Call {
     Argument(usize),
     /// The label of a block.
     Label(usize),
-    /// What stands in front of a block's operations.
+    /// The text before a block's operations.
     Head(usize),
     /// The names of an operation's results.
     Results(usize),
     /// Results and id.
     Front(usize),
-    /// The form that any operation has.
+    /// The canonical form.
     Canonical(usize),
-    /// What the directive of an index writes.
+    /// The text of the directive of an index.
     Piece(usize, usize),
 }
 
-/// What the calls write in the function, one after the other.
+/// The texts that the calls print in the function, one after the other.
 const CALLS: &[(Call, &str)] = &[
     (Call::Result(1), "x_v1"),
     (Call::Result(2), "v2"),
@@ -72,7 +72,7 @@ fn value_name(ctx: &Ctx, value: Value, text: &mut String) -> Result<(), Fail> {
     Ok(fmt_value_name(ctx, value, text).ok().ok_or("refused")?)
 }
 
-/// Appends the label of a block, or all that stands in front of its operations.
+/// Appends the label of a block, or everything before its operations.
 fn of_block(ctx: &Ctx, block: Ptr<BasicBlock>, whole: bool, text: &mut String) -> Result<(), Fail> {
     if !ctx.contains_block(block) {
         return Err(Fail::from("no such block"));
@@ -83,7 +83,7 @@ fn of_block(ctx: &Ctx, block: Ptr<BasicBlock>, whole: bool, text: &mut String) -
     Ok(fmt_block_label(ctx, block, text).ok().ok_or("refused")?)
 }
 
-/// Appends what a directive of an operation's format writes.
+/// Appends the text of a directive of an operation's format.
 fn of_directive(
     ctx: &Ctx,
     op: Ptr<Operation>,
@@ -101,7 +101,7 @@ fn of_directive(
     )
 }
 
-/// Appends what the directive of an index writes.
+/// Appends the text of the directive of an index.
 fn piece(ctx: &Ctx, op: Ptr<Operation>, index: usize, text: &mut String) -> Result<(), Fail> {
     if !ctx.contains_operation(op) {
         return Err(Fail::from("no such operation"));
@@ -111,7 +111,7 @@ fn piece(ctx: &Ctx, op: Ptr<Operation>, index: usize, text: &mut String) -> Resu
     of_directive(ctx, op, directives, directive, text)
 }
 
-/// Appends what a call writes of an operation.
+/// Appends the text of a call on an operation.
 fn of_operation(ctx: &Ctx, op: Ptr<Operation>, call: Call, text: &mut String) -> Result<(), Fail> {
     if !ctx.contains_operation(op) {
         return Err(Fail::from("no such operation"));
@@ -124,7 +124,7 @@ fn of_operation(ctx: &Ctx, op: Ptr<Operation>, call: Call, text: &mut String) ->
     Ok(answer.ok().ok_or("refused")?)
 }
 
-/// Appends what a call writes.
+/// Appends the text of a call.
 fn write(ctx: &Ctx, made: &Made, call: Call, text: &mut String) -> Result<(), Fail> {
     match call {
         Call::Result(op) => value_name(ctx, Value::Result(operation_of(made, op)?, 0), text),
@@ -140,7 +140,7 @@ fn write(ctx: &Ctx, made: &Made, call: Call, text: &mut String) -> Result<(), Fa
     }
 }
 
-/// The number of the first call that writes something else.
+/// The number of the first call that prints another text.
 fn differing(alloc: Global, ctx: &mut Ctx) -> Result<Option<usize>, Fail> {
     let made = built(alloc, ctx, FUNCTION)?;
     for (number, row) in CALLS.iter().enumerate() {
@@ -159,12 +159,12 @@ fn pieces_are_written_by_their_calls(rt: HostRuntime) -> Result<(), Fail> {
     Ok(())
 }
 
-/// What is said of operations and blocks of the function, in their order: whether each operation is marked, fits its format, and is written
-/// as any can be; and whether each block is marked.
+/// The expected text for operations and blocks of the function, in their order: whether each operation is marked, fits its format, and has
+/// the canonical form; and whether each block is marked.
 const SAID: &str =
     "o true true false o true true false o false true false o true true false b false b true ";
 
-/// Appends what is said of an operation.
+/// Appends the text for an operation.
 fn tell_operation(ctx: &Ctx, op: Ptr<Operation>, text: &mut String) -> Result<(), Fail> {
     if !ctx.contains_operation(op) {
         return Err(Fail::from("no such operation"));
@@ -175,7 +175,7 @@ fn tell_operation(ctx: &Ctx, op: Ptr<Operation>, text: &mut String) -> Result<()
     Ok(write!(text, "o {marked} {fits} {canonical} ")?)
 }
 
-/// Appends what is said of a block.
+/// Appends the text for a block.
 fn tell_block(ctx: &Ctx, block: Ptr<BasicBlock>, text: &mut String) -> Result<(), Fail> {
     if !ctx.contains_block(block) {
         return Err(Fail::from("no such block"));
@@ -184,7 +184,7 @@ fn tell_block(ctx: &Ctx, block: Ptr<BasicBlock>, text: &mut String) -> Result<()
     Ok(write!(text, "b {marked} ")?)
 }
 
-/// What is said of the function.
+/// The text for the function.
 fn said(alloc: Global, ctx: &mut Ctx) -> Result<String, Fail> {
     let made = built(alloc, ctx, FUNCTION)?;
     let mut text = String::new(alloc);

@@ -1,4 +1,4 @@
-//! The text of demo operations with all that nests in them, as users print it: roots, concrete texts, blocks, regions, and with regions
+//! The text of demo operations with everything nested in them, as users print it: roots, concrete texts, blocks, regions, and with regions
 //! elided.
 use crate::tests::building::{into_block, into_region, new_operation};
 use irtext_base::base::{AttrObj, OpId};
@@ -31,7 +31,7 @@ fn id(alloc: Global, dialect: &str, name: &str) -> Result<OpId, Fail> {
     })
 }
 
-/// The attribute that a text is.
+/// The attribute with this text.
 fn attribute(alloc: Global, text: &str) -> Result<AttrObj<DemoAttr>, Fail> {
     let mut stream = TextStream::new(alloc, text)?;
     let answer: Result<DemoAttr, ParseFault<DemoAttr>> = <DemoAttr as IrText<DemoAttr>>::read(
@@ -40,7 +40,7 @@ fn attribute(alloc: Global, text: &str) -> Result<AttrObj<DemoAttr>, Fail> {
     Ok(AttrObj::Own(answer.ok().ok_or("no attribute")?))
 }
 
-/// The type that a text is.
+/// The type with this text.
 fn demo_type(alloc: Global, text: &str) -> Result<DemoType, Fail> {
     let mut stream = TextStream::new(alloc, text)?;
     let answer: Result<DemoType, ParseFault<DemoAttr>> = <DemoType as IrText<DemoAttr>>::read(
@@ -142,7 +142,7 @@ fn name(alloc: Global, ctx: &mut Ctx, op: Ptr<Operation>, symbol: &str) -> Resul
     give(alloc, ctx, op, "builtin_sym_name", AttrObj::Ident(symbol))
 }
 
-/// Makes a block in the region of an operation, with a label where that is not empty.
+/// Makes a block in the region of an operation, with a label if that is not empty.
 fn block(
     alloc: Global,
     ctx: &mut Ctx,
@@ -167,7 +167,7 @@ fn module(alloc: Global, ctx: &mut Ctx, symbol: &str) -> Result<Ptr<Operation>, 
     Ok(op)
 }
 
-/// The text of what is printable, with a new state.
+/// The text of a value that is `Printable`, with a new state.
 fn shown<X: Printable<(), DemoType, DemoAttr>>(
     alloc: Global,
     ctx: &Ctx,
@@ -194,8 +194,8 @@ fn concrete(alloc: Global, ctx: &Ctx, op: Ptr<Operation>) -> Result<String, Fail
     shown(alloc, ctx, &OpObj { op })
 }
 
-/// What is printed of a module with one empty block, in this order: its concrete text, itself, its region by a pointer and by the
-/// printer of an operation's one region, its block, its header, its header with a type, and what those see who debug.
+/// The printed texts of a module with one empty block, in this order: its concrete text, the module, its region by a pointer and by the
+/// printer of an operation's one region, its block, its header, its header with a type, and its debug text.
 const MODULE: &[&str] = &[
     "builtin.module @bar \n{\n  ^block1v1():\n    \n}",
     "builtin.module @bar \n{\n  ^block1v1():\n    \n}",
@@ -236,7 +236,7 @@ fn typed_header(alloc: Global, ctx: &Ctx, op: Ptr<Operation>) -> Result<String, 
     shown(alloc, ctx, &typed_symb_op_header(op, &ty))
 }
 
-/// What is printed of a part of the module, by its number.
+/// The printed text of a part of the module, by its number.
 fn module_text(
     alloc: Global,
     ctx: &Ctx,
@@ -259,7 +259,7 @@ fn module_text(
     }
 }
 
-/// The number of the first part of a module of which something else is printed.
+/// The number of the first part of a module with another text.
 fn modules(alloc: Global, ctx: &mut Ctx) -> Result<Option<usize>, Fail> {
     let op = module(alloc, ctx, "bar")?;
     let entry = block(alloc, ctx, op, "")?;
@@ -314,7 +314,7 @@ fn function(alloc: Global, ctx: &mut Ctx, outer: Ptr<BasicBlock>) -> Result<(), 
     into_block(ctx, last, entry)
 }
 
-/// What is printed of a module with a function: its concrete text, and itself with its section.
+/// Whether a module with a function is printed as its concrete text, and with its section.
 fn functions(alloc: Global, ctx: &mut Ctx) -> Result<bool, Fail> {
     register_all(alloc, ctx)?;
     let op = module(alloc, ctx, "bar")?;
@@ -332,11 +332,11 @@ fn a_module_with_a_function_is_printed(rt: HostRuntime) -> Result<(), Fail> {
     Ok(())
 }
 
-/// An operation that is written as any can be, whose result is the second value.
+/// An operation in the canonical form, whose result is the second value.
 const GLOBAL: &str =
     "v1 = test.global () [] [builtin_sym_name: builtin.identifier global_0, test_global_op_const_val: builtin.integer <0: si64>]: <() -> (test.ptr )>";
 
-/// What is printed of it.
+/// The printed text of this operation.
 fn globals(alloc: Global, ctx: &mut Ctx) -> Result<String, Fail> {
     register_all(alloc, ctx)?;
     with_result(alloc, ctx, ("test", "constant"), "builtin.integer si64")?;
@@ -407,8 +407,8 @@ fn branches(alloc: Global, ctx: &mut Ctx) -> Result<(Ptr<Operation>, Ptr<Operati
     Ok((root, first))
 }
 
-/// What is printed of the module, in this order: itself, with its region elided, its first branch, and itself once that branch, which was
-/// printed with the same state, is erased.
+/// The printed texts of the module, in this order: the module, with its region elided, its first branch, and the module after that branch,
+/// which was printed with the same state, is erased.
 const BRANCHES: &[&str] = &[
     "builtin.module @m \n{\n  ^a_block1v1() !0:\n    test.br ^b_block2v1 !1\n\n  ^b_block2v1() !2:\n    test.br ^a_block1v1 !3\n} !4\n\noutlined_attributes:\n!0 = @[<in-memory>: line: 1, column: 21], [builtin_block_label = builtin.identifier a]\n!1 = @[<in-memory>: line: 1, column: 27], []\n!2 = @[<in-memory>: line: 1, column: 38], [builtin_block_label = builtin.identifier b]\n!3 = @[<in-memory>: line: 1, column: 44], []\n!4 = @[<in-memory>: line: 1, column: 1], []\n",
     "builtin.module @m {..} !0\n\noutlined_attributes:\n!0 = @[<in-memory>: line: 1, column: 1], []\n",
@@ -426,7 +426,7 @@ fn elided(alloc: Global, ctx: &Ctx, op: Ptr<Operation>) -> Result<String, Fail> 
     Ok(format!(in alloc; "{}", op.print(ctx, &none))?)
 }
 
-/// What an operation's printing appends with this state.
+/// The text that printing an operation appends with this state.
 fn appended(
     alloc: Global,
     ctx: &Ctx,
@@ -453,7 +453,7 @@ fn erase(ctx: &mut Ctx, op: Ptr<Operation>) -> Result<(), Fail> {
     Ok(())
 }
 
-/// What is printed of the module, by its number.
+/// The printed text of the module, by its number.
 fn branches_text(
     alloc: Global,
     ctx: &mut Ctx,

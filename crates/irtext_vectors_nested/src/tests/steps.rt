@@ -1,4 +1,4 @@
-//! What is done to an empty context, one step after the other: operations and blocks are named by their number, in the order in which they
+//! The steps on an empty context, one after the other: operations and blocks are given by their number, in the order in which they
 //! were made.
 use crate::tests::building::{
     block, give_block, give_operation, into_block, into_region, operation, place_block,
@@ -121,7 +121,7 @@ fn make_block(
     Ok(made.blocks.push(block)?)
 }
 
-/// Does what makes objects.
+/// Makes the step if it makes an object.
 fn make(alloc: Global, ctx: &mut Ctx, made: &mut Made, step: Step) -> Result<(), Fail> {
     match step {
         Step::Register(name, letters) => register(alloc, ctx, name, letters),
@@ -131,7 +131,7 @@ fn make(alloc: Global, ctx: &mut Ctx, made: &mut Made, step: Step) -> Result<(),
     }
 }
 
-/// Does what changes objects.
+/// Makes the step if it changes an object.
 fn change(alloc: Global, ctx: &mut Ctx, made: &Made, step: Step) -> Result<(), Fail> {
     match step {
         Step::IntoRegion(block, op, index) => {
@@ -151,7 +151,7 @@ fn change(alloc: Global, ctx: &mut Ctx, made: &Made, step: Step) -> Result<(), F
     }
 }
 
-/// Does steps, one after the other, and answers what was made.
+/// Makes steps, one after the other, and returns what was made.
 pub(crate) fn built(alloc: Global, ctx: &mut Ctx, steps: &[Step]) -> Result<Made, Fail> {
     let mut made = Made {
         operations: Vec::new(alloc),
@@ -163,7 +163,7 @@ pub(crate) fn built(alloc: Global, ctx: &mut Ctx, steps: &[Step]) -> Result<Made
     Ok(made)
 }
 
-/// A function of two blocks, the first with a constant that has a given name, a sum, and a branch that is placed.
+/// A function of two blocks, the first with a constant that has a given name, a sum, and a branch that has a location.
 pub(crate) const FUNCTION: &[Step] = &[
     Step::Register("fn", "hda"),
     Step::Register("const", "k:v"),

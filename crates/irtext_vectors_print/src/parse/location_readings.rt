@@ -1,4 +1,4 @@
-//! Locations of each kind as they are read, and why others are refused.
+//! Locations of each kind and their parser, and the errors of other texts.
 use irtext_base::location::{Location, Source};
 use irtext_base::result::{Error, Result as Answer};
 use irtext_parse_root::parsable::{Parsable, SourcePosition, parse_from_str};
@@ -8,7 +8,7 @@ use irtext_vectors_common::contexts::{Ctx, with_context};
 use std::alloc::Global;
 use std::test::Fail;
 
-/// Texts of locations, which are printed as they are given.
+/// Texts of locations, which are printed unchanged.
 const SAME: &[&str] = &[
     "?",
     "<in-memory>: line: 1, column: 2",
@@ -23,7 +23,7 @@ const SAME: &[&str] = &[
     "callsite(\"b\": line: -1, column: 2 at fused[name: \"n\", loc: (\"c\": line: 1, column: 2), ?])",
 ];
 
-/// Texts, and what is printed of the location that each begins with, or why it is refused.
+/// Texts, and the printed text of the location that each begins with, or the error.
 const OTHERS: &[(&str, &str)] = &[
     (
         "fused < builtin.string \"s\" >[ ? , ? ]",
@@ -52,31 +52,31 @@ const OTHERS: &[(&str, &str)] = &[
     ),
 ];
 
-/// How many times what stands on both sides of a location is repeated in a text: four times as many locations nest.
+/// How many times the text before and after a location is repeated in a text: four times as many locations nest.
 const DEPTH: usize = 25_000;
 
-/// What stands in front of a location in four others, one of each kind.
+/// The text before a location in four others, one of each kind.
 const FRONT: &str = "name: \"a\", loc: (callsite(callsite(? at fused[?, ";
 
-/// What stands behind it.
+/// The text after it.
 const BACK: &str = ", <in-memory>: line: 1, column: 1]) at ?))";
 
-/// The text that is printed of a location.
+/// The printed text of a location.
 fn printed(alloc: Global, ctx: &Ctx, location: &Location<DemoAttr>) -> Result<String, Fail> {
     Ok(format!(in alloc; "{}", location.disp(ctx))?)
 }
 
-/// Why a text is refused.
+/// The error for a text.
 fn refused(alloc: Global, error: &Error<DemoAttr>) -> Result<String, Fail> {
     Ok(format!(in alloc; "{}", error.err)?)
 }
 
-/// The location that a text reads as.
+/// The location that a text is parsed as.
 fn location(ctx: &mut Ctx, text: &str) -> Answer<Location<DemoAttr>, DemoAttr> {
     parse_from_str(|s| Location::parse(s, ()), ctx, text)
 }
 
-/// The text that is printed of the location that a text reads as, or why it is refused.
+/// The printed text of the location that a text is parsed as, or the error.
 fn read(alloc: Global, ctx: &mut Ctx, text: &str) -> Result<String, Fail> {
     match location(ctx, text) {
         Ok(location) => printed(alloc, ctx, &location),
@@ -116,7 +116,7 @@ fn between(
     Ok(text)
 }
 
-/// Whether a location is read of a text.
+/// Whether a text is parsed as a location.
 fn is_read(ctx: &mut Ctx, text: &str) -> bool {
     location(ctx, text).is_ok()
 }
@@ -143,17 +143,17 @@ fn white_space_and_faults_in_locations(rt: HostRuntime) -> Result<(), Fail> {
     Ok(())
 }
 
-/// The source that a text reads as.
+/// The source that a text is parsed as.
 fn source(ctx: &mut Ctx, text: &str) -> Option<Source> {
     parse_from_str(|s| Source::parse(s, ()), ctx, text).ok()
 }
 
-/// The position that a text reads as.
+/// The position that a text is parsed as.
 fn position(ctx: &mut Ctx, text: &str) -> Option<SourcePosition> {
     parse_from_str(|s| SourcePosition::parse(s, ()), ctx, text).ok()
 }
 
-/// The texts that are printed of a source and a position.
+/// The printed texts of a source and a position.
 fn shown(
     alloc: Global,
     ctx: &Ctx,
@@ -163,7 +163,7 @@ fn shown(
     Ok(format!(in alloc; "{} {}", source.disp(ctx), position.disp(ctx))?)
 }
 
-/// What is printed of a source and a position that are read.
+/// The printed texts of a source and a position that are parsed.
 fn source_and_position(alloc: Global, ctx: &mut Ctx) -> Result<String, Fail> {
     let source = source(ctx, "\"b\"").ok_or("refused")?;
     let position = position(ctx, "line : 3,column:4").ok_or("refused")?;

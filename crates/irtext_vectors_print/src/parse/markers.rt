@@ -1,4 +1,4 @@
-//! Items with white space round them, and the marker that may stand for one.
+//! Items with white space around them, and the marker that may be in place of one.
 use irtext_base::parsable::{ParseResult, TextStream};
 use irtext_parse_root::irfmt::outlined::outlined_marker_or;
 use irtext_read::irfmt::parsers::{bool_parse, int_parse, spaced};
@@ -7,19 +7,19 @@ use irtext_vectors_common::answers::{behind, left};
 use std::alloc::Global;
 use std::test::Fail;
 
-/// What is said of the items with white space round them of ` 7 x`, one behind the other.
+/// The results for the items with white space around them in ` 7 x`, one after the other.
 const SPACED: &[&str] = &[
     "7|Some('x')",
     "line: 1, column: 4: Unexpected `x`, expected digit|Some('x')",
 ];
 
-/// A text, and what is said of the truth value with white space round it that it begins with: the place counts every character.
+/// A text, and the result for the boolean with white space around it that it begins with: the column counts every character.
 const TRUTH: (&str, &str) = (
     "\r\n\u{2028}x",
     "line: 2, column: 2: Unexpected `x`, expected true or false!",
 );
 
-/// Texts, and what is said of the item or the marker in its place.
+/// Texts, and the result for the item or the marker in its place.
 const MARKED: &[(&str, &str)] = &[
     ("  !outlined x", "None|Some(' ')"),
     ("7", "Some(7)|None"),
@@ -29,27 +29,27 @@ const MARKED: &[(&str, &str)] = &[
     ),
 ];
 
-/// What an item with white space round it answers.
+/// The result for an item with white space around it.
 fn read_spaced(alloc: Global, stream: &mut TextStream) -> Result<String, Fail> {
     let answer: ParseResult<i32, DemoAttr> = spaced(stream, int_parse);
     behind(alloc, &answer, stream.peek())
 }
 
-/// What a truth value with white space round it answers.
+/// The result for a boolean with white space around it.
 fn read_truth(alloc: Global, text: &str) -> Result<String, Fail> {
     let mut stream = TextStream::new(alloc, text)?;
     let answer: ParseResult<bool, DemoAttr> = spaced(&mut stream, bool_parse);
     behind(alloc, &answer, stream.peek())
 }
 
-/// What an item or the marker in its place answers.
+/// The result for an item or the marker in its place.
 fn read_marked(alloc: Global, text: &str) -> Result<String, Fail> {
     let mut stream = TextStream::new(alloc, text)?;
     let answer: ParseResult<Option<i32>, DemoAttr> = outlined_marker_or(&mut stream, int_parse);
     marked(alloc, &answer, stream.peek())
 }
 
-/// What an answer says of an item that a marker may stand for.
+/// The text of a result for an item or the marker in its place.
 fn marked(
     alloc: Global,
     answer: &ParseResult<Option<i32>, DemoAttr>,

@@ -1,4 +1,4 @@
-//! Numbers, truth values, identifiers and texts as they are read with a context.
+//! Numbers, booleans, identifiers and texts that are parsed with a context.
 use irtext_base::base::Identifier;
 use irtext_parse_root::parsable::Parsable;
 use irtext_types::{DemoAttr, DemoType};
@@ -7,13 +7,13 @@ use irtext_vectors_common::contexts::{Stream, in_context};
 use std::alloc::Global;
 use std::test::Fail;
 
-/// What is read as a text with a context.
+/// The quoted text that is parsed with a context.
 fn quoted(alloc: Global, s: &mut Stream<'_>) -> Result<String, Fail> {
     let answer = <String as Parsable<DemoType, DemoAttr, ()>>::parse(s, ());
     line(alloc, &answer)
 }
 
-/// Whether the values that stand there are read.
+/// Whether the unsigned values in the text are parsed.
 fn unsigned(s: &mut Stream<'_>) -> bool {
     usize::parse(s, ()).ok() == Some(1)
         && u64::parse(s, ()).ok() == Some(u64::MAX)
@@ -23,7 +23,7 @@ fn unsigned(s: &mut Stream<'_>) -> bool {
         && bool::parse(s, ()).ok() == Some(true)
 }
 
-/// Whether the signed values that stand there are read.
+/// Whether the signed values in the text are parsed.
 fn signed(s: &mut Stream<'_>) -> bool {
     i8::parse(s, ()).ok() == Some(-1)
         && i16::parse(s, ()).ok() == Some(0)
@@ -31,7 +31,7 @@ fn signed(s: &mut Stream<'_>) -> bool {
         && i64::parse(s, ()).ok() == Some(i64::MIN)
 }
 
-/// The identifier that is read behind these.
+/// The identifier that is parsed after these.
 fn values(alloc: Global, s: &mut Stream<'_>) -> Result<String, Fail> {
     if unsigned(s) && signed(s) {
         let name = Identifier::parse(s, ());

@@ -1,4 +1,4 @@
-//! What is done to a context, one step after the other: items are named by their number, in the order in which they were made.
+//! The steps on a context, one after the other: operations and blocks are given by their number, in the order in which they were made.
 use irtext_base::base::{AttrObj, OpId};
 use irtext_base::location::{Location, Source};
 use irtext_base::parsable::SourcePosition;
@@ -16,7 +16,7 @@ use std::test::Fail;
 pub(crate) enum Step {
     /// Makes a `test.nop`.
     Nop,
-    /// Makes a block with this label, or none where it is empty.
+    /// Makes a block with this label, or none if it is empty.
     Block(&'static str),
     /// Gives an item a location in memory: line 1, and this column.
     Place(usize, i32),
@@ -155,7 +155,7 @@ fn erase(ctx: &mut Ctx, item: Item) -> Result<(), Fail> {
     }
 }
 
-/// Does one step, and adds the item that it makes.
+/// Makes one step, and appends the item that it makes.
 fn do_step(alloc: Global, ctx: &mut Ctx, items: &mut Vec<Item>, step: Step) -> Result<(), Fail> {
     match step {
         Step::Nop => Ok(items.push(nop(alloc, ctx)?)?),
@@ -182,7 +182,7 @@ fn do_step(alloc: Global, ctx: &mut Ctx, items: &mut Vec<Item>, step: Step) -> R
     }
 }
 
-/// Does steps, one after the other, and answers the items that were made.
+/// Makes steps, one after the other, and returns the items that were made.
 pub(crate) fn built(alloc: Global, ctx: &mut Ctx, steps: &[Step]) -> Result<Vec<Item>, Fail> {
     let mut items = Vec::new(alloc);
     for one in steps {

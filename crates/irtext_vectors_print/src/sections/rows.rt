@@ -1,4 +1,4 @@
-//! The sections of items, and of which items a mark is written.
+//! The sections of items (operations and blocks), and which of these have a mark.
 use crate::sections::building::{Step, built};
 use irtext_context::base::Item;
 use irtext_print::given::is_marked;
@@ -7,13 +7,13 @@ use irtext_vectors_common::contexts::{Ctx, with_demo};
 use std::alloc::Global;
 use std::test::Fail;
 
-/// How the items are made, the section of all of them, and of which a mark is written: `!` for each that has one, else `.`.
+/// The steps that make the items, the section of all of them, and which have a mark: `!` for each that has one, else `.`.
 type Row = (&'static [Step], &'static str, &'static str);
 
 const ROWS: &[Row] = &[
     // nothing was marked
     (&[], "", ""),
-    // two operations with one note, which is written once
+    // two operations with one note, which is printed once
     (
         &[
             Step::Nop,
@@ -41,7 +41,7 @@ const ROWS: &[Row] = &[
         "\n\noutlined_attributes:\n!0 = @[<in-memory>: line: 1, column: 21], [builtin_block_label = builtin.identifier a]\n!1 = @[<in-memory>: line: 1, column: 27], []\n!2 = @[<in-memory>: line: 1, column: 38], [builtin_block_label = builtin.identifier b]\n!3 = @[<in-memory>: line: 1, column: 44], []\n!4 = @[<in-memory>: line: 1, column: 1], []\n",
         "!!!!!",
     ),
-    // a label in front of given names
+    // a label before given names
     (
         &[
             Step::Block("b"),
@@ -110,7 +110,7 @@ const ROWS: &[Row] = &[
         "\n\noutlined_attributes:\n",
         "..",
     ),
-    // what is not outlined is not written, and an item of which the section gives nothing is not marked
+    // what is not outlined is not printed, and an item for which the section has nothing is not marked
     (
         &[
             Step::Nop,
@@ -136,7 +136,7 @@ fn section(alloc: Global, ctx: &Ctx, items: &[Item]) -> Result<String, Fail> {
     }
 }
 
-/// For each item whether a mark is written of it.
+/// For each item whether it has a mark.
 fn marks(alloc: Global, ctx: &Ctx, items: &[Item]) -> Result<String, Fail> {
     let mut text = String::new(alloc);
     for item in items {

@@ -1,4 +1,4 @@
-//! Attributes and types as they are read and printed.
+//! Attributes and types as they are parsed and printed.
 use irtext_base::base::AttrObj;
 use irtext_base::parsable::{CharStream, ParseResult};
 use irtext_context::base::Context;
@@ -11,7 +11,7 @@ use irtext_vectors_common::contexts::{Ctx, Stream, in_context};
 use std::alloc::Global;
 use std::test::Fail;
 
-/// Texts, and what is said of the attribute that each begins with.
+/// Texts, and the result for the attribute that each begins with.
 const ATTRIBUTES: &[(&str, &str)] = &[
     (
         "builtin.given_names [a, ?]",
@@ -57,7 +57,7 @@ const ATTRIBUTES: &[(&str, &str)] = &[
     ),
 ];
 
-/// Texts, and what is said of the type that each begins with.
+/// Texts, and the result for the type that each begins with.
 const TYPES: &[(&str, &str)] = &[
     ("test.ptr x", "test.ptr |Some(' ')"),
     (
@@ -66,7 +66,7 @@ const TYPES: &[(&str, &str)] = &[
     ),
 ];
 
-/// The text of an attribute that was read, or the fault, and what stands behind.
+/// The text of an attribute that was parsed, or the fault, and the next character.
 fn printed(
     alloc: Global,
     answer: &ParseResult<AttrObj<DemoAttr>, DemoAttr>,
@@ -79,14 +79,14 @@ fn printed(
     }
 }
 
-/// What is said of the attribute that is read.
+/// The result for the attribute that is parsed.
 fn attribute(alloc: Global, s: &mut Stream<'_>) -> Result<String, Fail> {
     let answer = attr_parse(s);
     let next = s.peek();
     printed(alloc, &answer, next)
 }
 
-/// What is said of the type that is read.
+/// The result for the type that is parsed.
 fn type_of(alloc: Global, s: &mut Stream<'_>) -> Result<String, Fail> {
     let answer = type_parse(s);
     let next = s.peek();

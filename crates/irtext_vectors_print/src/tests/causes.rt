@@ -77,7 +77,7 @@ fn plain(number: usize) -> Cause<DemoAttr> {
     }
 }
 
-/// What is expected at the end.
+/// What is expected, at the end of the cause's text.
 fn expected(number: usize) -> Expected {
     match number {
         12 => Expected::Char(';'),
@@ -195,7 +195,7 @@ const SMALL: &[&str] = &[
     "true false Compilation error: invalid input program.\nRepeated item reads nothing\nCompilation error: invalid input program.\nRepeated item reads nothing",
 ];
 
-/// What a block is refused for.
+/// The error of a block.
 fn refused_block(number: usize, block: String) -> BasicBlockVerifyErr {
     match number {
         5 => BasicBlockVerifyErr::MissingTerminator(block),
@@ -204,13 +204,13 @@ fn refused_block(number: usize, block: String) -> BasicBlockVerifyErr {
     }
 }
 
-/// What is said of a block that is refused.
+/// The text of the error of a block.
 fn of_block(alloc: Global, number: usize) -> Result<String, Fail> {
     let error = refused_block(number, String::from_str(alloc, "b")?);
     Ok(format!(in alloc; "{error}")?)
 }
 
-/// What is said of a name that has no definition, or a late one.
+/// The text of the error of a name that has no definition, or a late one.
 fn of_name(alloc: Global, number: usize) -> Result<String, Fail> {
     let name = named(alloc, "b")?;
     if number == 0 {
@@ -221,7 +221,7 @@ fn of_name(alloc: Global, number: usize) -> Result<String, Fail> {
     Ok(format!(in alloc; "{late}")?)
 }
 
-/// An error whose location is set once it is made.
+/// An error whose location is set after it is made.
 fn of_error(alloc: Global) -> Result<String, Fail> {
     let mut error = error(ErrorKind::InvalidInput, Location::Unknown, Cause::EmptyItem);
     let before = error.loc().is_unknown();

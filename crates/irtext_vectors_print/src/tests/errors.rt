@@ -1,4 +1,4 @@
-//! Errors in errors, and errors as faults of a reading.
+//! Errors in errors, and errors as faults of a parser.
 use irtext_base::location::{Location, Source};
 use irtext_base::parsable::{ParseResult, SourcePosition};
 use irtext_base::result::{Cause, Error, ErrorKind};
@@ -12,7 +12,7 @@ use std::alloc::Global;
 use std::fmt;
 use std::test::Fail;
 
-/// What a call answers here: an error either way.
+/// What a call returns here: an error either way.
 type Answer = Result<Error<DemoAttr>, Error<DemoAttr>>;
 
 /// A place in memory.
@@ -32,7 +32,7 @@ pub(crate) fn error(
     Error { kind, err, loc }
 }
 
-/// The text of an answer, with the locations of its error.
+/// The text of a result, with the locations of its error.
 fn shown(alloc: Global, ctx: &Ctx, answer: &Answer) -> Result<String, Fail> {
     Ok(format!(in alloc; "{}", answer.disp(ctx))?)
 }
@@ -73,7 +73,7 @@ fn shown_inner(alloc: Global, ctx: &mut Ctx, number: usize) -> Result<String, Fa
     shown(alloc, ctx, &answer)
 }
 
-/// What errors, a value and an answer are to a reading.
+/// The results of a parser for errors, a value and a result.
 const FAULTS: &[&str] = &[
     "line: 4, column: 2: Repeated item reads nothing!",
     "line: 1, column: 1: Repeated item reads nothing!",
@@ -95,17 +95,17 @@ fn alone() -> Error<DemoAttr> {
     )
 }
 
-/// An answer that is a value.
+/// A result that is a value.
 fn good() -> Result<u8, Error<DemoAttr>> {
     Ok(7)
 }
 
-/// An answer that is an error.
+/// A result that is an error.
 fn bad() -> Result<u8, Error<DemoAttr>> {
     Err(error(ErrorKind::InvalidInput, at(4, 2), Cause::BadSeparator))
 }
 
-/// The error, value or answer of a line, as that of a reading.
+/// The error, value or result of a line, as the result of a parser.
 fn of_reading(number: usize) -> ParseResult<u8, DemoAttr> {
     match number {
         0 => located().into_parse_result(),
@@ -115,7 +115,7 @@ fn of_reading(number: usize) -> ParseResult<u8, DemoAttr> {
     }
 }
 
-/// What is said of the answer of a line.
+/// The text of the result of a line.
 fn said(alloc: Global, number: usize) -> Result<String, Fail> {
     let answer = of_reading(number);
     line(alloc, &answer)

@@ -1,4 +1,4 @@
-//! Which operations fit their formats, and what is said of those that don't.
+//! Which operations fit their formats, and the reason why the others don't.
 use irtext_base::base::{AttrObj, Identifier, OpId};
 use irtext_base::format::OpFormat;
 use irtext_base::location::Location;
@@ -15,10 +15,10 @@ use irtext_vectors_common::formats::format_of;
 use std::alloc::Global;
 use std::test::Fail;
 
-/// The format of `lab.d` by its letters, how many regions and which attributes such an operation has, and what is said of it.
+/// The format of `lab.d` by its letters, how many regions and which attributes such an operation has, and the expected text.
 type Row = (&'static str, usize, &'static str, &'static str);
 
-/// Operations with their formats. Where several things don't fit, the first in the order of `FitFault` is said.
+/// Operations with their formats. If several things don't fit, the first in the order of `FitFault` is returned.
 const ROWS: &[Row] = &[
     ("?", 1, "k", "The operation is not registered"),
     ("-", 0, "", "fits"),
@@ -53,7 +53,7 @@ const ROWS: &[Row] = &[
     ("ka", 1, "n", "fits"),
 ];
 
-/// The format of these letters: that of any operation for `-`, else one directive for each.
+/// The format of these letters: the canonical one for `-`, else one directive for each.
 fn format(alloc: Global, letters: &str) -> Result<OpFormat, Fail> {
     if letters == "-" {
         return Ok(OpFormat::Canonical);
@@ -85,7 +85,7 @@ fn register(alloc: Global, ctx: &mut Ctx, letters: &str) -> Result<(), Fail> {
     Ok(answer.ok().ok_or("refused")?)
 }
 
-/// The attribute that a letter stands for: one that is outlined, a text, or an identifier.
+/// The attribute for a letter: one that is outlined, a text, or an identifier.
 fn attr_of(alloc: Global, letter: char) -> Result<AttrObj<DemoAttr>, Fail> {
     match letter {
         'n' => Ok(AttrObj::Own(DemoAttr::Debug(Characters::new(String::from_str(alloc, "x")?)))),
@@ -94,7 +94,7 @@ fn attr_of(alloc: Global, letter: char) -> Result<AttrObj<DemoAttr>, Fail> {
     }
 }
 
-/// The key of the attribute that a letter stands for.
+/// The key of the attribute for a letter.
 fn key_of(letter: char) -> &'static str {
     match letter {
         's' | 't' => "builtin_sym_name",
@@ -102,7 +102,7 @@ fn key_of(letter: char) -> &'static str {
     }
 }
 
-/// Puts an attribute into a dictionary.
+/// Inserts an attribute into a dictionary.
 fn put(
     attributes: &mut AttributeDict<DemoAttr>,
     key: Identifier,
@@ -111,7 +111,7 @@ fn put(
     attributes.insert(key, attr).ok()
 }
 
-/// Puts the attribute that a letter stands for into a dictionary.
+/// Inserts the attribute for a letter into a dictionary.
 fn insert(
     alloc: Global,
     attributes: &mut AttributeDict<DemoAttr>,
@@ -131,7 +131,7 @@ fn attributes_of(alloc: Global, letters: &str) -> Result<AttributeDict<DemoAttr>
     Ok(attributes)
 }
 
-/// What is said of an operation, once it has as many regions.
+/// The text of the result for an operation, after it got so many regions.
 fn said(alloc: Global, ctx: &mut Ctx, op: Ptr<Operation>, regions: usize) -> Result<String, Fail> {
     if !ctx.contains_operation(op) {
         return Err(Fail::from("no such operation"));
@@ -146,7 +146,7 @@ fn said(alloc: Global, ctx: &mut Ctx, op: Ptr<Operation>, regions: usize) -> Res
     }
 }
 
-/// What is said of the operation of a row.
+/// The text of the result for the operation of a row.
 fn made(alloc: Global, ctx: &mut Ctx, row: &Row) -> Result<String, Fail> {
     register(alloc, ctx, row.0)?;
     let op = ctx.make_operation(id(alloc)?, attributes_of(alloc, row.2)?, Location::Unknown)?;

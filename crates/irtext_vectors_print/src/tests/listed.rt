@@ -1,4 +1,4 @@
-//! Lists whose items print themselves.
+//! Lists whose items are `Printable`.
 use irtext_context::base::Context;
 use irtext_print_ir::irfmt::printers::{iter_with_sep, list_with_sep};
 use irtext_print_ir::printable::{Disp, ListSeparator, State, fmt_iter};
@@ -7,7 +7,7 @@ use irtext_vectors_common::tables::differing_alone;
 use std::alloc::Global;
 use std::test::Fail;
 
-/// The items of a slice, those of an iterator, and items that are written to a text.
+/// The items of a slice, those of an iterator, and items that are appended to a text.
 const LISTED: &[&str] = &["1,2", "012", "1+ 2"];
 
 /// The items of a slice.
@@ -24,7 +24,7 @@ fn of_iterator(alloc: Global, ctx: &Ctx) -> Result<String, Fail> {
     Ok(format!(in alloc; "{}", list.disp(ctx))?)
 }
 
-/// Items that are written to a text.
+/// Items that are appended to a text.
 fn written(alloc: Global, ctx: &Ctx) -> Result<String, Fail> {
     let mut state = State::new(alloc, ());
     let mut text = String::new(alloc);
@@ -40,7 +40,7 @@ fn written(alloc: Global, ctx: &Ctx) -> Result<String, Fail> {
     Ok(text)
 }
 
-/// What is printed for a line.
+/// The printed text for a line.
 fn listed(alloc: Global, ctx: &mut Ctx, number: usize) -> Result<String, Fail> {
     match number {
         0 => of_slice(alloc),

@@ -1,4 +1,4 @@
-//! Locations of each kind as texts, and errors behind theirs: files by the paths that the context keeps.
+//! Locations of each kind as texts, and errors after theirs: files by the paths that the context keeps.
 use crate::tests::errors::error;
 use irtext_base::base::{AttrObj, Identifier};
 use irtext_base::location::{Location, Source};
@@ -11,7 +11,7 @@ use irtext_vectors_common::nesting::{Nesting, nested};
 use std::alloc::Global;
 use std::test::Fail;
 
-/// What the locations print, each on a line.
+/// The printed texts of the locations, one for each line.
 const TEXTS: &str = r#""foo.mlir": line: 42, column: 7
 <in-memory>: line: 1, column: 2
 name: "foo", loc: (?)
@@ -27,10 +27,10 @@ callsite(? at ?)
 Test error
 "#;
 
-/// How deep locations are nested in one another: deeper than a call for each would fit on the stack.
+/// How deep locations are nested in one another: deeper than the stack allows for recursion.
 const DEPTH: usize = 100_000;
 
-/// Where one location stands in another, and what is printed in front of the inner one and behind it.
+/// Where one location is in another, and the printed text before the inner one and after it.
 const NESTED: &[(Nesting, &str, &str)] = &[
     (Nesting::Child, "name: \"a\", loc: (", ")"),
     (Nesting::Callee, "callsite(", " at ?)"),
@@ -53,7 +53,7 @@ fn in_file(ctx: &mut Ctx, path: &str, line: i32, column: i32) -> Result<Location
     Ok(at(src, line, column))
 }
 
-/// A name for a location that is not known.
+/// A name for an unknown location.
 fn named(alloc: Global, name: &str) -> Result<Location<DemoAttr>, Fail> {
     Ok(Location::Named {
         name: Box::new(alloc, String::from_str(alloc, name)?)?,
@@ -122,18 +122,18 @@ fn in_two_files(alloc: Global, ctx: &mut Ctx) -> Result<Error<DemoAttr>, Fail> {
     Ok(error(ErrorKind::InvalidInput, place, Cause::Nested(inner)))
 }
 
-/// What the error in files prints.
+/// The printed text of the error in files.
 fn shown_error(alloc: Global, ctx: &mut Ctx) -> Result<String, Fail> {
     let nested = in_two_files(alloc, ctx)?;
     error_text(alloc, ctx, &nested)
 }
 
-/// What an error prints behind its location.
+/// The printed text of an error after its location.
 fn error_text(alloc: Global, ctx: &Ctx, error: &Error<DemoAttr>) -> Result<String, Fail> {
     Ok(format!(in alloc; "{}", error.disp(ctx))?)
 }
 
-/// What the location of a line prints, or the error behind the last.
+/// The printed text of the location of a line, or of the error after the last.
 fn shown(alloc: Global, ctx: &mut Ctx, line: usize) -> Result<String, Fail> {
     if line == 10 {
         return shown_error(alloc, ctx);
@@ -142,12 +142,12 @@ fn shown(alloc: Global, ctx: &mut Ctx, line: usize) -> Result<String, Fail> {
     location_text(alloc, ctx, &location)
 }
 
-/// What a location prints.
+/// The printed text of a location.
 fn location_text(alloc: Global, ctx: &Ctx, location: &Location<DemoAttr>) -> Result<String, Fail> {
     Ok(format!(in alloc; "{}", location.disp(ctx))?)
 }
 
-/// What the locations and the error print, each with a line end behind it.
+/// The printed texts of the locations and of the error, each with a newline after it.
 fn texts(alloc: Global, ctx: &mut Ctx) -> Result<String, Fail> {
     let mut text = String::new(alloc);
     for line in 0..11 {
@@ -170,13 +170,13 @@ fn nested_text(alloc: Global, before: &str, behind: &str) -> Result<String, Fail
     Ok(text)
 }
 
-/// What nested locations print.
+/// The printed text of nested locations.
 fn shown_nested(alloc: Global, ctx: &Ctx, nesting: Nesting) -> Result<String, Fail> {
     let location = nested(alloc, nesting, DEPTH, Location::Unknown)?;
     location_text(alloc, ctx, &location)
 }
 
-/// Whether each line of the table prints its text.
+/// Whether each line of the table is printed as its text.
 fn nested_printed(alloc: Global, ctx: &mut Ctx) -> Result<bool, Fail> {
     for (nesting, before, behind) in NESTED {
         let shown = shown_nested(alloc, ctx, *nesting)?;

@@ -33,7 +33,7 @@ fn too_deep_an_indentation_is_refused(rt: HostRuntime) -> Result<(), Fail> {
     Ok(())
 }
 
-/// Whether a limit of one region is given back, and no region is entered within it.
+/// Whether a limit of one region is restored, and no region is entered within it.
 fn limited(state: &mut State<()>) -> bool {
     state.set_region_print_depth_limit(RegionPrintDepthLimit::Max(1));
     let inside = match state.enter_region() {

@@ -1,4 +1,4 @@
-//! Roots that are printed by the call that says why it refuses.
+//! Roots that are printed by the call that returns why it fails.
 use crate::tests::errors::at;
 use irtext_base::base::{AttrObj, Identifier, OpId};
 use irtext_context::base::context::making::Making;
@@ -12,7 +12,7 @@ use irtext_vectors_common::tables::differing;
 use std::alloc::Global;
 use std::test::Fail;
 
-/// What is printed of `builtin.module @m` with a region, one behind the other, with one context: with a new state, twice with one
+/// The printed texts of `builtin.module @m` with a region, one after the other, with one context: with a new state, twice with one
 /// state, with a layout, with no room for an indentation; and of a module without regions.
 const PRINTED: &[&str] = &[
     "text: builtin.module @m \n{\n  \n} !0\n\noutlined_attributes:\n!0 = @[<in-memory>: line: 1, column: 2], []\n",
@@ -49,7 +49,7 @@ fn make(alloc: Global, ctx: &mut Ctx) -> Result<Ptr<Operation>, Fail> {
     Ok(ctx.make_operation(id, attributes(alloc)?, at(1, 2))?)
 }
 
-/// Appends the text of a root so many times, with one state: the text, or why it was refused.
+/// Appends the text of a root so many times, with one state: the text, or the error.
 fn appended(
     alloc: Global,
     ctx: &Ctx,
@@ -89,7 +89,7 @@ fn misfit(alloc: Global, ctx: &mut Ctx) -> Result<String, Fail> {
     appended(alloc, ctx, op, &mut state, String::new(alloc), 1)
 }
 
-/// What is printed for a line.
+/// The printed text for a line.
 fn printed(
     alloc: Global,
     ctx: &mut Ctx,

@@ -11,7 +11,7 @@ use std::alloc::Global;
 use std::fmt;
 use std::test::Fail;
 
-/// What is printed, one line behind the other, with one context.
+/// The printed texts, one line after the other, with one context.
 const LINES: &[&str] = &[
     "-1 a\"b",
     "<\"a\">",
@@ -78,7 +78,7 @@ fn between(alloc: Global, ctx: &Ctx) -> Result<String, Fail> {
     Ok(format!(in alloc; "{}", inside.disp(ctx))?)
 }
 
-/// What a stored closure prints, and the width of the indent that it leaves in the lent state.
+/// The printed text of a stored closure, and the width of the indentation that it leaves in the state.
 fn stored(alloc: Global, ctx: &Ctx) -> Result<String, Fail> {
     let printer = printable_from_fn(|_ctx: &Context<DemoType, DemoAttr>, state: &mut State<
         (),
@@ -97,7 +97,7 @@ fn stored(alloc: Global, ctx: &Ctx) -> Result<String, Fail> {
     Ok(text)
 }
 
-/// A text between two others, appended to what stands.
+/// A text between two others, appended to an earlier text.
 fn appended(alloc: Global, ctx: &Ctx) -> Result<String, Fail> {
     let inside = enclosed("<", ">", quoted("a"));
     let mut text = String::from_str(alloc, "text: ")?;
@@ -118,7 +118,7 @@ fn newline(alloc: Global, ctx: &Ctx) -> Result<String, Fail> {
     Ok(format!(in alloc; "{newline}108{}", newline.disp(ctx))?)
 }
 
-/// A newline behind a guard.
+/// A newline after a guard.
 fn behind_guard(alloc: Global) -> Result<String, Fail> {
     let mut state = State::new(alloc, ());
     let inside = state.indent().is_ok();
@@ -129,7 +129,7 @@ fn behind_guard(alloc: Global) -> Result<String, Fail> {
     Ok(format!(in alloc; "{newline}")?)
 }
 
-/// What is printed for a line.
+/// The printed text for a line.
 fn line(alloc: Global, ctx: &mut Ctx, number: usize) -> Result<String, Fail> {
     match number {
         0 => plain(alloc, ctx),

@@ -1,5 +1,5 @@
-//! Two contexts in which the same dialect is registered apart: they have the same dialects, so what is printed over the one is read
-//! back over the other.
+//! Two contexts in which the same dialect is registered separately: they have the same dialects, so the printed text of the one is parsed
+//! back in the other.
 ghost use Rattle.std.specs.Prelude.{◌≡◌, [], IfOk, OnOk, codes};
 ghost use Rattle.irtext_base.specs.Format as format;
 ghost use Rattle.irtext_formats.specs.Directives.{directive_of, format_of};
@@ -35,7 +35,7 @@ fn word(alloc: Global) -> Result<Directive, Fail>
     Ok(Directive::Literal(String::from_str(alloc, "here")?))
 }
 
-/// A word and a region, in memory of their own at each call.
+/// A word and a region, allocated anew at each call.
 fn word_and_region(alloc: Global) -> Result<OpFormat, Fail>
     ensures { IfOk result (λ f. format_of f ≡ lab_format) }
 {
@@ -72,7 +72,7 @@ fn make(alloc: Global, ctx: &mut Ctx) -> Result<Ptr<Operation>, Fail>
     }
 }
 
-/// The concrete text of what comes to the other context where `lab.d` is made in the one, printed and read.
+/// The concrete text of the root in the other context, after `lab.d` is made in the one, printed and parsed.
 fn brought_over(alloc: Global, ctx: &mut Ctx, other: &mut Ctx) -> Result<String, Fail>
     requires { other.old.dialects ≡ ctx.old.dialects }
 {
@@ -87,10 +87,10 @@ fn brought_over(alloc: Global, ctx: &mut Ctx, other: &mut Ctx) -> Result<String,
     }
 }
 
-/// The text that is read, printed and read again: an operation in a block of another.
+/// The text that is parsed, printed and parsed again: an operation in a block of another.
 const NESTED: &str = "lab.d here { ^a(): lab.d here {} }";
 
-/// The concrete texts of both roots where that text is read in the one context, printed, and read in the other.
+/// The concrete texts of both roots after that text is parsed in the one context, printed, and parsed in the other.
 fn read_again(alloc: Global, ctx: &mut Ctx, other: &mut Ctx) -> Result<(String, String), Fail>
     requires { other.old.dialects ≡ ctx.old.dialects }
 {
@@ -104,7 +104,7 @@ fn read_again(alloc: Global, ctx: &mut Ctx, other: &mut Ctx) -> Result<(String, 
     }
 }
 
-/// The same, where the dialect is registered with each context apart.
+/// The same, if the dialect is registered with each context separately.
 fn registered_again(alloc: Global, ctx: &mut Ctx, other: &mut Ctx) -> Result<(String, String), Fail>
     requires one { ctx.old.dialects ≡ [] }
     requires two { other.old.dialects ≡ [] }
@@ -114,14 +114,14 @@ fn registered_again(alloc: Global, ctx: &mut Ctx, other: &mut Ctx) -> Result<(St
     read_again(alloc, ctx, other)
 }
 
-/// The same with two contexts that have no dialects before.
+/// The same with two contexts that had no dialects before.
 fn again(alloc: Global) -> Result<(String, String), Fail> {
     let mut ctx: Ctx = Context::new(alloc);
     let mut other: Ctx = Context::new(alloc);
     registered_again(alloc, &mut ctx, &mut other)
 }
 
-/// The concrete text of the operation that is made and brought over, where the dialect is registered with each context apart.
+/// The concrete text of the operation that is made and brought over, if the dialect is registered with each context separately.
 fn registered_apart(alloc: Global, ctx: &mut Ctx, other: &mut Ctx) -> Result<String, Fail>
     requires one { ctx.old.dialects ≡ [] }
     requires two { other.old.dialects ≡ [] }
@@ -131,7 +131,7 @@ fn registered_apart(alloc: Global, ctx: &mut Ctx, other: &mut Ctx) -> Result<Str
     brought_over(alloc, ctx, other)
 }
 
-/// The same with two contexts that have no dialects before.
+/// The same with two contexts that had no dialects before.
 fn apart(alloc: Global) -> Result<String, Fail> {
     let mut ctx: Ctx = Context::new(alloc);
     let mut other: Ctx = Context::new(alloc);

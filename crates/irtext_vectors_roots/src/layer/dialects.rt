@@ -1,4 +1,4 @@
-//! The dialects of a context: how they are registered and looked up, and how their names are read and printed.
+//! The dialects of a context: how they are registered and looked up, and how their names are parsed and printed.
 use crate::registering::register_operation;
 use irtext_types::{DemoAttr, DemoType};
 use irtext_vectors_common::answers::printed;
@@ -14,7 +14,7 @@ use std::alloc::Global;
 use std::convert::AsStr;
 use std::test::Fail;
 
-/// What is said of each step, one behind the other, with one context.
+/// The text of each step, one after the other, with one context.
 const STEPS: &[&str] = &[
     "unknown",
     "Compilation error: invalid argument.\nUnregistered dialect test",
@@ -50,7 +50,7 @@ fn test_name(alloc: Global) -> Result<DialectName, Fail> {
     Ok(DialectName::from(named(alloc, "test")?))
 }
 
-/// Registers the operation `test.z`, isolated, with the format of any operation.
+/// Registers the operation `test.z`, isolated, with the canonical form.
 fn add(alloc: Global, ctx: &mut Ctx) -> Result<String, Fail> {
     let id = id(alloc, "z")?;
     let name = test_name(alloc)?;
@@ -73,7 +73,7 @@ fn again(alloc: Global, ctx: &mut Ctx) -> Result<String, Fail> {
     Ok(format!(in alloc; "{} {}", dialect.name().as_str(), dialect.op(&id).is_some())?)
 }
 
-/// What is known of an operation of the dialect `test`.
+/// The entry of an operation of the dialect `test`, as a text.
 fn known(alloc: Global, ctx: &Ctx, name: &str) -> Result<String, Fail> {
     let id = id(alloc, name)?;
     let word = match ctx.op_info(&id) {
@@ -83,7 +83,7 @@ fn known(alloc: Global, ctx: &Ctx, name: &str) -> Result<String, Fail> {
     Ok(String::from_str(alloc, word)?)
 }
 
-/// What is known of an operation of the dialect `test` by the texts of its id: these, and whether its format has a symbol's name.
+/// The entry of an operation of the dialect `test`, looked up by the texts of its id: these, and whether its format has a symbol's name.
 fn found(alloc: Global, ctx: &Ctx, name: &str) -> Result<String, Fail> {
     let (key, dialect) = ctx.dialect_named("test").ok_or("not registered")?;
     let Some((id, info)) = dialect.op_named("test", name) else {
@@ -93,14 +93,14 @@ fn found(alloc: Global, ctx: &Ctx, name: &str) -> Result<String, Fail> {
     Ok(format!(in alloc; "{} {} {has_header}", key.as_str(), id.name.as_str())?)
 }
 
-/// What the registered dialect prints.
+/// The printed text of the registered dialect.
 fn shown(alloc: Global, ctx: &Ctx) -> Result<String, Fail> {
     let name = test_name(alloc)?;
     let dialect = ctx.dialect(&name).ok_or("not registered")?;
     Ok(format!(in alloc; "{}", dialect.disp(ctx))?)
 }
 
-/// The name that a text reads as, or why it is refused.
+/// The name that a text is parsed as, or the error.
 fn read(alloc: Global, ctx: &mut Ctx, text: &str) -> Result<String, Fail> {
     let answer = parse_from_str(
         |s| <DialectName as Parsable<DemoType, DemoAttr, ()>>::parse(s, ()),
@@ -110,7 +110,7 @@ fn read(alloc: Global, ctx: &mut Ctx, text: &str) -> Result<String, Fail> {
     printed(alloc, &answer)
 }
 
-/// What making an operation of this name with two regions answers: how many it has, or why it is refused.
+/// The result of making an operation of this name with two regions: how many it has, or the error.
 fn made(alloc: Global, ctx: &mut Ctx, name: &str) -> Result<String, Fail> {
     let id = id(alloc, name)?;
     let answer: Answer<Ptr<Operation>, DemoAttr> = Operation::new(ctx, id, 2);
@@ -128,13 +128,13 @@ fn regions(alloc: Global, ctx: &Ctx, op: Ptr<Operation>) -> Result<String, Fail>
     Ok(format!(in alloc; "{}", op.num_regions(ctx))?)
 }
 
-/// Whether a dialect that was not registered is there.
+/// Whether a dialect that was not registered is found.
 fn other(alloc: Global, ctx: &Ctx) -> Result<String, Fail> {
     let name = named(alloc, "other")?;
     Ok(format!(in alloc; "{}", ctx.has_dialect(&name))?)
 }
 
-/// What is said of a step.
+/// The text of a step.
 fn step(alloc: Global, ctx: &mut Ctx, number: usize) -> Result<String, Fail> {
     match number {
         0 | 3 | 9 => known(alloc, ctx, "z"),

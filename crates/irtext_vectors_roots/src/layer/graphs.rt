@@ -1,4 +1,4 @@
-//! Graphs with blocks and values that a caller makes by the names of this layer, and what is printed of them.
+//! Graphs with blocks and values that a caller makes by the names of this layer, and their printed texts.
 use crate::reading::{concrete, whole};
 use crate::registering::register_operation;
 use irtext_graph::held::HasGraph;
@@ -51,7 +51,7 @@ fn register_both(alloc: Global, ctx: &mut Ctx) -> Result<(), Fail> {
     register(alloc, ctx, "use", used)
 }
 
-/// Signed integers of 64 bits, one type.
+/// A list of one type: signed integers of 64 bits.
 fn one_type(alloc: Global) -> Result<Few<DemoType>, Fail> {
     let kind = Signedness::Signed;
     let width = Width::new(64).ok_or("no such width")?;
@@ -60,7 +60,7 @@ fn one_type(alloc: Global) -> Result<Few<DemoType>, Fail> {
     Ok(Few::from_vec(types))
 }
 
-/// Makes an operation, where what it uses is there.
+/// Makes an operation, if what it uses is live.
 fn operation(
     ctx: &mut Ctx,
     id: OpId,
@@ -119,7 +119,7 @@ fn into_region(ctx: &mut Ctx, block: Ptr<BasicBlock>, op: Ptr<Operation>) -> Res
     Ok(block.insert_at_back(region, ctx)?)
 }
 
-/// Makes a block with this label, or none where it is empty, last in a root's region.
+/// Makes a block with this label, or none if it is empty, last in a root's region.
 fn block(
     alloc: Global,
     ctx: &mut Ctx,
@@ -182,7 +182,7 @@ fn place(ctx: &mut Ctx, op: Ptr<Operation>, column: i32) -> Result<(), Fail> {
     Ok(())
 }
 
-/// Gives a block a place, and its argument the name `x` where it is to have one.
+/// Gives a block a place, and its argument the name `x` if it is to have one.
 fn place_block(
     alloc: Global,
     ctx: &mut Ctx,
@@ -248,7 +248,7 @@ fn used(alloc: Global, ctx: &mut Ctx) -> Result<Ptr<Operation>, Fail> {
     Ok(root)
 }
 
-/// A root with a constant whose value is a note, so that the section has it; and one with a constant that has no value.
+/// A root with a constant whose value is a note, so that the section has it; or one with a constant that has no value.
 fn constants(alloc: Global, ctx: &mut Ctx, has_value: bool) -> Result<Ptr<Operation>, Fail> {
     let root = module(alloc, ctx)?;
     place(ctx, root, 1)?;
@@ -263,7 +263,7 @@ fn constants(alloc: Global, ctx: &mut Ctx, has_value: bool) -> Result<Ptr<Operat
     Ok(root)
 }
 
-/// What is printed of each root, and why the last is refused.
+/// The printed text of each root, and the error of the last.
 const ROOTS: &[&str] = &[
     "builtin.module @m \n{\n  \n} !0\n\noutlined_attributes:\n!0 = @[<in-memory>: line: 1, column: 1], [dbg = !1]\n!1 = test.dbg \"s\"\n",
     "builtin.module @m \n{\n  ^block1v1():\n    test.nop !0;\n    test.nop !1\n}\n\noutlined_attributes:\n!0 = [dbg = !2]\n!1 = [dbg = !2]\n!2 = test.dbg \"s\"\n",
@@ -272,7 +272,7 @@ const ROOTS: &[&str] = &[
     "Misfit",
 ];
 
-/// Why a root is not printed.
+/// The reason why a root is not printed.
 fn refusal(alloc: Global, ctx: &Ctx, root: Ptr<Operation>) -> Result<String, Fail> {
     if !ctx.contains_operation(root) {
         return Err(Fail::from("no such operation"));
@@ -283,7 +283,7 @@ fn refusal(alloc: Global, ctx: &Ctx, root: Ptr<Operation>) -> Result<String, Fai
     Ok(format!(in alloc; "{:?}", answer.err().ok_or("printed")?)?)
 }
 
-/// What is printed of the root of a number, or why it is refused.
+/// The printed text of the root of a number, or the error.
 fn printed(alloc: Global, ctx: &mut Ctx, number: usize) -> Result<String, Fail> {
     let root = match number {
         0 => noted(alloc, ctx)?,
@@ -299,7 +299,7 @@ fn printed(alloc: Global, ctx: &mut Ctx, number: usize) -> Result<String, Fail> 
     }
 }
 
-/// The number of the first root of which something else is said.
+/// The number of the first root with another text.
 fn differing_root(alloc: Global, ctx: &mut Ctx) -> Result<Option<usize>, Fail> {
     register_both(alloc, ctx)?;
     differing(alloc, ROOTS, ctx, printed)
@@ -311,11 +311,11 @@ fn graphs_made_by_a_caller_are_printed(rt: HostRuntime) -> Result<(), Fail> {
     Ok(())
 }
 
-/// A root with two blocks, made where the counters are nearly full.
+/// A root with two blocks, made with counters that are nearly full.
 const LAST: &str =
     "test.scope \n{\n  ^a_block4294967293v1() !0:\n    \n\n  ^b_block4294967294v1() !1:\n    \n}";
 
-/// What is printed of it.
+/// The printed text of this root.
 fn last(alloc: Global, ctx: &mut Ctx) -> Result<String, Fail> {
     let mut scope = Vec::new(alloc);
     scope.push(Directive::Region(0))?;

@@ -1,4 +1,4 @@
-//! What `pliron_text` hands on from the crates below, by its own paths, where no other row names it.
+//! What `pliron_text` re-exports from the crates below, by its own paths, unless another row names it.
 use crate::reading::root;
 use irtext_types::DemoAttr;
 use irtext_vectors_common::contexts::{Ctx, named, with_demo};
@@ -19,7 +19,7 @@ use pliron_text::result::{Cause, Error, Expected, StringError};
 use std::alloc::Global;
 use std::test::Fail;
 
-/// The line and the column behind the next character that is no white space.
+/// The line and the column after the next character that is no white space.
 fn passed<S: CharStream>(stream: &mut S) -> SourcePosition {
     stream.skip(Class::WhiteSpace);
     let _ = stream.take();
@@ -27,7 +27,7 @@ fn passed<S: CharStream>(stream: &mut S) -> SourcePosition {
     stream.locate(place)
 }
 
-/// The fault that an error is to a reading.
+/// The fault that a parser returns for an error.
 fn fault() -> Option<ParseFault<DemoAttr>> {
     let error: Error<DemoAttr> = pliron_text::input_error_noloc!(Cause::Unexpected {
         found: None,
@@ -50,7 +50,7 @@ fn errors(alloc: Global) -> Result<String, Fail> {
     )?)
 }
 
-/// Whether a dictionary keeps what is put into it.
+/// Whether a dictionary keeps what is inserted.
 fn keeps(alloc: Global) -> Result<bool, Fail> {
     let mut dictionary: AttributeDict<DemoAttr> = AttributeDict::new(alloc);
     let value = AttrObj::Ident(named(alloc, "x")?);
@@ -58,7 +58,7 @@ fn keeps(alloc: Global) -> Result<bool, Fail> {
     Ok(kept && dictionary.len() == 1)
 }
 
-/// Whether a module's region is inside it, and its plain value is that of its pointer.
+/// Whether a module's region is in it, and `get_op_dyn` returns the value of its pointer.
 fn stands(ctx: &Ctx, op: Ptr<Operation>) -> bool {
     if !ctx.contains_operation(op) || op.num_regions(ctx) != 1 {
         return false;
@@ -68,7 +68,7 @@ fn stands(ctx: &Ctx, op: Ptr<Operation>) -> bool {
     ctx.contains_region(region) && region.get_parent_op(ctx) == Some(op) && value == OpObj { op }
 }
 
-/// Whether a module's location is known, and no more once it is erased.
+/// Whether a module's location is known, and unknown once it is erased.
 fn erased(ctx: &mut Ctx, op: Ptr<Operation>) -> bool {
     if !ctx.contains_operation(op) || op.loc(ctx).is_unknown() {
         return false;
@@ -95,7 +95,7 @@ fn isolated(alloc: Global, ctx: &Ctx) -> Result<bool, Fail> {
     Ok(matches!(info, Some(info) if info.isolated))
 }
 
-/// Whether all this holds of a module.
+/// Whether all of this is true of a module.
 fn holds(alloc: Global, ctx: &mut Ctx) -> Result<bool, Fail> {
     let op = root(ctx, "builtin.module @m {}").ok_or("refused")?;
     let inside = stands(ctx, op) && isolated(alloc, ctx)? && keeps(alloc)?;

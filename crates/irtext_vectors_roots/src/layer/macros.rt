@@ -1,4 +1,4 @@
-//! What the macros make of a cause or a text.
+//! The errors that the macros make from a cause or a text.
 use irtext_types::DemoAttr;
 use irtext_vectors_common::contexts::Ctx;
 use irtext_vectors_common::tables::differing_alone;
@@ -9,10 +9,10 @@ use pliron_text::result::{Cause, Error, ErrorKind};
 use std::alloc::Global;
 use std::test::Fail;
 
-/// What a call answers here: an error either way.
+/// What a call returns here: an error either way.
 type Answer = Result<Error<DemoAttr>, Error<DemoAttr>>;
 
-/// What the macros make, with its location.
+/// The errors of the macros, with their locations.
 const MADE: &[&str] = &[
     "[<in-memory>: line: 4, column: 2] Compilation error: invalid input program.\nRepeated item reads nothing",
     "[<in-memory>: line: 4, column: 2] Compilation error: verification failed.\nlocated 1",
@@ -44,7 +44,7 @@ fn made(alloc: Global, number: usize) -> Answer {
     }
 }
 
-/// The error of a line, as a macro answers it.
+/// The error of a line, as a macro returns it.
 fn answered(alloc: Global, number: usize) -> Answer {
     match number {
         0 => pliron_text::create_err!(at(4, 2), ErrorKind::InvalidInput, Cause::EmptyItem),
@@ -57,7 +57,7 @@ fn answered(alloc: Global, number: usize) -> Answer {
     }
 }
 
-/// What the macros of a set make for a line.
+/// The error that the macros of a set make for a line.
 fn of_set(alloc: Global, set: usize, number: usize) -> Answer {
     match set {
         0 => made(alloc, number),
@@ -65,12 +65,12 @@ fn of_set(alloc: Global, set: usize, number: usize) -> Answer {
     }
 }
 
-/// The text of an answer, with the locations of its error.
+/// The text of a result, with the locations of its error.
 fn shown(alloc: Global, ctx: &Ctx, answer: &Answer) -> Result<String, Fail> {
     Ok(format!(in alloc; "{}", answer.disp(ctx))?)
 }
 
-/// The text of what the macros of a set make for a line.
+/// The text of the error that the macros of a set make for a line.
 fn shown_of_set(alloc: Global, ctx: &mut Ctx, set: usize, number: usize) -> Result<String, Fail> {
     let answer = of_set(alloc, set, number);
     shown(alloc, ctx, &answer)

@@ -1,4 +1,4 @@
-//! The texts of a root: whole, concrete, without its regions, for those who debug, with its location in a file, and of its parts.
+//! The texts of a root: whole, concrete, without its regions, for debugging, with its location in a file, and of its parts.
 use crate::reading::{concrete, root, whole};
 use irtext_types::DemoType;
 use irtext_vectors_common::contexts::{Ctx, with_demo};
@@ -24,7 +24,7 @@ const TEXTS: &[&str] = &[
     "\n{\n  \n}",
 ];
 
-/// What is appended for those who debug.
+/// The text that is appended for debugging.
 fn debugged(alloc: Global, ctx: &Ctx, op: Ptr<Operation>) -> Result<String, Fail> {
     if !ctx.contains_operation(op) {
         return Err(Fail::from("no such operation"));
@@ -34,7 +34,7 @@ fn debugged(alloc: Global, ctx: &Ctx, op: Ptr<Operation>) -> Result<String, Fail
     Ok(text)
 }
 
-/// The text where no region is shown.
+/// The text if no region is shown.
 fn elided(alloc: Global, ctx: &Ctx, op: Ptr<Operation>) -> Result<String, Fail> {
     if !ctx.contains_operation(op) {
         return Err(Fail::from("no such operation"));
@@ -59,7 +59,7 @@ fn typed(alloc: Global, ctx: &Ctx, op: Ptr<Operation>) -> Result<String, Fail> {
     Ok(text)
 }
 
-/// The text where the location is in a file.
+/// The text if the location is in a file.
 fn in_file(alloc: Global, ctx: &mut Ctx, op: Ptr<Operation>) -> Result<String, Fail> {
     let src = Source::new_from_file(ctx, "é.mlir").ok().ok_or("refused")?;
     let pos = SourcePosition { line: 1, column: 2 };

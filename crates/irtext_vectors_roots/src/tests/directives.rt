@@ -1,4 +1,4 @@
-//! Operations that are read and printed by the directives of their formats.
+//! Operations that are parsed and printed by the directives of their formats.
 use crate::reading::{concrete, read_root, root, whole};
 use crate::registering::register_operation;
 use irtext_types::DemoAttr;
@@ -10,7 +10,7 @@ use pliron_text::result::Result as Answer;
 use std::alloc::Global;
 use std::test::Fail;
 
-/// The format of `lab.d` by its letters, a text, and the concrete text of the root that it reads as, or why it is refused.
+/// The format of `lab.d` by its letters, a text, and the concrete text of the root that it is parsed as, or the error.
 const ROWS: &[(&str, &str, &str)] = &[
     ("", "lab.d", "lab.d"),
     (
@@ -72,14 +72,14 @@ fn register(alloc: Global, ctx: &mut Ctx, letters: &str) -> Result<(), Fail> {
     Ok(answer.ok().ok_or("refused")?)
 }
 
-/// Whether the root's whole text is read back as a root of the same text.
+/// Whether the root's whole text is parsed back as a root of the same text.
 fn comes_back(alloc: Global, ctx: &mut Ctx, op: Ptr<Operation>) -> Result<bool, Fail> {
     let text = whole(alloc, ctx, op)?;
     let again = root(ctx, text.as_str()).ok_or("refused")?;
     Ok(whole(alloc, ctx, again)?.as_str() == text.as_str())
 }
 
-/// The concrete text of a root whose whole text comes back.
+/// The concrete text of a root whose whole text is parsed back.
 fn printed(alloc: Global, ctx: &mut Ctx, op: Ptr<Operation>) -> Result<String, Fail> {
     if !comes_back(alloc, ctx, op)? {
         return Err(Fail::from("other text"));
@@ -87,7 +87,7 @@ fn printed(alloc: Global, ctx: &mut Ctx, op: Ptr<Operation>) -> Result<String, F
     concrete(alloc, ctx, op)
 }
 
-/// The concrete text of the root that a text reads as, or why it is refused.
+/// The concrete text of the root that a text is parsed as, or the error.
 fn answered(alloc: Global, ctx: &mut Ctx, text: &str) -> Result<String, Fail> {
     match read_root(ctx, text) {
         Ok(op) => printed(alloc, ctx, op),
@@ -95,7 +95,7 @@ fn answered(alloc: Global, ctx: &mut Ctx, text: &str) -> Result<String, Fail> {
     }
 }
 
-/// The same once `lab.d` is registered with the format of these letters.
+/// The same after `lab.d` is registered with the format of these letters.
 fn formatted(alloc: Global, ctx: &mut Ctx, letters: &str, text: &str) -> Result<String, Fail> {
     register(alloc, ctx, letters)?;
     answered(alloc, ctx, text)

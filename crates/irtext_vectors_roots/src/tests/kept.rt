@@ -1,4 +1,4 @@
-//! What every root keeps; and the law of the two calls over contexts without dialects, where no root is printed.
+//! The call `keeps_parts`, which changes nothing; and the law of the two calls over contexts without dialects, where no root is printed.
 ghost use Rattle.std.specs.Prelude.{◌≡◌, OnOk};
 
 use crate::reading::{root, whole};
@@ -14,7 +14,7 @@ use pliron_text::printable::State;
 use std::alloc::Global;
 use std::test::Fail;
 
-/// Whether a root is unchanged by the call for what every root keeps.
+/// Whether a root is unchanged by `keeps_parts`.
 fn kept(alloc: Global, ctx: &mut Ctx) -> Result<bool, Fail> {
     let op = root(
         ctx,
@@ -43,7 +43,7 @@ fn make(alloc: Global, ctx: &mut Ctx) -> Result<Ptr<Operation>, Fail>
     Ok(ctx.make_operation(id, AttributeDict::new(alloc), Location::Unknown)?)
 }
 
-/// What the law of the two calls answers.
+/// The result of the law of the two calls.
 fn answered(
     alloc: Global,
     answer: &Result<Ptr<Operation>, NotBack<DemoAttr>>,
@@ -55,7 +55,7 @@ fn answered(
     }
 }
 
-/// The same of an operation that is made in a context, with another one that has the same dialects.
+/// The same for an operation that is made in a context, with another one that has the same dialects.
 fn two_calls(alloc: Global, ctx: &mut Ctx, other: &mut Ctx) -> Result<String, Fail>
     requires { other.old.dialects ≡ ctx.old.dialects }
 {

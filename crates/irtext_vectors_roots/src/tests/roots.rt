@@ -1,4 +1,4 @@
-//! Roots that are read, one behind the other, and what a refusal leaves.
+//! Roots that are parsed, one after the other, and what is left after an error.
 use crate::reading::{root, whole};
 use irtext_types::{DemoAttr, DemoType};
 use irtext_vectors_common::contexts::{Ctx, Stream, with_demo};
@@ -21,7 +21,7 @@ fn two(s: &mut Stream<'_>) -> Option<(Ptr<Operation>, Ptr<Operation>)> {
     Some((first, second))
 }
 
-/// The location of the second of two roots, and how many objects there are.
+/// The location of the second of two roots, and the number of objects.
 fn located(
     alloc: Global,
     ctx: &Ctx,
@@ -34,7 +34,7 @@ fn located(
     Ok(format!(in alloc; "{} {}", root.loc(ctx).disp(ctx), ctx.num_live())?)
 }
 
-/// What is said of the second of two roots on one stream.
+/// The result for the second of two roots on one stream.
 fn in_a_row(alloc: Global, ctx: &mut Ctx, text: &str) -> Result<String, Fail> {
     let stream = TextStream::new(alloc, text)?;
     let state = State::new(ctx, Source::InMemory, ());
@@ -47,7 +47,7 @@ fn in_a_row(alloc: Global, ctx: &mut Ctx, text: &str) -> Result<String, Fail> {
     }
 }
 
-/// Reads a root without looking for its section.
+/// Parses a root without looking for its section.
 fn alone(s: &mut Stream<'_>) -> ParseResult<Ptr<Operation>, DemoAttr> {
     let alone = OperationParserConfig {
         look_for_outlined_attrs: false,
@@ -55,7 +55,7 @@ fn alone(s: &mut Stream<'_>) -> ParseResult<Ptr<Operation>, DemoAttr> {
     <Operation as Parsable<DemoType, DemoAttr, ()>>::parse(s, alone)
 }
 
-/// What an answer says that is refused.
+/// The text of a result that is an error.
 fn refused(
     alloc: Global,
     answer: &ParseResult<Ptr<Operation>, DemoAttr>,
@@ -67,7 +67,7 @@ fn refused(
     }
 }
 
-/// Reads two roots with the same mark: whether the first one's mark is in the state, and what is said of the second one.
+/// Parses two roots with the same mark: whether the first one's mark is in the state, and the result for the second one.
 fn with_marks(alloc: Global, s: &mut Stream<'_>) -> Result<String, Fail> {
     let first = alone(s).is_ok();
     let marks = s.state.has_marks();
@@ -77,7 +77,7 @@ fn with_marks(alloc: Global, s: &mut Stream<'_>) -> Result<String, Fail> {
     refused(alloc, &answer, first && marks && places)
 }
 
-/// The same on a stream of characters, and how many objects there are then.
+/// The same on a stream of characters, and the number of objects then.
 fn marked(alloc: Global, ctx: &mut Ctx, text: &str) -> Result<String, Fail> {
     let state = State::new(ctx, Source::InMemory, ());
     let mut s = state_stream_from_iterator(text.chars(), state)?;
@@ -86,7 +86,7 @@ fn marked(alloc: Global, ctx: &mut Ctx, text: &str) -> Result<String, Fail> {
     Ok(format!(in alloc; "{} {live}", said?)?)
 }
 
-/// What is said of two roots with a section each.
+/// The result for two roots with a section each.
 fn with_sections(alloc: Global, ctx: &mut Ctx) -> Result<String, Fail> {
     in_a_row(
         alloc,
@@ -95,7 +95,7 @@ fn with_sections(alloc: Global, ctx: &mut Ctx) -> Result<String, Fail> {
     )
 }
 
-/// What is said of two roots with the same mark.
+/// The result for two roots with the same mark.
 fn without_sections(alloc: Global, ctx: &mut Ctx) -> Result<String, Fail> {
     marked(
         alloc,
@@ -117,7 +117,7 @@ fn roots_follow_each_other_on_one_stream(rt: HostRuntime) -> Result<(), Fail> {
     Ok(())
 }
 
-/// Texts that are refused.
+/// Texts that are rejected.
 const REFUSED: &[&str] = &[
     "",
     "builtin.module",
@@ -126,7 +126,7 @@ const REFUSED: &[&str] = &[
     "builtin.module @n {} !0 outlined_attributes: !0 = @[<in-memory>: line: 1, column: 2147483648], []",
 ];
 
-/// Whether a text is refused, and the root that stood is as it was, and none else is there.
+/// Whether a text is rejected, the root that was parsed before is unchanged, and there is no other object.
 fn leaves(alloc: Global, ctx: &mut Ctx, stands: Ptr<Operation>, text: &str) -> Result<bool, Fail> {
     let before = whole(alloc, ctx, stands)?;
     let read = root(ctx, text).is_some();
@@ -134,7 +134,7 @@ fn leaves(alloc: Global, ctx: &mut Ctx, stands: Ptr<Operation>, text: &str) -> R
     Ok(!read && ctx.num_live() == 2 && before == behind)
 }
 
-/// The number of the first text that is not refused, or leaves something else.
+/// The number of the first text that is not rejected, or leaves something else.
 fn differing(alloc: Global, ctx: &mut Ctx) -> Result<Option<usize>, Fail> {
     let stands = root(ctx, "builtin.module @m {}").ok_or("refused")?;
     for (number, text) in REFUSED.iter().enumerate() {

@@ -1,4 +1,4 @@
-//! Sections whose entries give locations of each kind: what is read is printed again; and one that breaks off is refused there.
+//! Sections whose entries give locations of each kind: the parsed location is printed again; and one that ends early is an error there.
 use crate::reading::{read_root, root, whole};
 use irtext_types::DemoAttr;
 use irtext_vectors_common::contexts::{Ctx, with_demo};
@@ -7,7 +7,7 @@ use pliron_text::result::Error;
 use std::alloc::Global;
 use std::test::Fail;
 
-/// A module and its section, up to the location of its entry.
+/// A module and its section, up to the location in its entry.
 const READ: &str = "builtin.module @m {} !0 outlined_attributes: !0 = @[";
 
 /// The same as it is printed.
@@ -37,7 +37,7 @@ const LOCATIONS: &[(&str, &str)] = &[
     ),
 ];
 
-/// What is printed of a module whose entry gives this location.
+/// The printed text of a module whose entry gives this location.
 fn printed(alloc: Global, ctx: &mut Ctx, given: &str) -> Result<String, Fail> {
     let text = format!(in alloc; "{}{}], []", READ, given)?;
     match root(ctx, text.as_str()) {
@@ -51,7 +51,7 @@ fn row(alloc: Global, given: &str) -> Result<String, Fail> {
     with_demo(alloc, |alloc, ctx| printed(alloc, ctx, given))
 }
 
-/// Whether a module whose entry gives this location is printed with this text of it.
+/// Whether a module whose entry gives this location is printed with this text for it.
 fn comes_back(alloc: Global, given: &str, wanted: &str) -> Result<bool, Fail> {
     let printed = row(alloc, given)?;
     let whole = format!(in alloc; "{}{}], []\n", PRINTED, wanted)?;
@@ -75,12 +75,12 @@ fn an_unknown_location_leaves_no_mark(rt: HostRuntime) -> Result<(), Fail> {
     Ok(())
 }
 
-/// What a refusal says, and how many objects there are behind it.
+/// The text of an error, and the number of objects after it.
 fn refused(alloc: Global, ctx: &Ctx, error: &Error<DemoAttr>) -> Result<String, Fail> {
     Ok(format!(in alloc; "{}{}", error.disp(ctx), ctx.num_live())?)
 }
 
-/// The same of a module whose entry's location breaks off.
+/// The same for a module whose entry's location ends early.
 fn broken(alloc: Global, ctx: &mut Ctx) -> Result<String, Fail> {
     let text =
         "builtin.module @m {} !0 outlined_attributes: !0 = @[callsite(\"c.mlir\": line: 1, column: 2 at x)], []";

@@ -1,4 +1,4 @@
-//! Texts of which all is read: a root, and nothing but white space behind it.
+//! Texts that are parsed completely: a root, and nothing but white space after it.
 use irtext_types::DemoAttr;
 use irtext_vectors_common::answers::told;
 use irtext_vectors_common::contexts::{Ctx, Stream, with_demo};
@@ -9,8 +9,8 @@ use pliron_text::parsable::{ParseResult, State, StateStream, TextStream};
 use std::alloc::Global;
 use std::test::Fail;
 
-/// A text, how many whole texts are read on one stream of it, and what is said of the last: that a root was read, or the fault; then
-/// whether a mark is noted, and how many objects there are.
+/// A text, how many whole texts are parsed on one stream of it, and the result for the last: that a root was parsed, or the fault; then
+/// whether a mark is recorded, and the number of objects.
 const TEXTS: &[(&str, usize, &str)] = &[
     ("builtin.module @m {}", 1, "root, false, 2"),
     ("builtin.module @m {} \n\t", 1, "root, false, 2"),
@@ -66,12 +66,12 @@ const TEXTS: &[(&str, usize, &str)] = &[
     ),
 ];
 
-/// Reads a whole text.
+/// Parses a whole text.
 fn read(s: &mut Stream<'_>) -> ParseResult<Ptr<Operation>, DemoAttr> {
     Operation::whole_text_parse(s)
 }
 
-/// What an answer says.
+/// The text of a result.
 fn answered(alloc: Global, answer: &ParseResult<Ptr<Operation>, DemoAttr>) -> Result<String, Fail> {
     match answer {
         Ok(_) => Ok(String::from_str(alloc, "root")?),
@@ -79,7 +79,7 @@ fn answered(alloc: Global, answer: &ParseResult<Ptr<Operation>, DemoAttr>) -> Re
     }
 }
 
-/// What is said of the last of so many whole texts.
+/// The result for the last of so many whole texts.
 fn last(alloc: Global, s: &mut Stream<'_>, times: usize) -> Result<String, Fail> {
     for _time in 1..times {
         let _ = read(s).is_ok();
@@ -88,7 +88,7 @@ fn last(alloc: Global, s: &mut Stream<'_>, times: usize) -> Result<String, Fail>
     answered(alloc, &answer)
 }
 
-/// The same, whether a mark is noted, and how many objects there are.
+/// The same, whether a mark is recorded, and the number of objects.
 fn said(alloc: Global, ctx: &mut Ctx, text: &str, times: usize) -> Result<String, Fail> {
     let stream = TextStream::new(alloc, text)?;
     let state = State::new(ctx, Source::InMemory, ());

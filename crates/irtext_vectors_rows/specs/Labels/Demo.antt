@@ -25,7 +25,7 @@ isolated id = cond (same_text id.name (codes "module")) true (same_text id.name 
 abbrev pub demo : Language ⊤ Text Text
 demo = unplaced texts texts format_of
 
--- names of values by number and of blocks by place; the caller's attributes are written where they stand
+-- names of values by number and of blocks by place; the caller's attributes are printed in place
 abbrev pub naming : (ℕ → Option Text) → (ℕ → Option Text) → Printing Text Text
 naming given label = record {
   given = given;

@@ -31,11 +31,11 @@ marked_block = block_a None (Some (marked 26 0)) (alone (nop_marked None) no_ope
 abbrev pub marked_nop : TextTree
 marked_nop = block_a None None (alone (nop_marked (Some (marked 39 0))) no_operations)
 
--- a label is refused at this column
+-- an error for a label at this column
 abbrev pub label_refused : ℕ → List (Failure Text ℕ)
 label_refused column = failure (ReservedKey (codes "builtin_block_label")) column ∷ []
 
--- what is built of these, where each first location is this text
+-- what is built from these, where each first location is this text
 abbrev pub built : TextTree → List TextEntry → Regions (BuiltOp Text Text Text) (BuiltBlock Text Text Text) ⊤
 built t es = (build isolated (λ (place : ℕ). codes "first") es t).regions
 
