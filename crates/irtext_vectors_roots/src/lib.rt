@@ -3,8 +3,12 @@
 #![tactic(auto)]
 
 #[cfg(test)]
+mod dialects_page;
+#[cfg(test)]
 mod layer;
 pub mod reading;
+#[cfg(test)]
+mod readme;
 pub mod registering;
 #[cfg(test)]
 mod tests;
