@@ -61,14 +61,14 @@ headed kind cause = codes "Compilation error: " ++ (kind_text kind ++ (codes ".\
 
 -- the name of a condition on formats
 abbrev pub condition_text : format_fault.FormatFault → List ℕ
-condition_text condition.C1 = codes "C1"
-condition_text condition.C2 = codes "C2"
-condition_text condition.C3 = codes "C3"
-condition_text condition.C4 = codes "C4"
-condition_text condition.C5 = codes "C5"
-condition_text condition.C6 = codes "C6"
-condition_text condition.C7 = codes "C7"
-condition_text condition.C8 = codes "C8"
+condition_text condition.LiteralNotPrintable = codes "C1"
+condition_text condition.OperandIndices = codes "C2"
+condition_text condition.SuccessorIndices = codes "C3"
+condition_text condition.ResultTypeIndices = codes "C4"
+condition_text condition.RegionOrder = codes "C5"
+condition_text condition.AttributeKeys = codes "C6"
+condition_text condition.NameAfterRegion = codes "C7"
+condition_text condition.AmbiguousList = codes "C8"
 
 -- the message of a format that is rejected
 abbrev pub format_fault_text : format_fault.FormatFault → List ℕ

@@ -9,6 +9,7 @@ pub mod Places
 pub mod Quoted
 pub mod Answers
 pub mod Own
+pub mod Families
 pub mod Locations
 pub mod Seen
 pub mod Paths

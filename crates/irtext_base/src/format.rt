@@ -46,22 +46,22 @@ pub enum OpFormat {
 #[derive(Clone, Copy, PartialEq, Eq, Debug)]
 pub enum FormatFault {
     /// Each `Literal` is one or more printable ASCII characters, none of them white space.
-    C1,
+    LiteralNotPrintable,
     /// The indices of the `Operand` directives are 0, 1 and so on, each once, in any order; and there is at most one `Operands`.
-    C2,
+    OperandIndices,
     /// The indices of the `Successor` directives are 0, 1 and so on, each once, in any order; and there is at most one `Successors`.
-    C3,
+    SuccessorIndices,
     /// The indices of the `ResultType` directives are 0, 1 and so on, each once, in any order.
-    C4,
+    ResultTypeIndices,
     /// The indices of the `Region` directives are 0, 1 and so on, in this order; and there is at most one `Regions`, after all of them.
-    C5,
+    RegionOrder,
     /// No key of an `Attr` comes twice, is `builtin_given_names`, or is `builtin_sym_name` beside a `SymbolHeader`; and there are at most
     /// one `AttrDict` and at most one `SymbolHeader`.
-    C6,
+    AttributeKeys,
     /// No operand, successor or result type comes after a region.
-    C7,
+    NameAfterRegion,
     /// No character with which the text after a list can begin could continue the list.
-    C8,
+    AmbiguousList,
 }
 
 impl Display for FormatFault {
@@ -69,14 +69,14 @@ impl Display for FormatFault {
 
     fn fmt<W: fmt::Write>(&self, f: &mut fmt::Formatter<W>) -> fmt::Result {
         let condition = match self {
-            FormatFault::C1 => "C1",
-            FormatFault::C2 => "C2",
-            FormatFault::C3 => "C3",
-            FormatFault::C4 => "C4",
-            FormatFault::C5 => "C5",
-            FormatFault::C6 => "C6",
-            FormatFault::C7 => "C7",
-            FormatFault::C8 => "C8",
+            FormatFault::LiteralNotPrintable => "C1",
+            FormatFault::OperandIndices => "C2",
+            FormatFault::SuccessorIndices => "C3",
+            FormatFault::ResultTypeIndices => "C4",
+            FormatFault::RegionOrder => "C5",
+            FormatFault::AttributeKeys => "C6",
+            FormatFault::NameAfterRegion => "C7",
+            FormatFault::AmbiguousList => "C8",
         };
         write!(f, "Format refused by condition {condition}")
     }

@@ -13,13 +13,13 @@ use crate::text::AttrText;
 use std::hash::Hash;
 
 /// Two attributes are equal exactly if `attr_view` gives the same for both, and two locations exactly if `location_view` does.
-pub fn equal_where_alike<A: AttrText>()
+pub fn equal_where_alike<A: AttrText<A>>()
     ensures attributes { (x y : AttrObj A) → (⟦<AttrObj<A> as PartialEq>⟧.eq x y ≡ true) ↔ (attr_view x ≡ attr_view y) }
     ensures locations { (k l : Location A) → (⟦<Location<A> as PartialEq>⟧.eq k l ≡ true) ↔ (location_view k ≡ location_view l) }
 {}
 
 /// Two sources, attributes or locations that are equal feed the same to a hasher.
-pub fn equal_ones_hash_alike<A: AttrText>()
+pub fn equal_ones_hash_alike<A: AttrText<A>>()
     ensures sources { (s t : Source) → ⟦<Source as PartialEq>⟧.eq s t ≡ true →
         ⟦<Source as Hash>⟧.hash_input s ≡ ⟦<Source as Hash>⟧.hash_input t }
     ensures attributes { (x y : AttrObj A) → ⟦<AttrObj<A> as PartialEq>⟧.eq x y ≡ true →
@@ -29,7 +29,7 @@ pub fn equal_ones_hash_alike<A: AttrText>()
 {}
 
 /// The stable hash of a source or a location, which is made from the texts of paths, is the same in any two contexts that have these paths.
-pub fn stable_hashes_agree<A: AttrText>()
+pub fn stable_hashes_agree<A: AttrText<A>>()
     ensures sources { (paths others : List (List ℕ)) (s t : Source) →
         IsTrue (is_known (length paths) s) → IsTrue (is_known (length others) t) →
         path_of paths s ≡ path_of others t → source_writes paths s ≡ source_writes others t }

@@ -1,8 +1,9 @@
 //! The traits of the caller's types and attributes: how their texts are parsed and printed, and the laws of these.
-ghost use Rattle.std.specs.Prelude.{◌≡◌, ℕ, List, ◌++◌, ◌↔◌, Bool, IsTrue, MatchResult, IfOk, string_bytes};
+ghost use Rattle.std.specs.Prelude.{◌≡◌, ℕ, List, [], ◌++◌, ◌↔◌, Bool, IsTrue, MatchResult, IfOk, string_bytes};
 ghost use Rattle.std.specs.Str.{encode_utf8_all};
 ghost use Rattle.irtext_base.specs.Answers.{Outcome, Answers, unless_failed};
 ghost use Rattle.irtext_base.specs.Own.{Lawful, Sincere, Unreserved, texts_of};
+ghost use Rattle.irtext_base.specs.Families.{BeginsWithWord, is_one_of, shared};
 
 use crate::parsable::{ParseResult, TextStream};
 use std::alloc::AllocError;
@@ -35,8 +36,9 @@ pub trait IrText<A>: Sized + Drop + Eq {
     ghost decides: { (x y : Self) → IsTrue (Self.eq x y) ↔ (x ≡ y) };
 }
 
-/// An attribute of the caller.
-pub trait AttrText: IrText<Self> + Hash {
+/// An attribute of the caller, in a context whose attributes are `B`: either `B` is the attribute's own type, or a sum of several families
+/// of attributes, of which this is one.
+pub trait AttrText<B>: IrText<B> + Hash {
     // whether it is an outlined attribute: it is printed in the section after the root
     ghost outlined: { Self → Bool };
     // whether it is a print-once attribute: the section prints it once, and refers to it by its index
@@ -55,4 +57,27 @@ pub trait AttrText: IrText<Self> + Hash {
         ensures { IfOk result (λ copy. copy ≡ self.now) };
 
     ghost unreserved: { Unreserved Self (texts_of Self.reading Self.written) };
+}
+
+/// The dotted words, as `builtin.integer`, with which the texts of a family of types or of attributes begin.
+pub trait Worded {
+    // the words
+    ghost words: { List (List ℕ) };
+
+    /// Whether `word` is one of these words.
+    fn has_word(word: &str) -> bool
+        ensures { result ≡ is_one_of words word.now };
+}
+
+/// A family of types or of attributes that can be in one context with others, as a part of `Either`: the text of each value begins with one
+/// of the family's words. The attributes of the whole context are `B`.
+pub trait Family<B>: IrText<B> + Worded {
+    ghost led: { BeginsWithWord Self.words Self.written };
+}
+
+/// Says that two families have no word in common, so that the first word of a text tells which family it is of. `Self` is a type without
+/// values, of the crate that puts the two families together; that crate needs to own neither of them. The law is computed:
+/// `ghost apart = { refl }`.
+pub trait Apart<L: Worded, R: Worded> {
+    ghost apart: { shared L.words R.words ≡ [] };
 }

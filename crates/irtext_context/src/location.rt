@@ -15,7 +15,7 @@ use irtext_graph::object::Object;
 
 /// Sets the location of an operation that is no placeholder, or of a block, to `Unknown`. Does nothing to a region, which has no
 /// location.
-fn erase_object<T: IrText<A>, A: AttrText>(
+fn erase_object<T: IrText<A>, A: AttrText<A>>(
     graph: &mut Graph<Option<OperationData<A>>, BlockData<A>, Option<T>>,
     o: Object,
 )
@@ -30,7 +30,7 @@ fn erase_object<T: IrText<A>, A: AttrText>(
 }
 
 /// Sets the location in an operation's data to `Unknown`. A placeholder has no data.
-fn erase_held<A: AttrText>(held: &mut Option<OperationData<A>>)
+fn erase_held<A: AttrText<A>>(held: &mut Option<OperationData<A>>)
     ensures { held.new ≡ option_map (with_loc Unknown) held.old }
 {
     if let Some(held) = held {
@@ -39,7 +39,7 @@ fn erase_held<A: AttrText>(held: &mut Option<OperationData<A>>)
 }
 
 /// Sets the locations of an object and of all operations and blocks nested in it to `Unknown`.
-fn erase_inside<T: IrText<A>, A: AttrText>(
+fn erase_inside<T: IrText<A>, A: AttrText<A>>(
     graph: &mut Graph<Option<OperationData<A>>, BlockData<A>, Option<T>>,
     o: Object,
 )
@@ -56,7 +56,7 @@ fn erase_inside<T: IrText<A>, A: AttrText>(
 
 /// Sets the locations of an operation and of all operations and blocks nested in it, at any depth, to `Unknown`. Nothing else changes. If
 /// no block is nested in the operation, only the operation changes. It allocates nothing and does not recurse.
-pub fn erase_locations<T: IrText<A>, A: AttrText>(ctx: &mut Context<T, A>, op: Ptr<Operation>)
+pub fn erase_locations<T: IrText<A>, A: AttrText<A>>(ctx: &mut Context<T, A>, op: Ptr<Operation>)
     requires { IsSome (operation ctx.old op) }
     ensures erased { ErasesLocations ctx.old ctx.new op }
     ensures alone { HoldsNoBlocks ctx.old.graph (TheOperation op) → EditsOperation ctx.old ctx.new op (with_loc Unknown) }

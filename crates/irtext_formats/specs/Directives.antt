@@ -43,14 +43,14 @@ format_of (Custom ds) = format.custom (directives_of ds.items)
 
 -- the number of a condition
 abbrev pub condition_number : FormatFault → ℕ
-condition_number condition.C1 = 1
-condition_number condition.C2 = 2
-condition_number condition.C3 = 3
-condition_number condition.C4 = 4
-condition_number condition.C5 = 5
-condition_number condition.C6 = 6
-condition_number condition.C7 = 7
-condition_number condition.C8 = 8
+condition_number condition.LiteralNotPrintable = 1
+condition_number condition.OperandIndices = 2
+condition_number condition.SuccessorIndices = 3
+condition_number condition.ResultTypeIndices = 4
+condition_number condition.RegionOrder = 5
+condition_number condition.AttributeKeys = 6
+condition_number condition.NameAfterRegion = 7
+condition_number condition.AmbiguousList = 8
 
 -- the index that a directive names among the parts of one kind
 abbrev pub place_of : Part → Directive → Option ℕ

@@ -28,7 +28,7 @@ fn given_at<A: Drop>(attributes: &AttributeDict<A>, index: usize) -> Option<&Ide
 }
 
 /// Returns the given name of a result of an operation, if it has one. A result of a placeholder has none.
-fn given_to_result<'c, T: IrText<A>, A: AttrText>(
+fn given_to_result<'c, T: IrText<A>, A: AttrText<A>>(
     ctx: &'c Context<T, A>,
     op: Ptr<Operation>,
     index: usize,
@@ -42,7 +42,7 @@ fn given_to_result<'c, T: IrText<A>, A: AttrText>(
 }
 
 /// Returns the given name of an argument of a block, if it has one.
-fn given_to_argument<'c, T: IrText<A>, A: AttrText>(
+fn given_to_argument<'c, T: IrText<A>, A: AttrText<A>>(
     ctx: &'c Context<T, A>,
     p: Ptr<BasicBlock>,
     index: usize,
@@ -54,7 +54,7 @@ fn given_to_argument<'c, T: IrText<A>, A: AttrText>(
 }
 
 /// Returns the given name of a value, if it has one. A result of a placeholder has none.
-pub fn given_name<T: IrText<A>, A: AttrText>(ctx: &Context<T, A>, v: Value) -> Option<&Identifier>
+pub fn given_name<T: IrText<A>, A: AttrText<A>>(ctx: &Context<T, A>, v: Value) -> Option<&Identifier>
     requires { ValueStands ctx.now.graph v }
     ensures { option_copied result ≡ given_name ctx.now v }
 {
@@ -111,7 +111,7 @@ pub trait UniqueName: Sized {
     /// as in `sum_v12`. The name of a block is `block`, its place, `v` and its generation, after its label and `_` if it has one, as in
     /// `exit_block3v1`. Given names are in the attributes of the operation or the block, under the key `builtin_given_names`. Fails only
     /// if an allocation fails.
-    fn unique_name<T: IrText<A>, A: AttrText>(
+    fn unique_name<T: IrText<A>, A: AttrText<A>>(
         self,
         ctx: &Context<T, A>,
     ) -> Result<String, AllocError>
@@ -124,7 +124,7 @@ impl UniqueName for Value {
 
     ghost name = { λ T A. value_name };
 
-    fn unique_name<T: IrText<A>, A: AttrText>(
+    fn unique_name<T: IrText<A>, A: AttrText<A>>(
         self,
         ctx: &Context<T, A>,
     ) -> Result<String, AllocError> {
@@ -138,7 +138,7 @@ impl UniqueName for Ptr<BasicBlock> {
 
     ghost name = { λ T A. block_name };
 
-    fn unique_name<T: IrText<A>, A: AttrText>(
+    fn unique_name<T: IrText<A>, A: AttrText<A>>(
         self,
         ctx: &Context<T, A>,
     ) -> Result<String, AllocError> {

@@ -20,7 +20,7 @@ use irtext_base::text::{AttrText, IrText};
 /// conditions, then what the parser of an operation, with everything nested in it, builds from nothing is a tree of the grammar. Each
 /// tree of the grammar is built from nothing, up to the same rest; if something is open, the tree is added there as the last one. The
 /// actions of the tree, performed from nothing, build the same.
-pub fn what_is_built_is_the_tree<T: IrText<A>, A: AttrText>()
+pub fn what_is_built_is_the_tree<T: IrText<A>, A: AttrText<A>>()
     ensures read { (dialects : List (Text × Table)) (text rest : Text) (b : Building T A) → ((id : Id) → IsAccepted dialects id) →
         operation_at dialects T.reading (attr_at A.reading) (building (format_of dialects)) true text nothing_open ≡ Came tt b rest →
         (x : Tree ℕ T A) × reads (language (texts_of T.reading T.written) (texts_of A.reading A.written) (format_of dialects)) x text rest × (b ≡ finished x) }
@@ -39,7 +39,7 @@ pub fn what_is_built_is_the_tree<T: IrText<A>, A: AttrText>()
 /// Two sets of actions on what is parsed can be performed side by side. The actions of a tree are then those of both. A parse ends, or is
 /// stuck at a fault of the text, exactly where that with each of the two does, with the same rest or the same cause and place. This also
 /// holds of the rest of a parse, given what is open.
-pub fn two_doings_stand_beside<T: IrText<A>, A: AttrText, U, V>()
+pub fn two_doings_stand_beside<T: IrText<A>, A: AttrText<A>, U, V>()
     ensures tree { (isolated : Id → Bool) (d : Doing T A U) (e : Doing T A V) (x : Tree ℕ T A) (s : U) (t : V) →
         do_tree isolated (both d e) x (s, t) ≡ (do_tree isolated d x s, do_tree isolated e x t) }
     ensures operation { (dialects : List (Text × Table)) (d : Doing T A U) (e : Doing T A V) (inside : Bool) (text : Text) (s : U) (t : V) →

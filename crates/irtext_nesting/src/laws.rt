@@ -21,7 +21,7 @@ use irtext_base::text::{AttrText, IrText};
 /// For any actions, and if each registered format meets all its conditions: what the parser of an operation, with everything nested in
 /// it, parses of a text inside a region, the grammar parses as a tree, and the actions performed are those of the tree. And what the
 /// grammar parses as a tree, the parser parses up to the same rest, and performs the actions of the tree.
-pub fn nested_text_is_a_tree<T: IrText<A>, A: AttrText, U>()
+pub fn nested_text_is_a_tree<T: IrText<A>, A: AttrText<A>, U>()
     ensures read { (dialects : List (Text × Table)) (does : Doing T A U) (text rest : Text) (s t : U) →
         ((id : Id) → IsAccepted dialects id) →
         operation_at dialects T.reading (attr_at A.reading) does true text s ≡ Came tt t rest →
@@ -35,7 +35,7 @@ pub fn nested_text_is_a_tree<T: IrText<A>, A: AttrText, U>()
 /// What is done with names while nested text is parsed, act by act, is what the two passes over the tree say: each operation and block of
 /// a text that parses as a tree has a place of its own, and with operations and blocks named by their places the parser has the same
 /// outcome as the machine that processes the script of the tree.
-pub fn names_run_the_machine<T: IrText<A>, A: AttrText>()
+pub fn names_run_the_machine<T: IrText<A>, A: AttrText<A>>()
     ensures { (dialects : List (Text × Table)) (x : Tree ℕ T A) (text rest : Text) →
         reads (language (texts_of T.reading T.written) (texts_of A.reading A.written) (format_of dialects)) x text rest →
         (path : ℕ → Path) × Names path x × ((o : history.Outcome) →

@@ -21,7 +21,7 @@ use irtext_graph::graph::Graph;
 use irtext_graph::held::HasGraph;
 
 /// The parts of an operation have the properties that their types ensure.
-fn operation_kept<T: IrText<A>, A: AttrText>(ctx: &Context<T, A>, op: Ptr<Operation>)
+fn operation_kept<T: IrText<A>, A: AttrText<A>>(ctx: &Context<T, A>, op: Ptr<Operation>)
     requires live { IsSome (operation ctx.now op) }
     ensures kept { (view : OperationView T A) → operation ctx.now op ≡ Some view → IsKept ctx.now view }
 {
@@ -35,7 +35,7 @@ fn operation_kept<T: IrText<A>, A: AttrText>(ctx: &Context<T, A>, op: Ptr<Operat
 }
 
 /// The same of the operation at a place of the arena, if there is one and it is no placeholder.
-fn operation_kept_at<T: IrText<A>, A: AttrText>(ctx: &Context<T, A>, place: u32)
+fn operation_kept_at<T: IrText<A>, A: AttrText<A>>(ctx: &Context<T, A>, place: u32)
     ensures { KeepsOperationAt ctx.now place }
 {
     if let Some(op) = ctx.graph().operation_in(place) {
@@ -46,7 +46,7 @@ fn operation_kept_at<T: IrText<A>, A: AttrText>(ctx: &Context<T, A>, place: u32)
 }
 
 /// The same of all operations of a context.
-fn operations_kept<T: IrText<A>, A: AttrText>(ctx: &Context<T, A>)
+fn operations_kept<T: IrText<A>, A: AttrText<A>>(ctx: &Context<T, A>)
     ensures { (place : ℕ) → place < length ctx.now.graph.operations.cells → KeepsOperationAt ctx.now place }
 {
     let count = ctx.graph().operation_places();
@@ -56,7 +56,7 @@ fn operations_kept<T: IrText<A>, A: AttrText>(ctx: &Context<T, A>)
 }
 
 /// The parts of a block have the properties that their types ensure.
-fn block_kept<T: IrText<A>, A: AttrText>(ctx: &Context<T, A>, at: Ptr<BasicBlock>)
+fn block_kept<T: IrText<A>, A: AttrText<A>>(ctx: &Context<T, A>, at: Ptr<BasicBlock>)
     requires live { IsSome (block ctx.now at) }
     ensures kept { (view : BlockView T A) → block ctx.now at ≡ Some view → IsKeptBlock ctx.now view }
 {
@@ -77,7 +77,7 @@ fn pointer_kept(at: Ptr<BasicBlock>)
 }
 
 /// The same of the block at a place of the arena, if there is one.
-fn block_kept_at<T: IrText<A>, A: AttrText>(ctx: &Context<T, A>, place: u32)
+fn block_kept_at<T: IrText<A>, A: AttrText<A>>(ctx: &Context<T, A>, place: u32)
     ensures { KeepsBlockAt ctx.now place }
 {
     if let Some(at) = ctx.graph().block_in(place) {
@@ -89,7 +89,7 @@ fn block_kept_at<T: IrText<A>, A: AttrText>(ctx: &Context<T, A>, place: u32)
 }
 
 /// The same of all blocks of a context.
-fn blocks_kept<T: IrText<A>, A: AttrText>(ctx: &Context<T, A>)
+fn blocks_kept<T: IrText<A>, A: AttrText<A>>(ctx: &Context<T, A>)
     ensures { (place : ℕ) → place < length ctx.now.graph.blocks.cells → KeepsBlockAt ctx.now place }
 {
     let count = ctx.graph().block_places();
@@ -109,7 +109,7 @@ fn counters_kept<O: Drop, B: Drop, T: Drop>(graph: &Graph<O, B, T>)
 }
 
 /// All properties that the types of its parts ensure of a context.
-fn all_kept<T: IrText<A>, A: AttrText>(ctx: &Context<T, A>)
+fn all_kept<T: IrText<A>, A: AttrText<A>>(ctx: &Context<T, A>)
     ensures { KeepsAll ctx.now }
 {
     counters_kept(ctx.graph());
@@ -121,7 +121,7 @@ fn all_kept<T: IrText<A>, A: AttrText>(ctx: &Context<T, A>)
 /// numbers and places fit, its locations can be parsed back, its dictionaries follow the rule of the reserved keys, and its values and
 /// blocks are distinct. Also ensures the other properties of `KeepsAll`. Visits all places of the arenas for operations and blocks;
 /// allocates nothing.
-pub fn keeps_parts<T: IrText<A>, A: AttrText>(ctx: &Context<T, A>)
+pub fn keeps_parts<T: IrText<A>, A: AttrText<A>>(ctx: &Context<T, A>)
     ensures all { KeepsAll ctx.now }
     ensures kept { (p : Ptr Operation) (g : seen.Graph T A) → seen_root A.written ctx.now p ≡ Some g →
         KeptRoot (attr_at A.reading) A.written (printing_over ctx.now A.outlined A.print_once A.eq) (isolated ctx.now.dialects) g }

@@ -28,7 +28,7 @@ use irtext_base::text::{AttrText, IrText};
 /// Whatever is parsed from the printed text of a closed root of a context, and built (`held`), is equal to the root up to fillings, with
 /// the same uses inside, and only white space is left of the text. Also, the text does parse as a root that resolves. So no error that
 /// depends on the text can occur: such an error means that whatever the text parses as does not resolve.
-pub fn closed_root_comes_back<T: IrText<A>, A: AttrText>()
+pub fn closed_root_comes_back<T: IrText<A>, A: AttrText<A>>()
     ensures builds { (C : Printing T A) (isolated : Id → Bool) (first : ℕ → Written A) (g : Graph T A) (width n : ℕ) (t rest : List ℕ)
         (held : Option (Built T A (Written A))) →
         let types = texts_of T.reading T.written in
@@ -48,7 +48,7 @@ pub fn closed_root_comes_back<T: IrText<A>, A: AttrText>()
 
 /// If each block of the root has a label, and each operation with results and each block with arguments has given names, nothing is
 /// filled in but a position for each unknown location.
-pub fn named_root_is_held<T: IrText<A>, A: AttrText>()
+pub fn named_root_is_held<T: IrText<A>, A: AttrText<A>>()
     ensures { (C : Printing T A) (isolated : Id → Bool) (first : ℕ → Written A) (g : Graph T A) (width n : ℕ) (t rest : List ℕ)
         (held : Option (Built T A (Written A))) →
         let types = texts_of T.reading T.written in
@@ -60,7 +60,7 @@ pub fn named_root_is_held<T: IrText<A>, A: AttrText>()
 {}
 
 /// The text of a root that was printed with a limit does not parse if a region was elided.
-pub fn limited_root_is_refused<T: IrText<A>, A: AttrText>()
+pub fn limited_root_is_refused<T: IrText<A>, A: AttrText<A>>()
     ensures { (C : Printing T A) (isolated : Id → Bool) (g : Graph T A) (width n : ℕ) (limit : Limit) (t rest : List ℕ)
         (tree : Tree ℕ T A) (entries : List (Entry ℕ A (Written A))) →
         let types = texts_of T.reading T.written in
@@ -71,7 +71,7 @@ pub fn limited_root_is_refused<T: IrText<A>, A: AttrText>()
 
 /// If fewer than 2 ^ 64 bytes in memory encode the printed text of a root that meets `KeptRoot` and fits its formats, their characters
 /// are a text of the root (`IsTextOf`).
-pub fn bytes_are_text<T: IrText<A>, A: AttrText>()
+pub fn bytes_are_text<T: IrText<A>, A: AttrText<A>>()
     ensures { (C : Printing T A) (isolated : Id → Bool) (g : Graph T A) (width n : ℕ) (limit : Limit) (bytes : List ℕ) →
         let types = texts_of T.reading T.written in
         let owns = texts_of A.reading A.written in
@@ -83,7 +83,7 @@ pub fn bytes_are_text<T: IrText<A>, A: AttrText>()
 /// A root that represents what was parsed and resolved is closed if its operations fit their formats and no two of its values or blocks
 /// are the same; its blocks have labels, and everything that has results or arguments has given names. So what is parsed from its printed
 /// text is equal to it, except that unknown locations have become positions.
-pub fn read_root_is_closed<T: IrText<A>, A: AttrText>()
+pub fn read_root_is_closed<T: IrText<A>, A: AttrText<A>>()
     ensures closed { (C : Printing T A) (isolated : Id → Bool) (before : ℕ → Written A) (tree : Tree ℕ T A) (entries : List (Entry ℕ A (Written A)))
         (source rest : List ℕ) (g : Graph T A) →
         let types = texts_of T.reading T.written in

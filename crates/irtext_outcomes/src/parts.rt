@@ -65,7 +65,7 @@ fn metadata_kept<A>(metadata: &Option<AttrObj<A>>)
 }
 
 /// The keys of a dictionary, and the names in its attributes, are identifiers.
-pub(crate) fn entries_kept<A: AttrText>(attributes: &AttributeDict<A>)
+pub(crate) fn entries_kept<A: AttrText<A>>(attributes: &AttributeDict<A>)
     ensures { Each EntryHasIdentifiers (entries_of attributes.now) }
 {
     for (key, attr) in attributes.iter() {
@@ -89,7 +89,7 @@ fn position_fits(pos: &SourcePosition)
 }
 
 /// The path of a source, if the context has it, is UTF-8.
-fn source_kept<T: IrText<A>, A: AttrText>(src: Source, ctx: &Context<T, A>)
+fn source_kept<T: IrText<A>, A: AttrText<A>>(src: Source, ctx: &Context<T, A>)
     ensures { IfSome (path_of ctx.now.paths src) IsUtf8 }
 {
     if let Source::File(key) = src {
@@ -102,7 +102,7 @@ fn source_kept<T: IrText<A>, A: AttrText>(src: Source, ctx: &Context<T, A>)
 /// The paths and names in a location are UTF-8, its lines and columns fit, and the names in its attributes are identifiers. Recurses into
 /// the locations nested in it, except into the last one at each level, so it uses stack for each level of nesting in other positions.
 #[cycle(kept)]
-pub(crate) fn location_kept<T: IrText<A>, A: AttrText>(location: &Location<A>, ctx: &Context<T, A>)
+pub(crate) fn location_kept<T: IrText<A>, A: AttrText<A>>(location: &Location<A>, ctx: &Context<T, A>)
     ensures fits { AllFit (location_over ctx.now.paths location.now) }
     ensures holds { AllHold IsSpellableAttr (location_over ctx.now.paths location.now) }
 {
@@ -137,7 +137,7 @@ pub(crate) fn location_kept<T: IrText<A>, A: AttrText>(location: &Location<A>, c
 
 /// The same of each location in a list.
 #[cycle(kept)]
-fn locations_kept<T: IrText<A>, A: AttrText>(locations: &[Location<A>], ctx: &Context<T, A>)
+fn locations_kept<T: IrText<A>, A: AttrText<A>>(locations: &[Location<A>], ctx: &Context<T, A>)
     ensures fits { RowFit (row_sourced (path_of ctx.now.paths) (in_row (map location_view locations.now))) }
     ensures holds { RowHold IsSpellableAttr (row_sourced (path_of ctx.now.paths) (in_row (map location_view locations.now))) }
 {

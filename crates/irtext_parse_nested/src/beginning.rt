@@ -85,7 +85,7 @@ pub(crate) fn kept_key(info: &OpInfo) -> Option<Identifier>
 }
 
 /// Parses what precedes an operation's first region. An error is committed, unless no operation comes next and `wanted` is not set.
-fn front_read<T: IrText<A>, A: AttrText>(
+fn front_read<T: IrText<A>, A: AttrText<A>>(
     stream: &mut TextStream,
     ctx: &Context<T, A>,
     names: &mut Names,
@@ -134,7 +134,7 @@ pub(crate) fn gather_fault<A>(
 
 /// Uses the names of the pieces of an operation, and gathers what they give it. Every error is committed; what precedes the error was
 /// used then.
-fn pieces_gathered<T: IrText<A>, A: AttrText, U>(
+fn pieces_gathered<T: IrText<A>, A: AttrText<A>, U>(
     s: &mut StateStream<'_, T, A, U>,
     names: &mut Names,
     key: &Option<Identifier>,
@@ -174,7 +174,7 @@ fn copied(id: &OpId) -> Result<OpId, AllocError>
 
 /// Creates a detached operation with this id from what its pieces gave. Returns it with the number of its results. Every error is
 /// committed.
-fn made_here<T: IrText<A>, A: AttrText, U>(
+fn made_here<T: IrText<A>, A: AttrText<A>, U>(
     s: &mut StateStream<'_, T, A, U>,
     id: &OpId,
     loc: Location<A>,
@@ -203,7 +203,7 @@ fn made_here<T: IrText<A>, A: AttrText, U>(
 }
 
 /// Appends a detached and empty operation to a block. If an allocation fails, nothing changes.
-fn put_last<T: IrText<A>, A: AttrText>(
+fn put_last<T: IrText<A>, A: AttrText<A>>(
     ctx: &mut Context<T, A>,
     block: Ptr<BasicBlock>,
     op: Ptr<Operation>,
@@ -223,7 +223,7 @@ fn put_last<T: IrText<A>, A: AttrText>(
 }
 
 /// Appends a detached and empty operation to the block, if one is given. Every error is committed.
-fn placed_here<T: IrText<A>, A: AttrText, U>(
+fn placed_here<T: IrText<A>, A: AttrText<A>, U>(
     s: &mut StateStream<'_, T, A, U>,
     block: Option<Ptr<BasicBlock>>,
     op: Ptr<Operation>,
@@ -252,7 +252,7 @@ fn placed_here<T: IrText<A>, A: AttrText, U>(
 }
 
 /// Uses the names of the parsed front, creates the operation, and appends it to the block, if one is given. Every error is committed.
-fn begin_read<T: IrText<A>, A: AttrText, U>(
+fn begin_read<T: IrText<A>, A: AttrText<A>, U>(
     s: &mut StateStream<'_, T, A, U>,
     names: &mut Names,
     block: Option<Ptr<BasicBlock>>,
@@ -306,7 +306,7 @@ fn begin_read<T: IrText<A>, A: AttrText, U>(
 /// operation, and appends it to the block, if one is given; without a block it is outside of every region. Fails with `NoActiveScope` at
 /// the first name for which no scope of its kind is open, or with `ReservedKey` at the first reserved key of a dictionary. An error is
 /// committed, unless no block is given and no operation comes next.
-pub fn operation_begin<T: IrText<A>, A: AttrText, U>(
+pub fn operation_begin<T: IrText<A>, A: AttrText<A>, U>(
     s: &mut StateStream<'_, T, A, U>,
     names: &mut Names,
     block: Option<Ptr<BasicBlock>>,

@@ -63,7 +63,7 @@ use irtext_read::irfmt::faults::{out_of_memory, refuse_at};
 use irtext_state::parsable::StateStream;
 
 /// Parses the header of a block. Its names are stored, and no name has two numbers.
-fn head_parse<T: IrText<A>, A: AttrText>(
+fn head_parse<T: IrText<A>, A: AttrText<A>>(
     stream: &mut TextStream,
     names: &mut Names,
 ) -> ParseResult<BlockHead<T, A>, A>
@@ -77,7 +77,7 @@ fn head_parse<T: IrText<A>, A: AttrText>(
 }
 
 /// Returns the location of a position in the text.
-pub(crate) fn location_at<T: IrText<A>, A: AttrText, U>(
+pub(crate) fn location_at<T: IrText<A>, A: AttrText<A>, U>(
     s: &StateStream<'_, T, A, U>,
     at: Place,
 ) -> Location<A>
@@ -102,7 +102,7 @@ fn refusal_fault<A>(stream: &mut TextStream, refusal: NotGathered) -> ParseFault
 }
 
 /// Creates a block with this label, at the label's location, and appends it to a region. The only error is `Memory`, committed.
-fn block_made<T: IrText<A>, A: AttrText, U>(
+fn block_made<T: IrText<A>, A: AttrText<A>, U>(
     s: &mut StateStream<'_, T, A, U>,
     names: &Names,
     region: Ptr<Region>,
@@ -130,7 +130,7 @@ fn block_made<T: IrText<A>, A: AttrText, U>(
 
 /// Creates a block from the parts of its header, and appends it to a region. Returns it with the names of its arguments. If a key of its
 /// dictionary is reserved, fails at the key. Every error is committed.
-fn head_made<T: IrText<A>, A: AttrText, U>(
+fn head_made<T: IrText<A>, A: AttrText<A>, U>(
     s: &mut StateStream<'_, T, A, U>,
     names: &Names,
     region: Ptr<Region>,
@@ -167,7 +167,7 @@ fn head_made<T: IrText<A>, A: AttrText, U>(
 
 /// Defines the names of a block's arguments, in the state's context. Every error is committed; the names before one that fails are
 /// defined then.
-fn arguments_defined<T: IrText<A>, A: AttrText, U>(
+fn arguments_defined<T: IrText<A>, A: AttrText<A>, U>(
     s: &mut StateStream<'_, T, A, U>,
     names: &mut Names,
     arguments: &Few<ReadName>,
@@ -202,7 +202,7 @@ fn arguments_defined<T: IrText<A>, A: AttrText, U>(
 }
 
 /// Defines the label of a block, in the state's context. Every error is committed.
-fn label_defined<T: IrText<A>, A: AttrText, U>(
+fn label_defined<T: IrText<A>, A: AttrText<A>, U>(
     s: &mut StateStream<'_, T, A, U>,
     names: &mut Names,
     label: ReadName,
@@ -236,7 +236,7 @@ fn label_defined<T: IrText<A>, A: AttrText, U>(
 
 /// Defines the names of a block's arguments, records its mark, if it has one, and defines its label. Every error is committed; what
 /// precedes the error is defined and recorded then.
-fn head_named<T: IrText<A>, A: AttrText, U>(
+fn head_named<T: IrText<A>, A: AttrText<A>, U>(
     s: &mut StateStream<'_, T, A, U>,
     names: &mut Names,
     label: ReadName,
@@ -277,7 +277,7 @@ fn head_named<T: IrText<A>, A: AttrText, U>(
 /// with its label, its attributes, its location and the types of its arguments. Then its arguments are defined, its mark is recorded, and
 /// its label is defined. Fails with `ReservedKey` at a key of its dictionary, with `MultipleDefinitions` at a name, and with
 /// `DuplicateIndex` at its mark. Every error is committed.
-pub fn block_begin<T: IrText<A>, A: AttrText, U>(
+pub fn block_begin<T: IrText<A>, A: AttrText<A>, U>(
     s: &mut StateStream<'_, T, A, U>,
     names: &mut Names,
     region: Ptr<Region>,

@@ -112,7 +112,7 @@ fn piece_stored<T: Drop, A: Drop>(
 
 /// Parses what the next step of an open operation describes, with white space before it, and advances to the step after it. Every error
 /// is committed.
-fn piece_read<T: IrText<A>, A: AttrText>(
+fn piece_read<T: IrText<A>, A: AttrText<A>>(
     stream: &mut TextStream,
     ctx: &Context<T, A>,
     names: &mut Names,
@@ -137,7 +137,7 @@ fn piece_read<T: IrText<A>, A: AttrText>(
 }
 
 /// Stores what a piece gives an operation. On an error, the operation's attributes may have been changed.
-fn piece_kept<T: IrText<A>, A: AttrText>(
+fn piece_kept<T: IrText<A>, A: AttrText<A>>(
     ctx: &mut Context<T, A>,
     alloc: Global,
     op: Ptr<Operation>,
@@ -153,7 +153,7 @@ fn piece_kept<T: IrText<A>, A: AttrText>(
 }
 
 /// Stores what a piece gives an operation, in the state's context. Every error is committed.
-fn piece_done<T: IrText<A>, A: AttrText, U>(
+fn piece_done<T: IrText<A>, A: AttrText<A>, U>(
     s: &mut StateStream<'_, T, A, U>,
     names: &Names,
     op: Ptr<Operation>,
@@ -178,7 +178,7 @@ fn piece_done<T: IrText<A>, A: AttrText, U>(
 
 /// Parses a piece of an open operation, by its next step, which parses no region and no name. Stores what the piece gives the operation,
 /// and advances to the step after it. Fails with `ReservedKey` at the first reserved key of a dictionary. Every error is committed.
-pub fn operation_piece<T: IrText<A>, A: AttrText, U>(
+pub fn operation_piece<T: IrText<A>, A: AttrText<A>, U>(
     s: &mut StateStream<'_, T, A, U>,
     names: &mut Names,
     begun: &mut BegunOperation,

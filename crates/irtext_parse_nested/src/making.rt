@@ -78,7 +78,7 @@ fn result_types<T: Drop>(
 
 /// Creates a detached operation without regions from what its pieces gave. Returns it with the number of its results. If an allocation
 /// fails, or a counter is full, nothing changes.
-pub(crate) fn make_gathered<T: IrText<A>, A: AttrText>(
+pub(crate) fn make_gathered<T: IrText<A>, A: AttrText<A>>(
     ctx: &mut Context<T, A>,
     id: OpId,
     loc: Location<A>,

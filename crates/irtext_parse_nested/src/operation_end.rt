@@ -116,7 +116,7 @@ fn define_results<O: Drop, B: Drop, T: Drop, A>(
 }
 
 /// Defines the names of an operation's results, in the state's context.
-fn results_defined<T: IrText<A>, A: AttrText, U>(
+fn results_defined<T: IrText<A>, A: AttrText<A>, U>(
     s: &mut StateStream<'_, T, A, U>,
     names: &mut Names,
     begun: &BegunOperation,
@@ -150,7 +150,7 @@ fn results_defined<T: IrText<A>, A: AttrText, U>(
 }
 
 /// Stores the names of an operation's results as given names. If an allocation fails, the attributes may have been changed.
-fn given_kept<T: IrText<A>, A: AttrText>(
+fn given_kept<T: IrText<A>, A: AttrText<A>>(
     ctx: &mut Context<T, A>,
     alloc: Global,
     names: &Names,
@@ -166,7 +166,7 @@ fn given_kept<T: IrText<A>, A: AttrText>(
 }
 
 /// Stores the names of an operation's results as given names, in the state's context. The only error is `Memory`, committed.
-fn given_stored<T: IrText<A>, A: AttrText, U>(
+fn given_stored<T: IrText<A>, A: AttrText<A>, U>(
     s: &mut StateStream<'_, T, A, U>,
     names: &Names,
     begun: &BegunOperation,
@@ -190,7 +190,7 @@ fn given_stored<T: IrText<A>, A: AttrText, U>(
 }
 
 /// Defines the names of an operation's results, and stores them as given names, in the state's context.
-fn close<T: IrText<A>, A: AttrText, U>(
+fn close<T: IrText<A>, A: AttrText<A>, U>(
     s: &mut StateStream<'_, T, A, U>,
     names: &mut Names,
     begun: &BegunOperation,
@@ -234,7 +234,7 @@ fn end_parse<A>(stream: &mut TextStream) -> ParseResult<Option<ReadMark>, A>
 
 /// Records the mark of an operation or a block, if it has one. If its index is already recorded, fails at the mark. Every error is
 /// committed.
-pub(crate) fn note_mark<T: IrText<A>, A: AttrText, U>(
+pub(crate) fn note_mark<T: IrText<A>, A: AttrText<A>, U>(
     s: &mut StateStream<'_, T, A, U>,
     mark: Option<ReadMark>,
     item: Item,
@@ -265,7 +265,7 @@ pub(crate) fn note_mark<T: IrText<A>, A: AttrText, U>(
 /// results and stored as its given names. Then its mark is parsed, if one comes next, and recorded. Every error is committed:
 /// `ResultCount` at the beginning of the operation; `NoActiveScope` or `MultipleDefinitions` at a name; `DuplicateIndex` at the mark; and
 /// `Memory` if an allocation fails.
-pub fn operation_end<T: IrText<A>, A: AttrText, U>(
+pub fn operation_end<T: IrText<A>, A: AttrText<A>, U>(
     s: &mut StateStream<'_, T, A, U>,
     names: &mut Names,
     begun: &BegunOperation,

@@ -22,7 +22,7 @@ use irtext_state::parsable::StateStream;
 use std::alloc::AllocError;
 
 /// Appends a detached and empty block to a region. If an allocation fails, nothing changes.
-fn put_last<T: IrText<A>, A: AttrText>(
+fn put_last<T: IrText<A>, A: AttrText<A>>(
     ctx: &mut Context<T, A>,
     region: Ptr<Region>,
     block: Ptr<BasicBlock>,
@@ -43,7 +43,7 @@ fn put_last<T: IrText<A>, A: AttrText>(
 
 /// Creates a block with arguments of these types, and appends it to a region. The only error is `Memory`, committed. If the block was
 /// created but could not be appended, it stays in the context.
-pub fn place_block<T: IrText<A>, A: AttrText, U>(
+pub fn place_block<T: IrText<A>, A: AttrText<A>, U>(
     s: &mut StateStream<'_, T, A, U>,
     region: Ptr<Region>,
     label: Option<Identifier>,

@@ -101,7 +101,7 @@ fn enter<O: Drop, B: Drop, T: Drop, A>(
 }
 
 /// Returns the graph of the state's context.
-fn graph_of<'s, T: IrText<A>, A: AttrText, U>(
+fn graph_of<'s, T: IrText<A>, A: AttrText<A>, U>(
     state: &'s State<'_, T, A, U>,
 ) -> &'s Graph<Option<OperationData<A>>, BlockData<A>, Option<T>>
     ensures { result.now ≡ state.now.ctx.now.graph }
@@ -111,7 +111,7 @@ fn graph_of<'s, T: IrText<A>, A: AttrText, U>(
 
 /// Opens the scopes of a region, over the state's graph. `isolated` says whether its operation is isolated from above; if it is not and
 /// no scope of values is open, fails at the beginning of the text. On an error the names are unchanged.
-pub fn enter_here<T: IrText<A>, A: AttrText, U>(
+pub fn enter_here<T: IrText<A>, A: AttrText<A>, U>(
     s: &mut StateStream<'_, T, A, U>,
     names: &mut Names,
     isolated: bool,
@@ -137,7 +137,7 @@ pub fn enter_here<T: IrText<A>, A: AttrText, U>(
 }
 
 /// Appends a new region to an operation.
-fn add<T: IrText<A>, A: AttrText, U>(
+fn add<T: IrText<A>, A: AttrText<A>, U>(
     s: &mut StateStream<'_, T, A, U>,
     op: Ptr<Operation>,
 ) -> ParseResult<Ptr<Region>, A>
@@ -170,7 +170,7 @@ pub fn brace_demanded<A>(stream: &mut TextStream) -> ParseResult<(), A>
 /// Begins a region: opens its scopes, appends it to the operation, and parses its `{` and the white space after it. `isolated` says
 /// whether the operation is isolated from above; if it is not and no scope of values is open, fails at the beginning of the text. Every
 /// error is committed.
-pub fn region_begin<T: IrText<A>, A: AttrText, U>(
+pub fn region_begin<T: IrText<A>, A: AttrText<A>, U>(
     s: &mut StateStream<'_, T, A, U>,
     names: &mut Names,
     op: Ptr<Operation>,
@@ -241,7 +241,7 @@ fn leave<O: Drop, B: Drop, T: Drop, A>(
 
 /// Ends a region: parses its `}`, and closes its scopes. If a name has no definition there, fails at the beginning of the region, for the
 /// first such name. Every error is committed.
-pub fn region_end<T: IrText<A>, A: AttrText, U>(
+pub fn region_end<T: IrText<A>, A: AttrText<A>, U>(
     s: &mut StateStream<'_, T, A, U>,
     names: &mut Names,
     region: BegunRegion,

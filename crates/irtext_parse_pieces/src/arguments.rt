@@ -19,7 +19,7 @@ use std::alloc::AllocError;
 
 /// Parses an argument of a block: a name, `:` and a type. If no name comes next, the error is uncommitted and the stream is unchanged;
 /// other errors are committed.
-fn argument_parse<S: OwnStream, V: Copy, B: Copy, T: IrText<A>, A: AttrText>(
+fn argument_parse<S: OwnStream, V: Copy, B: Copy, T: IrText<A>, A: AttrText<A>>(
     stream: &mut S,
     names: &mut NameTracker<V, B>,
 ) -> ParseResult<(ReadName, T), A>
@@ -35,7 +35,7 @@ fn argument_parse<S: OwnStream, V: Copy, B: Copy, T: IrText<A>, A: AttrText>(
 }
 
 /// Parses the arguments after the first one, as long as `,` comes next.
-fn more_arguments<S: OwnStream, V: Copy, B: Copy, T: IrText<A>, A: AttrText>(
+fn more_arguments<S: OwnStream, V: Copy, B: Copy, T: IrText<A>, A: AttrText<A>>(
     stream: &mut S,
     names: &mut NameTracker<V, B>,
     first: (ReadName, T),
@@ -61,7 +61,7 @@ fn more_arguments<S: OwnStream, V: Copy, B: Copy, T: IrText<A>, A: AttrText>(
 
 /// Parses the arguments of a block, separated by `,` and with white space after each. Each is a name, `:` and a type, as
 /// `x: builtin.integer si64`. If no name comes next, returns an empty list. Every error is committed.
-pub fn arguments_parse<S: OwnStream, V: Copy, B: Copy, T: IrText<A>, A: AttrText>(
+pub fn arguments_parse<S: OwnStream, V: Copy, B: Copy, T: IrText<A>, A: AttrText<A>>(
     stream: &mut S,
     names: &mut NameTracker<V, B>,
 ) -> ParseResult<Few<(ReadName, T)>, A>

@@ -29,7 +29,7 @@ pub struct Key {
 pub type ReadEntry<A> = (Key, AttrObj<A>);
 
 /// Parses an attribute. Every error is committed.
-pub fn attr_demanded<S: OwnStream, A: AttrText>(stream: &mut S) -> ParseResult<AttrObj<A>, A>
+pub fn attr_demanded<S: OwnStream, A: AttrText<A>>(stream: &mut S) -> ParseResult<AttrObj<A>, A>
     ensures { MustRead S.CharStream.view S.CharStream.at attribute_of (attribute_at (attr_at A.IrText.reading)) stream.old result stream.new }
 {
     let answer = attr_parse(stream);
@@ -47,7 +47,7 @@ pub fn key_parse<S: CharStream, A>(stream: &mut S) -> ParseResult<Key, A>
 
 /// Parses an entry of a dictionary: a key, `:` and an attribute. If no name comes next, the error is uncommitted and the stream is
 /// unchanged; other errors are committed.
-fn entry_parse<S: OwnStream, A: AttrText>(stream: &mut S) -> ParseResult<ReadEntry<A>, A>
+fn entry_parse<S: OwnStream, A: AttrText<A>>(stream: &mut S) -> ParseResult<ReadEntry<A>, A>
     ensures { MayMean S.CharStream.view S.CharStream.at (IsEntry (whole (S.CharStream.view stream.old)))
         (pair_at (attr_at A.IrText.reading)) stream.old result stream.new }
 {
@@ -58,7 +58,7 @@ fn entry_parse<S: OwnStream, A: AttrText>(stream: &mut S) -> ParseResult<ReadEnt
 }
 
 /// Parses the entries after the first one, as long as `,` comes next.
-fn more_entries<S: OwnStream, A: AttrText>(
+fn more_entries<S: OwnStream, A: AttrText<A>>(
     stream: &mut S,
     first: ReadEntry<A>,
 ) -> ParseResult<Vec<ReadEntry<A>>, A>
@@ -83,7 +83,7 @@ fn more_entries<S: OwnStream, A: AttrText>(
 
 /// Parses entries that are separated by `,`, with white space after each. If no name comes next, returns an empty list. Every error is
 /// committed.
-fn entries_parse<S: OwnStream, A: AttrText>(stream: &mut S) -> ParseResult<Vec<ReadEntry<A>>, A>
+fn entries_parse<S: OwnStream, A: AttrText<A>>(stream: &mut S) -> ParseResult<Vec<ReadEntry<A>>, A>
     ensures { MustEntries S.CharStream.view S.CharStream.at (separated_at 44 (pair_at (attr_at A.IrText.reading))) stream.old result stream.new }
 {
     if none_named(stream, NameKind::Value) {
@@ -106,7 +106,7 @@ fn entries_parse<S: OwnStream, A: AttrText>(stream: &mut S) -> ParseResult<Vec<R
 /// Parses a dictionary: entries in brackets, separated by `,`, each a key, `:` and an attribute, as `[key: attribute]`. Reserved and
 /// repeated keys are accepted here. An empty dictionary allocates nothing, and one with entries allocates a vector. Every error is
 /// committed.
-pub fn dictionary_parse<S: OwnStream, A: AttrText>(
+pub fn dictionary_parse<S: OwnStream, A: AttrText<A>>(
     stream: &mut S,
 ) -> ParseResult<Vec<ReadEntry<A>>, A>
     ensures { MustEntries S.CharStream.view S.CharStream.at (dictionary_at (attr_at A.IrText.reading)) stream.old result stream.new }
@@ -119,7 +119,7 @@ pub fn dictionary_parse<S: OwnStream, A: AttrText>(
 }
 
 /// Parses a dictionary as `dictionary_parse` does if `[` comes next; otherwise returns `None`. Every error is committed.
-pub fn dictionary_if_parse<S: OwnStream, A: AttrText>(
+pub fn dictionary_if_parse<S: OwnStream, A: AttrText<A>>(
     stream: &mut S,
 ) -> ParseResult<Option<Vec<ReadEntry<A>>>, A>
     ensures { MustDictionaryIf S.CharStream.view S.CharStream.at (attr_at A.IrText.reading) stream.old result stream.new }

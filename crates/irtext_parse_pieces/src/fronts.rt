@@ -22,7 +22,7 @@ use irtext_scopes::tracker::NameTracker;
 use std::alloc::AllocError;
 
 /// Parses what a step of a format describes, which is no region, and appends it to the pieces. Every error is committed.
-fn step_found<S: OwnStream, V: Copy, B: Copy, T: IrText<A>, A: AttrText>(
+fn step_found<S: OwnStream, V: Copy, B: Copy, T: IrText<A>, A: AttrText<A>>(
     stream: &mut S,
     names: &mut NameTracker<V, B>,
     step: FormatStep<'_>,
@@ -47,7 +47,7 @@ fn step_found<S: OwnStream, V: Copy, B: Copy, T: IrText<A>, A: AttrText>(
 }
 
 /// Parses what the steps of a format describe, up to the first step that parses regions, with white space before each.
-fn pieces_parse<S: OwnStream, V: Copy, B: Copy, T: IrText<A>, A: AttrText>(
+fn pieces_parse<S: OwnStream, V: Copy, B: Copy, T: IrText<A>, A: AttrText<A>>(
     stream: &mut S,
     names: &mut NameTracker<V, B>,
     format: &OpFormat,
@@ -75,7 +75,7 @@ fn pieces_parse<S: OwnStream, V: Copy, B: Copy, T: IrText<A>, A: AttrText>(
 /// Parses what the steps of a format describe, up to the first step that parses regions, one piece for each step, with white space before
 /// each. `inside` says whether it is inside of a region; outside of every region no name can be used. The result has as many pieces as
 /// there are such steps. Every error is committed, and leaves the stream failed.
-pub fn front_parse<S: OwnStream, V: Copy, B: Copy, T: IrText<A>, A: AttrText>(
+pub fn front_parse<S: OwnStream, V: Copy, B: Copy, T: IrText<A>, A: AttrText<A>>(
     stream: &mut S,
     names: &mut NameTracker<V, B>,
     format: &OpFormat,

@@ -27,7 +27,7 @@ pub struct BlockHead<T, A> {
 /// Parses the header of a block: `^` and its label, its arguments in parentheses, a dictionary if `[` comes next, a mark if `!` comes
 /// next, and `:`, as `^b(x: builtin.integer si64) !0:`. Reserved and repeated keys of the dictionary are accepted here. Every error is
 /// committed.
-pub fn block_head_parse<S: OwnStream, V: Copy, B: Copy, T: IrText<A>, A: AttrText>(
+pub fn block_head_parse<S: OwnStream, V: Copy, B: Copy, T: IrText<A>, A: AttrText<A>>(
     stream: &mut S,
     names: &mut NameTracker<V, B>,
 ) -> ParseResult<BlockHead<T, A>, A>

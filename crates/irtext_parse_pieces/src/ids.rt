@@ -23,7 +23,7 @@ use std::convert::AsStr;
 
 /// Consumes what may be an id, and looks it up: returns the id of a registered operation, as its dialect has it, with its registered
 /// information. If there is none, how much was consumed is unspecified.
-fn look_up<'c, S: CharStream, T: IrText<A>, A: AttrText>(
+fn look_up<'c, S: CharStream, T: IrText<A>, A: AttrText<A>>(
     stream: &mut S,
     ctx: &'c Context<T, A>,
 ) -> Option<(&'c OpId, &'c OpInfo)>
@@ -49,7 +49,7 @@ fn look_up<'c, S: CharStream, T: IrText<A>, A: AttrText>(
 
 /// Consumes the id of a registered operation if one comes next, and returns it with its registered information. Otherwise nothing is
 /// consumed. Allocates nothing.
-fn known_op<'c, S: CharStream, T: IrText<A>, A: AttrText>(
+fn known_op<'c, S: CharStream, T: IrText<A>, A: AttrText<A>>(
     stream: &mut S,
     ctx: &'c Context<T, A>,
 ) -> Option<(&'c OpId, &'c OpInfo)>
@@ -112,7 +112,7 @@ fn demand_if<S: CharStream, X, A>(
 /// Returns the id with the registered information of its operation. Fails with `UnregisteredDialect` or `UnregisteredOp` if it is not
 /// registered. `start` is where the operation begins, `at` where its id begins.
 #[cold]
-fn registered<'c, S: CharStream, T: IrText<A>, A: AttrText>(
+fn registered<'c, S: CharStream, T: IrText<A>, A: AttrText<A>>(
     stream: &mut S,
     ctx: &'c Context<T, A>,
     start: Place,
@@ -134,7 +134,7 @@ fn registered<'c, S: CharStream, T: IrText<A>, A: AttrText>(
 /// Parses the id of a registered operation after a lead, and returns it with the operation's registered information. A lead is what
 /// precedes an id: white space and the names of results; it may be empty. `start` is where the lead begins, and `led` says whether it is
 /// not empty; then every error is committed. A registered id allocates nothing.
-fn id_behind<'c, S: CharStream, T: IrText<A>, A: AttrText>(
+fn id_behind<'c, S: CharStream, T: IrText<A>, A: AttrText<A>>(
     stream: &mut S,
     ctx: &'c Context<T, A>,
     start: Place,
@@ -176,7 +176,7 @@ pub type Led<'c> = (Few<ReadName>, OpId, &'c OpInfo);
 
 /// Parses the names of an operation's results, if they come next, and the id of a registered operation, as `a, b = test.two`. If neither
 /// comes next, and no white space, the error is uncommitted and the stream is unchanged. A registered id allocates nothing.
-pub fn results_and_id_parse<'c, S: CharStream, V: Copy, B: Copy, T: IrText<A>, A: AttrText>(
+pub fn results_and_id_parse<'c, S: CharStream, V: Copy, B: Copy, T: IrText<A>, A: AttrText<A>>(
     stream: &mut S,
     ctx: &'c Context<T, A>,
     names: &mut NameTracker<V, B>,

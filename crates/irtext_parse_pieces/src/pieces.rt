@@ -65,7 +65,7 @@ fn accepts<S: CharStream>(stream: &mut S, text: &str) -> bool
 }
 
 /// Parses an attribute, or the marker of an attribute that is in the section. Every error is committed.
-fn outlined_or_demanded<S: OwnStream, A: AttrText>(
+fn outlined_or_demanded<S: OwnStream, A: AttrText<A>>(
     stream: &mut S,
 ) -> ParseResult<Option<AttrObj<A>>, A>
     ensures { MustRead S.CharStream.view S.CharStream.at seen_attribute (outlined_or_at (attr_at A.IrText.reading)) stream.old result stream.new }
@@ -81,7 +81,7 @@ fn outlined_or_demanded<S: OwnStream, A: AttrText>(
 }
 
 /// Parses a fixed text.
-fn word_piece<S: OwnStream, T: IrText<A>, A: AttrText>(
+fn word_piece<S: OwnStream, T: IrText<A>, A: AttrText<A>>(
     stream: &mut S,
     text: &str,
 ) -> ParseResult<ReadPiece<T, A>, A>
@@ -93,7 +93,7 @@ fn word_piece<S: OwnStream, T: IrText<A>, A: AttrText>(
 }
 
 /// Parses the name of an operand.
-fn operand_piece<S: OwnStream, V: Copy, B: Copy, T: IrText<A>, A: AttrText>(
+fn operand_piece<S: OwnStream, V: Copy, B: Copy, T: IrText<A>, A: AttrText<A>>(
     stream: &mut S,
     names: &mut NameTracker<V, B>,
     index: usize,
@@ -107,7 +107,7 @@ fn operand_piece<S: OwnStream, V: Copy, B: Copy, T: IrText<A>, A: AttrText>(
 }
 
 /// Parses the names of operands.
-fn operands_piece<S: OwnStream, V: Copy, B: Copy, T: IrText<A>, A: AttrText>(
+fn operands_piece<S: OwnStream, V: Copy, B: Copy, T: IrText<A>, A: AttrText<A>>(
     stream: &mut S,
     names: &mut NameTracker<V, B>,
     inside: bool,
@@ -121,7 +121,7 @@ fn operands_piece<S: OwnStream, V: Copy, B: Copy, T: IrText<A>, A: AttrText>(
 }
 
 /// Parses the label of a successor.
-fn successor_piece<S: OwnStream, V: Copy, B: Copy, T: IrText<A>, A: AttrText>(
+fn successor_piece<S: OwnStream, V: Copy, B: Copy, T: IrText<A>, A: AttrText<A>>(
     stream: &mut S,
     names: &mut NameTracker<V, B>,
     index: usize,
@@ -135,7 +135,7 @@ fn successor_piece<S: OwnStream, V: Copy, B: Copy, T: IrText<A>, A: AttrText>(
 }
 
 /// Parses the labels of successors.
-fn successors_piece<S: OwnStream, V: Copy, B: Copy, T: IrText<A>, A: AttrText>(
+fn successors_piece<S: OwnStream, V: Copy, B: Copy, T: IrText<A>, A: AttrText<A>>(
     stream: &mut S,
     names: &mut NameTracker<V, B>,
     inside: bool,
@@ -149,7 +149,7 @@ fn successors_piece<S: OwnStream, V: Copy, B: Copy, T: IrText<A>, A: AttrText>(
 }
 
 /// Parses the marker or the attribute of a directive with this key.
-fn attr_piece<S: OwnStream, T: IrText<A>, A: AttrText>(
+fn attr_piece<S: OwnStream, T: IrText<A>, A: AttrText<A>>(
     stream: &mut S,
     key: &Identifier,
 ) -> ParseResult<ReadPiece<T, A>, A>
@@ -164,7 +164,7 @@ fn attr_piece<S: OwnStream, T: IrText<A>, A: AttrText>(
 }
 
 /// Parses a dictionary.
-fn dictionary_piece<S: OwnStream, T: IrText<A>, A: AttrText>(
+fn dictionary_piece<S: OwnStream, T: IrText<A>, A: AttrText<A>>(
     stream: &mut S,
 ) -> ParseResult<ReadPiece<T, A>, A>
     ensures { (names : List Text) → MustPiece S.CharStream.view S.CharStream.at names
@@ -175,7 +175,7 @@ fn dictionary_piece<S: OwnStream, T: IrText<A>, A: AttrText>(
 }
 
 /// Parses the type of a result.
-fn type_piece<S: OwnStream, T: IrText<A>, A: AttrText>(
+fn type_piece<S: OwnStream, T: IrText<A>, A: AttrText<A>>(
     stream: &mut S,
     index: usize,
 ) -> ParseResult<ReadPiece<T, A>, A>
@@ -188,7 +188,7 @@ fn type_piece<S: OwnStream, T: IrText<A>, A: AttrText>(
 }
 
 /// Parses a symbol's name.
-fn header_piece<S: OwnStream, T: IrText<A>, A: AttrText>(
+fn header_piece<S: OwnStream, T: IrText<A>, A: AttrText<A>>(
     stream: &mut S,
 ) -> ParseResult<ReadPiece<T, A>, A>
     ensures { (names : List Text) → MustPiece S.CharStream.view S.CharStream.at names (symbol_at ⇒ header) stream.old result stream.new }
@@ -198,7 +198,7 @@ fn header_piece<S: OwnStream, T: IrText<A>, A: AttrText>(
 }
 
 /// Parses a list of types, in the canonical form.
-fn types_piece<S: OwnStream, T: IrText<A>, A: AttrText>(
+fn types_piece<S: OwnStream, T: IrText<A>, A: AttrText<A>>(
     stream: &mut S,
 ) -> ParseResult<ReadPiece<T, A>, A>
     ensures { (names : List Text) → MustPiece S.CharStream.view S.CharStream.at names
@@ -209,7 +209,7 @@ fn types_piece<S: OwnStream, T: IrText<A>, A: AttrText>(
 }
 
 /// Returns the error for a step that parses a region, which is no piece: an operation was expected.
-fn no_piece<S: OwnStream, T: IrText<A>, A: AttrText>(
+fn no_piece<S: OwnStream, T: IrText<A>, A: AttrText<A>>(
     stream: &mut S,
 ) -> ParseResult<ReadPiece<T, A>, A>
     ensures { (names : List Text) → MustPiece S.CharStream.view S.CharStream.at names
@@ -222,7 +222,7 @@ fn no_piece<S: OwnStream, T: IrText<A>, A: AttrText>(
 }
 
 /// Parses what a directive describes.
-fn piece_parse<S: OwnStream, V: Copy, B: Copy, T: IrText<A>, A: AttrText>(
+fn piece_parse<S: OwnStream, V: Copy, B: Copy, T: IrText<A>, A: AttrText<A>>(
     stream: &mut S,
     names: &mut NameTracker<V, B>,
     directive: &Directive,
@@ -250,7 +250,7 @@ fn piece_parse<S: OwnStream, V: Copy, B: Copy, T: IrText<A>, A: AttrText>(
 /// Parses what a step of a format describes. `inside` says whether it is inside of a region; outside of every region no name can be used.
 /// An attribute may be replaced by the marker `!outlined`; reserved and repeated keys of a dictionary are accepted here. If the step
 /// describes regions, fails with `Unexpected`: an operation was expected. Every error is committed, and leaves the stream failed.
-pub fn step_parse<S: OwnStream, V: Copy, B: Copy, T: IrText<A>, A: AttrText>(
+pub fn step_parse<S: OwnStream, V: Copy, B: Copy, T: IrText<A>, A: AttrText<A>>(
     stream: &mut S,
     names: &mut NameTracker<V, B>,
     step: FormatStep<'_>,

@@ -26,7 +26,7 @@ use irtext_state::parsable::StateStream;
 use std::alloc::AllocError;
 
 /// Creates a detached region in the context of the state. The only error is `Memory`, if an allocation fails.
-fn region_made<T: IrText<A>, A: AttrText, U>(
+fn region_made<T: IrText<A>, A: AttrText<A>, U>(
     s: &mut StateStream<'_, T, A, U>,
 ) -> ParseResult<Ptr<Region>, A>
     ensures lent { s.new.state.ctx.ghost_name ≡ s.old.state.ctx.ghost_name }
@@ -48,7 +48,7 @@ fn region_made<T: IrText<A>, A: AttrText, U>(
 /// Opens the scopes of a new detached region, creates it, and parses its `{` and the white space after it. `isolated` says whether its
 /// operation is isolated from above. If it is not, and no scope of values is open, fails at the beginning of the text. Every error is
 /// committed.
-pub(crate) fn region_alone<T: IrText<A>, A: AttrText, U>(
+pub(crate) fn region_alone<T: IrText<A>, A: AttrText<A>, U>(
     s: &mut StateStream<'_, T, A, U>,
     names: &mut Names,
     isolated: bool,
@@ -82,7 +82,7 @@ pub(crate) fn region_alone<T: IrText<A>, A: AttrText, U>(
 }
 
 /// Appends a detached region to an operation. If an allocation fails, the context is unchanged.
-pub(crate) fn region_placed<T: IrText<A>, A: AttrText, U>(
+pub(crate) fn region_placed<T: IrText<A>, A: AttrText<A>, U>(
     s: &mut StateStream<'_, T, A, U>,
     op: Ptr<Operation>,
     region: Ptr<Region>,

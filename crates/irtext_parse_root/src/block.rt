@@ -97,7 +97,7 @@ fn reserved_key<A>(attributes: &Option<Vec<ReadEntry<A>>>) -> Option<&Key>
 }
 
 /// Returns the mark of a header, if it has one and its index is already recorded.
-fn noted_twice<T: IrText<A>, A: AttrText, U>(
+fn noted_twice<T: IrText<A>, A: AttrText<A>, U>(
     state: &State<'_, T, A, U>,
     mark: Option<ReadMark>,
 ) -> Option<ReadMark>
@@ -150,7 +150,7 @@ fn mark_fault<A>(stream: &mut TextStream, mark: ReadMark) -> ParseFault<A>
 
 /// Returns the error for a header that was parsed where no scope is open: that of the first reserved key; otherwise of the name of the
 /// first argument; otherwise of the mark, if its index is already recorded; otherwise of the label. Leaves the stream failed.
-fn header_fault<T: IrText<A>, A: AttrText, U>(
+fn header_fault<T: IrText<A>, A: AttrText<A>, U>(
     stream: &mut TextStream,
     state: &State<'_, T, A, U>,
     names: &Names,
@@ -176,7 +176,7 @@ fn header_fault<T: IrText<A>, A: AttrText, U>(
 
 /// Parses the header of a block. If `^` does not come next, the error is uncommitted and the stream is unchanged; other errors are
 /// committed.
-fn header_parse<T: IrText<A>, A: AttrText>(
+fn header_parse<T: IrText<A>, A: AttrText<A>>(
     stream: &mut TextStream,
     names: &mut Names,
 ) -> ParseResult<BlockHead<T, A>, A>
@@ -199,7 +199,7 @@ fn header_parse<T: IrText<A>, A: AttrText>(
 /// parses, the error is the first of these: a key of its dictionary is reserved; a name is defined outside of every scope, that of the
 /// first argument or, after the mark, the label; the index of its mark is already recorded. If an allocation fails, the error is
 /// `Memory`. On a stream that has failed the error is `StreamFailed`. The state is unchanged: no mark is recorded.
-pub fn block_parse<T: IrText<A>, A: AttrText, U>(
+pub fn block_parse<T: IrText<A>, A: AttrText<A>, U>(
     s: &mut StateStream<'_, T, A, U>,
 ) -> ParseResult<Ptr<BasicBlock>, A>
     ensures state { s.new.state ≡ s.old.state }

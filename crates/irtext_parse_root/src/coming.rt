@@ -77,7 +77,7 @@ fn ended(step: usize) -> Next
 }
 
 /// Returns what comes next in an open operation. The format is looked up only if steps are left.
-pub(crate) fn next_turn<T: IrText<A>, A: AttrText>(
+pub(crate) fn next_turn<T: IrText<A>, A: AttrText<A>>(
     ctx: &Context<T, A>,
     begun: &BegunOperation,
 ) -> Next

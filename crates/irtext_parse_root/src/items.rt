@@ -18,7 +18,7 @@ use irtext_parse_nested::frame::Names;
 use irtext_state::parsable::StateStream;
 
 /// Parses the rest of the text of a frame that is the only open one. Every error is committed. On an error, scopes may be left open.
-pub(crate) fn items_parse<T: IrText<A>, A: AttrText, U>(
+pub(crate) fn items_parse<T: IrText<A>, A: AttrText<A>, U>(
     s: &mut StateStream<'_, T, A, U>,
     names: &mut Names,
     first: Frame,

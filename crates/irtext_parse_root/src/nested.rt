@@ -26,7 +26,7 @@ use irtext_state::parsable::StateStream;
 /// Parses an operation outside of every region, with everything nested in it. The error is the first one in the order of the text. It is
 /// committed, unless no operation comes next; then nothing was consumed. On an error, the objects that were created stay in the context,
 /// and scopes of names may stay open.
-pub fn nested_parse<T: IrText<A>, A: AttrText, U>(
+pub fn nested_parse<T: IrText<A>, A: AttrText<A>, U>(
     s: &mut StateStream<'_, T, A, U>,
     names: &mut Names,
 ) -> ParseResult<Ptr<Operation>, A>

@@ -33,7 +33,7 @@ use irtext_state::parsable::StateStream;
 use irtext_state::parsable::state::State;
 
 /// Whether operations with this id are isolated from above.
-fn isolated_by<T: IrText<A>, A: AttrText>(ctx: &Context<T, A>, id: &OpId) -> bool
+fn isolated_by<T: IrText<A>, A: AttrText<A>>(ctx: &Context<T, A>, id: &OpId) -> bool
     ensures { result ≡ isolated ctx.now.dialects (id_of id.now) }
 {
     match ctx.op_info(id) {
@@ -43,7 +43,7 @@ fn isolated_by<T: IrText<A>, A: AttrText>(ctx: &Context<T, A>, id: &OpId) -> boo
 }
 
 /// Whether an operation is isolated from above.
-fn is_isolated<T: IrText<A>, A: AttrText>(ctx: &Context<T, A>, op: Ptr<Operation>) -> bool
+fn is_isolated<T: IrText<A>, A: AttrText<A>>(ctx: &Context<T, A>, op: Ptr<Operation>) -> bool
     requires { IsSome (operation ctx.now op) }
     ensures { IsolatedAs ctx.now op result }
 {
@@ -51,7 +51,7 @@ fn is_isolated<T: IrText<A>, A: AttrText>(ctx: &Context<T, A>, op: Ptr<Operation
 }
 
 /// Whether an operation of the state's context is isolated from above.
-fn isolated_here<T: IrText<A>, A: AttrText, U>(
+fn isolated_here<T: IrText<A>, A: AttrText<A>, U>(
     state: &State<'_, T, A, U>,
     op: Ptr<Operation>,
 ) -> bool
@@ -75,7 +75,7 @@ fn position_of<A>(loc: &Location<A>) -> SourcePosition
 }
 
 /// The position of the location of an operation.
-fn position_in<T: IrText<A>, A: AttrText>(ctx: &Context<T, A>, op: Ptr<Operation>) -> SourcePosition
+fn position_in<T: IrText<A>, A: AttrText<A>>(ctx: &Context<T, A>, op: Ptr<Operation>) -> SourcePosition
     requires { IsSome (operation ctx.now op) }
     ensures { (view : OperationView T A) → operation ctx.now op ≡ Some view → IsPositionOf view.loc result }
 {
@@ -83,7 +83,7 @@ fn position_in<T: IrText<A>, A: AttrText>(ctx: &Context<T, A>, op: Ptr<Operation
 }
 
 /// The position of the location of an operation of the state's context.
-fn position_here<T: IrText<A>, A: AttrText, U>(
+fn position_here<T: IrText<A>, A: AttrText<A>, U>(
     state: &State<'_, T, A, U>,
     op: Ptr<Operation>,
 ) -> SourcePosition
@@ -115,7 +115,7 @@ fn not_isolated<A>(stream: &mut TextStream, pos: SourcePosition) -> ParseFault<A
 /// scope of values is open, fails with `TopLevelOpRegionNotIsolatedFromAbove` at the position of the operation's location; any other
 /// error is the first one in the order of the text. An error is committed, unless `{` does not come next; then nothing was consumed. On
 /// an error, the operation is unchanged; the objects that were created stay in the context, and scopes of names may stay open.
-pub fn region_parse<T: IrText<A>, A: AttrText, U>(
+pub fn region_parse<T: IrText<A>, A: AttrText<A>, U>(
     s: &mut StateStream<'_, T, A, U>,
     names: &mut Names,
     op: Ptr<Operation>,

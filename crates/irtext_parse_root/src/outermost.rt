@@ -36,7 +36,7 @@ pub(crate) fn failed_fault<S: CharStream, A>(stream: &S) -> ParseFault<A>
 }
 
 /// Returns how many objects have been created in the state's context. Each live object was created before this count was reached.
-pub(crate) fn made_in<T: IrText<A>, A: AttrText, U>(state: &State<'_, T, A, U>) -> u64
+pub(crate) fn made_in<T: IrText<A>, A: AttrText<A>, U>(state: &State<'_, T, A, U>) -> u64
     ensures made { result ≡ state.now.ctx.now.graph.made }
     ensures older { AllOlder result state.now.ctx.now.graph }
     ensures closed { IsClosedBelow result state.now.ctx.now.graph }
@@ -46,7 +46,7 @@ pub(crate) fn made_in<T: IrText<A>, A: AttrText, U>(state: &State<'_, T, A, U>) 
 
 /// Parses an operation with everything nested in it and, if `look` is set and a mark is recorded, the section after it. On an error, the
 /// objects that were created stay in the context.
-fn marked_parse<T: IrText<A>, A: AttrText, U>(
+fn marked_parse<T: IrText<A>, A: AttrText<A>, U>(
     s: &mut StateStream<'_, T, A, U>,
     look: bool,
 ) -> ParseResult<Ptr<Operation>, A>
@@ -87,7 +87,7 @@ fn marked_parse<T: IrText<A>, A: AttrText, U>(
 /// of them is then an error, `Cause::DuplicateIndex`. A section covers all recorded marks: it is parsed after an operation without a mark
 /// too, its entries may be for any of the marks, each item gets what the entry of its mark gives, and no mark is recorded after it. An
 /// item is an operation or a block that carries a mark.
-pub fn outermost_parse<T: IrText<A>, A: AttrText, U>(
+pub fn outermost_parse<T: IrText<A>, A: AttrText<A>, U>(
     s: &mut StateStream<'_, T, A, U>,
     look: bool,
 ) -> ParseResult<Ptr<Operation>, A>
@@ -127,7 +127,7 @@ pub fn outermost_parse<T: IrText<A>, A: AttrText, U>(
 
 /// Parses an operation with everything nested in it, and no section: its marks stay recorded. On an error, the objects that were created
 /// are removed, and none of the operation's marks stays recorded. The errors are those of `outermost_parse`.
-pub fn operation_parse<T: IrText<A>, A: AttrText, U>(
+pub fn operation_parse<T: IrText<A>, A: AttrText<A>, U>(
     s: &mut StateStream<'_, T, A, U>,
 ) -> ParseResult<Ptr<Operation>, A>
     ensures lent { s.new.state.ctx.ghost_name ≡ s.old.state.ctx.ghost_name }
@@ -154,7 +154,7 @@ pub fn operation_parse<T: IrText<A>, A: AttrText, U>(
 /// none of the root's marks stays recorded, and everything older is unchanged: the items of roots that were parsed before, whose marks
 /// are still recorded, keep what they had. On a stream that has failed the error is `StreamFailed`; if an allocation fails, the error is
 /// `Memory`.
-pub fn root_parse<T: IrText<A>, A: AttrText, U>(
+pub fn root_parse<T: IrText<A>, A: AttrText<A>, U>(
     s: &mut StateStream<'_, T, A, U>,
 ) -> ParseResult<Ptr<Operation>, A>
     ensures lent { s.new.state.ctx.ghost_name ≡ s.old.state.ctx.ghost_name }

@@ -17,7 +17,7 @@ pub use irtext_state::parsable::{
 };
 
 /// A type that can be parsed from a stream with a context.
-pub trait Parsable<T: IrText<A>, A: AttrText, U> {
+pub trait Parsable<T: IrText<A>, A: AttrText<A>, U> {
     /// The argument of the parser besides the stream.
     type Arg;
     /// The value that the parser returns.

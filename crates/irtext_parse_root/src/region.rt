@@ -33,7 +33,7 @@ use irtext_state::parsable::state::Noting;
 use irtext_state::parsable::{State, StateStream};
 
 /// Whether operations with this id are isolated from above.
-fn isolated_by<T: IrText<A>, A: AttrText>(ctx: &Context<T, A>, id: &OpId) -> bool
+fn isolated_by<T: IrText<A>, A: AttrText<A>>(ctx: &Context<T, A>, id: &OpId) -> bool
     ensures { result ≡ isolated ctx.now.dialects (id_of id.now) }
 {
     match ctx.op_info(id) {
@@ -56,7 +56,7 @@ pub(crate) fn position_of<A>(loc: &Location<A>) -> SourcePosition
 }
 
 /// The position of an operation that is not isolated from above; `None` for an operation that is.
-fn unisolated_at<T: IrText<A>, A: AttrText>(
+fn unisolated_at<T: IrText<A>, A: AttrText<A>>(
     ctx: &Context<T, A>,
     op: Ptr<Operation>,
 ) -> Option<SourcePosition>
@@ -70,7 +70,7 @@ fn unisolated_at<T: IrText<A>, A: AttrText>(
 }
 
 /// The same for an operation of the state's context.
-fn unisolated_here<T: IrText<A>, A: AttrText, U>(
+fn unisolated_here<T: IrText<A>, A: AttrText<A>, U>(
     state: &State<'_, T, A, U>,
     op: Ptr<Operation>,
 ) -> Option<SourcePosition>
@@ -100,7 +100,7 @@ fn not_isolated<A>(stream: &mut TextStream, pos: SourcePosition) -> ParseFault<A
 
 /// Parses a region with everything nested in it, with new names, and appends it to an operation that is isolated from above. On an error,
 /// the objects that were created stay in the context, but none of them is in the operation.
-fn isolated_parse<T: IrText<A>, A: AttrText, U>(
+fn isolated_parse<T: IrText<A>, A: AttrText<A>, U>(
     s: &mut StateStream<'_, T, A, U>,
     parent: Ptr<Operation>,
 ) -> ParseResult<Ptr<Region>, A>
@@ -135,7 +135,7 @@ fn isolated_parse<T: IrText<A>, A: AttrText, U>(
 
 /// The same for any operation. If it is not isolated from above, fails at the position of the operation's location: no name of the
 /// enclosing scopes is known.
-fn alone_parse<T: IrText<A>, A: AttrText, U>(
+fn alone_parse<T: IrText<A>, A: AttrText<A>, U>(
     s: &mut StateStream<'_, T, A, U>,
     parent: Ptr<Operation>,
 ) -> ParseResult<Ptr<Region>, A>
@@ -168,7 +168,7 @@ fn alone_parse<T: IrText<A>, A: AttrText, U>(
 /// ```text
 /// { ^entry(x: i32): test.return x }
 /// ```
-pub fn region_parse<T: IrText<A>, A: AttrText, U>(
+pub fn region_parse<T: IrText<A>, A: AttrText<A>, U>(
     s: &mut StateStream<'_, T, A, U>,
     parent: Ptr<Operation>,
 ) -> ParseResult<Ptr<Region>, A>

@@ -23,7 +23,7 @@ use irtext_read::irfmt::faults::{out_of_memory, stands_at};
 use irtext_state::parsable::{State, StateStream};
 
 /// How many results an operation of the state's context has.
-fn result_count<T: IrText<A>, A: AttrText, U>(
+fn result_count<T: IrText<A>, A: AttrText<A>, U>(
     state: &State<'_, T, A, U>,
     op: Ptr<Operation>,
 ) -> usize
@@ -76,7 +76,7 @@ fn no_scope_error<A>(stream: &mut TextStream, name: &Identifier, loc: &Location<
 /// otherwise at the beginning of the text. If there are not as many names as results, the error is `ResultCount`, at the current position
 /// of the stream. So the call succeeds only for an operation without results and an empty list of names. Every error is committed. On a
 /// stream that has failed the error is `StreamFailed`; if an allocation fails, the error is `Memory`. The state is unchanged.
-pub fn process_parsed_ssa_defs<T: IrText<A>, A: AttrText, U>(
+pub fn process_parsed_ssa_defs<T: IrText<A>, A: AttrText<A>, U>(
     s: &mut StateStream<'_, T, A, U>,
     results: &[(Identifier, Location<A>)],
     op: Ptr<Operation>,

@@ -28,7 +28,7 @@ use irtext_state::parsable::StateStream;
 use irtext_state::parsable::state::State;
 
 /// What comes next in an open operation.
-fn coming_here<T: IrText<A>, A: AttrText, U>(
+fn coming_here<T: IrText<A>, A: AttrText<A>, U>(
     state: &State<'_, T, A, U>,
     begun: &BegunOperation,
 ) -> Next
@@ -50,7 +50,7 @@ fn at_step(begun: BegunOperation, step: usize) -> BegunOperation
 }
 
 /// Parses a piece of an operation after its first region.
-fn piece_step<T: IrText<A>, A: AttrText, U>(
+fn piece_step<T: IrText<A>, A: AttrText<A>, U>(
     s: &mut StateStream<'_, T, A, U>,
     names: &mut Names,
     frames: &mut Waiting,
@@ -77,7 +77,7 @@ fn piece_step<T: IrText<A>, A: AttrText, U>(
 }
 
 /// Begins the operation's region that comes next.
-fn region_step<T: IrText<A>, A: AttrText, U>(
+fn region_step<T: IrText<A>, A: AttrText<A>, U>(
     s: &mut StateStream<'_, T, A, U>,
     names: &mut Names,
     frames: &mut Waiting,
@@ -113,7 +113,7 @@ fn region_step<T: IrText<A>, A: AttrText, U>(
 }
 
 /// Begins one more region of an operation or, if there is none, goes on to the next step.
-fn regions_step<T: IrText<A>, A: AttrText, U>(
+fn regions_step<T: IrText<A>, A: AttrText<A>, U>(
     s: &mut StateStream<'_, T, A, U>,
     names: &mut Names,
     frames: &mut Waiting,
@@ -150,7 +150,7 @@ fn regions_step<T: IrText<A>, A: AttrText, U>(
 }
 
 /// Ends an operation.
-fn end_step<T: IrText<A>, A: AttrText, U>(
+fn end_step<T: IrText<A>, A: AttrText<A>, U>(
     s: &mut StateStream<'_, T, A, U>,
     names: &mut Names,
     frames: &mut Waiting,
@@ -176,7 +176,7 @@ fn end_step<T: IrText<A>, A: AttrText, U>(
 }
 
 /// Continues an operation with the next step of its format.
-fn operation_step<T: IrText<A>, A: AttrText, U>(
+fn operation_step<T: IrText<A>, A: AttrText<A>, U>(
     s: &mut StateStream<'_, T, A, U>,
     names: &mut Names,
     frames: &mut Waiting,
@@ -206,7 +206,7 @@ fn operation_step<T: IrText<A>, A: AttrText, U>(
 }
 
 /// Begins a block of a region or, if there is none, ends the region.
-fn blocks_step<T: IrText<A>, A: AttrText, U>(
+fn blocks_step<T: IrText<A>, A: AttrText<A>, U>(
     s: &mut StateStream<'_, T, A, U>,
     names: &mut Names,
     frames: &mut Waiting,
@@ -239,7 +239,7 @@ fn blocks_step<T: IrText<A>, A: AttrText, U>(
 }
 
 /// Begins an operation of a block or, if there is none, leaves the block.
-fn block_step<T: IrText<A>, A: AttrText, U>(
+fn block_step<T: IrText<A>, A: AttrText<A>, U>(
     s: &mut StateStream<'_, T, A, U>,
     names: &mut Names,
     frames: &mut Waiting,
@@ -273,7 +273,7 @@ fn block_step<T: IrText<A>, A: AttrText, U>(
 }
 
 /// Makes one step for the innermost frame, and returns the frame that is innermost afterwards.
-pub(crate) fn step<T: IrText<A>, A: AttrText, U>(
+pub(crate) fn step<T: IrText<A>, A: AttrText<A>, U>(
     s: &mut StateStream<'_, T, A, U>,
     names: &mut Names,
     frames: &mut Waiting,

@@ -30,7 +30,7 @@ use irtext_state::parsable::{State, StateStream};
 
 /// States, by its contract alone, what always holds of the state's context; the call changes nothing. Each object has at most one parent,
 /// every live object was created before the current count of created objects, and the format of each operation is accepted.
-pub(crate) fn context_keeps<T: IrText<A>, A: AttrText, U>(state: &State<'_, T, A, U>)
+pub(crate) fn context_keeps<T: IrText<A>, A: AttrText<A>, U>(state: &State<'_, T, A, U>)
     ensures nest { Nested (children state.now.ctx.now.graph) (parent state.now.ctx.now.graph) }
     ensures holders { (c k : _) → parent state.now.ctx.now.graph c ≡ Some k → Stands state.now.ctx.now.graph k }
     ensures older { AllOlder state.now.ctx.now.graph.made state.now.ctx.now.graph }
@@ -53,7 +53,7 @@ pub(crate) fn failed_by<A>(stream: &mut TextStream, fault: &ParseFault<A>)
 
 /// Parses an operation with everything nested in it. On an error, the objects that were created stay in the context. A mark with an index
 /// that is already recorded is an error.
-pub fn tree_parse<T: IrText<A>, A: AttrText, U>(
+pub fn tree_parse<T: IrText<A>, A: AttrText<A>, U>(
     s: &mut StateStream<'_, T, A, U>,
 ) -> ParseResult<Ptr<Operation>, A>
     requires fine { s.old.stream.failed ≡ false }

@@ -34,7 +34,7 @@ use irtext_parse_nested::regions::{region_begin, region_end};
 use irtext_state::parsable::StateStream;
 
 /// Begins an operation: the last of a block, or one outside of every region.
-pub(crate) fn begin<T: IrText<A>, A: AttrText, U>(
+pub(crate) fn begin<T: IrText<A>, A: AttrText<A>, U>(
     s: &mut StateStream<'_, T, A, U>,
     names: &mut Names,
     block: Option<Ptr<BasicBlock>>,
@@ -57,7 +57,7 @@ pub(crate) fn begin<T: IrText<A>, A: AttrText, U>(
 }
 
 /// Parses a piece after a region, by the next step of an open operation.
-pub(crate) fn go_on<T: IrText<A>, A: AttrText, U>(
+pub(crate) fn go_on<T: IrText<A>, A: AttrText<A>, U>(
     s: &mut StateStream<'_, T, A, U>,
     names: &mut Names,
     begun: &mut BegunOperation,
@@ -85,7 +85,7 @@ pub(crate) fn go_on<T: IrText<A>, A: AttrText, U>(
 }
 
 /// Ends an operation.
-pub(crate) fn end<T: IrText<A>, A: AttrText, U>(
+pub(crate) fn end<T: IrText<A>, A: AttrText<A>, U>(
     s: &mut StateStream<'_, T, A, U>,
     names: &mut Names,
     begun: &BegunOperation,
@@ -111,7 +111,7 @@ pub(crate) fn end<T: IrText<A>, A: AttrText, U>(
 }
 
 /// Begins a region, the last of an operation. `isolated` says whether the operation is isolated from above.
-pub(crate) fn enter<T: IrText<A>, A: AttrText, U>(
+pub(crate) fn enter<T: IrText<A>, A: AttrText<A>, U>(
     s: &mut StateStream<'_, T, A, U>,
     names: &mut Names,
     op: Ptr<Operation>,
@@ -134,7 +134,7 @@ pub(crate) fn enter<T: IrText<A>, A: AttrText, U>(
 }
 
 /// Ends a region.
-pub(crate) fn leave<T: IrText<A>, A: AttrText, U>(
+pub(crate) fn leave<T: IrText<A>, A: AttrText<A>, U>(
     s: &mut StateStream<'_, T, A, U>,
     names: &mut Names,
     region: BegunRegion,
@@ -158,7 +158,7 @@ pub(crate) fn leave<T: IrText<A>, A: AttrText, U>(
 }
 
 /// Begins a block, the last of a region.
-pub(crate) fn head<T: IrText<A>, A: AttrText, U>(
+pub(crate) fn head<T: IrText<A>, A: AttrText<A>, U>(
     s: &mut StateStream<'_, T, A, U>,
     names: &mut Names,
     region: Ptr<Region>,

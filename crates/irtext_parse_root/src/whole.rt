@@ -21,7 +21,7 @@ use irtext_state::parsable::StateStream;
 
 /// Parses a root with its section, as `root_parse` does, after which only white space may be left. Otherwise the error is `Unexpected` at
 /// the first other character: the end of the text was expected. On an error, the objects that were created are removed.
-pub fn whole_parse<T: IrText<A>, A: AttrText, U>(
+pub fn whole_parse<T: IrText<A>, A: AttrText<A>, U>(
     s: &mut StateStream<'_, T, A, U>,
 ) -> ParseResult<Ptr<Operation>, A>
     ensures lent { s.new.state.ctx.ghost_name ≡ s.old.state.ctx.ghost_name }

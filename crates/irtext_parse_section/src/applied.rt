@@ -25,7 +25,7 @@ use std::alloc::{AllocError, Global};
 
 /// Returns the given attribute: the one in the entry, or a copy of the print-once attribute that it refers to; `None` if there is no such
 /// attribute.
-fn attr_given<A: AttrText>(
+fn attr_given<A: AttrText<A>>(
     alloc: Global,
     once: &Once<A>,
     given: GivenAttr<A>,
@@ -57,7 +57,7 @@ pub(crate) fn attr_stored<A: Drop>(
 }
 
 /// Stores what a pair gives.
-fn pair_stored<A: AttrText>(
+fn pair_stored<A: AttrText<A>>(
     alloc: Global,
     once: &Once<A>,
     attributes: &mut AttributeDict<A>,
@@ -73,7 +73,7 @@ fn pair_stored<A: AttrText>(
 }
 
 /// Stores what the pairs of an operation's entry give, one after another.
-pub(crate) fn pairs_stored<A: AttrText>(
+pub(crate) fn pairs_stored<A: AttrText<A>>(
     alloc: Global,
     once: &Once<A>,
     attributes: &mut AttributeDict<A>,
@@ -102,7 +102,7 @@ fn label_of<A: Drop>(attr: Option<AttrObj<A>>, label: Option<Identifier>) -> Opt
 }
 
 /// Stores what a pair of a block's entry gives. Under the key of a label, returns it as the block's label instead.
-fn block_pair_stored<A: AttrText>(
+fn block_pair_stored<A: AttrText<A>>(
     alloc: Global,
     once: &Once<A>,
     attributes: &mut AttributeDict<A>,
@@ -121,7 +121,7 @@ fn block_pair_stored<A: AttrText>(
 }
 
 /// Stores what the pairs of a block's entry give, one after another. Returns the label that they give, the last one if there are several.
-pub(crate) fn block_pairs_stored<A: AttrText>(
+pub(crate) fn block_pairs_stored<A: AttrText<A>>(
     alloc: Global,
     once: &Once<A>,
     attributes: &mut AttributeDict<A>,
@@ -139,7 +139,7 @@ pub(crate) fn block_pairs_stored<A: AttrText>(
 }
 
 /// Sets the location of an operation, if one is given.
-pub(crate) fn operation_located<T: IrText<A>, A: AttrText>(
+pub(crate) fn operation_located<T: IrText<A>, A: AttrText<A>>(
     ctx: &mut Context<T, A>,
     op: Ptr<Operation>,
     location: Option<Location<A>>,
@@ -154,7 +154,7 @@ pub(crate) fn operation_located<T: IrText<A>, A: AttrText>(
 }
 
 /// Stores what the pairs give in the attributes of an operation.
-fn operation_stored<T: IrText<A>, A: AttrText>(
+fn operation_stored<T: IrText<A>, A: AttrText<A>>(
     ctx: &mut Context<T, A>,
     once: &Once<A>,
     op: Ptr<Operation>,
@@ -171,7 +171,7 @@ fn operation_stored<T: IrText<A>, A: AttrText>(
 
 /// Gives an operation a location and what the pairs give, if the operation is live.
 #[inline(always)]
-fn operation_given<T: IrText<A>, A: AttrText>(
+fn operation_given<T: IrText<A>, A: AttrText<A>>(
     ctx: &mut Context<T, A>,
     once: &Once<A>,
     op: Ptr<Operation>,
@@ -190,7 +190,7 @@ fn operation_given<T: IrText<A>, A: AttrText>(
 }
 
 /// Sets the location of a block, if one is given.
-pub(crate) fn block_located<T: IrText<A>, A: AttrText>(
+pub(crate) fn block_located<T: IrText<A>, A: AttrText<A>>(
     ctx: &mut Context<T, A>,
     at: Ptr<BasicBlock>,
     location: Option<Location<A>>,
@@ -205,7 +205,7 @@ pub(crate) fn block_located<T: IrText<A>, A: AttrText>(
 }
 
 /// Stores what the pairs give in the attributes of a block, and returns the label that they give.
-fn block_stored<T: IrText<A>, A: AttrText>(
+fn block_stored<T: IrText<A>, A: AttrText<A>>(
     ctx: &mut Context<T, A>,
     once: &Once<A>,
     at: Ptr<BasicBlock>,
@@ -222,7 +222,7 @@ fn block_stored<T: IrText<A>, A: AttrText>(
 }
 
 /// Sets the label of a block, if one is given.
-pub(crate) fn block_labelled<T: IrText<A>, A: AttrText>(
+pub(crate) fn block_labelled<T: IrText<A>, A: AttrText<A>>(
     ctx: &mut Context<T, A>,
     at: Ptr<BasicBlock>,
     label: Option<Identifier>,
@@ -238,7 +238,7 @@ pub(crate) fn block_labelled<T: IrText<A>, A: AttrText>(
 
 /// Gives a block a location, and the attributes and the label that the pairs give, if the block is live.
 #[inline(always)]
-fn block_given<T: IrText<A>, A: AttrText>(
+fn block_given<T: IrText<A>, A: AttrText<A>>(
     ctx: &mut Context<T, A>,
     once: &Once<A>,
     at: Ptr<BasicBlock>,
@@ -260,7 +260,7 @@ fn block_given<T: IrText<A>, A: AttrText>(
 
 /// Gives an item what its entry gives, if the item is live.
 #[inline(always)]
-pub(crate) fn item_given<T: IrText<A>, A: AttrText>(
+pub(crate) fn item_given<T: IrText<A>, A: AttrText<A>>(
     ctx: &mut Context<T, A>,
     once: &Once<A>,
     entry: ItemEntry<A>,
@@ -281,7 +281,7 @@ pub(crate) fn item_given<T: IrText<A>, A: AttrText>(
 }
 
 /// Gives each live item what its entry gives, in the order of the text. If an allocation fails, the items before have got theirs.
-pub(crate) fn items_given<T: IrText<A>, A: AttrText>(
+pub(crate) fn items_given<T: IrText<A>, A: AttrText<A>>(
     ctx: &mut Context<T, A>,
     once: &Once<A>,
     items: Vec<ItemEntry<A>>,

@@ -62,7 +62,7 @@ fn first_noted<A: Drop>(alloc: Global, first: ReadEntry<A>) -> Result<NotedEntri
 }
 
 /// Parses more entries after those given, as long as `!` comes next, with white space after each. Every error is committed.
-fn more_parse<T: IrText<A>, A: AttrText, U>(
+fn more_parse<T: IrText<A>, A: AttrText<A>, U>(
     s: &mut StateStream<'_, T, A, U>,
     entries: NotedEntries<A>,
 ) -> ParseResult<Entries<A>, A>
@@ -88,7 +88,7 @@ fn more_parse<T: IrText<A>, A: AttrText, U>(
 
 /// Parses more entries after the first one, as long as `!` comes next.
 #[inline(never)]
-fn first_and_more<T: IrText<A>, A: AttrText, U>(
+fn first_and_more<T: IrText<A>, A: AttrText<A>, U>(
     s: &mut StateStream<'_, T, A, U>,
     first: ReadEntry<A>,
 ) -> ParseResult<Entries<A>, A>
@@ -106,7 +106,7 @@ fn first_and_more<T: IrText<A>, A: AttrText, U>(
 
 /// Parses entries, as long as `!` comes next, with white space after each. Every error is committed.
 #[inline(always)]
-pub(crate) fn entries_parse<T: IrText<A>, A: AttrText, U>(
+pub(crate) fn entries_parse<T: IrText<A>, A: AttrText<A>, U>(
     s: &mut StateStream<'_, T, A, U>,
 ) -> ParseResult<Entries<A>, A>
     requires fine { s.old.stream.failed ≡ false }

@@ -148,7 +148,7 @@ fn is_seen(seen: Option<&Numbered<()>>, index: usize) -> bool
 
 /// Returns the item that carries a mark of this index, unless an earlier entry has the index.
 #[inline(always)]
-fn next_item<T: IrText<A>, A: AttrText, U>(
+fn next_item<T: IrText<A>, A: AttrText<A>, U>(
     s: &StateStream<'_, T, A, U>,
     seen: Option<&Numbered<()>>,
     index: usize,
@@ -164,7 +164,7 @@ fn next_item<T: IrText<A>, A: AttrText, U>(
 /// Parses the head of an entry. If it continues as an item's, but no item carries its mark or an earlier entry has its index, fails with
 /// `UnknownIndex` at its `!`. Every error is committed.
 #[inline(always)]
-fn head_parse<T: IrText<A>, A: AttrText, U>(
+fn head_parse<T: IrText<A>, A: AttrText<A>, U>(
     s: &mut StateStream<'_, T, A, U>,
     seen: Option<&Numbered<()>>,
 ) -> ParseResult<EntryHead, A>
@@ -189,7 +189,7 @@ fn head_parse<T: IrText<A>, A: AttrText, U>(
 
 /// Parses an entry; `seen` has the indices of the entries before it, if there are any. Every error is committed.
 #[inline(always)]
-pub(crate) fn entry_parse<T: IrText<A>, A: AttrText, U>(
+pub(crate) fn entry_parse<T: IrText<A>, A: AttrText<A>, U>(
     s: &mut StateStream<'_, T, A, U>,
     seen: Option<&Numbered<()>>,
 ) -> ParseResult<ReadEntry<A>, A>

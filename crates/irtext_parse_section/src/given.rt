@@ -55,7 +55,7 @@ fn location_ended<A>(stream: &mut TextStream) -> ParseResult<(), A>
 
 /// Parses the location of an entry, if it gives one.
 #[inline(always)]
-fn entry_location<T: IrText<A>, A: AttrText>(
+fn entry_location<T: IrText<A>, A: AttrText<A>>(
     stream: &mut TextStream,
     ctx: &mut Context<T, A>,
 ) -> ParseResult<Option<Location<A>>, A>
@@ -79,7 +79,7 @@ fn entry_location<T: IrText<A>, A: AttrText>(
 
 /// Parses what the entry of a block or of an operation gives. Every error is committed.
 #[inline(always)]
-pub(crate) fn given_parse<T: IrText<A>, A: AttrText>(
+pub(crate) fn given_parse<T: IrText<A>, A: AttrText<A>>(
     stream: &mut TextStream,
     ctx: &mut Context<T, A>,
     of_block: bool,

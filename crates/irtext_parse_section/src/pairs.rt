@@ -20,7 +20,7 @@ use irtext_read::irfmt::parsers::skip_white_space;
 use std::alloc::AllocError;
 
 /// Parses what follows `=`: an attribute, or `!` and the index of a print-once attribute. Every error is committed.
-fn item_parse<A: AttrText>(stream: &mut TextStream) -> ParseResult<GivenAttr<A>, A>
+fn item_parse<A: AttrText<A>>(stream: &mut TextStream) -> ParseResult<GivenAttr<A>, A>
     ensures { MustMean itself replaced (IsGiven (whole stream.old)) (item_at (attr_at A.IrText.reading)) stream.old result stream.new }
 {
     if stream.has_failed() {
@@ -36,7 +36,7 @@ fn item_parse<A: AttrText>(stream: &mut TextStream) -> ParseResult<GivenAttr<A>,
 }
 
 /// Parses a key, `=`, and what is given under the key. If no key comes next, the error is uncommitted and the stream is unchanged.
-fn pair_parse<A: AttrText>(stream: &mut TextStream) -> ParseResult<ReadPair<A>, A>
+fn pair_parse<A: AttrText<A>>(stream: &mut TextStream) -> ParseResult<ReadPair<A>, A>
     ensures { MayMean itself replaced (IsPair (whole stream.old)) (pair_at (attr_at A.IrText.reading)) stream.old result stream.new }
 {
     let key = key_parse(stream)?;
@@ -47,7 +47,7 @@ fn pair_parse<A: AttrText>(stream: &mut TextStream) -> ParseResult<ReadPair<A>, 
 
 /// Returns the same result, unless it is a pair whose attribute is not allowed under its key: then fails with `ReservedKey` at `at`, the
 /// position of the key.
-fn allowed<A: AttrText>(
+fn allowed<A: AttrText<A>>(
     stream: &mut TextStream,
     of_block: bool,
     at: Place,
@@ -66,7 +66,7 @@ fn allowed<A: AttrText>(
 }
 
 /// Parses a pair whose attribute is allowed under its key.
-fn kept_parse<A: AttrText>(stream: &mut TextStream, of_block: bool) -> ParseResult<ReadPair<A>, A>
+fn kept_parse<A: AttrText<A>>(stream: &mut TextStream, of_block: bool) -> ParseResult<ReadPair<A>, A>
     ensures { MayMean itself replaced (IsPair (whole stream.old))
         (λ t. kept (rule_for of_block) (pair_at (attr_at A.IrText.reading) t)) stream.old result stream.new }
 {
@@ -88,7 +88,7 @@ fn pushed<A: Drop>(
 }
 
 /// Parses the pairs after the first one, as long as `,` comes next.
-fn more_pairs<A: AttrText>(
+fn more_pairs<A: AttrText<A>>(
     stream: &mut TextStream,
     of_block: bool,
     first: ReadPair<A>,
@@ -115,7 +115,7 @@ fn more_pairs<A: AttrText>(
 
 /// Parses pairs that are separated by `,`, with white space after each. If no key comes next, returns an empty list. Every error is
 /// committed.
-fn list_parse<A: AttrText>(
+fn list_parse<A: AttrText<A>>(
     stream: &mut TextStream,
     of_block: bool,
 ) -> ParseResult<Vec<ReadPair<A>>, A>
@@ -137,7 +137,7 @@ fn list_parse<A: AttrText>(
 
 /// Parses pairs in brackets, separated by `,`.
 #[inline(never)]
-fn bracketed_parse<A: AttrText>(
+fn bracketed_parse<A: AttrText<A>>(
     stream: &mut TextStream,
     of_block: bool,
 ) -> ParseResult<Vec<ReadPair<A>>, A>
@@ -153,7 +153,7 @@ fn bracketed_parse<A: AttrText>(
 /// Parses the pairs of the entry of a block or of an operation: in brackets, separated by `,`, as `[key = attribute]`. Every error is
 /// committed.
 #[inline(always)]
-pub(crate) fn pairs_parse<A: AttrText>(
+pub(crate) fn pairs_parse<A: AttrText<A>>(
     stream: &mut TextStream,
     of_block: bool,
 ) -> ParseResult<Vec<ReadPair<A>>, A>

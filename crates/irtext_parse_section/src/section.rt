@@ -28,7 +28,7 @@ use irtext_state::parsable::state::Noting;
 use std::alloc::AllocError;
 
 /// Parses the section's first word, and all entries. Every error is committed.
-fn all_parse<T: IrText<A>, A: AttrText, U>(
+fn all_parse<T: IrText<A>, A: AttrText<A>, U>(
     s: &mut StateStream<'_, T, A, U>,
 ) -> ParseResult<Entries<A>, A>
     ensures lent { s.new.state.ctx.ghost_name ≡ s.old.state.ctx.ghost_name }
@@ -45,7 +45,7 @@ fn all_parse<T: IrText<A>, A: AttrText, U>(
 }
 
 /// Parses a whole section, and checks its references. Every error is committed.
-fn right_parse<T: IrText<A>, A: AttrText, U>(
+fn right_parse<T: IrText<A>, A: AttrText<A>, U>(
     s: &mut StateStream<'_, T, A, U>,
 ) -> ParseResult<Entries<A>, A>
     ensures lent { s.new.state.ctx.ghost_name ≡ s.old.state.ctx.ghost_name }
@@ -63,7 +63,7 @@ fn right_parse<T: IrText<A>, A: AttrText, U>(
 }
 
 /// Gives each item what its entry gives. If an allocation fails and `earlier` is set, no item changes.
-fn entries_given<T: IrText<A>, A: AttrText, U>(
+fn entries_given<T: IrText<A>, A: AttrText<A>, U>(
     s: &mut StateStream<'_, T, A, U>,
     entries: Entries<A>,
     earlier: bool,
@@ -86,7 +86,7 @@ fn entries_given<T: IrText<A>, A: AttrText, U>(
 /// and no mark is recorded any more. `earlier` says whether marks were recorded before the root was parsed; then an error changes no
 /// item. Otherwise every item is part of the root, which the caller removes on an error: an error of the text changes no item, but if an
 /// allocation fails, some items may have got what their entries give. Every error is committed, and leaves the recorded marks unchanged.
-pub fn section_parse<T: IrText<A>, A: AttrText, U>(
+pub fn section_parse<T: IrText<A>, A: AttrText<A>, U>(
     s: &mut StateStream<'_, T, A, U>,
     earlier: bool,
 ) -> ParseResult<(), A>

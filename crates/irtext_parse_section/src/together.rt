@@ -33,7 +33,7 @@ pub(crate) struct Step<A> {
 }
 
 /// Stores a copy of an entry in a dictionary.
-fn entry_copied<A: AttrText>(
+fn entry_copied<A: AttrText<A>>(
     alloc: Global,
     copy: &mut AttributeDict<A>,
     key: &Identifier,
@@ -47,7 +47,7 @@ fn entry_copied<A: AttrText>(
 }
 
 /// Returns a copy of a dictionary, with equal attributes under its keys.
-fn copied<A: AttrText>(
+fn copied<A: AttrText<A>>(
     alloc: Global,
     attributes: &AttributeDict<A>,
 ) -> Result<AttributeDict<A>, AllocError>
@@ -62,7 +62,7 @@ fn copied<A: AttrText>(
 }
 
 /// Returns a copy of the attributes of an operation, with what the pairs give stored in it.
-fn operation_next<T: IrText<A>, A: AttrText>(
+fn operation_next<T: IrText<A>, A: AttrText<A>>(
     ctx: &Context<T, A>,
     once: &Once<A>,
     op: Ptr<Operation>,
@@ -78,7 +78,7 @@ fn operation_next<T: IrText<A>, A: AttrText>(
 }
 
 /// Replaces the attributes of an operation, and returns those that it had.
-fn operation_swapped<T: IrText<A>, A: AttrText>(
+fn operation_swapped<T: IrText<A>, A: AttrText<A>>(
     ctx: &mut Context<T, A>,
     op: Ptr<Operation>,
     attributes: AttributeDict<A>,
@@ -92,7 +92,7 @@ fn operation_swapped<T: IrText<A>, A: AttrText>(
 
 /// Stores what the pairs give in the attributes of an operation, if it is live, and returns the attributes that it had. If an allocation
 /// fails, nothing changes.
-fn operation_stepped<T: IrText<A>, A: AttrText>(
+fn operation_stepped<T: IrText<A>, A: AttrText<A>>(
     ctx: &mut Context<T, A>,
     once: &Once<A>,
     op: Ptr<Operation>,
@@ -110,7 +110,7 @@ fn operation_stepped<T: IrText<A>, A: AttrText>(
 }
 
 /// Returns a copy of the attributes of a block, with what the pairs give stored in it, and the label that they give.
-fn block_next<T: IrText<A>, A: AttrText>(
+fn block_next<T: IrText<A>, A: AttrText<A>>(
     ctx: &Context<T, A>,
     once: &Once<A>,
     at: Ptr<BasicBlock>,
@@ -127,7 +127,7 @@ fn block_next<T: IrText<A>, A: AttrText>(
 }
 
 /// Replaces the attributes of a block, and returns those that it had.
-fn block_swapped<T: IrText<A>, A: AttrText>(
+fn block_swapped<T: IrText<A>, A: AttrText<A>>(
     ctx: &mut Context<T, A>,
     at: Ptr<BasicBlock>,
     attributes: AttributeDict<A>,
@@ -141,7 +141,7 @@ fn block_swapped<T: IrText<A>, A: AttrText>(
 
 /// Stores what the pairs give in the attributes of a block, if it is live. Returns the attributes that it had, and the label that the
 /// pairs give. If an allocation fails, nothing changes.
-fn block_stepped<T: IrText<A>, A: AttrText>(
+fn block_stepped<T: IrText<A>, A: AttrText<A>>(
     ctx: &mut Context<T, A>,
     once: &Once<A>,
     at: Ptr<BasicBlock>,
@@ -159,7 +159,7 @@ fn block_stepped<T: IrText<A>, A: AttrText>(
 }
 
 /// Stores what the pairs of an entry give in its item's attributes. If an allocation fails, nothing changes.
-fn step_made<T: IrText<A>, A: AttrText>(
+fn step_made<T: IrText<A>, A: AttrText<A>>(
     ctx: &mut Context<T, A>,
     once: &Once<A>,
     entry: ItemEntry<A>,
@@ -207,7 +207,7 @@ fn noted<A: Drop>(steps: &mut Vec<Step<A>>, step: Step<A>)
 }
 
 /// Stores what the pairs of an entry give in its item's attributes, and appends the step. If an allocation fails, nothing changes.
-fn step_taken<T: IrText<A>, A: AttrText>(
+fn step_taken<T: IrText<A>, A: AttrText<A>>(
     ctx: &mut Context<T, A>,
     once: &Once<A>,
     entry: ItemEntry<A>,
@@ -224,7 +224,7 @@ fn step_taken<T: IrText<A>, A: AttrText>(
 }
 
 /// Sets the attributes of an operation back to these, if it is live.
-fn operation_undone<T: IrText<A>, A: AttrText>(
+fn operation_undone<T: IrText<A>, A: AttrText<A>>(
     ctx: &mut Context<T, A>,
     op: Ptr<Operation>,
     before: AttributeDict<A>,
@@ -238,7 +238,7 @@ fn operation_undone<T: IrText<A>, A: AttrText>(
 }
 
 /// Sets the attributes of a block back to these, if it is live.
-fn block_undone<T: IrText<A>, A: AttrText>(
+fn block_undone<T: IrText<A>, A: AttrText<A>>(
     ctx: &mut Context<T, A>,
     at: Ptr<BasicBlock>,
     before: AttributeDict<A>,
@@ -252,7 +252,7 @@ fn block_undone<T: IrText<A>, A: AttrText>(
 }
 
 /// Sets the attributes of an item back to those before a step.
-fn step_undone<T: IrText<A>, A: AttrText>(ctx: &mut Context<T, A>, step: Step<A>)
+fn step_undone<T: IrText<A>, A: AttrText<A>>(ctx: &mut Context<T, A>, step: Step<A>)
     ensures { PutsBack step.item step.before ctx.old ctx.new }
 {
     let Step {
@@ -271,7 +271,7 @@ fn step_undone<T: IrText<A>, A: AttrText>(ctx: &mut Context<T, A>, step: Step<A>
 }
 
 /// Undoes the steps, the last one first.
-fn steps_undone<T: IrText<A>, A: AttrText>(ctx: &mut Context<T, A>, steps: Vec<Step<A>>)
+fn steps_undone<T: IrText<A>, A: AttrText<A>>(ctx: &mut Context<T, A>, steps: Vec<Step<A>>)
     ensures { (mark : ℕ) (first : ContextView T A) → TakesAll mark steps.items first ctx.old → KeepsOlder mark first ctx.new }
 {
     let mut steps = steps;
@@ -282,7 +282,7 @@ fn steps_undone<T: IrText<A>, A: AttrText>(ctx: &mut Context<T, A>, steps: Vec<S
 
 /// Stores what the pairs of the entries give in the attributes of their items, in the order of the text. If an allocation fails, all
 /// items have what they had before.
-fn steps_taken<T: IrText<A>, A: AttrText>(
+fn steps_taken<T: IrText<A>, A: AttrText<A>>(
     ctx: &mut Context<T, A>,
     once: &Once<A>,
     items: Vec<ItemEntry<A>>,
@@ -301,7 +301,7 @@ fn steps_taken<T: IrText<A>, A: AttrText>(
 }
 
 /// Sets the location of an operation that is still missing, if the operation is live.
-fn operation_finished<T: IrText<A>, A: AttrText>(
+fn operation_finished<T: IrText<A>, A: AttrText<A>>(
     ctx: &mut Context<T, A>,
     op: Ptr<Operation>,
     location: Option<Location<A>>,
@@ -315,7 +315,7 @@ fn operation_finished<T: IrText<A>, A: AttrText>(
 }
 
 /// Sets the location and the label of a block that are still missing, if the block is live.
-fn block_finished<T: IrText<A>, A: AttrText>(
+fn block_finished<T: IrText<A>, A: AttrText<A>>(
     ctx: &mut Context<T, A>,
     at: Ptr<BasicBlock>,
     location: Option<Location<A>>,
@@ -332,7 +332,7 @@ fn block_finished<T: IrText<A>, A: AttrText>(
 
 /// Sets the location of an item if one is given and the item is live. Allocates nothing.
 #[inline(always)]
-pub(crate) fn item_located<T: IrText<A>, A: AttrText>(
+pub(crate) fn item_located<T: IrText<A>, A: AttrText<A>>(
     ctx: &mut Context<T, A>,
     item: Item,
     location: Option<Location<A>>,
@@ -346,7 +346,7 @@ pub(crate) fn item_located<T: IrText<A>, A: AttrText>(
 }
 
 /// Sets the location and the label of an item that are still missing, if the item is live. Allocates nothing.
-fn step_finished<T: IrText<A>, A: AttrText>(ctx: &mut Context<T, A>, step: Step<A>)
+fn step_finished<T: IrText<A>, A: AttrText<A>>(ctx: &mut Context<T, A>, step: Step<A>)
     ensures { Finishes step.item step.location step.label ctx.old ctx.new }
 {
     let Step {
@@ -362,7 +362,7 @@ fn step_finished<T: IrText<A>, A: AttrText>(ctx: &mut Context<T, A>, step: Step<
 }
 
 /// Sets the missing locations and labels of all items, in the order of the text.
-fn steps_finished<T: IrText<A>, A: AttrText>(ctx: &mut Context<T, A>, steps: Vec<Step<A>>)
+fn steps_finished<T: IrText<A>, A: AttrText<A>>(ctx: &mut Context<T, A>, steps: Vec<Step<A>>)
     ensures { FinishesAll steps.items ctx.old ctx.new }
 {
     for step in steps {
@@ -372,7 +372,7 @@ fn steps_finished<T: IrText<A>, A: AttrText>(ctx: &mut Context<T, A>, steps: Vec
 
 /// Gives each live item what its entry gives, in the order of the text. If an allocation fails, all items are unchanged. For this the
 /// attributes, which alone need allocations, are stored first, and the attributes that each item had are kept until all are stored.
-pub(crate) fn items_given_together<T: IrText<A>, A: AttrText>(
+pub(crate) fn items_given_together<T: IrText<A>, A: AttrText<A>>(
     ctx: &mut Context<T, A>,
     once: &Once<A>,
     items: Vec<ItemEntry<A>>,

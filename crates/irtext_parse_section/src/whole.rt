@@ -55,7 +55,7 @@ fn one_item<A: Drop>(alloc: Global, entry: ItemEntry<A>) -> Result<Vec<ItemEntry
 /// Gives the item of the only entry what the entry gives, if the item is live. If an allocation fails and `earlier` is set, nothing
 /// changes.
 #[inline(never)]
-fn only_stored<T: IrText<A>, A: AttrText>(
+fn only_stored<T: IrText<A>, A: AttrText<A>>(
     ctx: &mut Context<T, A>,
     entry: ItemEntry<A>,
     earlier: bool,
@@ -76,7 +76,7 @@ fn only_stored<T: IrText<A>, A: AttrText>(
 
 /// The same for an entry with or without pairs. Without pairs nothing is allocated.
 #[inline(always)]
-fn only_given<T: IrText<A>, A: AttrText>(
+fn only_given<T: IrText<A>, A: AttrText<A>>(
     ctx: &mut Context<T, A>,
     entry: ItemEntry<A>,
     earlier: bool,
@@ -94,7 +94,7 @@ fn only_given<T: IrText<A>, A: AttrText>(
 }
 
 /// Gives each live item of the entries what its entry gives. If an allocation fails and `earlier` is set, no item changes.
-fn many_given<T: IrText<A>, A: AttrText>(
+fn many_given<T: IrText<A>, A: AttrText<A>>(
     ctx: &mut Context<T, A>,
     entries: NotedEntries<A>,
     earlier: bool,
@@ -117,7 +117,7 @@ fn many_given<T: IrText<A>, A: AttrText>(
 
 /// The same for all entries of a section.
 #[inline(always)]
-pub(crate) fn all_given<T: IrText<A>, A: AttrText>(
+pub(crate) fn all_given<T: IrText<A>, A: AttrText<A>>(
     ctx: &mut Context<T, A>,
     entries: Entries<A>,
     earlier: bool,

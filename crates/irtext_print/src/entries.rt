@@ -24,7 +24,7 @@ use std::fmt;
 
 /// Appends the reference to a print-once attribute: `!` and its index, which comes after those of all items. The attribute is known
 /// from then on.
-fn fmt_reference<'c, A: AttrText>(
+fn fmt_reference<'c, A: AttrText<A>>(
     attr: &'c A,
     items: usize,
     known: &mut Mentions<'c, A>,
@@ -44,7 +44,7 @@ fn fmt_reference<'c, A: AttrText>(
 }
 
 /// Appends an attribute of the caller, or the reference to a print-once one.
-fn fmt_own<'c, A: AttrText>(
+fn fmt_own<'c, A: AttrText<A>>(
     attr: &'c A,
     items: usize,
     known: &mut Mentions<'c, A>,
@@ -64,7 +64,7 @@ fn fmt_own<'c, A: AttrText>(
 }
 
 /// Appends an attribute, or the reference to a print-once one.
-fn fmt_attribute<'c, A: AttrText>(
+fn fmt_attribute<'c, A: AttrText<A>>(
     attr: &'c AttrObj<A>,
     items: usize,
     known: &mut Mentions<'c, A>,
@@ -93,7 +93,7 @@ fn fmt_label(label: &Identifier, f: &mut String) -> fmt::Result
 }
 
 /// Appends what the section contains for an item under one key.
-fn fmt_pair<'c, A: AttrText>(
+fn fmt_pair<'c, A: AttrText<A>>(
     pair: GivenAttribute<'c, A>,
     items: usize,
     known: &mut Mentions<'c, A>,
@@ -127,7 +127,7 @@ fn fmt_comma(first: bool, f: &mut String) -> fmt::Result
 }
 
 /// Appends what the section contains for an item besides its location, with `, ` between.
-fn fmt_pairs<'c, A: AttrText>(
+fn fmt_pairs<'c, A: AttrText<A>>(
     given: &Given<'c, A>,
     items: usize,
     known: &mut Mentions<'c, A>,
@@ -150,7 +150,7 @@ fn fmt_pairs<'c, A: AttrText>(
 }
 
 /// Appends the entry of an item, from what the section contains for it: `!0 = @[<in-memory>: line: 1, column: 1], []`.
-pub(crate) fn fmt_entry<'c, T: IrText<A>, A: AttrText>(
+pub(crate) fn fmt_entry<'c, T: IrText<A>, A: AttrText<A>>(
     ctx: &Context<T, A>,
     index: usize,
     given: &Given<'c, A>,

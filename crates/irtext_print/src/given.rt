@@ -43,7 +43,7 @@ pub struct GivenAttributes<'c, A> {
 }
 
 /// Returns the next of these entries whose attribute is outlined.
-fn next_outlined<'c, A: AttrText>(entries: &mut Iter<'c, A>) -> Option<GivenAttribute<'c, A>>
+fn next_outlined<'c, A: AttrText<A>>(entries: &mut Iter<'c, A>) -> Option<GivenAttribute<'c, A>>
     ensures { YieldsFirstBy gives.given_pair (gives.outlined_left A.outlined) entries.old result entries.new }
 {
     while let Some((key, attr)) = entries.next() {
@@ -54,7 +54,7 @@ fn next_outlined<'c, A: AttrText>(entries: &mut Iter<'c, A>) -> Option<GivenAttr
     None
 }
 
-impl<'c, A: AttrText> Iterator for GivenAttributes<'c, A> {
+impl<'c, A: AttrText<A>> Iterator for GivenAttributes<'c, A> {
     type Item = GivenAttribute<'c, A>;
 
     ghost next_gives = { YieldsFirstBy gives.given_pair (gives.attributes_left A.outlined) };
@@ -79,7 +79,7 @@ fn is_located<A>(location: &Location<A>) -> bool
     true
 }
 
-impl<'c, A: AttrText> Given<'c, A> {
+impl<'c, A: AttrText<A>> Given<'c, A> {
     /// Returns an iterator over what the section contains for the item besides its location.
     pub fn attributes(&self) -> GivenAttributes<'c, A>
         ensures { gives.attributes_left A.outlined result ≡ gives.attributes_of A.outlined self.now }
@@ -107,7 +107,7 @@ impl<'c, A: AttrText> Given<'c, A> {
 }
 
 /// Returns what the section contains for an operation; `None` if it is not live.
-fn operation_given<'c, T: IrText<A>, A: AttrText>(
+fn operation_given<'c, T: IrText<A>, A: AttrText<A>>(
     ctx: &'c Context<T, A>,
     op: Ptr<Operation>,
 ) -> Option<Given<'c, A>>
@@ -124,7 +124,7 @@ fn operation_given<'c, T: IrText<A>, A: AttrText>(
 }
 
 /// Returns what the section contains for a block; `None` if it is not live.
-fn block_given<'c, T: IrText<A>, A: AttrText>(
+fn block_given<'c, T: IrText<A>, A: AttrText<A>>(
     ctx: &'c Context<T, A>,
     block: Ptr<BasicBlock>,
 ) -> Option<Given<'c, A>>
@@ -141,7 +141,7 @@ fn block_given<'c, T: IrText<A>, A: AttrText>(
 }
 
 /// Returns what the section contains for an item; `None` if it was erased. Allocates nothing.
-pub fn given_of<'c, T: IrText<A>, A: AttrText>(
+pub fn given_of<'c, T: IrText<A>, A: AttrText<A>>(
     ctx: &'c Context<T, A>,
     item: Item,
 ) -> Option<Given<'c, A>>
@@ -154,7 +154,7 @@ pub fn given_of<'c, T: IrText<A>, A: AttrText>(
 }
 
 /// Whether an item has a mark: the section contains something for it. An erased item has none.
-pub fn is_marked<T: IrText<A>, A: AttrText>(ctx: &Context<T, A>, item: Item) -> bool
+pub fn is_marked<T: IrText<A>, A: AttrText<A>>(ctx: &Context<T, A>, item: Item) -> bool
     ensures { result ≡ gives.is_marked_at T.IrText.own A.IrText.own A.AttrText.own A.eq ctx.now item }
 {
     match given_of(ctx, item) {

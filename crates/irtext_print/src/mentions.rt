@@ -12,7 +12,7 @@ pub(crate) type Mentions<'c, A> = IndexSet<&'c A>;
 
 /// Records a print-once attribute, and returns its place among those that are known. The place does not change as more are recorded.
 /// Allocates if the attribute is new; fails only if out of memory.
-pub(crate) fn note<'c, A: AttrText>(
+pub(crate) fn note<'c, A: AttrText<A>>(
     known: &mut Mentions<'c, A>,
     attr: &'c A,
 ) -> Result<usize, fmt::Error>

@@ -25,7 +25,7 @@ use irtext_context::base::{Context, Item};
 use std::fmt;
 
 /// Appends the entry of an item; an erased one has none.
-fn fmt_item<'c, T: IrText<A>, A: AttrText>(
+fn fmt_item<'c, T: IrText<A>, A: AttrText<A>>(
     ctx: &'c Context<T, A>,
     index: usize,
     item: Item,
@@ -47,7 +47,7 @@ fn fmt_item<'c, T: IrText<A>, A: AttrText>(
 }
 
 /// Appends the entries of items.
-fn fmt_items<'c, T: IrText<A>, A: AttrText>(
+fn fmt_items<'c, T: IrText<A>, A: AttrText<A>>(
     ctx: &'c Context<T, A>,
     items: &[Item],
     known: &mut Mentions<'c, A>,
@@ -66,7 +66,7 @@ fn fmt_items<'c, T: IrText<A>, A: AttrText>(
 }
 
 /// Appends a print-once attribute, after its index.
-fn fmt_once<A: AttrText>(index: usize, attr: &A, f: &mut String) -> fmt::Result
+fn fmt_once<A: AttrText<A>>(index: usize, attr: &A, f: &mut String) -> fmt::Result
     ensures { OnOk result (AppendsText f.old (texts.once_text A.IrText.written index attr.now) f.new) }
 {
     f.push_str("!")?;
@@ -78,7 +78,7 @@ fn fmt_once<A: AttrText>(index: usize, attr: &A, f: &mut String) -> fmt::Result
 }
 
 /// Appends the print-once attributes, numbered on after all items.
-fn fmt_all_once<A: AttrText>(count: usize, known: &Mentions<'_, A>, f: &mut String) -> fmt::Result
+fn fmt_all_once<A: AttrText<A>>(count: usize, known: &Mentions<'_, A>, f: &mut String) -> fmt::Result
     requires { count < 2 ^ 63 }
     ensures { OnOk result (AppendsText f.old (once_texts (words A.IrText.written) (mentions.asking A.print_once A.eq) count
         (mentions.known_in known.now)) f.new) }
@@ -91,7 +91,7 @@ fn fmt_all_once<A: AttrText>(count: usize, known: &Mentions<'_, A>, f: &mut Stri
 }
 
 /// Appends the section of items, if there are any.
-fn fmt_section<T: IrText<A>, A: AttrText>(
+fn fmt_section<T: IrText<A>, A: AttrText<A>>(
     ctx: &Context<T, A>,
     items: &[Item],
     f: &mut String,
@@ -118,7 +118,7 @@ fn fmt_section<T: IrText<A>, A: AttrText>(
 ///
 /// Allocates only for the print-once attributes, a reference for each. The error is always `Memory`; what was appended up to the error
 /// remains.
-pub fn print_section<T: IrText<A>, A: AttrText>(
+pub fn print_section<T: IrText<A>, A: AttrText<A>>(
     ctx: &Context<T, A>,
     items: &[Item],
     f: &mut String,
@@ -139,7 +139,7 @@ fn is_in_memory(src: Source) -> bool
 
 /// Appends the mark and the section of an item if its location is known and is all that the section contains for it. For a position in
 /// memory, everything before the line number is appended at once.
-fn fmt_located<T: IrText<A>, A: AttrText>(
+fn fmt_located<T: IrText<A>, A: AttrText<A>>(
     location: &Location<A>,
     ctx: &Context<T, A>,
     f: &mut String,
@@ -165,7 +165,7 @@ fn fmt_located<T: IrText<A>, A: AttrText>(
 }
 
 /// Appends the mark and the section of an item, as [`print_alone`] does.
-fn fmt_alone<T: IrText<A>, A: AttrText>(
+fn fmt_alone<T: IrText<A>, A: AttrText<A>>(
     ctx: &Context<T, A>,
     item: Item,
     f: &mut String,
@@ -186,7 +186,7 @@ fn fmt_alone<T: IrText<A>, A: AttrText>(
 /// entry are appended together, and no list of items is allocated: ` !0`, and the section with the entry of `!0`.
 ///
 /// Allocates as [`print_section`] does. The error is always `Memory`; what was appended up to the error remains.
-pub fn print_alone<T: IrText<A>, A: AttrText>(
+pub fn print_alone<T: IrText<A>, A: AttrText<A>>(
     ctx: &Context<T, A>,
     item: Item,
     f: &mut String,

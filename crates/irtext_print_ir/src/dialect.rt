@@ -10,7 +10,7 @@ use std::convert::AsStr;
 use std::fmt;
 
 /// Prints the dialect's name, as `builtin`. Fails only if out of memory.
-impl<T: IrText<A>, A: AttrText, U> Printable<U, T, A> for Dialect {
+impl<T: IrText<A>, A: AttrText<A>, U> Printable<U, T, A> for Dialect {
     ghost gives = { λ dialect _ s. Some (dialect.name, s) };
 
     fn fmt(&self, _ctx: &Context<T, A>, _state: &mut State<U>, f: &mut String) -> fmt::Result {

@@ -14,7 +14,7 @@ use irtext_print::location::print::{fmt_location, fmt_source};
 use std::fmt;
 
 /// Prints the path of a file between quotation marks, or `<in-memory>`. Fails only if out of memory.
-impl<T: IrText<A>, A: AttrText, U> Printable<U, T, A> for Source {
+impl<T: IrText<A>, A: AttrText<A>, U> Printable<U, T, A> for Source {
     ghost gives = { λ src ctx s. Some (encode_utf8_all (source_text (path_of ctx.paths src)), s) };
 
     fn fmt(&self, ctx: &Context<T, A>, _state: &mut State<U>, f: &mut String) -> fmt::Result {
@@ -23,7 +23,7 @@ impl<T: IrText<A>, A: AttrText, U> Printable<U, T, A> for Source {
 }
 
 /// Prints line and column, both from 1, in characters: `line: 1, column: 21`. Fails only if out of memory.
-impl<T: IrText<A>, A: AttrText, U> Printable<U, T, A> for SourcePosition {
+impl<T: IrText<A>, A: AttrText<A>, U> Printable<U, T, A> for SourcePosition {
     ghost gives = { λ pos _ s. Some (position_text pos, s) };
 
     fn fmt(&self, _ctx: &Context<T, A>, _state: &mut State<U>, f: &mut String) -> fmt::Result {
@@ -34,7 +34,7 @@ impl<T: IrText<A>, A: AttrText, U> Printable<U, T, A> for SourcePosition {
 
 /// Prints the location: `"f.mlir": line: 2, column: 3` for a position, `name: "n", loc: (?)` for a named one, `?` for an unknown one.
 /// Fails only if out of memory.
-impl<T: IrText<A>, A: AttrText, U> Printable<U, T, A> for Location<A> {
+impl<T: IrText<A>, A: AttrText<A>, U> Printable<U, T, A> for Location<A> {
     ghost gives = { λ location ctx s. Some (encode_utf8_all (location_text A.written ctx.paths location), s) };
 
     fn fmt(&self, ctx: &Context<T, A>, _state: &mut State<U>, f: &mut String) -> fmt::Result {

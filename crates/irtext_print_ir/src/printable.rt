@@ -28,7 +28,7 @@ pub use irtext_read::printable::fmt_quoted;
 pub use items::fmt_iter;
 
 /// A value with a text, which may depend on a context and a printing state.
-pub trait Printable<U, T: IrText<A>, A: AttrText> {
+pub trait Printable<U, T: IrText<A>, A: AttrText<A>> {
     // whether the value may be printed; for a pointer, whether its object is live
     ghost can_print: { Self → Context T A → Type 0 } = { λ _ _. ⊤ };
 

@@ -11,7 +11,7 @@ use irtext_print::location::print::fmt_known;
 use std::fmt;
 
 /// Appends an error's location in brackets, if it is known, its kind, and its cause. An inner error is printed the same way.
-fn fmt_error<T: IrText<A>, A: AttrText>(
+fn fmt_error<T: IrText<A>, A: AttrText<A>>(
     error: &Error<A>,
     ctx: &Context<T, A>,
     f: &mut String,
@@ -37,7 +37,7 @@ fn fmt_error<T: IrText<A>, A: AttrText>(
 /// Parse error at line: 1, column: 3
 /// Unexpected `b`, expected end of input
 /// ```
-impl<T: IrText<A>, A: AttrText, U> Printable<U, T, A> for Error<A> {
+impl<T: IrText<A>, A: AttrText<A>, U> Printable<U, T, A> for Error<A> {
     ghost use Rattle.irtext_print_ir.specs.Errors.Printed.{given_of};
 
     ghost gives = { λ error ctx s. given_of A.written ctx.paths error s };
@@ -48,7 +48,7 @@ impl<T: IrText<A>, A: AttrText, U> Printable<U, T, A> for Error<A> {
 }
 
 /// Prints the value, or the error.
-impl<X: Printable<U, T, A>, T: IrText<A>, A: AttrText, U> Printable<U, T, A> for Result<X, A> {
+impl<X: Printable<U, T, A>, T: IrText<A>, A: AttrText<A>, U> Printable<U, T, A> for Result<X, A> {
     ghost use Rattle.irtext_print_ir.specs.Errors.Printed.{can_be, given, may_print};
 
     ghost can_print = { can_be X.can_print };

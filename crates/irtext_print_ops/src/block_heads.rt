@@ -26,7 +26,7 @@ use irtext_print::printable::refusal::memory_alone;
 use std::fmt;
 
 /// Whether some attribute is printed in place, and not in the section.
-fn has_inline<A: AttrText>(attributes: &AttributeDict<A>) -> bool
+fn has_inline<A: AttrText<A>>(attributes: &AttributeDict<A>) -> bool
     ensures { result ≡ has_inline A.outlined (entries_of attributes.now) }
 {
     for (_key, attr) in attributes.iter() {
@@ -38,7 +38,7 @@ fn has_inline<A: AttrText>(attributes: &AttributeDict<A>) -> bool
 }
 
 /// Appends the dictionary of the attributes that are not outlined, after a space, if there are such attributes.
-fn fmt_inline<A: AttrText>(attributes: &AttributeDict<A>, f: &mut String) -> fmt::Result
+fn fmt_inline<A: AttrText<A>>(attributes: &AttributeDict<A>, f: &mut String) -> fmt::Result
     ensures { OnOk result (AppendsText f.old (inline_text A.outlined A.IrText.written (entries_of attributes.now)) f.new) }
 {
     if has_inline(attributes) {
@@ -48,7 +48,7 @@ fn fmt_inline<A: AttrText>(attributes: &AttributeDict<A>, f: &mut String) -> fmt
 }
 
 /// Appends the arguments with their types, in parentheses.
-fn fmt_arguments<T: IrText<A>, A: AttrText>(
+fn fmt_arguments<T: IrText<A>, A: AttrText<A>>(
     ctx: &Context<T, A>,
     block: Ptr<BasicBlock>,
     f: &mut String,
@@ -63,7 +63,7 @@ fn fmt_arguments<T: IrText<A>, A: AttrText>(
 }
 
 /// Appends a block's label, its arguments and its dictionary, as [`fmt_block_head`] does.
-fn fmt_head<T: IrText<A>, A: AttrText>(
+fn fmt_head<T: IrText<A>, A: AttrText<A>>(
     ctx: &Context<T, A>,
     block: Ptr<BasicBlock>,
     f: &mut String,
@@ -80,7 +80,7 @@ fn fmt_head<T: IrText<A>, A: AttrText>(
 /// Appends a block's label, its arguments (those whose types are known) with their types, and, if some attribute is not outlined, its
 /// dictionary: `^a_block1v1(x_v0: builtin.integer si64) [k: builtin.identifier x]`. Its mark is not appended. The error is always
 /// `Memory`.
-pub fn fmt_block_head<T: IrText<A>, A: AttrText>(
+pub fn fmt_block_head<T: IrText<A>, A: AttrText<A>>(
     ctx: &Context<T, A>,
     block: Ptr<BasicBlock>,
     f: &mut String,

@@ -30,7 +30,7 @@ fn region_frame<'c>(begun: Option<RegionFrame>) -> Option<Frame<'c>>
 /// Appends the text of a region with everything nested in it, at the state's indentation and under its limit. Items inside are added to
 /// `items`, in the order of their marks; the index of a mark is its item's place in `items`. The errors are those of an operation with
 /// this region. What was appended and gathered up to the error remains.
-pub fn print_region_inside<H: WritesHeads<T, A>, T: IrText<A>, A: AttrText, U>(
+pub fn print_region_inside<H: WritesHeads<T, A>, T: IrText<A>, A: AttrText<A>, U>(
     ctx: &Context<T, A>,
     region: Ptr<Region>,
     state: &State<U>,
@@ -60,7 +60,7 @@ pub fn print_region_inside<H: WritesHeads<T, A>, T: IrText<A>, A: AttrText, U>(
 /// The error is `Depth` if the spaces before its operations, or before a line inside a region that is shown, do not fit 16 bits;
 /// `Misfit` if an operation that is shown inside does not fit its format; otherwise `Memory`. What was appended and gathered up to the
 /// error remains.
-pub fn print_block_inside<H: WritesHeads<T, A>, T: IrText<A>, A: AttrText, U>(
+pub fn print_block_inside<H: WritesHeads<T, A>, T: IrText<A>, A: AttrText<A>, U>(
     ctx: &Context<T, A>,
     block: Ptr<BasicBlock>,
     state: &State<U>,

@@ -23,7 +23,7 @@ use irtext_print::printable::refusal::memory_alone;
 use std::fmt;
 
 /// Appends the names of the operands in parentheses and the labels of the successors in brackets: ` (x_v1) [^a_block1v1]`.
-fn fmt_uses<T: IrText<A>, A: AttrText>(
+fn fmt_uses<T: IrText<A>, A: AttrText<A>>(
     ctx: &Context<T, A>,
     op: Ptr<Operation>,
     f: &mut String,
@@ -41,7 +41,7 @@ fn fmt_uses<T: IrText<A>, A: AttrText>(
 }
 
 /// Appends the types of the operands and of the results: `: <(test.ptr ) -> ()>`.
-fn fmt_types<T: IrText<A>, A: AttrText>(
+fn fmt_types<T: IrText<A>, A: AttrText<A>>(
     ctx: &Context<T, A>,
     op: Ptr<Operation>,
     f: &mut String,
@@ -59,7 +59,7 @@ fn fmt_types<T: IrText<A>, A: AttrText>(
 }
 
 /// Appends what follows the id in the canonical form, as [`fmt_canonical_front`] does.
-fn fmt_front<T: IrText<A>, A: AttrText>(
+fn fmt_front<T: IrText<A>, A: AttrText<A>>(
     ctx: &Context<T, A>,
     op: Ptr<Operation>,
     f: &mut String,
@@ -76,7 +76,7 @@ fn fmt_front<T: IrText<A>, A: AttrText>(
 
 /// Appends what follows the id in the canonical form, before the regions: the names of the operands, the labels of the successors, the
 /// dictionary, and the types of operands and results: ` () [] []: <() -> (test.ptr )>`. The error is always `Memory`.
-pub fn fmt_canonical_front<T: IrText<A>, A: AttrText>(
+pub fn fmt_canonical_front<T: IrText<A>, A: AttrText<A>>(
     ctx: &Context<T, A>,
     op: Ptr<Operation>,
     f: &mut String,

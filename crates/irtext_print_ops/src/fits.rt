@@ -161,7 +161,7 @@ fn counts_fit(places: usize, all: bool, parts: usize) -> bool
 }
 
 /// Returns the first key that directives name and no attribute has. Looks only if they name a key at all.
-fn missing_named<'d, A: AttrText>(
+fn missing_named<'d, A: AttrText<A>>(
     names_keys: bool,
     attributes: &AttributeDict<A>,
     directives: &'d [Directive],
@@ -176,21 +176,21 @@ fn missing_named<'d, A: AttrText>(
 }
 
 /// Whether the symbol's name exists, if a directive prints it.
-fn symbol_fits<A: AttrText>(header: bool, attributes: &AttributeDict<A>) -> bool
+fn symbol_fits<A: AttrText<A>>(header: bool, attributes: &AttributeDict<A>) -> bool
     ensures { result ≡ (not header || has_symbol (entries_of attributes.now)) }
 {
     !header || symbol_of(attributes).is_some()
 }
 
 /// Whether an attribute is printed by a directive that names its key, or in the section.
-fn is_covered<A: AttrText>(directives: &[Directive], key: &Identifier, attr: &AttrObj<A>) -> bool
+fn is_covered<A: AttrText<A>>(directives: &[Directive], key: &Identifier, attr: &AttrObj<A>) -> bool
     ensures { result ≡ fits.is_covered A.outlined (directives_of directives.now) (key.now, attribute_of attr.now) }
 {
     is_key_written(directives, key.as_str()) || is_outlined(attr)
 }
 
 /// Returns the key of the first attribute that neither a directive that names its key nor the section prints.
-fn first_uncovered<'c, A: AttrText>(
+fn first_uncovered<'c, A: AttrText<A>>(
     attributes: &'c AttributeDict<A>,
     directives: &[Directive],
 ) -> Option<&'c Identifier>
@@ -205,7 +205,7 @@ fn first_uncovered<'c, A: AttrText>(
 }
 
 /// Returns the key of the first attribute that is not printed at all.
-fn uncovered_key<'c, A: AttrText>(
+fn uncovered_key<'c, A: AttrText<A>>(
     dictionary: bool,
     attributes: &'c AttributeDict<A>,
     directives: &[Directive],
@@ -221,7 +221,7 @@ fn uncovered_key<'c, A: AttrText>(
 
 /// Whether directives print so many parts and all these attributes, and name nothing that is absent; otherwise the first reason why
 /// not.
-fn check_parts<'c, A: AttrText>(
+fn check_parts<'c, A: AttrText<A>>(
     directives: &'c [Directive],
     counts: Counts,
     attributes: &'c AttributeDict<A>,
@@ -257,7 +257,7 @@ fn check_parts<'c, A: AttrText>(
 }
 
 /// Counts the results of an operation with known types.
-fn count_typed<T: IrText<A>, A: AttrText>(ctx: &Context<T, A>, op: Ptr<Operation>) -> usize
+fn count_typed<T: IrText<A>, A: AttrText<A>>(ctx: &Context<T, A>, op: Ptr<Operation>) -> usize
     requires { Stands ctx.now.graph (TheOperation op) }
     ensures { result ≡ length (known_types (texts.texts_of T.IrText.written ctx.now (listed.ResultTypes op))) }
 {
@@ -272,7 +272,7 @@ fn count_typed<T: IrText<A>, A: AttrText>(ctx: &Context<T, A>, op: Ptr<Operation
 }
 
 /// Counts the parts of an operation.
-fn count_parts<T: IrText<A>, A: AttrText>(ctx: &Context<T, A>, op: Ptr<Operation>) -> Counts
+fn count_parts<T: IrText<A>, A: AttrText<A>>(ctx: &Context<T, A>, op: Ptr<Operation>) -> Counts
     requires { IsSome (operation ctx.now op) }
     ensures { IfSome (seen_own A.IrText.written ctx.now op) (λ o. result ≡ fits.counts_of o (length (regions ctx.now.graph op))) }
 {
@@ -287,7 +287,7 @@ fn count_parts<T: IrText<A>, A: AttrText>(ctx: &Context<T, A>, op: Ptr<Operation
 
 /// Returns the directives of an operation's format, or `None` if it is printed in the canonical form. The error is the first reason why
 /// it does not fit its format, as in [`check_fits`]. Looks the format up once, and allocates nothing.
-pub fn fitting_directives<'c, T: IrText<A>, A: AttrText>(
+pub fn fitting_directives<'c, T: IrText<A>, A: AttrText<A>>(
     ctx: &'c Context<T, A>,
     op: Ptr<Operation>,
 ) -> Result<Option<&'c [Directive]>, FitFault<'c>>
@@ -319,7 +319,7 @@ pub fn fitting_directives<'c, T: IrText<A>, A: AttrText>(
 /// Checks whether an operation fits its format. The error is the first reason why not, in the order of [`FitFault`]. If several
 /// attributes are at fault, it names the first: the missing one that the directives name first, or the operation's first one that is
 /// not printed. An operation with the canonical form always fits. Allocates nothing.
-pub fn check_fits<'c, T: IrText<A>, A: AttrText>(
+pub fn check_fits<'c, T: IrText<A>, A: AttrText<A>>(
     ctx: &'c Context<T, A>,
     op: Ptr<Operation>,
 ) -> Result<(), FitFault<'c>>

@@ -13,7 +13,7 @@ use irtext_base::text::{AttrText, IrText};
 use irtext_context::base::{Context, Operation, OperationAccess, Ptr};
 
 /// Returns the directives of an operation's format, if it is registered and its format has directives.
-pub fn directives_in<'c, T: IrText<A>, A: AttrText>(
+pub fn directives_in<'c, T: IrText<A>, A: AttrText<A>>(
     ctx: &'c Context<T, A>,
     id: &OpId,
 ) -> Option<&'c [Directive]>
@@ -27,7 +27,7 @@ pub fn directives_in<'c, T: IrText<A>, A: AttrText>(
 }
 
 /// Whether an operation is printed in the canonical form. An operation that is not registered is not.
-pub fn is_canonical<T: IrText<A>, A: AttrText>(ctx: &Context<T, A>, op: Ptr<Operation>) -> bool
+pub fn is_canonical<T: IrText<A>, A: AttrText<A>>(ctx: &Context<T, A>, op: Ptr<Operation>) -> bool
     requires live { IsSome (operation ctx.now op) }
     ensures { result ≡ heads.is_canonical_at T.IrText.own A.IrText.own A.AttrText.own A.eq ctx.now op }
 {

@@ -17,7 +17,7 @@ use irtext_print::ir::print::concrete::fmt_id;
 use irtext_print::printable::Refusal;
 
 /// Appends the names of an operation's results and its id, and, in the canonical form, everything before its regions.
-fn fmt_front<T: IrText<A>, A: AttrText>(
+fn fmt_front<T: IrText<A>, A: AttrText<A>>(
     ctx: &Context<T, A>,
     op: Ptr<Operation>,
     canonical: bool,
@@ -39,7 +39,7 @@ fn fmt_front<T: IrText<A>, A: AttrText>(
 
 /// Returns the directives of an operation's format, or `None` if it is printed in the canonical form. The error is always `Misfit`: the
 /// operation does not fit its format.
-fn find_directives<'c, T: IrText<A>, A: AttrText>(
+fn find_directives<'c, T: IrText<A>, A: AttrText<A>>(
     ctx: &'c Context<T, A>,
     op: Ptr<Operation>,
 ) -> Result<Option<&'c [Directive]>, Refusal>
@@ -59,7 +59,7 @@ fn find_directives<'c, T: IrText<A>, A: AttrText>(
 /// Checks that an operation fits its format, appends the names of its results and its id, and, in the canonical form, everything before
 /// its regions. Returns the directives of its format, if that has some. Looks the format up once. The error is `Misfit` if the
 /// operation does not fit its format, otherwise `Memory`. What was appended up to the error remains.
-pub fn begin_front<'c, T: IrText<A>, A: AttrText>(
+pub fn begin_front<'c, T: IrText<A>, A: AttrText<A>>(
     ctx: &'c Context<T, A>,
     op: Ptr<Operation>,
     f: &mut String,
@@ -80,7 +80,7 @@ pub fn begin_front<'c, T: IrText<A>, A: AttrText>(
 /// Appends what a directive of the operation's format prints, with the space before it. `directives` are those of the format. Nothing
 /// is appended if the directive prints a region, or if what it names is absent. The error is always `Memory`; what was appended up to
 /// the error remains.
-pub fn fmt_known_piece<T: IrText<A>, A: AttrText>(
+pub fn fmt_known_piece<T: IrText<A>, A: AttrText<A>>(
     ctx: &Context<T, A>,
     op: Ptr<Operation>,
     directives: &[Directive],

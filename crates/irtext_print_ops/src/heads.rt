@@ -14,7 +14,7 @@ use irtext_context::base::{BasicBlock, Context, Operation, Ptr};
 use irtext_print::printable::Refusal;
 
 /// Prints an operation itself and a block's head, and decides which of them have a mark.
-pub trait WritesHeads<T: IrText<A>, A: AttrText> {
+pub trait WritesHeads<T: IrText<A>, A: AttrText<A>> {
     /// Checks that an operation fits its format, appends its results and id, and, in the canonical form, everything before its regions.
     /// Returns the directives of its format, if that has some. The error is `Misfit` if the operation does not fit its format,
     /// otherwise `Memory`.

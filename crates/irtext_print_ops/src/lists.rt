@@ -55,7 +55,7 @@ fn fmt_between(first: bool, f: &mut String) -> fmt::Result
 }
 
 /// Returns the value that an operation uses at an index; it is live.
-pub(crate) fn operand<T: IrText<A>, A: AttrText>(
+pub(crate) fn operand<T: IrText<A>, A: AttrText<A>>(
     ctx: &Context<T, A>,
     op: Ptr<Operation>,
     index: usize,
@@ -71,7 +71,7 @@ pub(crate) fn operand<T: IrText<A>, A: AttrText>(
 }
 
 /// Returns the block that an operation uses at an index; it is live.
-pub(crate) fn successor<T: IrText<A>, A: AttrText>(
+pub(crate) fn successor<T: IrText<A>, A: AttrText<A>>(
     ctx: &Context<T, A>,
     op: Ptr<Operation>,
     index: usize,
@@ -87,7 +87,7 @@ pub(crate) fn successor<T: IrText<A>, A: AttrText>(
 }
 
 /// Appends the name of a value, after `, ` if it is not the first.
-fn fmt_operand<T: IrText<A>, A: AttrText>(
+fn fmt_operand<T: IrText<A>, A: AttrText<A>>(
     ctx: &Context<T, A>,
     value: Value,
     first: bool,
@@ -101,7 +101,7 @@ fn fmt_operand<T: IrText<A>, A: AttrText>(
 }
 
 /// Appends the label of a block, after `, ` if it is not the first.
-fn fmt_successor<T: IrText<A>, A: AttrText>(
+fn fmt_successor<T: IrText<A>, A: AttrText<A>>(
     ctx: &Context<T, A>,
     p: Ptr<BasicBlock>,
     first: bool,
@@ -115,7 +115,7 @@ fn fmt_successor<T: IrText<A>, A: AttrText>(
 }
 
 /// Appends this facet of a value of this type.
-fn fmt_facet<T: IrText<A>, A: AttrText>(
+fn fmt_facet<T: IrText<A>, A: AttrText<A>>(
     ctx: &Context<T, A>,
     value: Value,
     of_type: &T,
@@ -138,7 +138,7 @@ fn fmt_facet<T: IrText<A>, A: AttrText>(
 }
 
 /// Appends this facet of a value if its type is known, after `, ` if it is not the first. Returns whether still nothing was printed.
-fn fmt_typed<T: IrText<A>, A: AttrText>(
+fn fmt_typed<T: IrText<A>, A: AttrText<A>>(
     ctx: &Context<T, A>,
     value: Value,
     facet: Facet,
@@ -160,7 +160,7 @@ fn fmt_typed<T: IrText<A>, A: AttrText>(
 }
 
 /// Appends the type of a value if it is known, after `, ` if it is not the first. Returns whether still nothing was printed.
-fn fmt_operand_type<T: IrText<A>, A: AttrText>(
+fn fmt_operand_type<T: IrText<A>, A: AttrText<A>>(
     ctx: &Context<T, A>,
     value: Value,
     first: bool,
@@ -175,7 +175,7 @@ fn fmt_operand_type<T: IrText<A>, A: AttrText>(
 }
 
 /// Returns the number of items.
-pub(crate) fn count<T: IrText<A>, A: AttrText>(ctx: &Context<T, A>, listed: Listed) -> usize
+pub(crate) fn count<T: IrText<A>, A: AttrText<A>>(ctx: &Context<T, A>, listed: Listed) -> usize
     requires { Stands ctx.now.graph (owner listed) }
     ensures { result ≡ length (texts.texts_of T.IrText.written ctx.now listed) }
 {
@@ -189,7 +189,7 @@ pub(crate) fn count<T: IrText<A>, A: AttrText>(ctx: &Context<T, A>, listed: List
 }
 
 /// Appends the item at an index if it has a text, after `, ` if it is not the first. Returns whether still nothing was printed.
-fn fmt_item<T: IrText<A>, A: AttrText>(
+fn fmt_item<T: IrText<A>, A: AttrText<A>>(
     ctx: &Context<T, A>,
     listed: Listed,
     index: usize,
@@ -220,7 +220,7 @@ fn fmt_item<T: IrText<A>, A: AttrText>(
 }
 
 /// Appends the items from an index on, with `, ` between them. Returns whether there was none.
-pub(crate) fn fmt_listed<T: IrText<A>, A: AttrText>(
+pub(crate) fn fmt_listed<T: IrText<A>, A: AttrText<A>>(
     ctx: &Context<T, A>,
     listed: Listed,
     from: usize,

@@ -9,7 +9,7 @@ use irtext_context::base::{BasicBlock, Context, Item, Operation, Ptr};
 use irtext_print::given::is_marked;
 
 /// Whether an operation has a mark: its location is known, or one of its attributes is outlined.
-pub fn is_operation_marked<T: IrText<A>, A: AttrText>(
+pub fn is_operation_marked<T: IrText<A>, A: AttrText<A>>(
     ctx: &Context<T, A>,
     op: Ptr<Operation>,
 ) -> bool
@@ -20,7 +20,7 @@ pub fn is_operation_marked<T: IrText<A>, A: AttrText>(
 }
 
 /// Whether a block has a mark: it has a label, its location is known, or one of its attributes is outlined.
-pub fn is_block_marked<T: IrText<A>, A: AttrText>(
+pub fn is_block_marked<T: IrText<A>, A: AttrText<A>>(
     ctx: &Context<T, A>,
     block: Ptr<BasicBlock>,
 ) -> bool

@@ -18,7 +18,7 @@ use std::fmt;
 
 /// What printing finds in a context by a value's number belongs to that value: its given name, and its type. Does nothing: the contract
 /// hands that out.
-pub(crate) fn keeps_values<T: IrText<A>, A: AttrText>(ctx: &Context<T, A>, value: Value)
+pub(crate) fn keeps_values<T: IrText<A>, A: AttrText<A>>(ctx: &Context<T, A>, value: Value)
     ensures given { IfSome (value_at ctx.now.graph value) (λ t. given_to ctx.now t.number ≡ given_name ctx.now value) }
     ensures of_type { IfSome (value_at ctx.now.graph value) (λ t. type_of ctx.now t.number ≡ t.of_type) }
 {
@@ -76,7 +76,7 @@ fn fmt_placed(
 }
 
 /// Appends the name of a value: `x_v1` if it has a given name, otherwise `v1`. Fails only if out of memory.
-pub fn fmt_value_name<T: IrText<A>, A: AttrText>(
+pub fn fmt_value_name<T: IrText<A>, A: AttrText<A>>(
     ctx: &Context<T, A>,
     value: Value,
     f: &mut String,
@@ -89,7 +89,7 @@ pub fn fmt_value_name<T: IrText<A>, A: AttrText>(
 }
 
 /// Appends `^` and the name of a block: `^a_block1v1` if it has a label, otherwise `^block1v1`. Fails only if out of memory.
-pub fn fmt_block_label<T: IrText<A>, A: AttrText>(
+pub fn fmt_block_label<T: IrText<A>, A: AttrText<A>>(
     ctx: &Context<T, A>,
     p: Ptr<BasicBlock>,
     f: &mut String,

@@ -21,7 +21,7 @@ use irtext_print::printable::{Refusal, State};
 ///
 /// The error is `Depth` if the spaces before a line inside a region that is shown do not fit 16 bits; `Misfit` if the operation, or one
 /// that is shown inside, does not fit its format; otherwise `Memory`. What was appended and gathered up to the error remains.
-pub fn print_nested<T: IrText<A>, A: AttrText, U>(
+pub fn print_nested<T: IrText<A>, A: AttrText<A>, U>(
     ctx: &Context<T, A>,
     op: Ptr<Operation>,
     marked: bool,
@@ -47,7 +47,7 @@ pub fn print_nested<T: IrText<A>, A: AttrText, U>(
 /// The error is `Depth` if the spaces before its operations, or before a line inside a region that is shown, do not fit 16 bits;
 /// `Misfit` if an operation that is shown inside does not fit its format; otherwise `Memory`. What was appended and gathered up to the
 /// error remains.
-pub fn print_nested_block<T: IrText<A>, A: AttrText, U>(
+pub fn print_nested_block<T: IrText<A>, A: AttrText<A>, U>(
     ctx: &Context<T, A>,
     block: Ptr<BasicBlock>,
     state: &State<U>,
@@ -72,7 +72,7 @@ pub fn print_nested_block<T: IrText<A>, A: AttrText, U>(
 ///
 /// The error is `Depth` if the region is shown and the spaces before a line inside it do not fit 16 bits; `Misfit` if an operation that
 /// is shown inside does not fit its format; otherwise `Memory`. What was appended and gathered up to the error remains.
-pub fn print_nested_region<T: IrText<A>, A: AttrText, U>(
+pub fn print_nested_region<T: IrText<A>, A: AttrText<A>, U>(
     ctx: &Context<T, A>,
     region: Ptr<Region>,
     state: &State<U>,
@@ -93,7 +93,7 @@ pub fn print_nested_region<T: IrText<A>, A: AttrText, U>(
 
 /// Appends the mark of an operation, if it has one, and adds the operation to `items`; the mark's index is its place there. The error
 /// is always `Memory`.
-pub fn print_nested_mark<T: IrText<A>, A: AttrText>(
+pub fn print_nested_mark<T: IrText<A>, A: AttrText<A>>(
     ctx: &Context<T, A>,
     op: Ptr<Operation>,
     items: &mut Vec<Item>,

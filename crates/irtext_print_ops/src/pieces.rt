@@ -34,14 +34,14 @@ use irtext_print::printable::refusal::memory_alone;
 use std::fmt;
 
 /// What an operation uses is live. Does nothing: the contract hands that out.
-pub(crate) fn keeps_operands<T: IrText<A>, A: AttrText>(ctx: &Context<T, A>, op: Ptr<Operation>)
+pub(crate) fn keeps_operands<T: IrText<A>, A: AttrText<A>>(ctx: &Context<T, A>, op: Ptr<Operation>)
     ensures { (i : ℕ) (v : code.Value) → slice_get (operands ctx.now.graph op) i ≡ Some v → ValueStands ctx.now.graph v }
 {
     ctx.graph().keeps_nesting();
 }
 
 /// Appends the name of the operand at an index, after a space, if there is one.
-fn fmt_operand_at<T: IrText<A>, A: AttrText>(
+fn fmt_operand_at<T: IrText<A>, A: AttrText<A>>(
     ctx: &Context<T, A>,
     op: Ptr<Operation>,
     index: usize,
@@ -59,7 +59,7 @@ fn fmt_operand_at<T: IrText<A>, A: AttrText>(
 }
 
 /// Appends the label of the successor at an index, after a space, if there is one.
-fn fmt_successor_at<T: IrText<A>, A: AttrText>(
+fn fmt_successor_at<T: IrText<A>, A: AttrText<A>>(
     ctx: &Context<T, A>,
     op: Ptr<Operation>,
     index: usize,
@@ -77,7 +77,7 @@ fn fmt_successor_at<T: IrText<A>, A: AttrText>(
 }
 
 /// Returns the type of a value, if it is known.
-pub(crate) fn known_type<T: IrText<A>, A: AttrText>(ctx: &Context<T, A>, value: Value) -> Option<&T>
+pub(crate) fn known_type<T: IrText<A>, A: AttrText<A>>(ctx: &Context<T, A>, value: Value) -> Option<&T>
     requires { ValueStands ctx.now.graph value }
     ensures { option_map (λ t. T.IrText.written t.now) result ≡
         option_and_then (texts.typed_text T.IrText.written ctx.now facet.Type) (value_at ctx.now.graph value) }
@@ -89,7 +89,7 @@ pub(crate) fn known_type<T: IrText<A>, A: AttrText>(ctx: &Context<T, A>, value: 
 }
 
 /// Appends the type at an index among the known types of the results, after a space, if there is one.
-fn fmt_result_type_at<T: IrText<A>, A: AttrText>(
+fn fmt_result_type_at<T: IrText<A>, A: AttrText<A>>(
     ctx: &Context<T, A>,
     op: Ptr<Operation>,
     index: usize,
@@ -114,7 +114,7 @@ fn fmt_result_type_at<T: IrText<A>, A: AttrText>(
 }
 
 /// Appends the items of a list from an index on, after a space.
-fn fmt_spaced<T: IrText<A>, A: AttrText>(
+fn fmt_spaced<T: IrText<A>, A: AttrText<A>>(
     ctx: &Context<T, A>,
     list: Listed,
     from: usize,
@@ -155,7 +155,7 @@ pub(crate) fn count_successors(directives: &[Directive]) -> usize
 }
 
 /// Appends what one of a format's directives prints of an operation, as [`fmt_piece`] does.
-fn fmt_part<T: IrText<A>, A: AttrText>(
+fn fmt_part<T: IrText<A>, A: AttrText<A>>(
     ctx: &Context<T, A>,
     op: Ptr<Operation>,
     directives: &[Directive],
@@ -190,7 +190,7 @@ fn fmt_part<T: IrText<A>, A: AttrText>(
 
 /// Appends what one of a format's directives prints of an operation, with the space before it. Nothing is appended if the directive
 /// prints a region, or if what it names is absent. The error is always `Memory`.
-pub fn fmt_piece<T: IrText<A>, A: AttrText>(
+pub fn fmt_piece<T: IrText<A>, A: AttrText<A>>(
     ctx: &Context<T, A>,
     op: Ptr<Operation>,
     directives: &[Directive],

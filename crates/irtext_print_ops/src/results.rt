@@ -22,7 +22,7 @@ use irtext_print::printable::refusal::memory_alone;
 use std::fmt;
 
 /// Appends the names of an operation's results and ` = `, or nothing if there are none.
-fn fmt_defined<T: IrText<A>, A: AttrText>(
+fn fmt_defined<T: IrText<A>, A: AttrText<A>>(
     ctx: &Context<T, A>,
     op: Ptr<Operation>,
     f: &mut String,
@@ -40,7 +40,7 @@ fn fmt_defined<T: IrText<A>, A: AttrText>(
 
 /// Appends the names of an operation's results with `, ` between them, and ` = `: `x_v0, y_v1 = `. Nothing is appended if it has no
 /// result with a known type. The error is always `Memory`.
-pub fn fmt_results<T: IrText<A>, A: AttrText>(
+pub fn fmt_results<T: IrText<A>, A: AttrText<A>>(
     ctx: &Context<T, A>,
     op: Ptr<Operation>,
     f: &mut String,

@@ -34,7 +34,7 @@ pub(crate) enum Stop {
 }
 
 /// Appends what the directives that were found for an operation print from this one on, before the first that prints a region.
-fn fmt_pieces<H: WritesHeads<T, A>, T: IrText<A>, A: AttrText>(
+fn fmt_pieces<H: WritesHeads<T, A>, T: IrText<A>, A: AttrText<A>>(
     ctx: &Context<T, A>,
     op: Ptr<Operation>,
     found: Option<&[Directive]>,
@@ -64,7 +64,7 @@ fn fmt_pieces<H: WritesHeads<T, A>, T: IrText<A>, A: AttrText>(
 }
 
 /// Checks that an operation fits its format, and appends what comes before its parts. Returns the frame with its parts open.
-pub(crate) fn begin_operation<'c, H: WritesHeads<T, A>, T: IrText<A>, A: AttrText>(
+pub(crate) fn begin_operation<'c, H: WritesHeads<T, A>, T: IrText<A>, A: AttrText<A>>(
     ctx: &'c Context<T, A>,
     op: Ptr<Operation>,
     marked: bool,
@@ -96,7 +96,7 @@ pub(crate) fn begin_operation<'c, H: WritesHeads<T, A>, T: IrText<A>, A: AttrTex
 }
 
 /// Begins the next region of an operation, if one is left: appends what comes before its blocks, or `{..}` if it is elided.
-fn region_turn<'c, T: IrText<A>, A: AttrText>(
+fn region_turn<'c, T: IrText<A>, A: AttrText<A>>(
     ctx: &'c Context<T, A>,
     width: u16,
     frame: &mut OperationFrame<'c>,
@@ -119,7 +119,7 @@ fn region_turn<'c, T: IrText<A>, A: AttrText>(
 }
 
 /// Ends a region that was begun if it has no block, and returns what is open after that.
-fn entered<T: IrText<A>, A: AttrText>(
+fn entered<T: IrText<A>, A: AttrText<A>>(
     ctx: &Context<T, A>,
     begun: Option<RegionFrame>,
     f: &mut String,
@@ -140,7 +140,7 @@ fn entered<T: IrText<A>, A: AttrText>(
 }
 
 /// Appends the mark of an operation after its text, if it has one and it is to be printed.
-pub(crate) fn end_operation<H: WritesHeads<T, A>, T: IrText<A>, A: AttrText>(
+pub(crate) fn end_operation<H: WritesHeads<T, A>, T: IrText<A>, A: AttrText<A>>(
     ctx: &Context<T, A>,
     op: Ptr<Operation>,
     marked: bool,
@@ -165,7 +165,7 @@ pub(crate) fn end_operation<H: WritesHeads<T, A>, T: IrText<A>, A: AttrText>(
 }
 
 /// Appends the mark of a block, if it has one.
-pub(crate) fn fmt_block_mark<H: WritesHeads<T, A>, T: IrText<A>, A: AttrText>(
+pub(crate) fn fmt_block_mark<H: WritesHeads<T, A>, T: IrText<A>, A: AttrText<A>>(
     ctx: &Context<T, A>,
     block: Ptr<BasicBlock>,
     items: &mut Vec<Item>,
@@ -186,7 +186,7 @@ pub(crate) fn fmt_block_mark<H: WritesHeads<T, A>, T: IrText<A>, A: AttrText>(
 }
 
 /// Prints what comes next of an operation: its pieces up to a region, and the beginning of that; or its mark after the last piece.
-fn operation_turn<'c, H: WritesHeads<T, A>, T: IrText<A>, A: AttrText>(
+fn operation_turn<'c, H: WritesHeads<T, A>, T: IrText<A>, A: AttrText<A>>(
     ctx: &'c Context<T, A>,
     width: u16,
     frame: &mut OperationFrame<'c>,
@@ -225,7 +225,7 @@ fn operation_turn<'c, H: WritesHeads<T, A>, T: IrText<A>, A: AttrText>(
 }
 
 /// Prints the rest of an operation, up to the first of its regions that has blocks. That region is begun, and its frame returned.
-pub(crate) fn operation_turns<'c, H: WritesHeads<T, A>, T: IrText<A>, A: AttrText>(
+pub(crate) fn operation_turns<'c, H: WritesHeads<T, A>, T: IrText<A>, A: AttrText<A>>(
     ctx: &'c Context<T, A>,
     width: u16,
     frame: &mut OperationFrame<'c>,
@@ -249,7 +249,7 @@ pub(crate) fn operation_turns<'c, H: WritesHeads<T, A>, T: IrText<A>, A: AttrTex
 }
 
 /// Prints what comes next of an operation.
-fn operation_step<'c, H: WritesHeads<T, A>, T: IrText<A>, A: AttrText>(
+fn operation_step<'c, H: WritesHeads<T, A>, T: IrText<A>, A: AttrText<A>>(
     ctx: &'c Context<T, A>,
     width: u16,
     frame: OperationFrame<'c>,
@@ -273,7 +273,7 @@ fn operation_step<'c, H: WritesHeads<T, A>, T: IrText<A>, A: AttrText>(
 }
 
 /// Prints what comes next of a region: the head of its next block, or its closing brace.
-fn region_step<'c, H: WritesHeads<T, A>, T: IrText<A>, A: AttrText>(
+fn region_step<'c, H: WritesHeads<T, A>, T: IrText<A>, A: AttrText<A>>(
     ctx: &'c Context<T, A>,
     width: u16,
     frame: RegionFrame,
@@ -318,7 +318,7 @@ fn region_step<'c, H: WritesHeads<T, A>, T: IrText<A>, A: AttrText>(
 
 /// Prints what comes next of a block: its next operation, up to the first region of that one that has blocks, or nothing after the
 /// last. A placeholder is skipped.
-fn block_step<'c, H: WritesHeads<T, A>, T: IrText<A>, A: AttrText>(
+fn block_step<'c, H: WritesHeads<T, A>, T: IrText<A>, A: AttrText<A>>(
     ctx: &'c Context<T, A>,
     width: u16,
     frame: BlockFrame,
@@ -360,7 +360,7 @@ fn block_step<'c, H: WritesHeads<T, A>, T: IrText<A>, A: AttrText>(
 }
 
 /// Prints what comes next of the innermost open frame. Returns the frame that is innermost after that, if one was opened.
-pub(crate) fn step<'c, H: WritesHeads<T, A>, T: IrText<A>, A: AttrText>(
+pub(crate) fn step<'c, H: WritesHeads<T, A>, T: IrText<A>, A: AttrText<A>>(
     ctx: &'c Context<T, A>,
     width: u16,
     frame: Frame<'c>,

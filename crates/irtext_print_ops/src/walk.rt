@@ -27,7 +27,7 @@ fn innermost<'c>(inner: Option<Frame<'c>>, frames: &mut Vec<Frame<'c>>) -> Optio
 
 /// Appends the text that is left of the open frames, the innermost first, until nothing is open. Items in it are added to `items`, in
 /// the order of their marks; the index of a mark is its item's place in `items`. What was appended and gathered up to an error remains.
-pub(crate) fn print_frames<'c, H: WritesHeads<T, A>, T: IrText<A>, A: AttrText>(
+pub(crate) fn print_frames<'c, H: WritesHeads<T, A>, T: IrText<A>, A: AttrText<A>>(
     ctx: &'c Context<T, A>,
     width: u16,
     first: Option<Frame<'c>>,
@@ -58,7 +58,7 @@ pub(crate) fn print_frames<'c, H: WritesHeads<T, A>, T: IrText<A>, A: AttrText>(
 
 /// Appends the text that is left of an operation. Items in it are added to `items`, in the order of their marks; the index of a mark is
 /// its item's place in `items`. What was appended and gathered up to an error remains. Allocates no stack if no region has blocks.
-fn print_operation<'c, H: WritesHeads<T, A>, T: IrText<A>, A: AttrText>(
+fn print_operation<'c, H: WritesHeads<T, A>, T: IrText<A>, A: AttrText<A>>(
     ctx: &'c Context<T, A>,
     width: u16,
     frame: OperationFrame<'c>,
@@ -98,7 +98,7 @@ fn print_operation<'c, H: WritesHeads<T, A>, T: IrText<A>, A: AttrText>(
 ///
 /// The error is `Depth` if the spaces before a line inside a region that is shown do not fit 16 bits; `Misfit` if the operation, or one
 /// that is shown inside, does not fit its format; otherwise `Memory`. What was appended and gathered up to the error remains.
-pub fn print_inside<H: WritesHeads<T, A>, T: IrText<A>, A: AttrText, U>(
+pub fn print_inside<H: WritesHeads<T, A>, T: IrText<A>, A: AttrText<A>, U>(
     ctx: &Context<T, A>,
     op: Ptr<Operation>,
     marked: bool,
@@ -123,7 +123,7 @@ pub fn print_inside<H: WritesHeads<T, A>, T: IrText<A>, A: AttrText, U>(
 
 /// Appends the mark of an operation, if it has one, and adds the operation to `items`; the mark's index is its place there. The error
 /// is always `Memory`.
-pub fn print_mark<H: WritesHeads<T, A>, T: IrText<A>, A: AttrText>(
+pub fn print_mark<H: WritesHeads<T, A>, T: IrText<A>, A: AttrText<A>>(
     ctx: &Context<T, A>,
     op: Ptr<Operation>,
     items: &mut Vec<Item>,

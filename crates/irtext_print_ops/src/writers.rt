@@ -11,7 +11,7 @@ use irtext_print::printable::Refusal;
 /// Prints the heads of all operations and blocks, by the formats of their context.
 pub struct Heads;
 
-impl<T: IrText<A>, A: AttrText> WritesHeads<T, A> for Heads {
+impl<T: IrText<A>, A: AttrText<A>> WritesHeads<T, A> for Heads {
     fn begin<'c>(
         ctx: &'c Context<T, A>,
         op: Ptr<Operation>,

@@ -37,7 +37,7 @@ use irtext_outcomes::context::keeps_parts;
 /// inside, and only white space is left of the text. If each block has a label, and each operation with results and each block with
 /// arguments has given names, nothing is filled in but positions. And it is no text that is rejected (`RefusesRoot`). `keeps_parts`
 /// ensures what is required here of the parts of a root, and printing ensures that the root fits its formats.
-pub fn printed_root_comes_back<T: IrText<A>, A: AttrText, U>()
+pub fn printed_root_comes_back<T: IrText<A>, A: AttrText<A>, U>()
     ensures builds { (ctx : ContextView T A) (p : Ptr Operation) (g : Graph T A) (width n : ℕ) (bytes : List ℕ) →
         let types = texts_of T.reading T.written in
         let owns = texts_of A.reading A.written in
@@ -65,7 +65,7 @@ pub fn printed_root_comes_back<T: IrText<A>, A: AttrText, U>()
 /// A root that was parsed, and is printed in the context that contains it, is closed, each of its blocks has a label, and each operation
 /// with results and each block with arguments has given names. What printing sees of it represents what the context holds, each number
 /// for the place of its definition. So it comes back whole: unknown locations become positions, and nothing else is filled in.
-pub fn read_root_comes_back<T: IrText<A>, A: AttrText, U, V>()
+pub fn read_root_comes_back<T: IrText<A>, A: AttrText<A>, U, V>()
     ensures closed { (p : Ptr Operation) (before after : StateStream T A U) (g : Graph T A) (width n : ℕ) (limit : Limit) (bytes : List ℕ) →
         let types = texts_of T.reading T.written in
         let owns = texts_of A.reading A.written in
@@ -94,7 +94,7 @@ pub fn read_root_comes_back<T: IrText<A>, A: AttrText, U, V>()
 {}
 
 /// What is printed of a root under a limit that elides a region is not the text of a root: the parser builds nothing from it.
-pub fn limited_root_is_refused<T: IrText<A>, A: AttrText, U>()
+pub fn limited_root_is_refused<T: IrText<A>, A: AttrText<A>, U>()
     ensures { (ctx : ContextView T A) (p : Ptr Operation) (g : Graph T A) (width n : ℕ) (limit : Limit) (bytes : List ℕ) →
         let types = texts_of T.reading T.written in
         let owns = texts_of A.reading A.written in
@@ -106,7 +106,7 @@ pub fn limited_root_is_refused<T: IrText<A>, A: AttrText, U>()
 
 /// The names under which the values and the blocks of a context are printed are distinct: two values with the same name are the same
 /// value, two blocks with the same name are the same block, and no value has the name of a block.
-pub fn printed_names_differ<T: IrText<A>, A: AttrText>(ctx: &Context<T, A>)
+pub fn printed_names_differ<T: IrText<A>, A: AttrText<A>>(ctx: &Context<T, A>)
     ensures values { (v w : Value) (name : List ℕ) → value_name ctx.now v ≡ Some name → value_name ctx.now w ≡ Some name → v ≡ w }
     ensures blocks { (b c : Ptr BasicBlock) (name : List ℕ) → block_name ctx.now b ≡ Some name → block_name ctx.now c ≡ Some name → b ≡ c }
     ensures between { (v : Value) (b : Ptr BasicBlock) (name : List ℕ) → value_name ctx.now v ≡ Some name → block_name ctx.now b ≡ Some name → ⊥ }

@@ -13,3 +13,7 @@ pub mod ListOutcomes
 pub mod AttrTexts
 pub mod QuotedBytes
 pub mod Reads
+pub mod EitherWords
+pub mod Eithers
+pub mod EitherLaws
+pub mod BeginningWords

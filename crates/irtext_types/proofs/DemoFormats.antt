@@ -30,14 +30,14 @@ accepted demo.Global = refl
 
 -- a format that meets all conditions fails none
 no_fault : (f : FormatFault) → condition_number f ≡ 0 → ⊥
-no_fault condition.C1 e = absurd (cc)
-no_fault condition.C2 e = absurd (cc)
-no_fault condition.C3 e = absurd (cc)
-no_fault condition.C4 e = absurd (cc)
-no_fault condition.C5 e = absurd (cc)
-no_fault condition.C6 e = absurd (cc)
-no_fault condition.C7 e = absurd (cc)
-no_fault condition.C8 e = absurd (cc)
+no_fault condition.LiteralNotPrintable e = absurd (cc)
+no_fault condition.OperandIndices e = absurd (cc)
+no_fault condition.SuccessorIndices e = absurd (cc)
+no_fault condition.ResultTypeIndices e = absurd (cc)
+no_fault condition.RegionOrder e = absurd (cc)
+no_fault condition.AttributeKeys e = absurd (cc)
+no_fault condition.NameAfterRegion e = absurd (cc)
+no_fault condition.AmbiguousList e = absurd (cc)
 
 -- why a dialect refuses a demo operation is why registering it is refused
 pub refused : {A : Type 0} (dialects : List (Text × Table)) (d : Demo) (id : OpId) (format : OpFormat) (table : Table) (cause : Cause A) → id ≡ (demo_op d).id → format_of format ≡ (demo_op d).format → table ≡ dialect_or_new dialects (demo_op d).id.dialect → IsRefusedBy table.name id format cause → Refuses dialects (demo_op d) cause

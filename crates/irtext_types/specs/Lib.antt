@@ -19,6 +19,7 @@ pub mod SincereAttributes
 pub mod EqualTypes
 pub mod EqualAttributes
 pub mod DemoDialects
+pub mod Families
 -- What the laws of the texts are proved with
 pub mod IntegersBack
 pub mod TypeListsBack

@@ -128,7 +128,7 @@ fn write_integer(attr: &IntegerAttr, f: &mut String) -> fmt::Result
     Ok(())
 }
 
-impl IrText<DemoAttr> for DemoAttr {
+impl<B> IrText<B> for DemoAttr {
     ghost use Rattle.irtext_types.specs.Attributes.{attr_at, attr_text};
     ghost use Rattle.irtext_types.specs.AttributeLaws.{attr_lawful};
     ghost use Rattle.irtext_types.specs.EqualAttributes.{attr_decides};
@@ -144,7 +144,7 @@ impl IrText<DemoAttr> for DemoAttr {
 
     ghost decides = { attr_decides };
 
-    fn read(stream: &mut TextStream) -> ParseResult<DemoAttr, DemoAttr> {
+    fn read(stream: &mut TextStream) -> ParseResult<DemoAttr, B> {
         match dotted_parse(stream, "Unregistered attribute ", Expected::Attribute) {
             Ok(word) => attr_parse(stream, word),
             Err(fault) => Err(fault),
@@ -161,7 +161,7 @@ impl IrText<DemoAttr> for DemoAttr {
     }
 }
 
-impl AttrText for DemoAttr {
+impl<B> AttrText<B> for DemoAttr {
     ghost use Rattle.irtext_types.specs.Attributes.{is_debug};
     ghost use Rattle.irtext_types.specs.AttributeLaws.{attr_unreserved};
 
@@ -176,7 +176,7 @@ impl AttrText for DemoAttr {
     }
 
     fn is_print_once(&self) -> bool {
-        self.is_outlined()
+        matches!(self, DemoAttr::Debug(_))
     }
 
     fn try_clone(&self) -> Result<DemoAttr, AllocError> {

@@ -143,7 +143,7 @@ fn op_format(alloc: Global, demo: Demo) -> Result<OpFormat, AllocError>
 }
 
 /// Registers the operation with its dialect. On an error the dialect may stay registered, without the operation.
-fn add<T: IrText<A>, A: AttrText>(ctx: &mut Context<T, A>, demo: Demo) -> Answer<(), A>
+fn add<T: IrText<A>, A: AttrText<A>>(ctx: &mut Context<T, A>, demo: Demo) -> Answer<(), A>
     ensures ok { OnOk result (ctx.new.dialects ≡ with_demo ctx.old.dialects (demo_op demo)) }
     ensures rest { ctx.new ≡ record ctx.old { dialects = ctx.new.dialects } }
     ensures kind { IfErr result (λ e. (e.kind ≡ ErrorKind.InvalidArgument) × (e.loc ≡ Unknown)) }
@@ -162,7 +162,7 @@ fn add<T: IrText<A>, A: AttrText>(ctx: &mut Context<T, A>, demo: Demo) -> Answer
 }
 
 /// Registers operations one after the other, up to the first that fails. Those before it stay registered.
-fn add_all<T: IrText<A>, A: AttrText>(ctx: &mut Context<T, A>, demos: &[Demo]) -> Answer<(), A>
+fn add_all<T: IrText<A>, A: AttrText<A>>(ctx: &mut Context<T, A>, demos: &[Demo]) -> Answer<(), A>
     ensures ok { OnOk result (ctx.new.dialects ≡ with_all ctx.old.dialects (map demo_op demos.now)) }
     ensures rest { ctx.new ≡ record ctx.old { dialects = ctx.new.dialects } }
     ensures kind { IfErr result (λ e. (e.kind ≡ ErrorKind.InvalidArgument) × (e.loc ≡ Unknown)) }
@@ -181,7 +181,7 @@ fn add_all<T: IrText<A>, A: AttrText>(ctx: &mut Context<T, A>, demos: &[Demo]) -
 /// Fails with `Memory` if an allocation fails, or with `WrongDialect` if the context has a dialect with another name under the name
 /// `builtin` or `test`. The error is of kind invalid argument and has no location. Operations before the one that fails stay registered;
 /// everything in the context but its dialects is unchanged.
-pub fn register_demo<T: IrText<A>, A: AttrText>(ctx: &mut Context<T, A>) -> Answer<(), A>
+pub fn register_demo<T: IrText<A>, A: AttrText<A>>(ctx: &mut Context<T, A>) -> Answer<(), A>
     ensures ok { OnOk result (ctx.new.dialects ≡ with_all ctx.old.dialects demo_operations) }
     ensures rest { ctx.new ≡ record ctx.old { dialects = ctx.new.dialects } }
     ensures kind { IfErr result (λ e. (e.kind ≡ ErrorKind.InvalidArgument) × (e.loc ≡ Unknown)) }

@@ -5,6 +5,7 @@
 pub mod attributes;
 pub mod characters;
 pub mod dialects;
+pub mod families;
 pub mod integer_type;
 pub mod type_list;
 pub mod type_list_text;

@@ -12,7 +12,7 @@ use pliron_text::text::{AttrText, IrText};
 
 /// Registers an operation with the dialect of a name, which is registered first if there is none. If the operation is
 /// rejected the dialect stays registered, unchanged.
-pub fn register_operation<T: IrText<A>, A: AttrText>(
+pub fn register_operation<T: IrText<A>, A: AttrText<A>>(
     ctx: &mut Context<T, A>,
     name: &DialectName,
     id: OpId,

@@ -52,7 +52,7 @@ pub enum NotAgain<A> {
 }
 
 /// Returns the text of a root in this layout.
-fn text_of_root<T: IrText<A>, A: AttrText>(
+fn text_of_root<T: IrText<A>, A: AttrText<A>>(
     ctx: &Context<T, A>,
     op: Ptr<Operation>,
     layout: &PrintState<()>,
@@ -97,7 +97,7 @@ fn no_memory<A>() -> ParseFault<A>
 }
 
 /// Parses a root from a stream that has not failed, in a state without recorded marks.
-fn fresh_parse<T: IrText<A>, A: AttrText, U>(
+fn fresh_parse<T: IrText<A>, A: AttrText<A>, U>(
     s: &mut StateStream<'_, T, A, U>,
 ) -> ParseResult<Ptr<Operation>, A>
     requires fresh { IsFresh s.old }
@@ -113,7 +113,7 @@ fn fresh_parse<T: IrText<A>, A: AttrText, U>(
 }
 
 /// Parses a text as a root, in this context.
-fn read_text<T: IrText<A>, A: AttrText>(
+fn read_text<T: IrText<A>, A: AttrText<A>>(
     ctx: &mut Context<T, A>,
     text: &str,
 ) -> ParseResult<Ptr<Operation>, A>
@@ -141,7 +141,7 @@ fn read_text<T: IrText<A>, A: AttrText>(
 
 /// Prints a root and parses the text, as `printed_and_read` does. The clauses assume that the root is closed only if its operations fit
 /// their formats.
-fn there_and_back<T: IrText<A>, A: AttrText>(
+fn there_and_back<T: IrText<A>, A: AttrText<A>>(
     ctx: &Context<T, A>,
     op: Ptr<Operation>,
     layout: &PrintState<()>,
@@ -193,7 +193,7 @@ fn there_and_back<T: IrText<A>, A: AttrText>(
 ///
 /// On success only the returned operation and what is inside it is new in the other context. On an error the objects of the other
 /// context are unchanged. If the root is closed, its operations fit and the layout leaves a region out, the call never succeeds.
-pub fn printed_and_read<T: IrText<A>, A: AttrText>(
+pub fn printed_and_read<T: IrText<A>, A: AttrText<A>>(
     ctx: &Context<T, A>,
     op: Ptr<Operation>,
     layout: &PrintState<()>,
@@ -231,7 +231,7 @@ pub fn printed_and_read<T: IrText<A>, A: AttrText>(
 /// depth of regions. On success returns both roots. The second is equal to the first, with a position if a location was unknown, and
 /// with no name and no label filled in. An error is one of these: the text is rejected, out of memory, an operation does not fit its
 /// format, or an indentation does not fit 16 bits.
-pub fn read_printed_and_read<T: IrText<A>, A: AttrText>(
+pub fn read_printed_and_read<T: IrText<A>, A: AttrText<A>>(
     text: &str,
     ctx: &mut Context<T, A>,
     layout: &PrintState<()>,

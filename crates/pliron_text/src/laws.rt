@@ -40,14 +40,14 @@ pub mod section;
 pub mod two_calls;
 
 /// A text parses as at most one tree, with one rest.
-pub fn one_tree<T: IrText<A>, A: AttrText>()
+pub fn one_tree<T: IrText<A>, A: AttrText<A>>()
     ensures { (formats : Id → Option Format) (x y : Tree ℕ T A) (t u v : List ℕ) →
         let l = language (texts_of T.reading T.written) (texts_of A.reading A.written) formats in
         reads l x t u → reads l y t v → (x ≡ y) × (u ≡ v) }
 {}
 
 /// The printed text of a tree parses back to that tree, if it is followed by what may follow an operation in printed IR (`Behind`).
-pub fn reads_back<T: IrText<A>, A: AttrText>()
+pub fn reads_back<T: IrText<A>, A: AttrText<A>>()
     ensures { (formats : Id → Option Format) (width n : ℕ) (t : Tree ⊤ T A) (f : List ℕ) →
         let l = unplaced (texts_of T.reading T.written) (texts_of A.reading A.written) formats in
         Writable l t → Behind t.own.mark f →
@@ -72,7 +72,7 @@ pub fn parts_alone()
 
 /// In a tree that a text parses as, with its section, a use refers to a definition exactly if the operation that is built there has
 /// that definition as that operand or successor. Formats have to be accepted.
-pub fn uses_are_built<T: IrText<A>, A: AttrText, X>()
+pub fn uses_are_built<T: IrText<A>, A: AttrText<A>, X>()
     ensures { (formats : Id → Option Format) (isolated : Id → Bool) (first : ℕ → X)
         (es : List (Entry ℕ A X)) (t : Tree ℕ T A) (text rest : List ℕ) →
         ((id : Id) (format : Format) → formats id ≡ Some format → Accepted format) →
@@ -83,7 +83,7 @@ pub fn uses_are_built<T: IrText<A>, A: AttrText, X>()
 
 /// If a tree that a text parses as, with its section, has no failure, each operand and each successor that is built holds a definition.
 /// Formats have to be accepted.
-pub fn operands_are_there<T: IrText<A>, A: AttrText, X>()
+pub fn operands_are_there<T: IrText<A>, A: AttrText<A>, X>()
     ensures { (formats : Id → Option Format) (isolated : Id → Bool) (first : ℕ → X)
         (es : List (Entry ℕ A X)) (t : Tree ℕ T A) (text rest : List ℕ) →
         ((id : Id) (format : Format) → formats id ≡ Some format → Accepted format) →
@@ -115,7 +115,7 @@ pub fn names_come_back<T, A, X>()
 /// The printed text of a closed root whose operations fit accepted formats parses as a tree that resolves, if it is followed by what
 /// may follow an operation in printed IR. What that tree builds has the root's ids, types, operands, successors and printed labels at
 /// each place.
-pub fn round_trip<T: IrText<A>, A: AttrText, X>()
+pub fn round_trip<T: IrText<A>, A: AttrText<A>, X>()
     ensures { (C : Printing T A) (isolated : Id → Bool) (first : ℕ → X) (es : List (Entry ℕ A X))
         (g : Graph T A) (width n : ℕ) (f : List ℕ) →
         let types = texts_of T.reading T.written in
@@ -130,7 +130,7 @@ pub fn round_trip<T: IrText<A>, A: AttrText, X>()
 {}
 
 /// The printed text of a tree also parses back to that tree if a section follows.
-pub fn root_reads_back<T: IrText<A>, A: AttrText>()
+pub fn root_reads_back<T: IrText<A>, A: AttrText<A>>()
     ensures { (formats : Id → Option Format) (width n : ℕ) (t : Tree ⊤ T A) (f : List ℕ) →
         let l = unplaced (texts_of T.reading T.written) (texts_of A.reading A.written) formats in
         Writable l t → BehindRoot l t f →
@@ -142,7 +142,7 @@ pub fn root_reads_back<T: IrText<A>, A: AttrText>()
 
 /// The root of a text with its section parses back to what was printed of it, and the rest is the section. If nothing is marked, there
 /// is no section, and the rest is what follows the text.
-pub fn root_before_section<T: IrText<A>, A: AttrText>()
+pub fn root_before_section<T: IrText<A>, A: AttrText<A>>()
     ensures { (C : Printing T A) (isolated : Id → Bool) (g : Graph T A) (width n : ℕ) (f : List ℕ) →
         let types = texts_of T.reading T.written in
         let owns = texts_of A.reading A.written in
@@ -153,7 +153,7 @@ pub fn root_before_section<T: IrText<A>, A: AttrText>()
 {}
 
 /// If a root is printed under a limit that leaves a region out, its text parses as no tree, whatever follows it in printed IR.
-pub fn left_out_is_refused<T: IrText<A>, A: AttrText>()
+pub fn left_out_is_refused<T: IrText<A>, A: AttrText<A>>()
     ensures { (C : Printing T A) (isolated : Id → Bool) (g : Graph T A) (limit : Option ℕ) (width n : ℕ)
         (f : List ℕ) (t : Tree ℕ T A) (u : List ℕ) →
         let types = texts_of T.reading T.written in
@@ -167,7 +167,7 @@ pub fn left_out_is_refused<T: IrText<A>, A: AttrText>()
 /// as result types; reserved keys hold given names; nothing is used or defined outside of every region; a root with regions is
 /// isolated; no scope defines a name twice, and each scope defines what is used in it; no two items have the same mark; and each entry
 /// belongs to a mark of its own, and refers only to attributes that the section contains.
-pub fn what_resolves<T: IrText<A>, A: AttrText, X>()
+pub fn what_resolves<T: IrText<A>, A: AttrText<A>, X>()
     ensures is_needed { (formats : Id → Option Format) (isolated : Id → Bool) (t : Tree ℕ T A)
         (es : List (Entry ℕ A X)) (source rest : List ℕ) →
         reads (language (texts_of T.reading T.written) (texts_of A.reading A.written) formats) t source rest →

@@ -23,7 +23,7 @@ impl NewSources for SameSources {
 }
 
 /// Copies a location. A copy of a `SrcPos` or an `Unknown` allocates nothing and never fails.
-fn copy_location<A: AttrText>(
+fn copy_location<A: AttrText<A>>(
     alloc: Global,
     location: &Location<A>,
 ) -> Result<Location<A>, AllocError>
@@ -46,7 +46,7 @@ fn copy_location<A: AttrText>(
     }
 }
 
-impl<A: AttrText> Location<A> {
+impl<A: AttrText<A>> Location<A> {
     /// Returns a copy that equals the location. Fails only when out of memory, with `Memory`, an error of kind `InvalidArgument`. A copy of
     /// a `SrcPos` or an `Unknown` allocates nothing and never fails.
     pub fn try_clone(&self, alloc: Global) -> crate::result::Result<Location<A>, A>

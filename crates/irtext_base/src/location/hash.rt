@@ -34,7 +34,7 @@ pub(super) fn hash_attr<A: Hash, H: Hasher>(attr: &AttrObj<A>, state: &mut H)
     attr.hash(state);
 }
 
-fn hash_metadata<A: AttrText, H: Hasher>(metadata: &Option<AttrObj<A>>, state: &mut H)
+fn hash_metadata<A: AttrText<A>, H: Hasher>(metadata: &Option<AttrObj<A>>, state: &mut H)
     ensures { state.new ≡ fold H.write state.old (metadata_writes A.hash_input (attr_view_in metadata.now)) }
 {
     match metadata {
@@ -50,7 +50,7 @@ fn hash_metadata<A: AttrText, H: Hasher>(metadata: &Option<AttrObj<A>>, state: &
 #[derive(Drop)]
 struct Stable<'p>(&'p Paths);
 
-impl<'p, A: AttrText, H: Hasher> Visitor<A, H> for Stable<'p> {
+impl<'p, A: AttrText<A>, H: Hasher> Visitor<A, H> for Stable<'p> {
     ghost use Rattle.irtext_base.specs.Feeds.{hashing};
 
     ghost visit = { λ v. hashing H.write A.hash_input v.0.now };
@@ -81,7 +81,7 @@ impl<'p, A: AttrText, H: Hasher> Visitor<A, H> for Stable<'p> {
     }
 }
 
-fn hash_location<A: AttrText, H: Hasher>(location: &Location<A>, paths: &Paths, state: &mut H)
+fn hash_location<A: AttrText<A>, H: Hasher>(location: &Location<A>, paths: &Paths, state: &mut H)
     ensures { state.new ≡ fold H.write state.old (location_writes A.hash_input paths.now (location_view location.now)) }
 {
     visit(location, &Stable(paths), state);
@@ -97,7 +97,7 @@ impl Source {
     }
 }
 
-impl<A: AttrText> Location<A> {
+impl<A: AttrText<A>> Location<A> {
     /// Feeds the location to a hasher: the number of its variant, and then its parts in order. Locations that differ only in the keys that
     /// their contexts have for the same paths feed the same. The context must have the paths of all files in the location. Recurses into
     /// the nested locations, but not into the last one in each location.

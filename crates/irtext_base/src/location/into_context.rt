@@ -37,7 +37,7 @@ impl NewSources for Paths {
 }
 
 /// Copies a location for other paths. If it fails, some of the location's paths may have been added to them.
-fn move_location<A: AttrText>(
+fn move_location<A: AttrText<A>>(
     location: &Location<A>,
     from: &Paths,
     to: &mut Paths,
@@ -65,7 +65,7 @@ fn move_location<A: AttrText>(
 }
 
 /// Copies a location for other paths. If it fails, they are unchanged.
-fn moved<A: AttrText>(
+fn moved<A: AttrText<A>>(
     location: &Location<A>,
     from: &Paths,
     to: &mut Paths,
@@ -134,7 +134,7 @@ impl CloneIntoContext for SourcePosition {
     }
 }
 
-impl<A: AttrText> Location<A> {
+impl<A: AttrText<A>> Location<A> {
     /// Returns the same location for another context. Each file has the key of its path in that context, which keeps the paths from then
     /// on; those that are new to it are added in the order in which the location mentions them. Fails only when out of memory, with
     /// `Memory`, an error of kind `InvalidArgument`; the other context is then unchanged. Never fails for `Unknown` or a position in a text

@@ -7,7 +7,7 @@ use crate::location::Location;
 use crate::text::AttrText;
 use std::alloc::{AllocError, Global};
 
-fn copy_metadata<A: AttrText>(
+fn copy_metadata<A: AttrText<A>>(
     alloc: Global,
     metadata: &Option<AttrObj<A>>,
 ) -> Result<Option<AttrObj<A>>, AllocError>
@@ -20,7 +20,7 @@ fn copy_metadata<A: AttrText>(
 }
 
 /// Returns a `Fused` location with a copy of the metadata.
-pub(super) fn fused<A: AttrText>(
+pub(super) fn fused<A: AttrText<A>>(
     alloc: Global,
     metadata: &Option<AttrObj<A>>,
     locations: Vec<Location<A>>,

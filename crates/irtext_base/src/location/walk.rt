@@ -67,7 +67,7 @@ pub(super) struct Walk<'m, M> {
 
 impl<'m, M: NewSources> Walk<'m, M> {
     /// Continues with the next location of a row, or builds the row's copy if none is left.
-    fn go_on<'a, A: AttrText>(
+    fn go_on<'a, A: AttrText<A>>(
         &self,
         row: Row<'a, A>,
         frames: &mut Vec<Frame<'a, A>>,
@@ -94,7 +94,7 @@ impl<'m, M: NewSources> Walk<'m, M> {
     }
 
     /// Opens a location: the first location that is nested in it is next. A location with none is copied.
-    fn open<'a, A: AttrText>(
+    fn open<'a, A: AttrText<A>>(
         &self,
         location: &'a Location<A>,
         state: &mut M::State,
@@ -134,7 +134,7 @@ impl<'m, M: NewSources> Walk<'m, M> {
     }
 
     /// Puts a copy into the innermost open frame.
-    fn close<'a, A: AttrText>(
+    fn close<'a, A: AttrText<A>>(
         &self,
         frame: Frame<'a, A>,
         copy: Location<A>,
@@ -158,7 +158,7 @@ impl<'m, M: NewSources> Walk<'m, M> {
     }
 
     /// Copies a location with other sources. If it fails, the state is as the sources that were replaced so far have made it.
-    pub(super) fn copy<A: AttrText>(
+    pub(super) fn copy<A: AttrText<A>>(
         &self,
         location: &Location<A>,
         state: &mut M::State,

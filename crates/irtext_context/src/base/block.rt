@@ -41,14 +41,14 @@ impl<A: Drop> BlockData<A> {
 }
 
 /// The data of a block.
-fn held<T: IrText<A>, A: AttrText>(ctx: &Context<T, A>, p: Ptr<BasicBlock>) -> &BlockData<A>
+fn held<T: IrText<A>, A: AttrText<A>>(ctx: &Context<T, A>, p: Ptr<BasicBlock>) -> &BlockData<A>
     requires { IsSome (block ctx.now p) }
     ensures { option_map (λ c. c.data_of) (block_at ctx.now.graph p) ≡ Some result.now }
 {
     ctx.graph.block(p)
 }
 
-impl<T: IrText<A>, A: AttrText> Context<T, A> {
+impl<T: IrText<A>, A: AttrText<A>> Context<T, A> {
     ghost use Rattle.irtext_base.specs.declared.base.attributes.AttrObj.{AttrObj};
     ghost use Rattle.irtext_context.specs.AttributeLends.{LendsBlockAttributes};
 
@@ -76,12 +76,12 @@ pub trait BlockAccess: Sized {
     ghost pointer: { Self → Ptr BasicBlock };
 
     /// Returns the block's label, if it has one.
-    fn label<'c, T: IrText<A>, A: AttrText>(self, ctx: &'c Context<T, A>) -> Option<&'c Identifier>
+    fn label<'c, T: IrText<A>, A: AttrText<A>>(self, ctx: &'c Context<T, A>) -> Option<&'c Identifier>
         requires { IsSome (block ctx.now (pointer self)) }
         ensures { option_map (λ b. b.label) (block ctx.now (pointer self)) ≡ Some (option_copied result) };
 
     /// Returns the block's attributes.
-    fn attributes<'c, T: IrText<A>, A: AttrText>(
+    fn attributes<'c, T: IrText<A>, A: AttrText<A>>(
         self,
         ctx: &'c Context<T, A>,
     ) -> &'c AttributeDict<A>
@@ -89,12 +89,12 @@ pub trait BlockAccess: Sized {
         ensures { option_map (λ b. b.attributes) (block ctx.now (pointer self)) ≡ Some result.now };
 
     /// Returns the block's location.
-    fn loc<'c, T: IrText<A>, A: AttrText>(self, ctx: &'c Context<T, A>) -> &'c Location<A>
+    fn loc<'c, T: IrText<A>, A: AttrText<A>>(self, ctx: &'c Context<T, A>) -> &'c Location<A>
         requires { IsSome (block ctx.now (pointer self)) }
         ensures { option_map (λ b. b.loc) (block ctx.now (pointer self)) ≡ Some result.now };
 
     /// Sets the block's label, or removes it for `None`. Nothing else changes.
-    fn set_label<T: IrText<A>, A: AttrText>(
+    fn set_label<T: IrText<A>, A: AttrText<A>>(
         self,
         ctx: &mut Context<T, A>,
         label: Option<Identifier>,
@@ -104,14 +104,14 @@ pub trait BlockAccess: Sized {
         ensures kept { (mark : ℕ) → before mark ctx.old.graph.blocks (pointer self) ≡ None → KeepsOlder mark ctx.old ctx.new };
 
     /// Sets the block's location. Nothing else changes.
-    fn set_loc<T: IrText<A>, A: AttrText>(self, ctx: &mut Context<T, A>, loc: Location<A>)
+    fn set_loc<T: IrText<A>, A: AttrText<A>>(self, ctx: &mut Context<T, A>, loc: Location<A>)
         requires { IsSome (block ctx.old (pointer self)) }
         ensures edits { EditsBlock ctx.old ctx.new (pointer self) (with_block_loc loc) }
         ensures kept { (mark : ℕ) → before mark ctx.old.graph.blocks (pointer self) ≡ None → KeepsOlder mark ctx.old ctx.new };
 
     /// Sets an attribute of the block, as `OperationAccess::set_attribute` does for an operation, with the same errors. On an error the
     /// context is unchanged.
-    fn set_attribute<T: IrText<A>, A: AttrText>(
+    fn set_attribute<T: IrText<A>, A: AttrText<A>>(
         self,
         ctx: &mut Context<T, A>,
         key: Identifier,
@@ -128,7 +128,7 @@ pub trait BlockAccess: Sized {
 impl BlockAccess for Ptr<BasicBlock> {
     ghost pointer = { λ p. p };
 
-    fn label<'c, T: IrText<A>, A: AttrText>(
+    fn label<'c, T: IrText<A>, A: AttrText<A>>(
         self,
         ctx: &'c Context<T, A>,
     ) -> Option<&'c Identifier> {
@@ -138,18 +138,18 @@ impl BlockAccess for Ptr<BasicBlock> {
         }
     }
 
-    fn attributes<'c, T: IrText<A>, A: AttrText>(
+    fn attributes<'c, T: IrText<A>, A: AttrText<A>>(
         self,
         ctx: &'c Context<T, A>,
     ) -> &'c AttributeDict<A> {
         &held(ctx, self).attributes
     }
 
-    fn loc<'c, T: IrText<A>, A: AttrText>(self, ctx: &'c Context<T, A>) -> &'c Location<A> {
+    fn loc<'c, T: IrText<A>, A: AttrText<A>>(self, ctx: &'c Context<T, A>) -> &'c Location<A> {
         &held(ctx, self).loc
     }
 
-    fn set_label<T: IrText<A>, A: AttrText>(
+    fn set_label<T: IrText<A>, A: AttrText<A>>(
         self,
         ctx: &mut Context<T, A>,
         label: Option<Identifier>,
@@ -157,11 +157,11 @@ impl BlockAccess for Ptr<BasicBlock> {
         ctx.graph.block_mut(self).label = label;
     }
 
-    fn set_loc<T: IrText<A>, A: AttrText>(self, ctx: &mut Context<T, A>, loc: Location<A>) {
+    fn set_loc<T: IrText<A>, A: AttrText<A>>(self, ctx: &mut Context<T, A>, loc: Location<A>) {
         ctx.graph.block_mut(self).loc = loc;
     }
 
-    fn set_attribute<T: IrText<A>, A: AttrText>(
+    fn set_attribute<T: IrText<A>, A: AttrText<A>>(
         self,
         ctx: &mut Context<T, A>,
         key: Identifier,

@@ -71,7 +71,7 @@ impl<T: Drop, A: Drop> HasGraph for Context<T, A> {
     }
 }
 
-impl<T: IrText<A>, A: AttrText> Context<T, A> {
+impl<T: IrText<A>, A: AttrText<A>> Context<T, A> {
     /// Makes a context without objects and dialects. It allocates nothing.
     pub fn new(alloc: Global) -> Context<T, A>
         ensures { result ≡ record { graph = empty; paths = []; dialects = [] } }

@@ -30,7 +30,7 @@ pub struct OperationData<A> {
 }
 
 /// The data of an operation that is no placeholder.
-fn held<'c, T: IrText<A>, A: AttrText>(
+fn held<'c, T: IrText<A>, A: AttrText<A>>(
     ctx: &'c Context<T, A>,
     op: Ptr<Operation>,
 ) -> &'c OperationData<A>
@@ -55,7 +55,7 @@ fn attributes_of<A: Drop>(held: &mut Option<OperationData<A>>) -> &mut Attribute
     }
 }
 
-impl<T: IrText<A>, A: AttrText> Context<T, A> {
+impl<T: IrText<A>, A: AttrText<A>> Context<T, A> {
     ghost use Rattle.irtext_base.specs.declared.base.attributes.AttrObj.{AttrObj};
     ghost use Rattle.irtext_context.specs.AttributeLends.{LendsAttributes};
 
@@ -83,12 +83,12 @@ pub trait OperationAccess: Sized {
     ghost pointer: { Self → Ptr Operation };
 
     /// Returns the operation's id.
-    fn get_opid<'c, T: IrText<A>, A: AttrText>(self, ctx: &'c Context<T, A>) -> &'c OpId
+    fn get_opid<'c, T: IrText<A>, A: AttrText<A>>(self, ctx: &'c Context<T, A>) -> &'c OpId
         requires { IsSome (operation ctx.now (pointer self)) }
         ensures { option_map (λ op. op.id) (operation ctx.now (pointer self)) ≡ Some result.now };
 
     /// Returns the operation's attributes.
-    fn attributes<'c, T: IrText<A>, A: AttrText>(
+    fn attributes<'c, T: IrText<A>, A: AttrText<A>>(
         self,
         ctx: &'c Context<T, A>,
     ) -> &'c AttributeDict<A>
@@ -96,12 +96,12 @@ pub trait OperationAccess: Sized {
         ensures { option_map (λ op. op.attributes) (operation ctx.now (pointer self)) ≡ Some result.now };
 
     /// Returns the operation's location.
-    fn loc<'c, T: IrText<A>, A: AttrText>(self, ctx: &'c Context<T, A>) -> &'c Location<A>
+    fn loc<'c, T: IrText<A>, A: AttrText<A>>(self, ctx: &'c Context<T, A>) -> &'c Location<A>
         requires { IsSome (operation ctx.now (pointer self)) }
         ensures { option_map (λ op. op.loc) (operation ctx.now (pointer self)) ≡ Some result.now };
 
     /// Sets the operation's location. Nothing else changes.
-    fn set_loc<T: IrText<A>, A: AttrText>(self, ctx: &mut Context<T, A>, loc: Location<A>)
+    fn set_loc<T: IrText<A>, A: AttrText<A>>(self, ctx: &mut Context<T, A>, loc: Location<A>)
         requires { IsSome (operation ctx.old (pointer self)) }
         ensures edits { EditsOperation ctx.old ctx.new (pointer self) (with_loc loc) }
         ensures kept { (mark : ℕ) → before mark ctx.old.graph.operations (pointer self) ≡ None → KeepsOlder mark ctx.old ctx.new };
@@ -109,7 +109,7 @@ pub trait OperationAccess: Sized {
     /// Sets the attribute under a key of the operation, as `AttributeDict::insert` does. Nothing else changes. Fails with `ReservedKey`
     /// and the key if the key is `builtin_given_names` and the attribute is not `GivenNames`, and with `Memory` if an allocation fails.
     /// On an error the context is unchanged.
-    fn set_attribute<T: IrText<A>, A: AttrText>(
+    fn set_attribute<T: IrText<A>, A: AttrText<A>>(
         self,
         ctx: &mut Context<T, A>,
         key: Identifier,
@@ -124,7 +124,7 @@ pub trait OperationAccess: Sized {
 
     /// Adds an empty region to the operation, after its other regions. Nothing else changes. Fails if an allocation fails or a counter is
     /// at its limit; then the context is unchanged.
-    fn add_region<T: IrText<A>, A: AttrText>(
+    fn add_region<T: IrText<A>, A: AttrText<A>>(
         self,
         ctx: &mut Context<T, A>,
     ) -> Result<Ptr<Region>, AllocError>
@@ -138,29 +138,29 @@ pub trait OperationAccess: Sized {
 impl OperationAccess for Ptr<Operation> {
     ghost pointer = { λ p. p };
 
-    fn get_opid<'c, T: IrText<A>, A: AttrText>(self, ctx: &'c Context<T, A>) -> &'c OpId {
+    fn get_opid<'c, T: IrText<A>, A: AttrText<A>>(self, ctx: &'c Context<T, A>) -> &'c OpId {
         &held(ctx, self).id
     }
 
-    fn attributes<'c, T: IrText<A>, A: AttrText>(
+    fn attributes<'c, T: IrText<A>, A: AttrText<A>>(
         self,
         ctx: &'c Context<T, A>,
     ) -> &'c AttributeDict<A> {
         &held(ctx, self).attributes
     }
 
-    fn loc<'c, T: IrText<A>, A: AttrText>(self, ctx: &'c Context<T, A>) -> &'c Location<A> {
+    fn loc<'c, T: IrText<A>, A: AttrText<A>>(self, ctx: &'c Context<T, A>) -> &'c Location<A> {
         &held(ctx, self).loc
     }
 
-    fn set_loc<T: IrText<A>, A: AttrText>(self, ctx: &mut Context<T, A>, loc: Location<A>) {
+    fn set_loc<T: IrText<A>, A: AttrText<A>>(self, ctx: &mut Context<T, A>, loc: Location<A>) {
         match ctx.graph.operation_mut(self) {
             Some(held) => held.loc = loc,
             None => unreachable!(),
         }
     }
 
-    fn set_attribute<T: IrText<A>, A: AttrText>(
+    fn set_attribute<T: IrText<A>, A: AttrText<A>>(
         self,
         ctx: &mut Context<T, A>,
         key: Identifier,
@@ -169,7 +169,7 @@ impl OperationAccess for Ptr<Operation> {
         ctx.operation_attributes_mut(self).insert(key, attr)
     }
 
-    fn add_region<T: IrText<A>, A: AttrText>(
+    fn add_region<T: IrText<A>, A: AttrText<A>>(
         self,
         ctx: &mut Context<T, A>,
     ) -> Result<Ptr<Region>, AllocError> {

@@ -60,7 +60,7 @@ impl Dialect {
     }
 }
 
-impl<T: IrText<A>, A: AttrText> Context<T, A> {
+impl<T: IrText<A>, A: AttrText<A>> Context<T, A> {
     /// Returns the dialect with this name, and its name as the context stores it, or `None` if it is not registered. It allocates
     /// nothing.
     pub fn dialect_named(&self, name: &str) -> Option<(&DialectName, &Dialect)>

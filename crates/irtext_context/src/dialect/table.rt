@@ -82,7 +82,7 @@ fn dialect_by<'d>(
     dialects.get(name)
 }
 
-impl<T: IrText<A>, A: AttrText> Context<T, A> {
+impl<T: IrText<A>, A: AttrText<A>> Context<T, A> {
     ghost use Rattle.irtext_context.specs.DialectLends.{LendsDialectAt};
 
     /// Borrows the dialect at an index as `&mut`.
@@ -160,7 +160,7 @@ impl Dialect {
     /// Borrows the context's dialect with this name as `&mut`. If there is none, a dialect without operations is registered first; a
     /// dialect that is registered already is unchanged. Fails only with `Memory`, if an allocation fails. The error is of kind invalid
     /// argument and has no location, and the context is unchanged.
-    pub fn register<'c, T: IrText<A>, A: AttrText>(
+    pub fn register<'c, T: IrText<A>, A: AttrText<A>>(
         ctx: &'c mut Context<T, A>,
         name: &DialectName,
     ) -> result::Result<&'c mut Dialect, A>

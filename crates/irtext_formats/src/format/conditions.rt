@@ -124,28 +124,28 @@ pub(crate) fn check(directives: &[Directive]) -> Result<(), FormatFault>
         (λ fault. first_fault (custom (directives_of directives.now)) ≡ condition_number fault) }
 {
     if !c1(directives) {
-        return Err(FormatFault::C1);
+        return Err(FormatFault::LiteralNotPrintable);
     }
     if !c2(directives) {
-        return Err(FormatFault::C2);
+        return Err(FormatFault::OperandIndices);
     }
     if !c3(directives) {
-        return Err(FormatFault::C3);
+        return Err(FormatFault::SuccessorIndices);
     }
     if !c4(directives) {
-        return Err(FormatFault::C4);
+        return Err(FormatFault::ResultTypeIndices);
     }
     if !c5(directives) {
-        return Err(FormatFault::C5);
+        return Err(FormatFault::RegionOrder);
     }
     if !c6(directives) {
-        return Err(FormatFault::C6);
+        return Err(FormatFault::AttributeKeys);
     }
     if !c7(directives) {
-        return Err(FormatFault::C7);
+        return Err(FormatFault::NameAfterRegion);
     }
     if !c8(directives) {
-        return Err(FormatFault::C8);
+        return Err(FormatFault::AmbiguousList);
     }
     Ok(())
 }

@@ -50,7 +50,7 @@ pub(crate) fn begins_location(stream: &TextStream) -> bool
 }
 
 /// Parses an attribute, which is required: every error is committed.
-fn attr_demanded<A: AttrText>(stream: &mut TextStream) -> ParseResult<AttrObj<A>, A>
+fn attr_demanded<A: AttrText<A>>(stream: &mut TextStream) -> ParseResult<AttrObj<A>, A>
     ensures { MustRead itself replaced attr_view (attr_at A.IrText.reading) stream.old result stream.new }
 {
     let answer = attr_parse(stream);
@@ -58,7 +58,7 @@ fn attr_demanded<A: AttrText>(stream: &mut TextStream) -> ParseResult<AttrObj<A>
 }
 
 /// Parses an attribute in `<` and `>` if `<` comes next; otherwise returns `None`.
-fn metadata_demanded<A: AttrText>(stream: &mut TextStream) -> ParseResult<Option<AttrObj<A>>, A>
+fn metadata_demanded<A: AttrText<A>>(stream: &mut TextStream) -> ParseResult<Option<AttrObj<A>>, A>
     ensures { MustRead itself replaced attr_view_in (metadata_at (attr_at A.IrText.reading)) stream.old result stream.new }
 {
     if stream.has_failed() {
@@ -129,7 +129,7 @@ fn row_ended<A: Drop>(
 }
 
 /// Parses a fused location up to its first location.
-fn fused_opened<A: AttrText>(stream: &mut TextStream) -> ParseResult<Progress<A>, A>
+fn fused_opened<A: AttrText<A>>(stream: &mut TextStream) -> ParseResult<Progress<A>, A>
     ensures { ReadsProgress (fused_opening_at (attr_at A.IrText.reading)) stream.old result stream.new }
 {
     text_demanded(stream, "fused")?;
@@ -156,7 +156,7 @@ fn call_site_head<A>(stream: &mut TextStream) -> ParseResult<(), A>
 }
 
 /// Parses a location, which is required, up to the first location inside of it.
-fn location_opened<T: IrText<A>, A: AttrText>(
+fn location_opened<T: IrText<A>, A: AttrText<A>>(
     stream: &mut TextStream,
     ctx: &mut Context<T, A>,
 ) -> ParseResult<Progress<A>, A>
@@ -191,7 +191,7 @@ fn location_opened<T: IrText<A>, A: AttrText>(
 }
 
 /// Parses what follows a location in a fused location: `,` before one more, or the end.
-fn row_behind<A: AttrText>(
+fn row_behind<A: AttrText<A>>(
     stream: &mut TextStream,
     metadata: Box<Option<AttrObj<A>>>,
     mut locations: Vec<Location<A>>,
@@ -210,7 +210,7 @@ fn row_behind<A: AttrText>(
 }
 
 /// Parses what follows a location inside of another one, up to the end of that one or to its next location.
-fn location_behind<A: AttrText>(
+fn location_behind<A: AttrText<A>>(
     stream: &mut TextStream,
     frame: Frame<A>,
     location: Location<A>,
@@ -242,7 +242,7 @@ fn location_behind<A: AttrText>(
 
 /// Parses a location of any kind, which is required: every error is committed.
 #[inline(never)]
-fn nested_demanded<T: IrText<A>, A: AttrText>(
+fn nested_demanded<T: IrText<A>, A: AttrText<A>>(
     stream: &mut TextStream,
     ctx: &mut Context<T, A>,
 ) -> ParseResult<Location<A>, A>
@@ -279,7 +279,7 @@ fn nested_demanded<T: IrText<A>, A: AttrText>(
 /// Parses a location of any kind, which is required: every error is committed. The context keeps the paths of its files, also on an
 /// error.
 #[inline(always)]
-pub fn location_demanded<T: IrText<A>, A: AttrText>(
+pub fn location_demanded<T: IrText<A>, A: AttrText<A>>(
     stream: &mut TextStream,
     ctx: &mut Context<T, A>,
 ) -> ParseResult<Location<A>, A>
@@ -296,7 +296,7 @@ pub fn location_demanded<T: IrText<A>, A: AttrText>(
 
 /// Parses a location of any kind, as `"a.mlir": line: 1, column: 2`. If the next character begins no location, the error is `Unexpected`,
 /// uncommitted, and the stream is unchanged; every other error is committed. The context keeps the paths of its files, also on an error.
-pub fn location_parse<T: IrText<A>, A: AttrText>(
+pub fn location_parse<T: IrText<A>, A: AttrText<A>>(
     stream: &mut TextStream,
     ctx: &mut Context<T, A>,
 ) -> ParseResult<Location<A>, A>

@@ -30,7 +30,7 @@ pub(crate) fn quoted_demanded<A>(stream: &mut TextStream) -> ParseResult<String,
 }
 
 /// Parses a path in quotation marks, which the context keeps from then on.
-fn path_demanded<T: IrText<A>, A: AttrText>(
+fn path_demanded<T: IrText<A>, A: AttrText<A>>(
     stream: &mut TextStream,
     ctx: &mut Context<T, A>,
 ) -> ParseResult<Source, A>
@@ -46,7 +46,7 @@ fn path_demanded<T: IrText<A>, A: AttrText>(
 }
 
 /// Parses a source, which is required: every error is committed.
-fn source_demanded<T: IrText<A>, A: AttrText>(
+fn source_demanded<T: IrText<A>, A: AttrText<A>>(
     stream: &mut TextStream,
     ctx: &mut Context<T, A>,
 ) -> ParseResult<Source, A>
@@ -70,7 +70,7 @@ fn source_demanded<T: IrText<A>, A: AttrText>(
 
 /// Parses a source, a line and a column, which are required: every error is committed.
 #[inline]
-pub(crate) fn place_demanded<T: IrText<A>, A: AttrText>(
+pub(crate) fn place_demanded<T: IrText<A>, A: AttrText<A>>(
     stream: &mut TextStream,
     ctx: &mut Context<T, A>,
 ) -> ParseResult<Location<A>, A>
@@ -93,7 +93,7 @@ pub(crate) fn place_demanded<T: IrText<A>, A: AttrText>(
 
 /// The same for every kind of source: the slow path.
 #[inline(never)]
-fn place_parse<T: IrText<A>, A: AttrText>(
+fn place_parse<T: IrText<A>, A: AttrText<A>>(
     stream: &mut TextStream,
     ctx: &mut Context<T, A>,
 ) -> ParseResult<Location<A>, A>
@@ -108,7 +108,7 @@ fn place_parse<T: IrText<A>, A: AttrText>(
 
 /// Parses a source: a path in quotation marks, as `"a.mlir"`, or `<in-memory>`. If neither `"` nor `<` comes next, the error is
 /// `Unexpected`, uncommitted, and the stream is unchanged; every other error is committed. The context keeps the path.
-pub fn source_parse<T: IrText<A>, A: AttrText>(
+pub fn source_parse<T: IrText<A>, A: AttrText<A>>(
     stream: &mut TextStream,
     ctx: &mut Context<T, A>,
 ) -> ParseResult<Source, A>

@@ -21,7 +21,7 @@ use irtext_base::text::{AttrText, IrText};
 use irtext_context::base::{BasicBlock, Operation, Ptr, Region};
 use irtext_state::parsable::StateStream;
 
-impl<T: IrText<A>, A: AttrText, U> Parsable<T, A, U> for Region {
+impl<T: IrText<A>, A: AttrText<A>, U> Parsable<T, A, U> for Region {
     /// The operation to which the region is appended. It has to be live in the context.
     type Arg = Ptr<Operation>;
 
@@ -63,7 +63,7 @@ impl<T: IrText<A>, A: AttrText, U> Parsable<T, A, U> for Region {
     }
 }
 
-impl<T: IrText<A>, A: AttrText, U> Parsable<T, A, U> for BasicBlock {
+impl<T: IrText<A>, A: AttrText<A>, U> Parsable<T, A, U> for BasicBlock {
     type Arg = ();
 
     type Parsed = Ptr<BasicBlock>;

@@ -24,7 +24,7 @@ pub struct OperationParserConfig {
     pub look_for_outlined_attrs: bool,
 }
 
-impl<T: IrText<A>, A: AttrText, U> Parsable<T, A, U> for Operation {
+impl<T: IrText<A>, A: AttrText<A>, U> Parsable<T, A, U> for Operation {
     type Arg = OperationParserConfig;
 
     type Parsed = Ptr<Operation>;

@@ -18,7 +18,7 @@ use irtext_base::text::{AttrText, IrText};
 use irtext_parse_locations::location::nested::location_parse;
 use irtext_parse_locations::location::source::{position_parse, source_parse};
 
-impl<T: IrText<A>, A: AttrText, U> Parsable<T, A, U> for SourcePosition {
+impl<T: IrText<A>, A: AttrText<A>, U> Parsable<T, A, U> for SourcePosition {
     type Arg = ();
 
     type Parsed = SourcePosition;
@@ -34,7 +34,7 @@ impl<T: IrText<A>, A: AttrText, U> Parsable<T, A, U> for SourcePosition {
     }
 }
 
-impl<T: IrText<A>, A: AttrText, U> Parsable<T, A, U> for Source {
+impl<T: IrText<A>, A: AttrText<A>, U> Parsable<T, A, U> for Source {
     type Arg = ();
 
     type Parsed = Source;
@@ -57,7 +57,7 @@ impl<T: IrText<A>, A: AttrText, U> Parsable<T, A, U> for Source {
     }
 }
 
-impl<T: IrText<A>, A: AttrText, U> Parsable<T, A, U> for Location<A> {
+impl<T: IrText<A>, A: AttrText<A>, U> Parsable<T, A, U> for Location<A> {
     type Arg = ();
 
     type Parsed = Location<A>;

@@ -18,7 +18,7 @@ use irtext_context::dialect::DialectName;
 use irtext_read::irfmt::faults::refuse_at;
 use irtext_read::irfmt::parsers::{bool_parse, identifier_parse, int_parse, quoted_string_parse};
 
-impl<T: IrText<A>, A: AttrText, U> Parsable<T, A, U> for usize {
+impl<T: IrText<A>, A: AttrText<A>, U> Parsable<T, A, U> for usize {
     type Arg = ();
 
     type Parsed = usize;
@@ -32,7 +32,7 @@ impl<T: IrText<A>, A: AttrText, U> Parsable<T, A, U> for usize {
     }
 }
 
-impl<T: IrText<A>, A: AttrText, U> Parsable<T, A, U> for u64 {
+impl<T: IrText<A>, A: AttrText<A>, U> Parsable<T, A, U> for u64 {
     type Arg = ();
 
     type Parsed = u64;
@@ -46,7 +46,7 @@ impl<T: IrText<A>, A: AttrText, U> Parsable<T, A, U> for u64 {
     }
 }
 
-impl<T: IrText<A>, A: AttrText, U> Parsable<T, A, U> for u32 {
+impl<T: IrText<A>, A: AttrText<A>, U> Parsable<T, A, U> for u32 {
     type Arg = ();
 
     type Parsed = u32;
@@ -60,7 +60,7 @@ impl<T: IrText<A>, A: AttrText, U> Parsable<T, A, U> for u32 {
     }
 }
 
-impl<T: IrText<A>, A: AttrText, U> Parsable<T, A, U> for u16 {
+impl<T: IrText<A>, A: AttrText<A>, U> Parsable<T, A, U> for u16 {
     type Arg = ();
 
     type Parsed = u16;
@@ -74,7 +74,7 @@ impl<T: IrText<A>, A: AttrText, U> Parsable<T, A, U> for u16 {
     }
 }
 
-impl<T: IrText<A>, A: AttrText, U> Parsable<T, A, U> for u8 {
+impl<T: IrText<A>, A: AttrText<A>, U> Parsable<T, A, U> for u8 {
     type Arg = ();
 
     type Parsed = u8;
@@ -88,7 +88,7 @@ impl<T: IrText<A>, A: AttrText, U> Parsable<T, A, U> for u8 {
     }
 }
 
-impl<T: IrText<A>, A: AttrText, U> Parsable<T, A, U> for i8 {
+impl<T: IrText<A>, A: AttrText<A>, U> Parsable<T, A, U> for i8 {
     type Arg = ();
 
     type Parsed = i8;
@@ -102,7 +102,7 @@ impl<T: IrText<A>, A: AttrText, U> Parsable<T, A, U> for i8 {
     }
 }
 
-impl<T: IrText<A>, A: AttrText, U> Parsable<T, A, U> for i16 {
+impl<T: IrText<A>, A: AttrText<A>, U> Parsable<T, A, U> for i16 {
     type Arg = ();
 
     type Parsed = i16;
@@ -116,7 +116,7 @@ impl<T: IrText<A>, A: AttrText, U> Parsable<T, A, U> for i16 {
     }
 }
 
-impl<T: IrText<A>, A: AttrText, U> Parsable<T, A, U> for i32 {
+impl<T: IrText<A>, A: AttrText<A>, U> Parsable<T, A, U> for i32 {
     type Arg = ();
 
     type Parsed = i32;
@@ -130,7 +130,7 @@ impl<T: IrText<A>, A: AttrText, U> Parsable<T, A, U> for i32 {
     }
 }
 
-impl<T: IrText<A>, A: AttrText, U> Parsable<T, A, U> for i64 {
+impl<T: IrText<A>, A: AttrText<A>, U> Parsable<T, A, U> for i64 {
     type Arg = ();
 
     type Parsed = i64;
@@ -144,7 +144,7 @@ impl<T: IrText<A>, A: AttrText, U> Parsable<T, A, U> for i64 {
     }
 }
 
-impl<T: IrText<A>, A: AttrText, U> Parsable<T, A, U> for bool {
+impl<T: IrText<A>, A: AttrText<A>, U> Parsable<T, A, U> for bool {
     type Arg = ();
 
     type Parsed = bool;
@@ -158,7 +158,7 @@ impl<T: IrText<A>, A: AttrText, U> Parsable<T, A, U> for bool {
     }
 }
 
-impl<T: IrText<A>, A: AttrText, U> Parsable<T, A, U> for Identifier {
+impl<T: IrText<A>, A: AttrText<A>, U> Parsable<T, A, U> for Identifier {
     type Arg = ();
 
     type Parsed = Identifier;
@@ -172,7 +172,7 @@ impl<T: IrText<A>, A: AttrText, U> Parsable<T, A, U> for Identifier {
     }
 }
 
-impl<T: IrText<A>, A: AttrText, U> Parsable<T, A, U> for DialectName {
+impl<T: IrText<A>, A: AttrText<A>, U> Parsable<T, A, U> for DialectName {
     type Arg = ();
 
     type Parsed = DialectName;
@@ -195,7 +195,7 @@ impl<T: IrText<A>, A: AttrText, U> Parsable<T, A, U> for DialectName {
     }
 }
 
-impl<T: IrText<A>, A: AttrText, U> Parsable<T, A, U> for String {
+impl<T: IrText<A>, A: AttrText<A>, U> Parsable<T, A, U> for String {
     type Arg = ();
 
     type Parsed = String;

@@ -55,7 +55,7 @@ fn inside<'l, A>(
 }
 
 /// Appends a location up to its first inner location, and returns what comes next.
-fn fmt_whole<'l, T: IrText<A>, A: AttrText>(
+fn fmt_whole<'l, T: IrText<A>, A: AttrText<A>>(
     location: &'l Location<A>,
     ctx: &Context<T, A>,
     waiting: &mut Vec<Part<'l, A>>,
@@ -99,7 +99,7 @@ fn fmt_whole<'l, T: IrText<A>, A: AttrText>(
 
 /// Appends a part up to its first inner location, which is then the next part, and puts what follows after that on the stack. If there
 /// is no inner location, the next part is popped from the stack. Fails only if out of memory.
-pub(super) fn fmt_part<'l, T: IrText<A>, A: AttrText>(
+pub(super) fn fmt_part<'l, T: IrText<A>, A: AttrText<A>>(
     part: Part<'l, A>,
     ctx: &Context<T, A>,
     waiting: &mut Vec<Part<'l, A>>,

@@ -21,7 +21,7 @@ use irtext_read::printable::fmt_quoted;
 use std::fmt;
 
 /// Returns the path of a file, if the context keeps it.
-fn path_of<'c, T: IrText<A>, A: AttrText>(src: Source, ctx: &'c Context<T, A>) -> Option<&'c str>
+fn path_of<'c, T: IrText<A>, A: AttrText<A>>(src: Source, ctx: &'c Context<T, A>) -> Option<&'c str>
     ensures { option_copied result ≡ path_of ctx.now.paths src }
 {
     if !src.is_of(ctx) {
@@ -34,7 +34,7 @@ fn path_of<'c, T: IrText<A>, A: AttrText>(src: Source, ctx: &'c Context<T, A>) -
 }
 
 /// Appends the path of a file between quotation marks, or `<in-memory>`.
-pub fn fmt_source<T: IrText<A>, A: AttrText>(
+pub fn fmt_source<T: IrText<A>, A: AttrText<A>>(
     src: Source,
     ctx: &Context<T, A>,
     f: &mut String,
@@ -58,7 +58,7 @@ fn number_fits(number: &i32)
 }
 
 /// Appends a source and the word before a line: `<in-memory>: line: `.
-fn fmt_front<T: IrText<A>, A: AttrText>(
+fn fmt_front<T: IrText<A>, A: AttrText<A>>(
     src: Source,
     ctx: &Context<T, A>,
     f: &mut String,
@@ -87,7 +87,7 @@ pub fn fmt_numbers(pos: &SourcePosition, f: &mut String) -> fmt::Result
 }
 
 /// Appends an attribute between `<` and `>`, if there is one.
-pub(super) fn fmt_metadata<A: AttrText>(
+pub(super) fn fmt_metadata<A: AttrText<A>>(
     metadata: &Option<AttrObj<A>>,
     f: &mut String,
 ) -> fmt::Result
@@ -102,7 +102,7 @@ pub(super) fn fmt_metadata<A: AttrText>(
 }
 
 /// Appends a source, a line and a column: `<in-memory>: line: 1, column: 21`.
-pub(super) fn fmt_place<T: IrText<A>, A: AttrText>(
+pub(super) fn fmt_place<T: IrText<A>, A: AttrText<A>>(
     src: Source,
     pos: &SourcePosition,
     ctx: &Context<T, A>,
@@ -116,7 +116,7 @@ pub(super) fn fmt_place<T: IrText<A>, A: AttrText>(
 
 /// Appends the text of a location. Fails only if out of memory; what was appended up to the error remains. Does not recurse: what
 /// follows after inner locations waits on a stack in memory of the context's allocator.
-pub fn fmt_location<T: IrText<A>, A: AttrText>(
+pub fn fmt_location<T: IrText<A>, A: AttrText<A>>(
     location: &Location<A>,
     ctx: &Context<T, A>,
     f: &mut String,
@@ -132,7 +132,7 @@ pub fn fmt_location<T: IrText<A>, A: AttrText>(
 }
 
 /// Appends the text of a location between these two texts, if the location is known. Fails only if out of memory.
-pub fn fmt_known<T: IrText<A>, A: AttrText>(
+pub fn fmt_known<T: IrText<A>, A: AttrText<A>>(
     location: &Location<A>,
     before: &str,
     after: &str,

@@ -37,7 +37,7 @@ fn fmt_names(names: &[Option<Identifier>], f: &mut String) -> fmt::Result
 
 /// Appends the text of an attribute: `builtin.identifier b`, `builtin.given_names [x, ?]`, or the caller's text. Fails only if out of
 /// memory; what was appended up to the error remains.
-pub fn fmt_attr<A: AttrText>(attr: &AttrObj<A>, f: &mut String) -> fmt::Result
+pub fn fmt_attr<A: AttrText<A>>(attr: &AttrObj<A>, f: &mut String) -> fmt::Result
     ensures { OnOk result (AppendsText f.old (attr_text A.IrText.written (attr_view attr.now)) f.new) }
 {
     match attr {

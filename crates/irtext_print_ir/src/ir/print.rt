@@ -24,7 +24,7 @@ pub(crate) mod gathering;
 pub mod parts;
 
 /// Appends the section of all gathered items, and clears them.
-fn fmt_section<T: IrText<A>, A: AttrText, U>(
+fn fmt_section<T: IrText<A>, A: AttrText<A>, U>(
     ctx: &Context<T, A>,
     state: &mut State<U>,
     f: &mut String,
@@ -40,7 +40,7 @@ fn fmt_section<T: IrText<A>, A: AttrText, U>(
 
 /// Appends what follows the concrete text of an operation in no block: its mark, and the section of all gathered items, which are
 /// cleared. If nothing was gathered, no list is allocated for the operation alone.
-fn fmt_end<T: IrText<A>, A: AttrText, U>(
+fn fmt_end<T: IrText<A>, A: AttrText<A>, U>(
     ctx: &Context<T, A>,
     op: Ptr<Operation>,
     state: &mut State<U>,
@@ -75,7 +75,7 @@ fn fmt_end<T: IrText<A>, A: AttrText, U>(
 /// outlined_attributes:
 /// !0 = @[<in-memory>: line: 1, column: 1], []
 /// ```
-pub fn print_root<T: IrText<A>, A: AttrText, U>(
+pub fn print_root<T: IrText<A>, A: AttrText<A>, U>(
     ctx: &Context<T, A>,
     op: Ptr<Operation>,
     state: &mut State<U>,
@@ -102,7 +102,7 @@ pub fn print_root<T: IrText<A>, A: AttrText, U>(
 
 /// The text that `disp` and `print` show for an operation in no block is the text that the definitions of printing give for its graph.
 /// Does nothing: the contract hands that out.
-pub fn keeps_text<T: IrText<A>, A: AttrText>(ctx: &Context<T, A>, op: Ptr<Operation>)
+pub fn keeps_text<T: IrText<A>, A: AttrText<A>>(ctx: &Context<T, A>, op: Ptr<Operation>)
     requires live { IsSome (operation ctx.now op) }
     ensures { printed.IsDefined T.IrText.own A.IrText.own A.AttrText.own A.eq ctx.now op }
 {
@@ -110,7 +110,7 @@ pub fn keeps_text<T: IrText<A>, A: AttrText>(ctx: &Context<T, A>, op: Ptr<Operat
 }
 
 /// Prints the operation as [`print_root`] does. The operation has to be live.
-impl<T: IrText<A>, A: AttrText, U> Printable<U, T, A> for Ptr<Operation> {
+impl<T: IrText<A>, A: AttrText<A>, U> Printable<U, T, A> for Ptr<Operation> {
     ghost can_print = { λ op ctx. IsSome (operation ctx op) };
 
     ghost gives = { λ op ctx s. printed.root_gives T.IrText.own A.IrText.own A.AttrText.own A.eq ctx op s };

@@ -22,7 +22,7 @@ pub use texts::{Enclosed, Quoted};
 /// fails if the closure does.
 pub fn printable_from_fn<
     T: IrText<A>,
-    A: AttrText,
+    A: AttrText<A>,
     U,
     F: Fn(&Context<T, A>, &mut State<U>, &mut String) -> fmt::Result,
 >(print: F) -> PrinterFn<F>
@@ -67,7 +67,7 @@ pub fn iter_with_sep<I: Iterator + Clone>(iter: I, separator: ListSeparator) -> 
 /// iterator is cloned at each printing. It fails if the clone, a separator or the closure does.
 pub fn iter_with_sep_by<
     T: IrText<A>,
-    A: AttrText,
+    A: AttrText<A>,
     U,
     I: Iterator + Clone,
     F: Fn(I::Item, &Context<T, A>, &mut State<U>, &mut String) -> fmt::Result,

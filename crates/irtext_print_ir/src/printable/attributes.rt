@@ -13,7 +13,7 @@ use std::fmt;
 
 /// Prints an identifier as `builtin.identifier b`, given names as `builtin.given_names [x, ?]`, and a caller's attribute as its own
 /// text. Fails only if out of memory.
-impl<T: IrText<A>, A: AttrText, U> Printable<U, T, A> for AttrObj<A> {
+impl<T: IrText<A>, A: AttrText<A>, U> Printable<U, T, A> for AttrObj<A> {
     ghost gives = { λ x _ s. Some (encode_utf8_all (attr_text A.IrText.written (attr_view x)), s) };
 
     fn fmt(&self, _ctx: &Context<T, A>, _state: &mut State<U>, f: &mut String) -> fmt::Result {

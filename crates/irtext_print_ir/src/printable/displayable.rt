@@ -13,7 +13,7 @@ use std::fmt;
 /// A value with its context, as a `Display`. Each formatting begins with a new state of this layout, with nothing gathered. Created by
 /// [`Disp::disp`] and [`Disp::print`].
 #[derive(Drop)]
-pub struct Displayable<'a, X: Printable<(), T, A>, T: IrText<A>, A: AttrText> {
+pub struct Displayable<'a, X: Printable<(), T, A>, T: IrText<A>, A: AttrText<A>> {
     value: &'a X,
     ctx: &'a Context<T, A>,
     alloc: Global,
@@ -23,7 +23,7 @@ pub struct Displayable<'a, X: Printable<(), T, A>, T: IrText<A>, A: AttrText> {
     ghost printable: { ∥ X.can_print value.now ctx.now ∥₁ },
 }
 
-impl<'a, X: Printable<(), T, A>, T: IrText<A>, A: AttrText> Displayable<'a, X, T, A> {
+impl<'a, X: Printable<(), T, A>, T: IrText<A>, A: AttrText<A>> Displayable<'a, X, T, A> {
     ghost use Rattle.irtext_print_ir.specs.Printers.Shows.{shown_by, ShownOnce};
 
     /// Returns nothing: hands out the proof that the value may be printed. The field states only that such a proof exists.
@@ -50,7 +50,7 @@ impl<'a, X: Printable<(), T, A>, T: IrText<A>, A: AttrText> Displayable<'a, X, T
     }
 }
 
-impl<X: Printable<(), T, A>, T: IrText<A>, A: AttrText> fmt::Display for Displayable<'_, X, T, A> {
+impl<X: Printable<(), T, A>, T: IrText<A>, A: AttrText<A>> fmt::Display for Displayable<'_, X, T, A> {
     ghost output = { λ d. text_of (X.gives d.value.now d.ctx.now (fresh d.indent_width d.current_indent d.limit)) };
 
     fn fmt<W: fmt::Write>(&self, f: &mut fmt::Formatter<W>) -> fmt::Result {
@@ -61,7 +61,7 @@ impl<X: Printable<(), T, A>, T: IrText<A>, A: AttrText> fmt::Display for Display
 }
 
 /// The text of a printable value, as a `Display`.
-pub trait Disp<T: IrText<A>, A: AttrText>: Printable<(), T, A> {
+pub trait Disp<T: IrText<A>, A: AttrText<A>>: Printable<(), T, A> {
     ghost use Rattle.irtext_print_ir.specs.Printers.Shows.{shown_by, Displays};
 
     /// Returns the value as a `Display` that uses a new printing state at each formatting: two spaces per level, indentation 0, no
@@ -84,7 +84,7 @@ pub trait Disp<T: IrText<A>, A: AttrText>: Printable<(), T, A> {
         ensures shows { Displays result self.now ctx.now (fresh state.now.width state.now.indent state.now.limit) };
 }
 
-impl<X: Printable<(), T, A>, T: IrText<A>, A: AttrText> Disp<T, A> for X {
+impl<X: Printable<(), T, A>, T: IrText<A>, A: AttrText<A>> Disp<T, A> for X {
     fn disp<'a>(&'a self, ctx: &'a Context<T, A>) -> Displayable<'a, X, T, A> {
         Displayable {
             value: self,

@@ -36,7 +36,7 @@ impl fmt::Display for IndentedNl {
     }
 }
 
-impl<T: IrText<A>, A: AttrText, U> Printable<U, T, A> for IndentedNl {
+impl<T: IrText<A>, A: AttrText<A>, U> Printable<U, T, A> for IndentedNl {
     ghost gives = { λ line _ s. Some (newline line.indent, s) };
 
     fn fmt(&self, _ctx: &Context<T, A>, _state: &mut State<U>, f: &mut String) -> fmt::Result {

@@ -11,7 +11,7 @@ use irtext_context::base::Context;
 use std::fmt;
 
 /// Appends what is before an item: the separator, unless the item is the first.
-pub(crate) fn fmt_between<T: IrText<A>, A: AttrText, U>(
+pub(crate) fn fmt_between<T: IrText<A>, A: AttrText<A>, U>(
     first: bool,
     sep: ListSeparator,
     ctx: &Context<T, A>,
@@ -29,7 +29,7 @@ pub(crate) fn fmt_between<T: IrText<A>, A: AttrText, U>(
 
 /// Appends the texts of the items that an iterator yields, with a separator between each two: `a, b` with the separator
 /// `CharSpace(',')`. Fails if a separator or an item does. What was appended up to the error remains.
-pub fn fmt_iter<T: IrText<A>, A: AttrText, U, I: Iterator + Drop>(
+pub fn fmt_iter<T: IrText<A>, A: AttrText<A>, U, I: Iterator + Drop>(
     iter: I,
     ctx: &Context<T, A>,
     state: &mut State<U>,

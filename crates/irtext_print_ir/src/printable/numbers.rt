@@ -8,7 +8,7 @@ use irtext_base::text::{AttrText, IrText};
 use irtext_context::base::Context;
 use std::fmt;
 
-impl<T: IrText<A>, A: AttrText, U> Printable<U, T, A> for usize {
+impl<T: IrText<A>, A: AttrText<A>, U> Printable<U, T, A> for usize {
     ghost gives = { λ n _ s. Some (decimal n, s) };
 
     fn fmt(&self, _ctx: &Context<T, A>, _state: &mut State<U>, f: &mut String) -> fmt::Result {
@@ -17,7 +17,7 @@ impl<T: IrText<A>, A: AttrText, U> Printable<U, T, A> for usize {
     }
 }
 
-impl<T: IrText<A>, A: AttrText, U> Printable<U, T, A> for u8 {
+impl<T: IrText<A>, A: AttrText<A>, U> Printable<U, T, A> for u8 {
     ghost gives = { λ n _ s. Some (decimal n, s) };
 
     fn fmt(&self, _ctx: &Context<T, A>, _state: &mut State<U>, f: &mut String) -> fmt::Result {
@@ -26,7 +26,7 @@ impl<T: IrText<A>, A: AttrText, U> Printable<U, T, A> for u8 {
     }
 }
 
-impl<T: IrText<A>, A: AttrText, U> Printable<U, T, A> for u16 {
+impl<T: IrText<A>, A: AttrText<A>, U> Printable<U, T, A> for u16 {
     ghost gives = { λ n _ s. Some (decimal n, s) };
 
     fn fmt(&self, _ctx: &Context<T, A>, _state: &mut State<U>, f: &mut String) -> fmt::Result {
@@ -35,7 +35,7 @@ impl<T: IrText<A>, A: AttrText, U> Printable<U, T, A> for u16 {
     }
 }
 
-impl<T: IrText<A>, A: AttrText, U> Printable<U, T, A> for u32 {
+impl<T: IrText<A>, A: AttrText<A>, U> Printable<U, T, A> for u32 {
     ghost gives = { λ n _ s. Some (decimal n, s) };
 
     fn fmt(&self, _ctx: &Context<T, A>, _state: &mut State<U>, f: &mut String) -> fmt::Result {
@@ -44,7 +44,7 @@ impl<T: IrText<A>, A: AttrText, U> Printable<U, T, A> for u32 {
     }
 }
 
-impl<T: IrText<A>, A: AttrText, U> Printable<U, T, A> for u64 {
+impl<T: IrText<A>, A: AttrText<A>, U> Printable<U, T, A> for u64 {
     ghost gives = { λ n _ s. Some (decimal n, s) };
 
     fn fmt(&self, _ctx: &Context<T, A>, _state: &mut State<U>, f: &mut String) -> fmt::Result {
@@ -53,7 +53,7 @@ impl<T: IrText<A>, A: AttrText, U> Printable<U, T, A> for u64 {
     }
 }
 
-impl<T: IrText<A>, A: AttrText, U> Printable<U, T, A> for i8 {
+impl<T: IrText<A>, A: AttrText<A>, U> Printable<U, T, A> for i8 {
     ghost gives = { λ n _ s. Some (signed_decimal n, s) };
 
     fn fmt(&self, _ctx: &Context<T, A>, _state: &mut State<U>, f: &mut String) -> fmt::Result {
@@ -62,7 +62,7 @@ impl<T: IrText<A>, A: AttrText, U> Printable<U, T, A> for i8 {
     }
 }
 
-impl<T: IrText<A>, A: AttrText, U> Printable<U, T, A> for i16 {
+impl<T: IrText<A>, A: AttrText<A>, U> Printable<U, T, A> for i16 {
     ghost gives = { λ n _ s. Some (signed_decimal n, s) };
 
     fn fmt(&self, _ctx: &Context<T, A>, _state: &mut State<U>, f: &mut String) -> fmt::Result {
@@ -71,7 +71,7 @@ impl<T: IrText<A>, A: AttrText, U> Printable<U, T, A> for i16 {
     }
 }
 
-impl<T: IrText<A>, A: AttrText, U> Printable<U, T, A> for i32 {
+impl<T: IrText<A>, A: AttrText<A>, U> Printable<U, T, A> for i32 {
     ghost gives = { λ n _ s. Some (signed_decimal n, s) };
 
     fn fmt(&self, _ctx: &Context<T, A>, _state: &mut State<U>, f: &mut String) -> fmt::Result {
@@ -80,7 +80,7 @@ impl<T: IrText<A>, A: AttrText, U> Printable<U, T, A> for i32 {
     }
 }
 
-impl<T: IrText<A>, A: AttrText, U> Printable<U, T, A> for i64 {
+impl<T: IrText<A>, A: AttrText<A>, U> Printable<U, T, A> for i64 {
     ghost gives = { λ n _ s. Some (signed_decimal n, s) };
 
     fn fmt(&self, _ctx: &Context<T, A>, _state: &mut State<U>, f: &mut String) -> fmt::Result {

@@ -13,7 +13,7 @@ use irtext_read::printable::fmt_quoted;
 use std::fmt;
 
 /// Prints what the value behind the reference prints.
-impl<T: IrText<A>, A: AttrText, U, X: Printable<U, T, A>> Printable<U, T, A> for &X {
+impl<T: IrText<A>, A: AttrText<A>, U, X: Printable<U, T, A>> Printable<U, T, A> for &X {
     ghost can_print = { λ x. X.can_print x.now };
 
     ghost gives = { λ x c s. X.gives x.now c s };
@@ -26,7 +26,7 @@ impl<T: IrText<A>, A: AttrText, U, X: Printable<U, T, A>> Printable<U, T, A> for
 }
 
 /// Prints the text unchanged, without quotation marks.
-impl<T: IrText<A>, A: AttrText, U> Printable<U, T, A> for &str {
+impl<T: IrText<A>, A: AttrText<A>, U> Printable<U, T, A> for &str {
     ghost gives = { λ x _ s. Some (x.now, s) };
 
     fn fmt(&self, _ctx: &Context<T, A>, _state: &mut State<U>, f: &mut String) -> fmt::Result {
@@ -36,7 +36,7 @@ impl<T: IrText<A>, A: AttrText, U> Printable<U, T, A> for &str {
 }
 
 /// Prints the text between quotation marks, as `fmt_quoted` does.
-impl<T: IrText<A>, A: AttrText, U> Printable<U, T, A> for String {
+impl<T: IrText<A>, A: AttrText<A>, U> Printable<U, T, A> for String {
     ghost gives = { λ x _ s. Some (quoted_bytes (string_bytes x), s) };
 
     fn fmt(&self, _ctx: &Context<T, A>, _state: &mut State<U>, f: &mut String) -> fmt::Result {
@@ -45,7 +45,7 @@ impl<T: IrText<A>, A: AttrText, U> Printable<U, T, A> for String {
 }
 
 /// Prints `true` or `false`.
-impl<T: IrText<A>, A: AttrText, U> Printable<U, T, A> for bool {
+impl<T: IrText<A>, A: AttrText<A>, U> Printable<U, T, A> for bool {
     ghost gives = { λ b _ s. Some (bool_text b, s) };
 
     fn fmt(&self, _ctx: &Context<T, A>, _state: &mut State<U>, f: &mut String) -> fmt::Result {
@@ -55,7 +55,7 @@ impl<T: IrText<A>, A: AttrText, U> Printable<U, T, A> for bool {
 }
 
 /// Prints the character unchanged.
-impl<T: IrText<A>, A: AttrText, U> Printable<U, T, A> for char {
+impl<T: IrText<A>, A: AttrText<A>, U> Printable<U, T, A> for char {
     ghost gives = { λ c _ s. Some (encode_utf8 c, s) };
 
     fn fmt(&self, _ctx: &Context<T, A>, _state: &mut State<U>, f: &mut String) -> fmt::Result {
@@ -66,7 +66,7 @@ impl<T: IrText<A>, A: AttrText, U> Printable<U, T, A> for char {
 
 /// Prints nothing for `None`; a newline and the state's indentation for `Newline`; the character, a newline and the indentation for
 /// `CharNewline`; the character for `Char`; the character and a space for `CharSpace`.
-impl<T: IrText<A>, A: AttrText, U> Printable<U, T, A> for ListSeparator {
+impl<T: IrText<A>, A: AttrText<A>, U> Printable<U, T, A> for ListSeparator {
     ghost use Rattle.irtext_print_ir.specs.Printers.Separator.{separator_text};
 
     ghost gives = { λ x _ s. Some (separator_text x s, s) };

@@ -10,14 +10,14 @@ use irtext_base::text::{AttrText, IrText};
 
 /// Returns the location of the stream's current position, in the source that is parsed. It consumes nothing, and works on a failed stream
 /// too.
-pub fn location<T: IrText<A>, A: AttrText, U>(stream: &StateStream<'_, T, A, U>) -> Location<A>
+pub fn location<T: IrText<A>, A: AttrText<A>, U>(stream: &StateStream<'_, T, A, U>) -> Location<A>
     ensures { LocatesAt stream.now.state.src stream.now.stream.passed result }
 {
     stream.loc()
 }
 
 /// Parses a type by its own parser, whose errors are returned unchanged. The state is unchanged.
-pub fn type_parse<T: IrText<A>, A: AttrText, U>(
+pub fn type_parse<T: IrText<A>, A: AttrText<A>, U>(
     stream: &mut StateStream<'_, T, A, U>,
 ) -> ParseResult<T, A>
     ensures read { MayRead (λ s. s) (λ s v. v) (λ t. t) T.IrText.reading stream.old.stream result stream.new.stream }

@@ -29,7 +29,7 @@ pub struct State<'c, T, A, U> {
     marks: Numbered<Item>,
 }
 
-impl<'c, T: IrText<A>, A: AttrText, U> State<'c, T, A, U> {
+impl<'c, T: IrText<A>, A: AttrText<A>, U> State<'c, T, A, U> {
     /// Makes a state without marks.
     pub fn new(ctx: &'c mut Context<T, A>, src: Source, aux_data: U) -> State<'c, T, A, U>
         ensures lent { result.ctx.ghost_name ≡ ctx.entry.ghost_name }
@@ -86,7 +86,7 @@ pub trait Noting {
 }
 
 /// Nothing but the marks changes.
-impl<'c, T: IrText<A>, A: AttrText, U> Noting for State<'c, T, A, U> {
+impl<'c, T: IrText<A>, A: AttrText<A>, U> Noting for State<'c, T, A, U> {
     ghost noted = { λ s. marks_of s };
 
     fn mark(&mut self, index: usize, item: Item) -> Result<bool, AllocError>
@@ -122,7 +122,7 @@ pub struct StateStream<'c, T, A, U> {
     pub state: State<'c, T, A, U>,
 }
 
-impl<'c, T: IrText<A>, A: AttrText, U> StateStream<'c, T, A, U> {
+impl<'c, T: IrText<A>, A: AttrText<A>, U> StateStream<'c, T, A, U> {
     /// Makes a stream from a text and the state of its parse.
     pub(crate) fn new(stream: TextStream, state: State<'c, T, A, U>) -> StateStream<'c, T, A, U>
         ensures lent { result.state.ctx.ghost_name ≡ state.entry.ctx.ghost_name }
@@ -151,7 +151,7 @@ impl<'c, T: IrText<A>, A: AttrText, U> StateStream<'c, T, A, U> {
     }
 }
 
-impl<'c, T: IrText<A>, A: AttrText, U> CharStream for StateStream<'c, T, A, U> {
+impl<'c, T: IrText<A>, A: AttrText<A>, U> CharStream for StateStream<'c, T, A, U> {
     ghost view = { λ s. s.stream };
 
     ghost at = { λ s v. record s { stream = v } };
@@ -217,7 +217,7 @@ impl<'c, T: IrText<A>, A: AttrText, U> CharStream for StateStream<'c, T, A, U> {
     }
 }
 
-impl<'c, T: IrText<B>, B: AttrText, U> OwnStream for StateStream<'c, T, B, U> {
+impl<'c, T: IrText<B>, B: AttrText<B>, U> OwnStream for StateStream<'c, T, B, U> {
     fn read_own<X: IrText<A>, A>(&mut self) -> ParseResult<X, A> {
         X::read(&mut self.stream)
     }
@@ -233,7 +233,7 @@ pub trait StreamLocation<A> {
         ensures { locates self.now result };
 }
 
-impl<'c, T: IrText<A>, A: AttrText, U> StreamLocation<A> for StateStream<'c, T, A, U> {
+impl<'c, T: IrText<A>, A: AttrText<A>, U> StreamLocation<A> for StateStream<'c, T, A, U> {
     ghost locates = { λ s location. LocatesAt s.state.src s.stream.passed location };
 
     fn loc(&self) -> Location<A> {

@@ -43,7 +43,7 @@ fn run_on<T, A, R, F: FnOnce(&mut StateStream<'_, T, A, ()>) -> R>(
 ) -> R
 where
     T: IrText<A>,
-    A: AttrText,
+    A: AttrText<A>,
     requires callable { (s : _) → F.pre parse s }
     requires lent { (s : _) (answer : R) (t : _) → F.post parse s answer t → t.now.state.ctx.ghost_name ≡ s.now.state.ctx.ghost_name }
     ensures { Runs (F.post parse) stream ctx.old result ctx.new }
@@ -108,7 +108,7 @@ pub fn parse_from_str<T, A, R, F: FnOnce(&mut StateStream<'_, T, A, ()>) -> R>(
 ) -> R::Answer
 where
     T: IrText<A>,
-    A: AttrText,
+    A: AttrText<A>,
     R: ParseAnswer,
     requires callable { (s : _) → F.pre parse s }
     requires lent { (s : _) (answer : R) (t : _) → F.post parse s answer t → t.now.state.ctx.ghost_name ≡ s.now.state.ctx.ghost_name }
@@ -123,7 +123,7 @@ where
 }
 
 /// Makes a stream of the characters of a finite iterator, which are collected first. Fails only if an allocation fails.
-pub fn state_stream_from_iterator<'c, T: IrText<A>, A: AttrText, U: Drop, I: Iterator<Item = char>>(
+pub fn state_stream_from_iterator<'c, T: IrText<A>, A: AttrText<A>, U: Drop, I: Iterator<Item = char>>(
     iterator: I,
     state: State<'c, T, A, U>,
 ) -> std::result::Result<StateStream<'c, T, A, U>, AllocError>

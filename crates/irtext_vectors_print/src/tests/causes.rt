@@ -69,7 +69,7 @@ fn plain(number: usize) -> Cause<DemoAttr> {
         8 => Cause::DuplicateIndex(5),
         9 => Cause::UnknownIndex(6),
         10 => Cause::UnknownPrintOnce(7),
-        11 => Cause::FormatFault(FormatFault::C8),
+        11 => Cause::FormatFault(FormatFault::AmbiguousList),
         _ => Cause::Unexpected {
             found: None,
             expected: expected(number),
@@ -238,7 +238,7 @@ fn small(alloc: Global, number: usize) -> Result<String, Fail> {
         1 => Ok(format!(in alloc; "{isolated}")?),
         2 => Ok(format!(in alloc; "{}", ErrorKind::InvalidArgument)?),
         3 => Ok(format!(in alloc; "{}", ErrorKind::VerificationFailed)?),
-        4 => Ok(format!(in alloc; "{}", FormatFault::C1)?),
+        4 => Ok(format!(in alloc; "{}", FormatFault::LiteralNotPrintable)?),
         5..=7 => of_block(alloc, number),
         9 => Ok(format!(in alloc; "{}", DefUseVerifyErr::OperandNotUseOfDef)?),
         _ => of_error(alloc),

@@ -40,7 +40,7 @@ pub trait OperationText {
     ///     test.nop
     /// }
     /// ```
-    fn top_level_parse<T: IrText<A>, A: AttrText, U>(
+    fn top_level_parse<T: IrText<A>, A: AttrText<A>, U>(
         stream: &mut StateStream<'_, T, A, U>,
     ) -> ParseResult<Ptr<Operation>, A>
         ensures lent { stream.new.state.ctx.ghost_name ≡ stream.old.state.ctx.ghost_name }
@@ -63,7 +63,7 @@ pub trait OperationText {
     /// Parses an operation as `top_level_parse` does; only white space may follow it up to the end of the text. If something else
     /// follows, the error is committed and its position is there: ``Unexpected `b`, expected end of input``. If the stream has not
     /// failed and the state has no recorded marks, an error leaves the context's objects and the marks unchanged.
-    fn whole_text_parse<T: IrText<A>, A: AttrText, U>(
+    fn whole_text_parse<T: IrText<A>, A: AttrText<A>, U>(
         stream: &mut StateStream<'_, T, A, U>,
     ) -> ParseResult<Ptr<Operation>, A>
         ensures lent { stream.new.state.ctx.ghost_name ≡ stream.old.state.ctx.ghost_name }
@@ -82,24 +82,24 @@ pub trait OperationText {
 
     /// Returns the operation as a plain value that prints its concrete text: its id and its pieces, without its mark and without a
     /// section.
-    fn get_op_dyn<T: IrText<A>, A: AttrText>(op: Ptr<Operation>, ctx: &Context<T, A>) -> OpObj
+    fn get_op_dyn<T: IrText<A>, A: AttrText<A>>(op: Ptr<Operation>, ctx: &Context<T, A>) -> OpObj
         ensures { result ≡ record { op = op } };
 }
 
 impl OperationText for Operation {
-    fn top_level_parse<T: IrText<A>, A: AttrText, U>(
+    fn top_level_parse<T: IrText<A>, A: AttrText<A>, U>(
         stream: &mut StateStream<'_, T, A, U>,
     ) -> ParseResult<Ptr<Operation>, A> {
         root_parse(stream)
     }
 
-    fn whole_text_parse<T: IrText<A>, A: AttrText, U>(
+    fn whole_text_parse<T: IrText<A>, A: AttrText<A>, U>(
         stream: &mut StateStream<'_, T, A, U>,
     ) -> ParseResult<Ptr<Operation>, A> {
         whole_parse(stream)
     }
 
-    fn get_op_dyn<T: IrText<A>, A: AttrText>(op: Ptr<Operation>, _ctx: &Context<T, A>) -> OpObj {
+    fn get_op_dyn<T: IrText<A>, A: AttrText<A>>(op: Ptr<Operation>, _ctx: &Context<T, A>) -> OpObj {
         OpObj { op }
     }
 }

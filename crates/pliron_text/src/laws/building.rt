@@ -28,7 +28,7 @@ use irtext_base::text::{AttrText, IrText};
 
 /// Take a tree that, apart from places, is what is printed of a root. If it parses from some text and resolves, with a section in which
 /// each item finds its own location and outlined attributes, it builds a graph that is equal to the root up to fillings.
-pub fn equal_up_to_fillings<T: IrText<A>, A: AttrText, X>()
+pub fn equal_up_to_fillings<T: IrText<A>, A: AttrText<A>, X>()
     ensures { (C : Printing T A) (isolated : Id → Bool) (K : Locations X) (first : ℕ → X)
         (es : List (Entry ℕ A X)) (g : Graph T A) (t : Tree ℕ T A) (text rest : List ℕ) →
         ((p : ℕ) → K.is_position (first p) ≡ true) → Fit C isolated g → SmallGraph C isolated g → GraphKeepsKeys g → GraphKeysDiffer g →
@@ -39,7 +39,7 @@ pub fn equal_up_to_fillings<T: IrText<A>, A: AttrText, X>()
 /// The printed text of a closed root whose operations fit accepted formats, with its section, parses as a tree and entries that
 /// resolve. They build a graph that is equal to the root up to fillings: positions are filled in for unknown locations, and printed
 /// names for missing given names and labels.
-pub fn text_comes_back<T: IrText<A>, A: AttrText, X>()
+pub fn text_comes_back<T: IrText<A>, A: AttrText<A>, X>()
     ensures { (location_at : List ℕ → Standing X) (K : Locations X) (first : ℕ → X) (C : Printing T A)
         (isolated : Id → Bool) (g : Graph T A) (width n : ℕ) →
         ((p : ℕ) → K.is_position (first p) ≡ true) → C.same_own ≡ A.eq →
@@ -50,7 +50,7 @@ pub fn text_comes_back<T: IrText<A>, A: AttrText, X>()
 
 /// Every way to parse the printed text of such a root with its section takes all of the text except white space, resolves, and builds a
 /// graph that is equal to the root up to fillings.
-pub fn each_reading_comes_back<T: IrText<A>, A: AttrText, X>()
+pub fn each_reading_comes_back<T: IrText<A>, A: AttrText<A>, X>()
     ensures { (location_at : List ℕ → Standing X) (K : Locations X) (first : ℕ → X) (C : Printing T A)
         (isolated : Id → Bool) (g : Graph T A) (width n : ℕ) →
         let types = texts_of T.reading T.written in
@@ -65,7 +65,7 @@ pub fn each_reading_comes_back<T: IrText<A>, A: AttrText, X>()
 
 /// If each block of such a root has a label, and everything that has results or arguments holds given names, nothing is filled in but
 /// positions for unknown locations. That holds for every way to parse the text.
-pub fn named_root_comes_back<T: IrText<A>, A: AttrText, X>()
+pub fn named_root_comes_back<T: IrText<A>, A: AttrText<A>, X>()
     ensures { (location_at : List ℕ → Standing X) (K : Locations X) (first : ℕ → X) (C : Printing T A)
         (isolated : Id → Bool) (g : Graph T A) (width n : ℕ) →
         ((p : ℕ) → K.is_position (first p) ≡ true) → C.same_own ≡ A.eq →
@@ -77,7 +77,7 @@ pub fn named_root_comes_back<T: IrText<A>, A: AttrText, X>()
 /// Take a root in a context's arenas that agrees with what a parsed and resolved tree and its section build. It is closed; its blocks
 /// have labels; everything that has results or arguments holds given names; and no block's dictionary contains a label. Formats have to
 /// be accepted, and the values and blocks of the root have to be distinct.
-pub fn built_root_is_closed<T: IrText<A>, A: AttrText, X>()
+pub fn built_root_is_closed<T: IrText<A>, A: AttrText<A>, X>()
     ensures { (first : ℕ → X) (C : Printing T A) (isolated : Id → Bool) (t : Tree ℕ T A)
         (es : List (Entry ℕ A X)) (g : Graph T A) (source rest : List ℕ) →
         ((id : Id) (format : Format) → C.format_of id ≡ Some format → Accepted format) →
@@ -89,7 +89,7 @@ pub fn built_root_is_closed<T: IrText<A>, A: AttrText, X>()
 
 /// What was parsed survives printing unchanged: if its operations fit, such a root is printed as a text that parses as an equal root,
 /// with a position for each unknown location.
-pub fn read_root_comes_back<T: IrText<A>, A: AttrText, X>()
+pub fn read_root_comes_back<T: IrText<A>, A: AttrText<A>, X>()
     ensures { (location_at : List ℕ → Standing X) (K : Locations X) (before first : ℕ → X)
         (C : Printing T A) (isolated : Id → Bool) (t : Tree ℕ T A) (es : List (Entry ℕ A X)) (g : Graph T A)
         (source rest : List ℕ) (width n : ℕ) →
@@ -103,7 +103,7 @@ pub fn read_root_comes_back<T: IrText<A>, A: AttrText, X>()
 {}
 
 /// A text parses as at most one root with its section, with one rest.
-pub fn one_root<T: IrText<A>, A: AttrText, X>()
+pub fn one_root<T: IrText<A>, A: AttrText<A>, X>()
     ensures { (location_at : List ℕ → Standing X) (formats : Id → Option Format) (x y : Tree ℕ T A)
         (es fs : List (Entry ℕ A X)) (t u v : List ℕ) →
         let l = language (texts_of T.reading T.written) (texts_of A.reading A.written) formats in

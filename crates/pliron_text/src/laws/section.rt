@@ -26,7 +26,7 @@ use irtext_base::text::{AttrText, IrText};
 /// The printed text of a closed root whose operations fit accepted formats, with its section, parses as a tree and entries that are
 /// equal to the printed ones apart from places. They resolve. Each item's mark leads to the item's own location and outlined
 /// attributes. What they build has the root's ids, types, operands, successors and printed labels at each place.
-pub fn section_comes_back<T: IrText<A>, A: AttrText, X>()
+pub fn section_comes_back<T: IrText<A>, A: AttrText<A>, X>()
     ensures { (location_at : List ℕ → Standing X) (K : Locations X) (first : ℕ → X) (C : Printing T A)
         (isolated : Id → Bool) (g : Graph T A) (width n : ℕ) →
         let types = texts_of T.reading T.written in

@@ -28,7 +28,7 @@ fn copy_names(
     Ok(copies)
 }
 
-impl<A: AttrText> AttrObj<A> {
+impl<A: AttrText<A>> AttrObj<A> {
     /// Returns a copy that equals the attribute. Fails only when out of memory.
     pub fn try_clone(&self, alloc: Global) -> Result<AttrObj<A>, AllocError>
         ensures { IfOk result (λ copy. attr_view copy ≡ attr_view self.now) }

@@ -21,7 +21,7 @@ pub trait NewBlock {
     /// Makes a block without a parent, with an optional label and arguments of these types. It has no operations and no attributes, and
     /// its location is `Unknown`. Fails with `Memory` if an allocation fails or a counter is at its limit. The error is of kind invalid
     /// argument and has no location, and the context is unchanged.
-    fn new<T: IrText<A>, A: AttrText>(
+    fn new<T: IrText<A>, A: AttrText<A>>(
         ctx: &mut Context<T, A>,
         label: Option<Identifier>,
         arg_types: Few<T>,
@@ -34,7 +34,7 @@ pub trait NewBlock {
 }
 
 impl NewBlock for BasicBlock {
-    fn new<T: IrText<A>, A: AttrText>(
+    fn new<T: IrText<A>, A: AttrText<A>>(
         ctx: &mut Context<T, A>,
         label: Option<Identifier>,
         arg_types: Few<T>,

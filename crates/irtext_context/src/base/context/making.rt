@@ -21,7 +21,7 @@ use irtext_few::Few;
 use std::alloc::AllocError;
 
 /// Makes objects of a context, and rolls them back.
-pub trait Making<T: IrText<A>, A: AttrText> {
+pub trait Making<T: IrText<A>, A: AttrText<A>> {
     ghost use Rattle.irtext_context.specs.Context.{ContextView};
 
     // the context that is changed
@@ -103,7 +103,7 @@ pub trait Making<T: IrText<A>, A: AttrText> {
         ensures known { OnErr result (MayBeRefused (seen self.old).paths path.now) };
 }
 
-impl<T: IrText<A>, A: AttrText> Making<T, A> for Context<T, A> {
+impl<T: IrText<A>, A: AttrText<A>> Making<T, A> for Context<T, A> {
     ghost seen = { λ c. c };
 
     fn made(&self) -> u64 {

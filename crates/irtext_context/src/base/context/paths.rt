@@ -27,7 +27,7 @@ impl<T, A> HasPaths<A> for Context<T, A> {
     }
 }
 
-impl<T: IrText<A>, A: AttrText> Context<T, A> {
+impl<T: IrText<A>, A: AttrText<A>> Context<T, A> {
     /// The number of paths that the context keeps.
     pub fn num_paths(&self) -> usize
         ensures { result ≡ length self.now.paths }

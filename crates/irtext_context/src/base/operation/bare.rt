@@ -19,7 +19,7 @@ pub trait NewBareOperation {
     /// `Unknown`. Fails with `UnregisteredDialect` or `UnregisteredOp` if the operation is not registered, else with `Memory` if an
     /// allocation fails or a counter is at its limit. The error is of kind invalid argument and has no location, and all objects are
     /// unchanged.
-    fn new<T: IrText<A>, A: AttrText>(
+    fn new<T: IrText<A>, A: AttrText<A>>(
         ctx: &mut Context<T, A>,
         id: OpId,
         num_regions: usize,
@@ -34,7 +34,7 @@ pub trait NewBareOperation {
 }
 
 impl NewBareOperation for Operation {
-    fn new<T: IrText<A>, A: AttrText>(
+    fn new<T: IrText<A>, A: AttrText<A>>(
         ctx: &mut Context<T, A>,
         id: OpId,
         num_regions: usize,

@@ -24,7 +24,7 @@ use std::alloc::AllocError;
 
 /// Adds `count` empty regions to an operation. Fails if an allocation fails or a counter is at its limit; the regions that were added
 /// before stay.
-pub fn add_regions<T: IrText<A>, A: AttrText>(
+pub fn add_regions<T: IrText<A>, A: AttrText<A>>(
     ctx: &mut Context<T, A>,
     op: Ptr<Operation>,
     count: usize,
@@ -41,7 +41,7 @@ pub fn add_regions<T: IrText<A>, A: AttrText>(
 
 /// Makes an operation with results of these types, these operands and successors, and `num_regions` empty regions. If an allocation fails
 /// or a counter is at its limit, what was made before stays.
-fn make<T: IrText<A>, A: AttrText>(
+fn make<T: IrText<A>, A: AttrText<A>>(
     ctx: &mut Context<T, A>,
     id: OpId,
     result_types: Few<T>,
@@ -73,7 +73,7 @@ pub trait NewOperation {
     /// It has no attributes, and its location is `Unknown`. Fails with `UnregisteredDialect` or `UnregisteredOp` if the operation is not
     /// registered, else with `Memory` if an allocation fails or a counter is at its limit. The error is of kind invalid argument and has
     /// no location, and all objects are unchanged, their use lists too.
-    fn new<T: IrText<A>, A: AttrText>(
+    fn new<T: IrText<A>, A: AttrText<A>>(
         ctx: &mut Context<T, A>,
         id: OpId,
         result_types: Few<T>,
@@ -93,7 +93,7 @@ pub trait NewOperation {
 }
 
 impl NewOperation for Operation {
-    fn new<T: IrText<A>, A: AttrText>(
+    fn new<T: IrText<A>, A: AttrText<A>>(
         ctx: &mut Context<T, A>,
         id: OpId,
         result_types: Few<T>,

@@ -11,7 +11,7 @@ use irtext_base::text::AttrText;
 use irtext_dict::base::AttributeDict;
 
 /// Returns the key that a directive names, if no attribute has it.
-fn lacking_key<'d, A: AttrText>(
+fn lacking_key<'d, A: AttrText<A>>(
     attributes: &AttributeDict<A>,
     directive: &'d Directive,
 ) -> Option<&'d Identifier>
@@ -27,7 +27,7 @@ fn lacking_key<'d, A: AttrText>(
 }
 
 /// Returns the first key that a directive names and no attribute has.
-pub fn missing_key<'d, A: AttrText>(
+pub fn missing_key<'d, A: AttrText<A>>(
     attributes: &AttributeDict<A>,
     directives: &'d [Directive],
 ) -> Option<&'d Identifier>

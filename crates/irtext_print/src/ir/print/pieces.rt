@@ -47,7 +47,7 @@ pub fn fmt_word(word: &str, f: &mut String) -> fmt::Result
 }
 
 /// Whether an attribute is printed in the section, and not in place.
-pub fn is_outlined<A: AttrText>(attr: &AttrObj<A>) -> bool
+pub fn is_outlined<A: AttrText<A>>(attr: &AttrObj<A>) -> bool
     ensures { result ≡ graph.outlined (pieces.outlining A.outlined) (attribute_of attr.now) }
 {
     match attr {
@@ -58,7 +58,7 @@ pub fn is_outlined<A: AttrText>(attr: &AttrObj<A>) -> bool
 }
 
 /// Appends the text of an attribute, or `!outlined` if it is outlined.
-fn fmt_inline<A: AttrText>(attr: &AttrObj<A>, f: &mut String) -> fmt::Result
+fn fmt_inline<A: AttrText<A>>(attr: &AttrObj<A>, f: &mut String) -> fmt::Result
     ensures { OnOk result (AppendsText f.old (pieces.inline_text A.IrText.written A.outlined (attribute_of attr.now)) f.new) }
 {
     if is_outlined(attr) {
@@ -69,7 +69,7 @@ fn fmt_inline<A: AttrText>(attr: &AttrObj<A>, f: &mut String) -> fmt::Result
 }
 
 /// Appends the attribute under a key, after a space, if there is one.
-pub fn fmt_keyed<A: AttrText>(
+pub fn fmt_keyed<A: AttrText<A>>(
     attributes: &AttributeDict<A>,
     key: &Identifier,
     f: &mut String,
@@ -84,7 +84,7 @@ pub fn fmt_keyed<A: AttrText>(
 }
 
 /// Returns the identifier that an attribute contains, if it is one.
-fn ident_of<A: AttrText>(attr: &AttrObj<A>) -> Option<&Identifier>
+fn ident_of<A: AttrText<A>>(attr: &AttrObj<A>) -> Option<&Identifier>
     ensures { option_copied result ≡ pieces.symbol_in (Some (attribute_of attr.now)) }
 {
     match attr {
@@ -95,7 +95,7 @@ fn ident_of<A: AttrText>(attr: &AttrObj<A>) -> Option<&Identifier>
 
 /// Returns the attribute under a key. An operation's first attribute is the one that is asked for most, so it is compared first.
 #[inline(always)]
-pub(crate) fn attribute_under<'a, A: AttrText>(
+pub(crate) fn attribute_under<'a, A: AttrText<A>>(
     attributes: &'a AttributeDict<A>,
     key: &str,
 ) -> Option<&'a AttrObj<A>>
@@ -110,7 +110,7 @@ pub(crate) fn attribute_under<'a, A: AttrText>(
 }
 
 /// Returns the symbol's name, if the attribute under its key is an identifier.
-pub fn symbol_of<A: AttrText>(attributes: &AttributeDict<A>) -> Option<&Identifier>
+pub fn symbol_of<A: AttrText<A>>(attributes: &AttributeDict<A>) -> Option<&Identifier>
     ensures { option_copied result ≡ pieces.symbol_in (graph.lookup sym_name_key (entries_of attributes.now)) }
 {
     match attribute_under(attributes, "builtin_sym_name") {
@@ -120,7 +120,7 @@ pub fn symbol_of<A: AttrText>(attributes: &AttributeDict<A>) -> Option<&Identifi
 }
 
 /// Appends the symbol's name after a space and `@`, if there is one.
-pub fn fmt_symbol<A: AttrText>(attributes: &AttributeDict<A>, f: &mut String) -> fmt::Result
+pub fn fmt_symbol<A: AttrText<A>>(attributes: &AttributeDict<A>, f: &mut String) -> fmt::Result
     ensures { OnOk result (AppendsText f.old (pieces.header_text (entries_of attributes.now)) f.new) }
 {
     let Some(symbol) = symbol_of(attributes) else {
@@ -150,14 +150,14 @@ pub fn is_key_written(directives: &[Directive], key: &str) -> bool
 }
 
 /// Whether the dictionary prints an entry: no other directive does, and it is not outlined.
-fn is_listed<A: AttrText>(directives: &[Directive], key: &Identifier, attr: &AttrObj<A>) -> bool
+fn is_listed<A: AttrText<A>>(directives: &[Directive], key: &Identifier, attr: &AttrObj<A>) -> bool
     ensures { result ≡ pieces.is_listed A.outlined (directives_of directives.now) (key.now, attribute_of attr.now) }
 {
     !is_outlined(attr) && !is_key_written(directives, key.as_str())
 }
 
 /// Appends an entry, after `, ` if it is not the first.
-fn fmt_entry<A: AttrText>(
+fn fmt_entry<A: AttrText<A>>(
     first: bool,
     key: &Identifier,
     attr: &AttrObj<A>,
@@ -174,7 +174,7 @@ fn fmt_entry<A: AttrText>(
 }
 
 /// Appends the entries that the dictionary prints, with `, ` between them.
-fn fmt_entries<A: AttrText>(
+fn fmt_entries<A: AttrText<A>>(
     attributes: &AttributeDict<A>,
     directives: &[Directive],
     f: &mut String,
@@ -193,7 +193,7 @@ fn fmt_entries<A: AttrText>(
 }
 
 /// Appends the dictionary of the attributes that no other directive prints, after a space: ` [k: builtin.identifier x]`.
-pub fn fmt_dictionary<A: AttrText>(
+pub fn fmt_dictionary<A: AttrText<A>>(
     attributes: &AttributeDict<A>,
     directives: &[Directive],
     f: &mut String,

@@ -18,7 +18,7 @@ use std::fmt;
 /// inside does not fit 16 bits). What was appended and gathered up to the error remains. Nothing else of the state changes.
 ///
 /// For example: `x_v1 = test.make: builtin.integer si64`.
-pub fn print_concrete<T: IrText<A>, A: AttrText, U>(
+pub fn print_concrete<T: IrText<A>, A: AttrText<A>, U>(
     ctx: &Context<T, A>,
     op: Ptr<Operation>,
     state: &mut State<U>,
@@ -41,7 +41,7 @@ pub struct OpObj {
     pub op: Ptr<Operation>,
 }
 
-impl<T: IrText<A>, A: AttrText, U> Printable<U, T, A> for OpObj {
+impl<T: IrText<A>, A: AttrText<A>, U> Printable<U, T, A> for OpObj {
     ghost can_print = { λ obj ctx. IsSome (operation ctx obj.op) };
 
     ghost gives = { λ obj ctx s. printed.concrete_gives T.IrText.own A.IrText.own A.AttrText.own A.eq ctx obj.op s };

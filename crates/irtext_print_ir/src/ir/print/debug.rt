@@ -11,7 +11,7 @@ use irtext_context::base::{Context, Operation, Ptr};
 use std::fmt;
 
 /// Appends the concrete text of an operation with its regions elided.
-fn fmt_dbg<T: IrText<A>, A: AttrText>(
+fn fmt_dbg<T: IrText<A>, A: AttrText<A>>(
     ctx: &Context<T, A>,
     op: Ptr<Operation>,
     f: &mut String,
@@ -28,7 +28,7 @@ fn fmt_dbg<T: IrText<A>, A: AttrText>(
 /// Appends the concrete text of an operation, without its mark and without a section, with `{..}` for each of its regions: of a module
 /// that is `builtin.module @m {..}`. Fails if out of memory or if the operation does not fit its format. What was appended up to the
 /// error remains.
-pub fn print_dbg<T: IrText<A>, A: AttrText>(
+pub fn print_dbg<T: IrText<A>, A: AttrText<A>>(
     ctx: &Context<T, A>,
     op: Ptr<Operation>,
     f: &mut String,
@@ -44,14 +44,14 @@ pub fn print_dbg<T: IrText<A>, A: AttrText>(
 /// An operation with its context, as a `Display` and a `Debug` of what `print_dbg` appends. If the operation is not live, formatting
 /// fails. The contract of `Display` states the text alone; that of `print_dbg` states in addition that the operation fits its format.
 #[derive(Drop)]
-pub struct OpDbg<'a, T: IrText<A>, A: AttrText> {
+pub struct OpDbg<'a, T: IrText<A>, A: AttrText<A>> {
     /// The operation.
     pub op: Ptr<Operation>,
     /// The context that holds it.
     pub ctx: &'a Context<T, A>,
 }
 
-impl<T: IrText<A>, A: AttrText> fmt::Display for OpDbg<'_, T, A> {
+impl<T: IrText<A>, A: AttrText<A>> fmt::Display for OpDbg<'_, T, A> {
     ghost output = { λ d. printed.elided_gives T.IrText.own A.IrText.own A.AttrText.own A.eq d.ctx.now d.op };
 
     fn fmt<W: fmt::Write>(&self, f: &mut fmt::Formatter<W>) -> fmt::Result {
@@ -64,7 +64,7 @@ impl<T: IrText<A>, A: AttrText> fmt::Display for OpDbg<'_, T, A> {
     }
 }
 
-impl<T: IrText<A>, A: AttrText> fmt::Debug for OpDbg<'_, T, A> {
+impl<T: IrText<A>, A: AttrText<A>> fmt::Debug for OpDbg<'_, T, A> {
     ghost debug_output = { λ d. printed.elided_gives T.IrText.own A.IrText.own A.AttrText.own A.eq d.ctx.now d.op };
 
     fn fmt<W: fmt::Write>(&self, f: &mut fmt::Formatter<W>) -> fmt::Result {

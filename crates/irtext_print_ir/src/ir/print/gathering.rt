@@ -19,7 +19,7 @@ use irtext_print_ops::nested::{
 };
 
 /// Appends the text of an operation with everything nested in it, and its mark after that, if `marked`. Items are gathered.
-pub(crate) fn gather_operation<T: IrText<A>, A: AttrText, U>(
+pub(crate) fn gather_operation<T: IrText<A>, A: AttrText<A>, U>(
     ctx: &Context<T, A>,
     op: Ptr<Operation>,
     marked: bool,
@@ -42,7 +42,7 @@ pub(crate) fn gather_operation<T: IrText<A>, A: AttrText, U>(
 }
 
 /// Appends the mark of an operation, if it has one, numbered after the gathered items, and gathers the operation.
-pub(crate) fn gather_mark<T: IrText<A>, A: AttrText, U>(
+pub(crate) fn gather_mark<T: IrText<A>, A: AttrText<A>, U>(
     ctx: &Context<T, A>,
     op: Ptr<Operation>,
     state: &mut State<U>,
@@ -63,7 +63,7 @@ pub(crate) fn gather_mark<T: IrText<A>, A: AttrText, U>(
 }
 
 /// Appends the text of a block with everything nested in it. Items are gathered.
-pub(crate) fn gather_block<T: IrText<A>, A: AttrText, U>(
+pub(crate) fn gather_block<T: IrText<A>, A: AttrText<A>, U>(
     ctx: &Context<T, A>,
     block: Ptr<BasicBlock>,
     state: &mut State<U>,
@@ -86,7 +86,7 @@ pub(crate) fn gather_block<T: IrText<A>, A: AttrText, U>(
 }
 
 /// Appends the text of a region with everything nested in it. Items are gathered.
-pub(crate) fn gather_region<T: IrText<A>, A: AttrText, U>(
+pub(crate) fn gather_region<T: IrText<A>, A: AttrText<A>, U>(
     ctx: &Context<T, A>,
     region: Ptr<Region>,
     state: &mut State<U>,

@@ -25,7 +25,7 @@ use std::fmt;
 /// ^a_block1v1() !0:
 ///   test.nop !1
 /// ```
-pub fn print_block<T: IrText<A>, A: AttrText, U>(
+pub fn print_block<T: IrText<A>, A: AttrText<A>, U>(
     ctx: &Context<T, A>,
     block: Ptr<BasicBlock>,
     state: &mut State<U>,
@@ -45,7 +45,7 @@ pub fn print_block<T: IrText<A>, A: AttrText, U>(
 ///
 /// The error is `Memory`, `Misfit` (an operation that is shown inside does not fit its format) or `Depth` (the region is shown and an
 /// indentation inside does not fit 16 bits). What was appended and gathered up to the error remains. Nothing else of the state changes.
-pub fn print_region<T: IrText<A>, A: AttrText, U>(
+pub fn print_region<T: IrText<A>, A: AttrText<A>, U>(
     ctx: &Context<T, A>,
     region: Ptr<Region>,
     state: &mut State<U>,
@@ -61,7 +61,7 @@ pub fn print_region<T: IrText<A>, A: AttrText, U>(
 }
 
 /// Prints the block as [`print_block`] does. The block has to be live.
-impl<T: IrText<A>, A: AttrText, U> Printable<U, T, A> for Ptr<BasicBlock> {
+impl<T: IrText<A>, A: AttrText<A>, U> Printable<U, T, A> for Ptr<BasicBlock> {
     ghost can_print = { λ block ctx. IsSome (context.block ctx block) };
 
     ghost gives = { λ block ctx s. printed.block_gives T.IrText.own A.IrText.own A.AttrText.own A.eq ctx block s };
@@ -75,7 +75,7 @@ impl<T: IrText<A>, A: AttrText, U> Printable<U, T, A> for Ptr<BasicBlock> {
 }
 
 /// Prints the region as [`print_region`] does. The region has to be live.
-impl<T: IrText<A>, A: AttrText, U> Printable<U, T, A> for Ptr<Region> {
+impl<T: IrText<A>, A: AttrText<A>, U> Printable<U, T, A> for Ptr<Region> {
     ghost can_print = { λ region ctx. Stands ctx.graph (TheRegion region) };
 
     ghost gives = { λ region ctx s. printed.region_gives T.IrText.own A.IrText.own A.AttrText.own A.eq ctx region s };

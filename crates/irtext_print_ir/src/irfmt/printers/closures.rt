@@ -16,7 +16,7 @@ pub struct PrinterFn<F> {
 
 impl<
     T: IrText<A>,
-    A: AttrText,
+    A: AttrText<A>,
     U,
     F: Fn(&Context<T, A>, &mut State<U>, &mut String) -> fmt::Result,
 > Printable<U, T, A> for PrinterFn<F> {

@@ -20,7 +20,7 @@ pub struct IterWithSep<I> {
     pub(crate) separator: ListSeparator,
 }
 
-impl<T: IrText<A>, A: AttrText, U, I: Iterator + Clone + Drop> Printable<U, T, A> for IterWithSep<I>
+impl<T: IrText<A>, A: AttrText<A>, U, I: Iterator + Clone + Drop> Printable<U, T, A> for IterWithSep<I>
 where
     I::Item: Printable<U, T, A> + Drop,
 {
@@ -46,7 +46,7 @@ pub struct IterWithSepBy<I, F> {
 
 impl<
     T: IrText<A>,
-    A: AttrText,
+    A: AttrText<A>,
     U,
     I: Iterator + Clone + Drop,
     F: Fn(I::Item, &Context<T, A>, &mut State<U>, &mut String) -> fmt::Result,

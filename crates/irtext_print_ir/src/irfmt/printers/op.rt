@@ -63,7 +63,7 @@ pub fn region(op: Ptr<Operation>) -> OneRegion
 
 /// Appends what [`symb_op_header`] appends. The error is [`Refusal::Misfit`] if the operation has no symbol's name, otherwise
 /// [`Refusal::Memory`]. What was appended up to the error remains.
-pub fn print_symb_op_header<T: IrText<A>, A: AttrText>(
+pub fn print_symb_op_header<T: IrText<A>, A: AttrText<A>>(
     ctx: &Context<T, A>,
     op: Ptr<Operation>,
     f: &mut String,
@@ -84,7 +84,7 @@ pub fn print_symb_op_header<T: IrText<A>, A: AttrText>(
 }
 
 /// Appends what [`typed_symb_op_header`] appends. The errors are those of [`print_symb_op_header`].
-pub fn print_typed_symb_op_header<T: IrText<A>, A: AttrText>(
+pub fn print_typed_symb_op_header<T: IrText<A>, A: AttrText<A>>(
     ctx: &Context<T, A>,
     op: Ptr<Operation>,
     ty: &T,
@@ -103,7 +103,7 @@ pub fn print_typed_symb_op_header<T: IrText<A>, A: AttrText>(
 /// is shown inside does not fit its format; [`Refusal::Depth`] if the region is not elided and an indentation inside does not fit 16
 /// bits; otherwise [`Refusal::Memory`]. Items inside are gathered in the state. What was appended and gathered up to the error remains.
 /// Nothing else of the state changes.
-pub fn print_region<T: IrText<A>, A: AttrText, U>(
+pub fn print_region<T: IrText<A>, A: AttrText<A>, U>(
     ctx: &Context<T, A>,
     op: Ptr<Operation>,
     state: &mut State<U>,
@@ -122,7 +122,7 @@ pub fn print_region<T: IrText<A>, A: AttrText, U>(
 }
 
 /// Prints the header as [`print_symb_op_header`] does. The operation has to be live.
-impl<T: IrText<A>, A: AttrText, U> Printable<U, T, A> for SymbHeader {
+impl<T: IrText<A>, A: AttrText<A>, U> Printable<U, T, A> for SymbHeader {
     ghost can_print = { λ h ctx. IsSome (operation ctx h.op) };
 
     ghost gives = { λ h ctx s. parts.printed_part parts.header_of ctx h.op s };
@@ -136,7 +136,7 @@ impl<T: IrText<A>, A: AttrText, U> Printable<U, T, A> for SymbHeader {
 }
 
 /// Prints the header as [`print_typed_symb_op_header`] does. The operation has to be live.
-impl<T: IrText<A>, A: AttrText, U> Printable<U, T, A> for TypedSymbHeader<'_, T> {
+impl<T: IrText<A>, A: AttrText<A>, U> Printable<U, T, A> for TypedSymbHeader<'_, T> {
     ghost can_print = { λ h ctx. IsSome (operation ctx h.op) };
 
     ghost gives = { λ h ctx s. parts.printed_part (parts.typed_header_of (T.written h.ty.now)) ctx h.op s };
@@ -150,7 +150,7 @@ impl<T: IrText<A>, A: AttrText, U> Printable<U, T, A> for TypedSymbHeader<'_, T>
 }
 
 /// Prints the region as [`print_region`] does. The operation has to be live.
-impl<T: IrText<A>, A: AttrText, U> Printable<U, T, A> for OneRegion {
+impl<T: IrText<A>, A: AttrText<A>, U> Printable<U, T, A> for OneRegion {
     ghost can_print = { λ r ctx. IsSome (operation ctx r.op) };
 
     ghost gives = { λ r ctx s. parts.one_gives T.IrText.own A.IrText.own A.AttrText.own A.eq ctx r.op s };

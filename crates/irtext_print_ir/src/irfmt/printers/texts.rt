@@ -15,7 +15,7 @@ pub struct Quoted<'a> {
     pub(crate) text: &'a str,
 }
 
-impl<T: IrText<A>, A: AttrText, U> Printable<U, T, A> for Quoted<'_> {
+impl<T: IrText<A>, A: AttrText<A>, U> Printable<U, T, A> for Quoted<'_> {
     ghost gives = { λ q _ s. Some (quoted_bytes q.text.now, s) };
 
     fn fmt(&self, _ctx: &Context<T, A>, _state: &mut State<U>, f: &mut String) -> fmt::Result {
@@ -31,7 +31,7 @@ pub struct Enclosed<'a, P> {
     pub(crate) inside: P,
 }
 
-impl<'a, T: IrText<A>, A: AttrText, U, P: Printable<U, T, A>> Printable<U, T, A>
+impl<'a, T: IrText<A>, A: AttrText<A>, U, P: Printable<U, T, A>> Printable<U, T, A>
     for Enclosed<'a, P> {
     ghost can_print = { λ e. P.can_print e.inside };
 

@@ -103,7 +103,7 @@ fn ident<S: CharStream, A>(stream: &mut S) -> ParseResult<Identifier, A>
 }
 
 /// Parses an attribute. Its first word selects the parser.
-fn led_parse<S: OwnStream, A: AttrText>(stream: &mut S) -> ParseResult<AttrObj<A>, A>
+fn led_parse<S: OwnStream, A: AttrText<A>>(stream: &mut S) -> ParseResult<AttrObj<A>, A>
     ensures { MayRead S.CharStream.view S.CharStream.at attr_view (attr_at A.IrText.reading) stream.old result stream.new }
 {
     if stream.has_failed() {
@@ -120,7 +120,7 @@ fn led_parse<S: OwnStream, A: AttrText>(stream: &mut S) -> ParseResult<AttrObj<A
 /// `builtin.given_names [a, ?]`. After the word `builtin.identifier`: an identifier. Otherwise: an attribute of the caller, by the
 /// caller's own parser, whose errors are returned unchanged. White space is allowed between all tokens. After one of the two words every
 /// error is committed, and leaves the stream failed. Only the stream's text is read, and nothing but the stream changes.
-pub fn attr_parse<S: OwnStream, A: AttrText>(stream: &mut S) -> ParseResult<AttrObj<A>, A>
+pub fn attr_parse<S: OwnStream, A: AttrText<A>>(stream: &mut S) -> ParseResult<AttrObj<A>, A>
     ensures read { MayRead S.CharStream.view S.CharStream.at attr_view (attr_at A.IrText.reading) stream.old result stream.new }
     ensures beside { stream.new ≡ S.CharStream.at stream.old (S.CharStream.view stream.new) }
 {

@@ -1,0 +1,19 @@
+-- The words of a family of types or of attributes.
+use Rattle.std.specs.Prelude.{◌≡◌, Bool, true, false, cond, ◌||◌, List, [], ◌∷◌, ◌++◌}
+use Rattle.std.specs.Str.{bytes_eq}
+use Rattle.irtext_base.specs.Text.{Text, front, in_dotted}
+use Rattle.irtext_base.specs.Own.{Ends}
+
+-- whether the word is one of these
+abbrev pub is_one_of : List Text → Text → Bool
+is_one_of [] word = false
+is_one_of (w ∷ words) word = bytes_eq word w || is_one_of words word
+
+-- the words that are also among the others
+abbrev pub shared : List Text → List Text → List Text
+shared [] others = []
+shared (w ∷ words) others = cond (is_one_of others w) (w ∷ shared words others) (shared words others)
+
+-- each printed text begins with one of the words, if what follows it can end it
+pub record BeginsWithWord {X : Type 0} (words : List Text) (written : X → Text) : Type 0 where
+  pub leads : (x : X) (rest : Text) → Ends rest → is_one_of words (front in_dotted (written x ++ rest)) ≡ true
