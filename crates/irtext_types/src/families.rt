@@ -23,7 +23,10 @@ impl Worded for DemoAttr {
     ghost words = { attr_words };
 
     fn has_word(word: &str) -> bool {
-        word == "builtin.integer" || word == "builtin.string" || word == "builtin.function" || word == "test.dbg"
+        word == "builtin.integer"
+            || word == "builtin.string"
+            || word == "builtin.function"
+            || word == "test.dbg"
     }
 }
 
