@@ -30,7 +30,7 @@ impl Worded for DemoAttr {
     }
 }
 
-impl<B> Family<B> for DemoAttr {
+impl<B: Drop> Family<B> for DemoAttr {
     ghost use Rattle.irtext_types.specs.Families.{attr_led};
 
     ghost led = { attr_led };
