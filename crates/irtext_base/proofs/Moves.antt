@@ -151,11 +151,3 @@ module _ {A : Type 0} (from paths : List (List ℕ)) (l : Location A) where
   place_is_kept src pos e h outside =
       let look : location_view l ≡ src_pos src pos = ap location_view e ∙ seen-src_pos src pos in
       ap (λ v. is_free (written_with from v)) look ∙ file_is_kept A from src pos (sym (ap (are_known (length from)) look) ∙ h) outside
-
--- what has parts elsewhere in memory is not free
-pub nested_not_free : {A : Type 0} (from : List (List ℕ)) (v : LocationView A) → is_plain v ≡ false → is_free (written_with from v) ≡ false
-nested_not_free from (src_pos src pos) h = absurd (false≢true (sym h))
-nested_not_free from (fused metadata locations) h = refl
-nested_not_free from (named name child) h = refl
-nested_not_free from (call_site callee caller) h = refl
-nested_not_free from unknown h = absurd (false≢true (sym h))

@@ -22,6 +22,20 @@ impl NewSources for SameSources {
     }
 }
 
+/// Copies a location, which may contain others.
+fn copy_nested<A: AttrText<A>>(
+    alloc: Global,
+    location: &Location<A>,
+) -> Result<Location<A>, AllocError>
+    ensures { IfOk result (λ copy. location_view copy ≡ location_view location.now) }
+{
+    let walk = Walk {
+        alloc,
+        sources: &SameSources,
+    };
+    walk.copy(location, &mut ())
+}
+
 /// Copies a location. A copy of a `SrcPos` or an `Unknown` allocates nothing and never fails.
 fn copy_location<A: AttrText<A>>(
     alloc: Global,
@@ -37,11 +51,7 @@ fn copy_location<A: AttrText<A>>(
         }),
         Location::Unknown => Ok(Location::Unknown),
         Location::Fused { .. } | Location::Named { .. } | Location::CallSite { .. } => {
-            let walk = Walk {
-                alloc,
-                sources: &SameSources,
-            };
-            walk.copy(location, &mut ())
+            copy_nested(alloc, location)
         }
     }
 }
