@@ -1,10 +1,9 @@
 -- A location in another context says the same text, and what paths were kept on the way can be taken back.
 use Rattle.std.proofs.Common.{◌≡◌, ◌∙◌, ap, ap₂, refl, sym, ℕ, Option, Some, None, List, [], ◌∷◌, ◌++◌, length, take, position, append_assoc, true, false, ◌&&◌, ◌≢◌, fold}
 use Rattle.std.proofs.Math.Seq.{take-append_seam}
-use Rattle.std.proofs.lemmas.Bool.{false≢true}
 use Rattle.std.specs.Prelude.{slice_get}
 use Rattle.std.specs.Str.{bytes_eq}
-use Rattle.irtext_base.specs.Locations.{LocationsOf, LocationView, LocationViews, src_pos, fused, named, call_site, unknown, location, no_location, location_view, is_plain, row_sourced}
+use Rattle.irtext_base.specs.Locations.{LocationsOf, LocationView, LocationViews, src_pos, fused, named, call_site, unknown, location, no_location, location_view, row_sourced}
 use Rattle.irtext_base.specs.Paths.{KeepsPaths, Written, path_of, path_index, with_path, found_or_last, is_known, are_known, row_known, written_with}
 use Rattle.irtext_base.specs.Walks.{taken, row_taken, made, joined, Reached, moving}
 use Rattle.irtext_base.specs.Moves.{path_kept, all_kept, row_kept, all_under, row_under, is_free, KeepsMore}
