@@ -1,4 +1,5 @@
--- What a refusal of a region that is read alone says: of its cause, and that it is the first failure of whatever blocks the text reads as.
+-- What a refusal of a region that is read alone says: of its cause, that it is the first fault of the text, and that it is the first failure
+-- of whatever blocks the text reads as.
 use Rattle.std.proofs.Common.{◌≡◌, ◌∙◌, ℕ, Bool, true, false, cond, List, [], ◌∷◌, length, Option, Some, None, IsSome, option_map, codes, ◌++◌, refl, sym, ap, subst, inl, inr}
 use Rattle.irtext_base.specs.Text.{Text}
 use Rattle.irtext_base.specs.Format.{Id}
@@ -7,12 +8,14 @@ use Rattle.irtext_base.specs.Own.{Sincere, Texts, is_first_fault, texts_of}
 use Rattle.irtext_base.specs.declared.base.identifier.OpId.{OpId}
 use Rattle.irtext_base.specs.Answers.{Outcome}
 use Rattle.irtext_base.specs.Stream.{StreamView}
+use Rattle.irtext_base.specs.Locations.{AttrView}
 use Rattle.irtext_base.specs.declared.location.Location.{Location}
 use Rattle.irtext_base.specs.declared.parsable.fault.ParseFault.{ParseFault}
 use Rattle.irtext_context.specs.Context.{ContextView, OperationView, operation}
 use Rattle.irtext_context.specs.Dialects.{Table}
 use Rattle.irtext_graph.specs.declared.arena.Ptr.{Ptr}
 use Rattle.irtext_graph.specs.declared.object.Operation.{Operation}
+use Rattle.irtext_graph.specs.declared.object.Region.{Region}
 use Rattle.irtext_read.specs.AttrTexts.{attr_at}
 use Rattle.irtext_read.specs.Infix.{Reader}
 use Rattle.irtext_state.specs.States.{marks_of}
@@ -35,7 +38,7 @@ use Rattle.irtext_outcomes.specs.Readers.Refusals.{Refusal}
 use Rattle.irtext_outcomes.proofs.Joins.Answers.{Splits}
 use Rattle.irtext_nesting.specs.Exact.{NeedsWord}
 use Rattle.irtext_nesting.specs.Naming.{naming}
-use Rattle.irtext_nesting.specs.Reached.{Stuck, begins_region, region_at, do_region, do_blocks}
+use Rattle.irtext_nesting.specs.Reached.{Reached, Came, Stuck, begins_region, region_at, do_region, do_blocks}
 use Rattle.irtext_nesting.specs.Resume.{EndsIn}
 use Rattle.irtext_nesting.proofs.Knot.Whole as knot
 use Rattle.irtext_nesting.proofs.Naming.Shorter.{Shortens}
@@ -43,9 +46,12 @@ use Rattle.irtext_names.proofs.Linked.Passes.{ran_into}
 use Rattle.irtext_promises.specs.Alone as alone
 use Rattle.irtext_promises.specs.Alone.{region_alone, RefusesRegion, first}
 use Rattle.irtext_promises.specs.Promises.{IsCause, IsOf, IsFirst}
-use Rattle.irtext_parse_nested.specs.Items.{Names, IsNameCause, doing}
+use Rattle.irtext_parse_nested.specs.Items.{Names, StandsAs, IsNameCause, doing}
+use Rattle.irtext_parse_root.specs.AnyRegion as region
+use Rattle.irtext_parse_root.specs.AnyRegion.{ReadsRegion, HasRegionFault, MissesRegion}
+use Rattle.irtext_parse_root.specs.AnyState.{start_with}
 use Rattle.irtext_parse_root.specs.Under as under
-use Rattle.irtext_parse_root.specs.Under.{IsolatedAs, RefusesUnder}
+use Rattle.irtext_parse_root.specs.Under.{IsolatedAs, ReadsUnder, FaultUnder, RefusesUnder}
 use Rattle.irtext_parse_root.specs.Region.{unisolated, IsReportedAt}
 use Rattle.irtext_parse_root.proofs.Failing.{region_never_failed}
 use Rattle.irtext_parse_root.proofs.Fresh.{fresh_stands}
@@ -142,6 +148,10 @@ refused_unisolated old new fault because flag fails = record {
   failed = λ e. absurd (cc (because, e));
 }
 
+pub unisolated_missed : {T A U : Type 0} {types_at : Reader T} {attr : Reader (AttrView A)} {op : Ptr Operation} {old : StateStream T A U} (loc : Location A) → unisolated old.state.ctx.now op ≡ Some loc → (fault : ParseFault A) → fault_of fault.cause ≡ NotIsolated
+    → fault.committed ≡ true → alone.IsOutermost loc fault.pos → UnlessMemory (MissesRegion types_at attr op old) fault
+unisolated_missed loc is fault because flag at = inr (region.not_isolated loc is because flag at)
+
 pub unisolated_refused : {T A : Type 0} {types : Texts T} {owns : Texts A} {dialects : List (Text × Table)} {iso : Option (Location A)} {old : StreamView} (loc : Location A) → iso ≡ Some loc → (fault : ParseFault A) → fault_of fault.cause ≡ NotIsolated → alone.IsOutermost loc fault.pos
     → UnlessMemory (RefusesRegion types owns dialects iso old) fault
 unisolated_refused loc is fault because at = inr (alone.not_isolated loc is because at)
@@ -152,8 +162,8 @@ module _ {T A U : Type 0} (types_at : Reader T) (reading : Reader A) (sincere_ty
   pub says_region : (fault : ParseFault A) → UnlessMemory (RefusesUnder types_at (attr_at reading) op before old) fault → SaysText fault
   says_region fault (inl starved) = record { not_failed = λ e. cc (starved.because, e); first = λ e. absurd (cc (starved.flag, e)) }
   says_region fault (inr (under.not_isolated of_it shared because flag at)) = record { not_failed = λ e. cc (because, e); first = λ e. absurd (cc (flag, e)) }
-  says_region fault (inr (under.no_region begins because flag at)) = record { not_failed = λ e. cc (because, e); first = λ e. ap is_first_fault because }
-  says_region fault (inr (under.at_text iso cause place of_it f flag so)) =
+  says_region fault (inr (under.in_text iso of_it opened (under.no_region begins because flag at))) = record { not_failed = λ e. cc (because, e); first = λ e. ap is_first_fault because }
+  says_region fault (inr (under.in_text iso of_it opened (under.at_text begins cause place f flag so))) =
       let ds = old.state.ctx.now.dialects in
       let path : ℕ → Path = λ n. [] in
       let begun : history.State = record { values = []; labels = []; marks = indices_of (marks_of old.state); entries = []; bound = [] } in
@@ -162,7 +172,50 @@ module _ {T A U : Type 0} (types_at : Reader T) (reading : Reader A) (sincere_ty
         not_failed = λ e. region_never_failed types_at reading sincere_types sincere ds (doing {T = T} {A = A} ds path) iso old.stream.rest (going begun) (going stuck.0) cause place stuck.1 (sym f.because ∙ e);
         first = λ e. absurd (cc (flag, e));
       }
-  says_region fault (inr (under.by_names iso failure of_it f so)) = record { not_failed = no_failure failure.cause (fault_of fault.cause) f.cause; first = λ e. absurd (cc (f.committed, e)) }
+  says_region fault (inr (under.in_text iso of_it opened (under.by_names begins failure f so))) = record { not_failed = no_failure failure.cause (fault_of fault.cause) f.cause; first = λ e. absurd (cc (f.committed, e)) }
+
+-- ---- on any state
+module _ {T A U : Type 0} (types_at : Reader T) (attr : Reader (AttrView A)) (before : Names) (old : StateStream T A U)
+    (no_names : before.names ≡ []) (no_values : before.values ≡ []) (no_labels : before.labels ≡ []) (op : Ptr Operation)
+    (here : IsSome (operation old.state.ctx.now op)) (none : unisolated old.state.ctx.now op ≡ None) where
+  abbrev dialects : List (Text × Table)
+  dialects = old.state.ctx.now.dialects
+
+  abbrev earlier : List ℕ
+  earlier = indices_of (marks_of old.state)
+
+  -- the machine of names before any name
+  abbrev begun : history.Outcome
+  begun = going (start_with earlier)
+
+  abbrev reached : Bool → (ℕ → Path) → Reached Unit history.Outcome
+  reached iso path = region_at dialects types_at attr (doing dialects path) iso old.stream.rest begun
+
+  begun_there : (path : ℕ → Path) → StandsAs path [] [] before old.state begun
+  begun_there path = begun_stands before old.state no_names no_values no_labels path
+
+  fault_missed : (iso : Bool) → iso ≡ true → (fault : ParseFault A) → FaultUnder types_at attr iso before old fault → HasRegionFault types_at attr dialects earlier old.stream fault
+  fault_missed iso is fault (under.no_region begins because flag at) = region.no_brace begins because at flag
+  fault_missed iso is fault (under.at_text begins cause place f flag so) = region.at_text begins cause place f.because f.placed flag
+      (λ path. subst (λ b. (st : history.State) × (reached b path ≡ Stuck (going st) cause place)) is (so path [] begun (begun_there path)))
+  fault_missed iso is fault (under.by_names begins failure f so) = region.by_names begins failure (same_cause failure.cause (fault_of fault.cause) f.cause, f.place) f.committed
+      (λ path. subst (λ b. EndsIn (failed failure) (reached b path)) is (so path [] begun (begun_there path)))
+
+  -- what is read under an operation that is isolated has no fault
+  pub region_read : (r : Ptr Region) (names : Names) (new : StateStream T A U) → ReadsUnder types_at attr op before old r names new → ReadsRegion types_at attr op old new
+  region_read r names new u = record {
+    isolated = none;
+    moves = u.moves;
+    came = λ path.
+        let z = u.runs path [] begun (begun_there path) in
+        (z.1.state, subst (λ b. reached b path ≡ Came tt (going z.1.state) new.stream.rest) (closed_as old.state.ctx.now op here none u.iso u.isolation) (z.2 ∙ ap (λ o. Came tt o new.stream.rest) z.1.going));
+  }
+
+  -- and where it is refused, the fault is that of the text
+  pub misses_region : (fault : ParseFault A) → UnlessMemory (RefusesUnder types_at attr op before old) fault → UnlessMemory (MissesRegion types_at attr op old) fault
+  misses_region fault (inl starved) = inl starved
+  misses_region fault (inr (under.not_isolated of_it shared because flag at)) = let e = closed_as old.state.ctx.now op here none false of_it in absurd (cc)
+  misses_region fault (inr (under.in_text iso of_it opened f)) = inr (region.in_text none (fault_missed iso (closed_as old.state.ctx.now op here none iso of_it) fault f))
 
 -- ---- that it is the first failure
 first_is : {A : Type 0} (text : Text) (f : Failure Text ℕ) (fs gs : List (Failure Text ℕ)) (fault : ParseFault A) → fs ≡ f ∷ gs → IsOf text f fault → IsFirst text fs fault
@@ -216,14 +269,14 @@ module _ {T A U : Type 0} (types_at : Reader T) (types_written : T → Text) (re
   pub refuses_region : (fault : ParseFault A) → UnlessMemory (RefusesUnder types_at (attr_at reading) op before old) fault → UnlessMemory Refused fault
   refuses_region fault (inl starved) = inl starved
   refuses_region fault (inr (under.not_isolated of_it shared because flag at)) = let e = isolated_there false of_it in absurd (cc)
-  refuses_region fault (inr (under.no_region begins because flag at)) =
+  refuses_region fault (inr (under.in_text iso of_it opened (under.no_region begins because flag at))) =
       inr (first none (λ bs rest r. let b = begins_there types_at types_written reading written ds types_split splits words short_types short_owns bs old.stream.rest rest r in absurd (cc (begins, b))))
-  refuses_region fault (inr (under.at_text iso cause place of_it f flag so)) =
+  refuses_region fault (inr (under.in_text iso of_it opened (under.at_text begins cause place f flag so))) =
       let path : ℕ → Path = λ n. [] in
       let stuck = so path [] (going start) (fresh_stands before old.state no_names no_values no_labels fresh.marks path) in
       let e = subst (λ b. region_at ds types_at (attr_at reading) (doing ds path) b old.stream.rest (going start) ≡ Stuck (going stuck.0) cause place) (isolated_there iso of_it) stuck.1 in
       inr (first none (λ bs rest r. absurd (stuck_unread types_at types_written reading written ds types_split splits words short_types short_owns old.stream.rest (going start) (going stuck.0) cause place path e bs rest r)))
-  refuses_region fault (inr (under.by_names iso failure of_it f so)) =
+  refuses_region fault (inr (under.in_text iso of_it opened (under.by_names begins failure f so))) =
       let ends : (path : ℕ → Path) → EndsIn (failed failure) (region_at ds types_at (attr_at reading) (doing ds path) true old.stream.rest (going start)) =
       λ path. subst (λ b. EndsIn (failed failure) (region_at ds types_at (attr_at reading) (doing ds path) b old.stream.rest (going start))) (isolated_there iso of_it)
       (so path [] (going start) (fresh_stands before old.state no_names no_values no_labels fresh.marks path)) in

@@ -1,15 +1,16 @@
 -- One region under an operation that stands, from its brace to its end, and how it comes to stand there.
-use Rattle.std.proofs.Common.{◌≡◌, ◌∙◌, ◌≤◌, ◌<◌, ◌+◌, ◌-◌, ℕ, zero, suc, Bool, true, List, [], ◌∷◌, ◌++◌, length, Option, Some, None, IsSome, refl, sym, ap, subst, append-nil, arith, inl, inr, codes}
+use Rattle.std.proofs.Common.{◌≡◌, ◌∙◌, ◌≤◌, ◌<◌, ◌+◌, ◌-◌, ℕ, zero, suc, Bool, true, false, ◌||◌, List, [], ◌∷◌, ◌++◌, length, Option, Some, None, IsSome, refl, sym, ap, subst, append-nil, arith, inl, inr, codes}
 use Rattle.std.specs.Option.{option_map, option_and_then}
 use Rattle.std.specs.Char.{is_whitespace}
 use Rattle.irtext_base.specs.Text.{Text, after_space}
-use Rattle.irtext_base.specs.Faults.{Fault}
-use Rattle.irtext_base.specs.Answers.{Outcome, Read, Missing, Bad, demanded, followed}
+use Rattle.irtext_base.specs.Faults.{Fault, NotIsolated, Unexpected, Word, fault_of}
+use Rattle.irtext_base.specs.Stream.{StreamView, first_of}
+use Rattle.irtext_base.specs.Answers.{Outcome, Read, Missing, Bad, Passes, demanded, followed}
 use Rattle.irtext_base.specs.Locations.{AttrView}
 use Rattle.irtext_base.specs.declared.location.Location.{Location}
 use Rattle.irtext_base.specs.declared.parsable.fault.ParseFault.{ParseFault}
 use Rattle.irtext_base.proofs.Characters.{after_twice}
-use Rattle.irtext_context.specs.Context.{ContextView, RegionView, operation, operation_of, region, region_of, with_graph, KeepsOlder}
+use Rattle.irtext_context.specs.Context.{ContextView, OperationView, RegionView, operation, operation_of, region, region_of, with_graph, KeepsOlder}
 use Rattle.irtext_context.specs.Dialects.{Table}
 use Rattle.irtext_graph.specs.Back.{AllOlder, IsClosedBelow}
 use Rattle.irtext_graph.specs.Chained.{Among}
@@ -35,10 +36,10 @@ use Rattle.irtext_grammar.specs.Names.History.{Outcome as Machine, failed}
 use Rattle.irtext_grammar.specs.Names.Script.{Path}
 use Rattle.irtext_outcomes.specs.Promises.Root.{UnlessMemory}
 use Rattle.irtext_outcomes.specs.Promises.Section.{Moves}
-use Rattle.irtext_outcomes.specs.Readers.Streams.{KeepsRest}
+use Rattle.irtext_outcomes.specs.Readers.Streams.{KeepsRest, itself, replaced}
 use Rattle.irtext_outcomes.proofs.Readers.Answered.{moves_more}
 use Rattle.irtext_outcomes.proofs.Joins.Answers.{Splits}
-use Rattle.irtext_nesting.specs.Reached.{Reached, Came, Stuck, came, tells, Doing, blocks_by, region_at}
+use Rattle.irtext_nesting.specs.Reached.{Reached, Came, Stuck, came, tells, Doing, blocks_by, begins_region, region_at}
 use Rattle.irtext_nesting.specs.Resume.{a_region, block_at, EndsIn}
 use Rattle.irtext_nesting.specs.Resume as theory
 use Rattle.irtext_nesting.proofs.Knot.Loops.{tells_found}
@@ -64,7 +65,7 @@ use Rattle.irtext_parse_root.specs.Levels.{Level, at_region, isolated_in}
 use Rattle.irtext_parse_root.specs.Told.{did_enter, told, all_done}
 use Rattle.irtext_parse_root.specs.Turned.{Turned, Faulted, at_text, by_names, Stops, Finishes}
 use Rattle.irtext_parse_root.specs.Under as under
-use Rattle.irtext_parse_root.specs.Under.{IsolatedAs, ReadsUnder, RefusesUnder}
+use Rattle.irtext_parse_root.specs.Under.{IsolatedAs, IsPositionOf, ReadsUnder, FaultUnder, RefusesUnder}
 use Rattle.irtext_parse_root.proofs.Carrying.{falls_both}
 use Rattle.irtext_parse_root.proofs.Chains.{moved_whole, turned_over, faulted_over}
 use Rattle.irtext_parse_root.proofs.Nearer.{moves_fewer}
@@ -153,15 +154,15 @@ falls_from up above items below le h = subst (λ z. Falls up z below) (append-ni
 
 module _ {T A U : Type 0} (types_at : Reader T) (reading : Reader A) (h : Splits types_at) (k : Splits reading) (before : Names) (old : StateStream T A U) (iso : Bool) where
   -- it can't be entered, or no brace stands there
-  entry_fails : (op : Ptr Operation) → IsolatedAs old.state.ctx.now op iso → (fault : ParseFault A) → fault.committed ≡ true → RefusesRegion types_at (attr_at reading) iso before old fault → RefusesUnder types_at (attr_at reading) op before old fault
-  entry_fails op isolation fault committed (read.not_isolated a) = under.by_names iso a.failure isolation a.is
+  entry_fails : (fault : ParseFault A) → fault.committed ≡ true → begins_region old.stream.rest ≡ true → RefusesRegion types_at (attr_at reading) iso before old fault → FaultUnder types_at (attr_at reading) iso before old fault
+  entry_fails fault committed begins (read.not_isolated a) = under.by_names begins a.failure a.is
       (λ path items o stands.
       let d = doing {T = T} {A = A} old.state.ctx.now.dialects path in
       let keeps = failed_keeps {T = T} {A = A} (format_of old.state.ctx.now.dialects) path a.failure in
       ends_in (failed a.failure) (region_at old.state.ctx.now.dialects types_at (attr_at reading) d iso old.stream.rest o)
       (ap done_in (entered_once old.state.ctx.now.dialects types_at (attr_at reading) d (loops types_at reading h k before old d) iso o (failed a.failure) old.stream.rest (a.so path items [] o stands) (keeps.enters iso))
       ∙ (quiet_region_at old.state.ctx.now.dialects types_at (attr_at reading) d (failed a.failure) keeps iso).at old.stream.rest))
-  entry_fails op isolation fault committed (read.no_brace names mid acts d) = under.at_text iso d.cause (length old.stream.rest - length d.upto) isolation d.fault_is committed
+  entry_fails fault committed begins (read.no_brace names mid acts d) = under.at_text begins d.cause (length old.stream.rest - length d.upto) d.fault_is committed
       (λ path items o stands.
       let z = acts.so path items [] o stands in
       let w = doing {T = T} {A = A} old.state.ctx.now.dialects path in (
@@ -170,9 +171,28 @@ module _ {T A U : Type 0} (types_at : Reader T) (reading : Reader A) (h : Splits
             ∙ ap (λ y. Stuck y d.cause (length old.stream.rest - length d.upto)) z.going,
       ))
 
-  pub entry_refused : (op : Ptr Operation) → IsolatedAs old.state.ctx.now op iso → (fault : ParseFault A) → fault.committed ≡ true → UnlessMemory (RefusesRegion types_at (attr_at reading) iso before old) fault → UnlessMemory (RefusesUnder types_at (attr_at reading) op before old) fault
-  entry_refused op isolation fault committed (inl starved) = inl starved
-  entry_refused op isolation fault committed (inr r) = inr (entry_fails op isolation fault committed r)
+  pub entry_refused : (op : Ptr Operation) → IsolatedAs old.state.ctx.now op iso → (iso || is_open before.values) ≡ true → begins_region old.stream.rest ≡ true → (fault : ParseFault A) → fault.committed ≡ true
+      → UnlessMemory (RefusesRegion types_at (attr_at reading) iso before old) fault → UnlessMemory (RefusesUnder types_at (attr_at reading) op before old) fault
+  entry_refused op isolation opened begins fault committed (inl starved) = inl starved
+  entry_refused op isolation opened begins fault committed (inr r) = inr (under.in_text iso isolation opened (entry_fails fault committed begins r))
+
+-- neither holds
+neither : (a b : Bool) → (a || b) ≡ false → (a ≡ false) × (b ≡ false)
+neither true b e = absurd (cc)
+neither false b e = (refl, e)
+
+module _ {T A U : Type 0} (types_at : Reader T) (attr : Reader (AttrView A)) (before : Names) (old : StateStream T A U) (iso : Bool) (op : Ptr Operation) (isolation : IsolatedAs old.state.ctx.now op iso) where
+  -- it can't be entered, whatever stands there
+  pub unentered_refused : (iso || is_open before.values) ≡ false → (fault : ParseFault A) → fault_of fault.cause ≡ NotIsolated → fault.committed ≡ true
+      → ((view : OperationView T A) → operation old.state.ctx.now op ≡ Some view → IsPositionOf view.loc fault.pos) → UnlessMemory (RefusesUnder types_at attr op before old) fault
+  unentered_refused shut fault because flag at =
+      let both = neither iso (is_open before.values) shut in
+      inr (under.not_isolated (subst (IsolatedAs old.state.ctx.now op) both.0 isolation) both.1 because flag at)
+
+  -- it can, and no brace stands there
+  pub unbegun_refused : (iso || is_open before.values) ≡ true → begins_region old.stream.rest ≡ false → (fault : ParseFault A) (v : StreamView)
+      → Passes itself replaced (Unexpected (first_of old.stream.rest) (Word (codes "{"))) old.stream fault v → UnlessMemory (RefusesUnder types_at attr op before old) fault
+  unbegun_refused opened begins fault v h = inr (under.in_text iso isolation opened (under.no_region begins h.because h.committed h.place))
 
 module _ {T A U : Type 0} (types_at : Reader T) (reading : Reader A) (h : Splits types_at) (k : Splits reading) (before : Names) (old : StateStream T A U) (b : BegunRegion) (iso : Bool) (n1 : Names) (s1 : StateStream T A U)
     (bg : BeginsRegion types_at (attr_at reading) iso b before old n1 s1) (makes : MakesRegion old.state.ctx.now.graph s1.state.ctx.now.graph b.region)
@@ -314,14 +334,19 @@ module _ {T A U : Type 0} (types_at : Reader T) (reading : Reader A) (h : Splits
 
   -- ---- or there is a fault in it
   module _ (fault : ParseFault A) (st : Stops types_at attr (framed.Region b) [] n1 s1 fault) where
-    inside_refused : (op : Ptr Operation) → IsolatedAs old.state.ctx.now op iso → UnlessMemory (Faulted types_at attr dialects alone n1 s1) fault → UnlessMemory (RefusesUnder types_at attr op before old) fault
-    inside_refused op isolation (inl starved) = inl starved
-    inside_refused op isolation (inr (at_text did made names mid still cause place g a f)) = inr (under.at_text iso cause place isolation (subst (λ t. IsTextFault t cause place fault) same_text f) st.committed
+    inside_fails : begins_region old.stream.rest ≡ true → UnlessMemory (Faulted types_at attr dialects alone n1 s1) fault → UnlessMemory (FaultUnder types_at attr iso before old) fault
+    inside_fails begins (inl starved) = inl starved
+    inside_fails begins (inr (at_text did made names mid still cause place g a f)) = inr (under.at_text begins cause place (subst (λ t. IsTextFault t cause place fault) same_text f) st.committed
         (λ path items o stands.
         let z = a.so path items [] ((does path).enters iso o) (begun_stands path items o stands) in
         (z.state, begun_goes (does path) o ∙ ((stuck_told (does path) g ((does path).enters iso o)).so ∙ ap (λ y. Stuck y cause place) z.going))))
-    inside_refused op isolation (inr (by_names failure f ends)) = inr (under.by_names iso failure isolation (subst (λ t. IsFailure t failure fault) same_text f)
+    inside_fails begins (inr (by_names failure f ends)) = inr (under.by_names begins failure (subst (λ t. IsFailure t failure fault) same_text f)
         (λ path items o stands. subst (EndsIn (failed failure)) (sym (begun_goes (does path) o)) (ends path items [] ((does path).enters iso o) (begun_stands path items o stands))))
 
-    pub under_stops : (op : Ptr Operation) → IsolatedAs old.state.ctx.now op iso → UnlessMemory (RefusesUnder types_at attr op before old) fault
-    under_stops op isolation = inside_refused op isolation (faulted_over s1.state.ctx.now.dialects dialects same_dialects (st.stops (within b.region) (length before.values) (length before.labels) alone region_here))
+    in_its_text : (op : Ptr Operation) → IsolatedAs old.state.ctx.now op iso → (iso || is_open before.values) ≡ true → UnlessMemory (FaultUnder types_at attr iso before old) fault → UnlessMemory (RefusesUnder types_at attr op before old) fault
+    in_its_text op isolation opened (inl starved) = inl starved
+    in_its_text op isolation opened (inr f) = inr (under.in_text iso isolation opened f)
+
+    pub under_stops : (op : Ptr Operation) → IsolatedAs old.state.ctx.now op iso → (iso || is_open before.values) ≡ true → begins_region old.stream.rest ≡ true → UnlessMemory (RefusesUnder types_at attr op before old) fault
+    under_stops op isolation opened begins =
+        in_its_text op isolation opened (inside_fails begins (faulted_over s1.state.ctx.now.dialects dialects same_dialects (st.stops (within b.region) (length before.values) (length before.labels) alone region_here)))

@@ -1,3 +1,4 @@
+pub mod AnyRegion
 pub mod AnyState
 pub mod Block
 pub mod Built

@@ -1,6 +1,6 @@
 -- What parsing one region under a live operation promises: the actions, the names, and what the context holds of the region; or why the
 -- region was rejected.
-use Rattle.std.specs.Prelude.{◌≡◌, ◌≤◌, ℕ, Bool, true, false, List, [], ◌∷◌, ◌++◌, length, Some, codes}
+use Rattle.std.specs.Prelude.{◌≡◌, ◌≤◌, ℕ, Bool, true, false, ◌||◌, List, [], ◌∷◌, ◌++◌, length, Some, codes}
 use Rattle.irtext_base.specs.Faults.{Fault, Unexpected, Word, fault_of, id_of}
 use Rattle.irtext_base.specs.Faults as causes
 use Rattle.irtext_base.specs.Stream.{IsAt, first_of}
@@ -67,16 +67,22 @@ module _ {T A U : Type 0} (types_at : Reader T) (attr : Reader (AttrView A)) whe
     pub places : Appends mid.state.ctx.now.graph new.state.ctx.now.graph (TheOperation op) (TheRegion r)
     pub with_it : new.state.ctx.now ≡ with_graph mid.state.ctx.now new.state.ctx.now.graph
 
-  -- The operation is not isolated, and no scope of values is open; or no region comes next, and the fault is uncommitted; or the fault is
-  -- the first in the order of the text, and committed: the text is at fault, and no name had failed before it, or a name fails so.
+  -- The fault of a region whose names have a scope of values. No region comes next, and the fault says so, uncommitted; or one comes next,
+  -- and the fault is the first in the order of the text, and committed: the text is at fault, and no name had failed before it, or a name
+  -- fails so.
+  pub data FaultUnder (iso : Bool) (before : Names) (old : StateStream T A U) (fault : ParseFault A) : Type 0 where
+    no_region : begins_region old.stream.rest ≡ false → fault_of fault.cause ≡ Unexpected (first_of old.stream.rest) (Word (codes "{")) → fault.committed ≡ false → IsAt fault.pos.line fault.pos.column old.stream.passed
+        → FaultUnder iso before old fault
+    at_text : begins_region old.stream.rest ≡ true → (cause : Fault) (place : ℕ) → IsTextFault (whole old.stream) cause place fault → fault.committed ≡ true
+        → ((path : ℕ → Path) (items : Made) (o : Outcome) → StandsAs path items [] before old.state o
+        → (st : State) × (region_at old.state.ctx.now.dialects types_at attr (doing old.state.ctx.now.dialects path) iso old.stream.rest o ≡ Stuck (going st) cause place)) → FaultUnder iso before old fault
+    by_names : begins_region old.stream.rest ≡ true → (failure : Failure) → IsFailure (whole old.stream) failure fault
+        → ((path : ℕ → Path) (items : Made) (o : Outcome) → StandsAs path items [] before old.state o
+        → EndsIn (failed failure) (region_at old.state.ctx.now.dialects types_at attr (doing old.state.ctx.now.dialects path) iso old.stream.rest o)) → FaultUnder iso before old fault
+
+  -- The operation is not isolated and no scope of values is open: then the fault says so, at the operation's position, whatever the text
+  -- is. Or it is isolated or a scope of values is open: then the fault is that of the text.
   pub data RefusesUnder (op : Ptr Operation) (before : Names) (old : StateStream T A U) (fault : ParseFault A) : Type 0 where
     not_isolated : IsolatedAs old.state.ctx.now op false → is_open before.values ≡ false → fault_of fault.cause ≡ causes.NotIsolated → fault.committed ≡ true
         → ((view : OperationView T A) → operation old.state.ctx.now op ≡ Some view → IsPositionOf view.loc fault.pos) → RefusesUnder op before old fault
-    no_region : begins_region old.stream.rest ≡ false → fault_of fault.cause ≡ Unexpected (first_of old.stream.rest) (Word (codes "{")) → fault.committed ≡ false → IsAt fault.pos.line fault.pos.column old.stream.passed
-        → RefusesUnder op before old fault
-    at_text : (iso : Bool) (cause : Fault) (place : ℕ) → IsolatedAs old.state.ctx.now op iso → IsTextFault (whole old.stream) cause place fault → fault.committed ≡ true
-        → ((path : ℕ → Path) (items : Made) (o : Outcome) → StandsAs path items [] before old.state o
-        → (st : State) × (region_at old.state.ctx.now.dialects types_at attr (doing old.state.ctx.now.dialects path) iso old.stream.rest o ≡ Stuck (going st) cause place)) → RefusesUnder op before old fault
-    by_names : (iso : Bool) (failure : Failure) → IsolatedAs old.state.ctx.now op iso → IsFailure (whole old.stream) failure fault
-        → ((path : ℕ → Path) (items : Made) (o : Outcome) → StandsAs path items [] before old.state o
-        → EndsIn (failed failure) (region_at old.state.ctx.now.dialects types_at attr (doing old.state.ctx.now.dialects path) iso old.stream.rest o)) → RefusesUnder op before old fault
+    in_text : (iso : Bool) → IsolatedAs old.state.ctx.now op iso → (iso || is_open before.values) ≡ true → FaultUnder iso before old fault → RefusesUnder op before old fault

@@ -1,11 +1,12 @@
 //! The parser for one region of a live operation, with everything nested in it.
-ghost use Rattle.std.specs.Prelude.{◌≡◌, ◌≤◌, ℕ, true, false, Some, IfOk, IfErr, OnErr, IsSome};
+ghost use Rattle.std.specs.Prelude.{◌≡◌, ◌≤◌, ◌||◌, ℕ, true, false, Some, IfOk, IfErr, OnErr, IsSome};
 ghost use Rattle.irtext_base.specs.Faults as fault;
 ghost use Rattle.irtext_base.specs.Faults.{fault_of, id_of};
 ghost use Rattle.irtext_context.specs.Context.{OperationView, operation, KeepsOlder};
 ghost use Rattle.irtext_graph.specs.Back.{IsClosedBelow};
 ghost use Rattle.irtext_read.specs.AttrTexts.{attr_at};
 ghost use Rattle.irtext_scopes.specs.Names.{KeepsNames};
+ghost use Rattle.irtext_scopes.specs.Scopes.{is_open};
 ghost use Rattle.irtext_state.specs.States.{marks_of};
 ghost use Rattle.irtext_grammar.specs.Contexts.Formats.{isolated};
 ghost use Rattle.irtext_outcomes.specs.Promises.Root.{UnlessMemory};
@@ -96,6 +97,13 @@ fn position_here<T: IrText<A>, A: AttrText<A>, U>(
     position_in(state.ctx, op)
 }
 
+/// Whether the names in a region have a scope of values: its operation is isolated, so that the region opens one, or one is open.
+fn can_enter(names: &Names, isolated: bool) -> bool
+    ensures { result ≡ (isolated || is_open names.now.values) }
+{
+    isolated || names.has_value_scope()
+}
+
 /// Returns the error for a region whose operation is not isolated while no scope of values is open, at a position. Leaves the stream
 /// failed.
 #[cold]
@@ -115,9 +123,10 @@ fn not_isolated<A>(stream: &mut TextStream, pos: SourcePosition) -> ParseFault<A
 }
 
 /// Parses a region with everything nested in it, and appends it to a live operation. If the operation is not isolated from above and no
-/// scope of values is open, fails with `TopLevelOpRegionNotIsolatedFromAbove` at the position of the operation's location; any other
-/// error is the first one in the order of the text. An error is committed, unless `{` does not come next; then nothing was consumed. On
-/// an error, the operation is unchanged; the objects that were created stay in the context, and scopes of names may stay open.
+/// scope of values is open, fails with `TopLevelOpRegionNotIsolatedFromAbove` at the position of the operation's location, whatever the
+/// text is; any other error comes only if it is isolated or such a scope is open, and is the first one in the order of the text. An error
+/// is committed, unless it says that `{` does not come next; then nothing was consumed. On an error, the operation is unchanged; the
+/// objects that were created stay in the context, and scopes of names may stay open.
 pub fn region_parse<T: IrText<A>, A: AttrText<A>, U>(
     s: &mut StateStream<'_, T, A, U>,
     names: &mut Names,
@@ -139,7 +148,7 @@ pub fn region_parse<T: IrText<A>, A: AttrText<A>, U>(
     let ctx = &mut *s.state.ctx;
     ctx.made();
     let closed = isolated_here(&s.state, op);
-    if !closed && !names.has_value_scope() {
+    if !can_enter(names, closed) {
         let at = position_here(&s.state, op);
         return Err(not_isolated(&mut s.stream, at));
     }

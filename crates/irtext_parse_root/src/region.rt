@@ -1,11 +1,12 @@
 //! The parser for one region of a live operation, with names of its own. On an error it removes the objects that it created.
-ghost use Rattle.std.specs.Prelude.{◌≡◌, true, false, None, IsSome, IfOk, IfErr, OnErr};
+ghost use Rattle.std.specs.Prelude.{◌≡◌, true, false, None, IsSome, IfOk, IfErr, OnOk, OnErr};
 ghost use Rattle.irtext_base.specs.Faults as fault;
 ghost use Rattle.irtext_base.specs.Faults.{fault_of, id_of};
 ghost use Rattle.irtext_base.specs.Own.{texts_of};
 ghost use Rattle.irtext_base.specs.Stream.{after_failure};
 ghost use Rattle.irtext_context.specs.Context.{operation, KeepsOlder};
 ghost use Rattle.irtext_context.specs.Made.{SameObjects};
+ghost use Rattle.irtext_read.specs.AttrTexts.{attr_at};
 ghost use Rattle.irtext_state.specs.States.{marks_of};
 ghost use Rattle.irtext_grammar.specs.Contexts.Formats.{isolated};
 ghost use Rattle.irtext_outcomes.specs.Promises.Root.{IsFresh, UnlessMemory};
@@ -13,6 +14,7 @@ ghost use Rattle.irtext_outcomes.specs.Readers.Refusals.{Refusal, RefusesFailed}
 ghost use Rattle.irtext_outcomes.specs.Readers.Streams.{KeepsRest};
 ghost use Rattle.irtext_promises.specs.Alone.{IsOutermost, BuildsRegion, RefusesRegion};
 ghost use Rattle.irtext_parse_nested.specs.Ends.{GainsMarks};
+ghost use Rattle.irtext_parse_root.specs.AnyRegion.{ReadsRegion, MissesRegion};
 ghost use Rattle.irtext_parse_root.specs.Region.{unisolated, IsReportedAt};
 
 use crate::one_region as items;
@@ -110,6 +112,8 @@ fn isolated_parse<T: IrText<A>, A: AttrText<A>, U>(
     ensures lent { s.new.state.ctx.ghost_name ≡ s.old.state.ctx.ghost_name }
     ensures rest { KeepsRest s.old.state s.new.state }
     ensures refused { IfErr result (λ fault. Refusal s.old.stream fault s.new.stream) }
+    ensures read { OnOk result (ReadsRegion T.IrText.reading (attr_at A.IrText.reading) parent s.old s.new) }
+    ensures missed { IfErr result (UnlessMemory (MissesRegion T.IrText.reading (attr_at A.IrText.reading) parent s.old)) }
     ensures builds { IsFresh s.old →
         IfOk result (λ r. BuildsRegion (texts_of T.IrText.reading T.IrText.written) (texts_of A.IrText.reading A.IrText.written) parent r s.old s.new) }
     ensures unresolved { IsFresh s.old →
@@ -144,6 +148,8 @@ fn alone_parse<T: IrText<A>, A: AttrText<A>, U>(
     ensures lent { s.new.state.ctx.ghost_name ≡ s.old.state.ctx.ghost_name }
     ensures rest { KeepsRest s.old.state s.new.state }
     ensures refused { IfErr result (λ fault. Refusal s.old.stream fault s.new.stream) }
+    ensures read { OnOk result (ReadsRegion T.IrText.reading (attr_at A.IrText.reading) parent s.old s.new) }
+    ensures missed { IfErr result (UnlessMemory (MissesRegion T.IrText.reading (attr_at A.IrText.reading) parent s.old)) }
     ensures builds { IsFresh s.old →
         IfOk result (λ r. BuildsRegion (texts_of T.IrText.reading T.IrText.written) (texts_of A.IrText.reading A.IrText.written) parent r s.old s.new) }
     ensures unresolved { IsFresh s.old →
@@ -160,10 +166,13 @@ fn alone_parse<T: IrText<A>, A: AttrText<A>, U>(
 }
 
 /// Parses `{`, blocks and `}` at the current position of the stream, and appends the region to an operation that is live in the context.
-/// The region has scopes of names of its own, so an operation that is not isolated from above is an error, at the position of its
-/// location. The region is appended only when all of it has been parsed: on an error, all objects and all recorded marks are unchanged.
-/// On a stream that has failed the error is `StreamFailed`; if an allocation fails, the error is `Memory`. This text is a region of one
-/// block, which has one argument and one operation:
+/// The region is appended only when all of it has been parsed: on an error, all objects and all recorded marks are unchanged.
+///
+/// The region has scopes of names of its own, so for an operation that is not isolated from above the error is
+/// `TopLevelOpRegionNotIsolatedFromAbove`, at the position of the operation's location, whatever the text is. For an isolated one it is
+/// the first error of the text, on every state: a fault of the text with no name failing before it, or the failure of a name or a mark,
+/// whatever text follows. An error is committed, unless `{` does not come next. On a stream that has failed the error is `StreamFailed`;
+/// if an allocation fails, the error is `Memory`. This text is a region of one block, which has one argument and one operation:
 ///
 /// ```text
 /// { ^entry(x: i32): test.return x }
@@ -177,6 +186,8 @@ pub fn region_parse<T: IrText<A>, A: AttrText<A>, U>(
     ensures rest { KeepsRest s.old.state s.new.state }
     ensures refused { IfErr result (λ fault. Refusal s.old.stream fault s.new.stream) }
     ensures failed { RefusesFailed s.old.stream result s.new.stream }
+    ensures read { OnOk result (ReadsRegion T.reading (attr_at A.reading) parent s.old s.new) }
+    ensures missed { s.old.stream.failed ≡ false → IfErr result (UnlessMemory (MissesRegion T.reading (attr_at A.reading) parent s.old)) }
     ensures builds { IsFresh s.old → IfOk result (λ r. BuildsRegion (texts_of T.reading T.written) (texts_of A.reading A.written) parent r s.old s.new) }
     ensures unresolved { IsFresh s.old →
         IfErr result (UnlessMemory

@@ -10,6 +10,7 @@ ghost use Rattle.irtext_outcomes.specs.Promises.Section.{indices_of};
 ghost use Rattle.irtext_outcomes.specs.Readers.Refusals.{Refusal, RefusesFailed};
 ghost use Rattle.irtext_outcomes.specs.Readers.Streams.{KeepsRest};
 ghost use Rattle.irtext_promises.specs.Alone.{BuildsRegion, RefusesRegion, RefusesBlock};
+ghost use Rattle.irtext_parse_root.specs.AnyRegion.{ReadsRegion, MissesRegion};
 ghost use Rattle.irtext_parse_root.specs.Block.{MissesBlock};
 ghost use Rattle.irtext_parse_root.specs.Region.{unisolated};
 
@@ -29,13 +30,14 @@ impl<T: IrText<A>, A: AttrText<A>, U> Parsable<T, A, U> for Region {
 
     ghost can_parse = { λ op s. IsSome (operation s.state.ctx.now op) };
 
-    /// Parses `{`, blocks and `}`, with everything nested in them, and appends the region to an operation. The region has scopes of names
-    /// of its own, so an operation that is not isolated from above is an error, at the line and column of its location. The marks of the
-    /// region are recorded, and no section is parsed.
+    /// Parses `{`, blocks and `}`, with everything nested in them, and appends the region to an operation. The marks of the region are
+    /// recorded, and no section is parsed. The region is appended only when all of it has been parsed, so on an error all objects and
+    /// marks are unchanged.
     ///
-    /// The region is appended only when all of it has been parsed, so on an error all objects and marks are unchanged. The error is
-    /// uncommitted if `{` does not come next; otherwise the stream is left failed. This text is a region of one block, which has one
-    /// argument and one operation:
+    /// The region has scopes of names of its own, so for an operation that is not isolated from above the error is
+    /// `TopLevelOpRegionNotIsolatedFromAbove`, at the line and column of its location, whatever the text is. For an isolated one it is the
+    /// first error of the text. The error is uncommitted if the operation is isolated and `{` does not come next; otherwise the stream is
+    /// left failed. This text is a region of one block, which has one argument and one operation:
     ///
     /// ```text
     /// { ^entry(x: builtin.integer si64): test.use x }
@@ -49,6 +51,9 @@ impl<T: IrText<A>, A: AttrText<A>, U> Parsable<T, A, U> for Region {
         ensures rest { KeepsRest stream.old.state stream.new.state }
         ensures refused { IfErr result (λ fault. Refusal stream.old.stream fault stream.new.stream) }
         ensures failed { RefusesFailed stream.old.stream result stream.new.stream }
+        ensures read { OnOk result (ReadsRegion T.reading (attr_at A.reading) op stream.old stream.new) }
+        ensures missed { stream.old.stream.failed ≡ false →
+            IfErr result (UnlessMemory (MissesRegion T.reading (attr_at A.reading) op stream.old)) }
         ensures builds { IsFresh stream.old →
             IfOk result (λ r. BuildsRegion (texts_of T.reading T.written) (texts_of A.reading A.written)
             op r stream.old stream.new) }

@@ -4,13 +4,25 @@ use Rattle.irtext_context.proofs.Kept.{kept_closed, kept_trans}
 use Rattle.irtext_context.proofs.Parts.{stands_seen}
 use Rattle.irtext_graph.specs.Back.{AllOlder, IsClosedBelow}
 use Rattle.irtext_graph.specs.declared.object.Object.TheVariants.{TheRegion}
+use Rattle.irtext_read.specs.AttrTexts.{attr_at}
 use Rattle.irtext_read.proofs.Exits.{handed_on}
 use Rattle.irtext_state.specs.States.{marks_of}
 use Rattle.irtext_parse_nested.proofs.Marking.{gains_nothing}
+use Rattle.irtext_parse_root.specs.Under.{IsPositionOf}
 use Rattle.irtext_parse_root.proofs.Chains.{never_open, gains_both}
-use Rattle.irtext_parse_root.proofs.Under.{region_is_here, entry_refused, under_stops, still_alone, can_place, reads_under}
+use Rattle.irtext_parse_root.proofs.Under.{region_is_here, unentered_refused, unbegun_refused, entry_refused, under_stops, still_alone, can_place, reads_under}
 use Rattle.irtext_parse_root.proofs.Unplaced.{alone_lasts, alone_new, alone_there}
 use Rattle.irtext_parse_root.proofs.one_region.region_parse.Goals as goal
+
+pub returns-then-not-can_enter-clause-refused : goal.returns-then-not-can_enter-clause-refused
+returns-then-not-can_enter-clause-refused g c =
+    unentered_refused g.T.IrText.reading (attr_at g.A.IrText.reading) c.args.names.now c.args.s.now c.isolated_here-closed.result c.args.op c.isolated_here-closed.ensures (sym c.can_enter.ensures ∙ c.if-not-can_enter.true) c.not_isolated.result c.not_isolated.ensures.cause
+    c.not_isolated.ensures.committed (λ view is. subst (IsPositionOf view.loc) (sym c.not_isolated.ensures.place) (c.position_here-at.ensures view is))
+
+pub returns-then-not-next_is-clause-refused : goal.returns-then-not-next_is-clause-refused
+returns-then-not-next_is-clause-refused g c =
+    unbegun_refused g.T.IrText.reading (attr_at g.A.IrText.reading) c.args.names.now c.args.s.now c.isolated_here-closed.result c.args.op c.isolated_here-closed.ensures (sym c.can_enter.ensures ∙ c.if-not-can_enter.false)
+    (sym c.next_is.ensures ∙ c.if-not-next_is.true) c.unexpected.result c.args.s.now.stream c.unexpected.ensures
 
 pub region_alone-requires-clause-tied : goal.region_alone-requires-clause-tied
 region_alone-requires-clause-tied g c = c.requires.sound.tied
@@ -18,7 +30,8 @@ region_alone-requires-clause-tied g c = c.requires.sound.tied
 pub returns-in_err-begun-clause-refused : goal.returns-in_err-begun-clause-refused
 returns-in_err-begun-clause-refused g c =
     rw (handed_on c.from_residual.result c.from_residual.ensures.1)
-    (entry_refused g.T.IrText.reading g.A.IrText.reading g.met.T.IrText.sincere.reads g.met.A.IrText.sincere.reads c.args.names.now c.args.s.now c.isolated_here-closed.result c.args.op c.isolated_here-closed.ensures _ c.in_err-begun.ensures.committed c.in_err-begun.ensures.refused)
+    (entry_refused g.T.IrText.reading g.A.IrText.reading g.met.T.IrText.sincere.reads g.met.A.IrText.sincere.reads c.args.names.now c.args.s.now c.isolated_here-closed.result c.args.op c.isolated_here-closed.ensures
+    (sym c.can_enter.ensures ∙ c.if-not-can_enter.false) (sym c.next_is.ensures ∙ c.if-not-next_is.false) _ c.in_err-begun.ensures.committed c.in_err-begun.ensures.refused)
 
 pub returns-in_err-begun-clause-unread : goal.returns-in_err-begun-clause-unread
 returns-in_err-begun-clause-unread g c = rw (handed_on c.from_residual.result c.from_residual.ensures.1) (never_open _ c.in_err-begun.ensures.committed)
@@ -51,7 +64,7 @@ returns-in_err-items_parse-clause-refused g c =
     let w = c.region_alone.ensures in
     rw (handed_on c.from_residual-in_err-items_parse.result c.from_residual-in_err-items_parse.ensures.1)
     (under_stops g.T.IrText.reading g.A.IrText.reading g.met.T.IrText.sincere.reads g.met.A.IrText.sincere.reads c.args.names.now c.args.s.now c.in_ok-begun.begun c.isolated_here-closed.result c.region_alone.new.names c.region_alone.new.s
-    e.begins e.makes w.with_it e.values e.labels e.open w.marks w.rest _ c.in_err-items_parse.ensures.stops c.args.op c.isolated_here-closed.ensures)
+    e.begins e.makes w.with_it e.values e.labels e.open w.marks w.rest _ c.in_err-items_parse.ensures.stops c.args.op c.isolated_here-closed.ensures (sym c.can_enter.ensures ∙ c.if-not-can_enter.false) (sym c.next_is.ensures ∙ c.if-not-next_is.false))
 
 pub returns-in_err-items_parse-clause-unread : goal.returns-in_err-items_parse-clause-unread
 returns-in_err-items_parse-clause-unread g c = rw (handed_on c.from_residual-in_err-items_parse.result c.from_residual-in_err-items_parse.ensures.1) (never_open _ c.in_err-items_parse.ensures.stops.committed)

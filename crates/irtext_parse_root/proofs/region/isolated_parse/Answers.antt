@@ -1,4 +1,5 @@
 use Rattle.std.proofs.Common.{sym, subst, le_refl}
+use Rattle.irtext_read.specs.AttrTexts.{attr_at}
 use Rattle.irtext_outcomes.specs.Readers.Refusals.{Refusal}
 use Rattle.irtext_nesting.proofs.Exact.Attributes.{lawful_needs_word}
 use Rattle.irtext_parse_root.proofs.Laws.{short}
@@ -6,7 +7,7 @@ use Rattle.irtext_parse_root.proofs.Fresh.{fresh_sound}
 use Rattle.irtext_parse_root.proofs.Refused.{refusal_by}
 use Rattle.irtext_parse_root.proofs.RegionGains.{there_in, gains_region}
 use Rattle.irtext_parse_root.proofs.RegionReads.{builds_region}
-use Rattle.irtext_parse_root.proofs.RegionRefused.{closed_as, closed_id, says_region, refuses_region}
+use Rattle.irtext_parse_root.proofs.RegionRefused.{closed_as, closed_id, says_region, region_read, misses_region, refuses_region}
 use Rattle.irtext_parse_root.proofs.region.isolated_parse.Goals as goal
 
 pub region_parse-requires-clause-sound : goal.region_parse-requires-clause-sound
@@ -17,6 +18,11 @@ returns-clause-refused g c =
     let e = c.new-names.ensures in
     let says = says_region g.T.IrText.reading g.A.IrText.reading g.met.T.IrText.sincere g.met.A.IrText.sincere c.new-names.result c.args.s.now e.names e.values e.labels c.args.parent c.in-Err.fault c.in-Err.ensures.refused in
     subst (Refusal c.args.s.now.stream c.in-Err.fault) (sym c.failed_by.ensures) (refusal_by c.args.s.now.stream c.region_parse.new.s.stream c.in-Err.fault says c.in-Err.ensures.unread)
+
+pub returns-clause-missed : goal.returns-clause-missed
+returns-clause-missed g c =
+    let e = c.new-names.ensures in
+    misses_region g.T.IrText.reading (attr_at g.A.IrText.reading) c.new-names.result c.args.s.now e.names e.values e.labels c.args.parent c.requires.stands c.requires.closed c.in-Err.fault c.in-Err.ensures.refused
 
 pub returns-clause-unresolved : goal.returns-clause-unresolved
 returns-clause-unresolved g c = λ fresh.
@@ -32,6 +38,11 @@ returns-clause-kept g c =
     let m = c.args.s.now.state.ctx.now.graph.made in
     let e = c.new-names.ensures in
     c.in-Err.ensures.kept m (le_refl m) c.context_keeps.ensures.closed (fresh_sound c.new-names.result c.args.s.now.state e.names e.values e.labels c.context_keeps.ensures.older)
+
+pub returns-in-Ok-clause-read : goal.returns-in-Ok-clause-read
+returns-in-Ok-clause-read g c =
+    let e = c.new-names.ensures in
+    region_read g.T.IrText.reading (attr_at g.A.IrText.reading) c.new-names.result c.args.s.now e.names e.values e.labels c.args.parent c.requires.stands c.requires.closed c.in-Ok.region c.region_parse.new.names c.region_parse.new.s c.in-Ok.ensures.read
 
 pub returns-in-Ok-clause-builds : goal.returns-in-Ok-clause-builds
 returns-in-Ok-clause-builds g c = λ fresh.
