@@ -1,5 +1,5 @@
 -- Excerpts of a text: its characters as they are shown, its lines, and the parts of a line.
-use Rattle.std.proofs.Common.{◌≡◌, ◌∙◌, ℕ, zero, suc, ◌+◌, ◌-◌, ◌<◌, ◌≤◌, ◌^◌, Bool, true, false, cond, not, ◌&&◌, ◌||◌, ◌==◌, nat_lt, List, [], ◌∷◌, ◌++◌, length, take, drop, get_or, replicate, codes, refl, sym, ap, subst, arith, length-append, length-drop, lit<, ◌⊎◌, inl, inr, ⊎_elim, eq-or-lt_of_le}
+use Rattle.std.proofs.Common.{◌≡◌, ◌∙◌, ℕ, zero, suc, ◌+◌, ◌-◌, ◌<◌, ◌≤◌, Bool, true, false, cond, not, ◌&&◌, ◌||◌, ◌==◌, nat_lt, List, [], ◌∷◌, ◌++◌, length, take, drop, get_or, replicate, codes, refl, sym, ap, subst, arith, length-append, length-drop, lit<, ◌⊎◌, inl, inr, ⊎_elim, eq-or-lt_of_le}
 use Rattle.std.specs.Prelude.{nat_eq, Some, None, ℤ}
 use Rattle.std.proofs.lemmas.List.{append_assoc, append-nil, take-append-drop, take_more, replicate-append-replicate}
 use Rattle.std.proofs.lemmas.Bool.Decides.{nat_tests}
@@ -10,7 +10,7 @@ use Rattle.std.specs.Cmp.Lexicographic.{bytes_decides}
 use Rattle.std.specs.Fmt.{digits}
 use Rattle.std.specs.Str.{chars, encode_utf8_all, IsUtf8, IsCharBoundary, NonePass, bytes_eq, all_scalars}
 use Rattle.std.specs.Str.Pattern.{FindsChar}
-use Rattle.irtext_stream.specs.Text.{Text, is_newline, front, after}
+use Rattle.irtext_stream.specs.Text.{Text, front, after}
 use Rattle.irtext_stream.proofs.Ascii.{and_left, and_right}
 use lib.Utf8.{scalar}
 use Rattle.irtext_read.specs.Excerpt.{Parts, preceding, without_return, excerpt_at, excerpt_bytes, place_in, after_newline, after_characters, InPlace, zeros, is_between, is_coded, code_of, shown_as, shown, blanks, dots, left_of, right_of, pointed, is_in_line, HasParts}

@@ -1,9 +1,9 @@
-use Rattle.std.proofs.Common.{◌≡◌, ◌∙◌, ◌+◌, ◌-◌, List, [], suc, take, drop, sym, ap, refl, arith}
+use Rattle.std.proofs.Common.{◌≡◌, ◌∙◌, ◌+◌, ◌-◌, [], suc, take, drop, sym, ap, arith}
 use Rattle.std.proofs.lemmas.Str.{chars-nil}
 use Rattle.std.specs.Str.{chars}
 use Rattle.irtext_stream.specs.Text.{front}
 use Rattle.irtext_read.specs.Excerpt.{place_in, is_in_line, without_return}
-use Rattle.irtext_read.proofs.Excerpts.{Broken, broken, unbroken, next_line, last_line, in_line, in_place}
+use Rattle.irtext_read.proofs.Excerpts.{broken, unbroken, next_line, last_line, in_line, in_place}
 use Rattle.irtext_read.proofs.excerpt.place_in.Goals as goal
 
 pub loop-line-init : goal.loop-line-init
