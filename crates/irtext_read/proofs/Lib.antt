@@ -24,3 +24,4 @@ pub mod ListsAsOutcomes
 pub mod ListReads
 pub mod QuotedText
 pub mod Decimals
+pub mod Excerpts

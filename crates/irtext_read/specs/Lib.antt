@@ -17,3 +17,4 @@ pub mod EitherWords
 pub mod Eithers
 pub mod EitherLaws
 pub mod BeginningWords
+pub mod Excerpt

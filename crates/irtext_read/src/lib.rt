@@ -3,6 +3,7 @@
 #![tactic(auto)]
 
 pub mod either;
+pub mod excerpt;
 pub mod irfmt;
 pub mod laws;
 pub mod parsable;

@@ -3,6 +3,7 @@ mod blocks;
 mod contexts;
 mod demo;
 mod edges;
+mod excerpt;
 mod formats;
 mod lent;
 mod lists;
