@@ -36,7 +36,7 @@ fn copy_location<A: AttrText<A>>(
             pos: *pos,
         }),
         Location::Unknown => Ok(Location::Unknown),
-        _ => {
+        Location::Fused { .. } | Location::Named { .. } | Location::CallSite { .. } => {
             let walk = Walk {
                 alloc,
                 sources: &SameSources,

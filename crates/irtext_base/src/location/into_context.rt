@@ -54,7 +54,7 @@ fn move_location<A: AttrText<A>>(
             Ok(Location::SrcPos { src, pos: *pos })
         }
         Location::Unknown => Ok(Location::Unknown),
-        _ => {
+        Location::Fused { .. } | Location::Named { .. } | Location::CallSite { .. } => {
             let walk = Walk {
                 alloc: to.allocator(),
                 sources: from,
