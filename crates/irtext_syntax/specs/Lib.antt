@@ -1,0 +1,2 @@
+-- What callers rely on, in reading order
+pub mod PartLaws
