@@ -20,6 +20,10 @@ use Rattle.irtext_print.specs.Entries.{pair_text, pairs_text, entry_with, once_t
 pub reference_appended : (index wanted : ℕ) (f0 f1 f2 : List ℕ) → index ≡ wanted → f1 ≡ f0 ++ codes "!" → f2 ≡ f1 ++ encode_utf8_all (decimal index) → f2 ≡ f0 ++ encode_utf8_all (codes "!" ++ decimal wanted)
 reference_appended index wanted f0 f1 f2 same p q = worded f0 f1 f2 (codes "!") (decimal index) refl p q ∙ ap (λ n. f0 ++ encode_utf8_all (codes "!" ++ decimal n)) same
 
+-- three texts that are appended one after another
+pub three_appended : (f a b c : List ℕ) → f ++ (a ++ (b ++ c)) ≡ ((f ++ a) ++ b) ++ c
+three_appended f a b c = simp (append_assoc)
+
 -- an entry's head, and behind it the rest
 pub head_appended : (n : ℕ) (rest : Text) (f0 f1 f2 f3 f4 : List ℕ) → f1 ≡ f0 ++ codes "!" → f2 ≡ f1 ++ encode_utf8_all (decimal n) → f3 ≡ f2 ++ codes " = " → f4 ≡ f3 ++ encode_utf8_all rest
     → f4 ≡ f0 ++ encode_utf8_all (codes "!" ++ (decimal n ++ (codes " = " ++ rest)))
@@ -52,6 +56,18 @@ module _ {T A : Type 0} (L : Language ⊤ T A) (C : Printing T A) where
       let inside : f7 ≡ f4 ++ encode_utf8_all (codes "[" ++ (pairs ++ codes "]\n")) = worded f4 f5 f7 (codes "[") (pairs ++ codes "]\n") refl r (ending f5 f6 f7 pairs (codes "]\n") refl s t) in
       let place : f4 ≡ f3 ++ encode_utf8_all (located L C l) = q ∙ ap (λ z. f3 ++ z) (framed_bytes (codes "@[") (codes "], ") refl refl l) ∙ ap (λ z. f3 ++ encode_utf8_all z) (located_between l) in
       head_appended n (located L C l ++ (codes "[" ++ (pairs ++ codes "]\n"))) f0 f1 f2 f3 f7 a b c (more f3 f4 f7 (located L C l) (codes "[" ++ (pairs ++ codes "]\n")) place inside)
+
+  -- the same if what is between the index and the attributes is appended together
+  pub entry_put : (items : ℕ) (once : List A) (n : ℕ) (l : Option Text) (es : List (Text × Attribute A)) (f0 f1 f2 f3 f4 f5 : List ℕ)
+      → f1 ≡ f0 ++ codes "!"
+      → f2 ≡ f1 ++ encode_utf8_all (decimal n)
+      → f3 ≡ f2 ++ (codes " = " ++ (framed (codes "@[") (codes "], ") l ++ codes "["))
+      → f4 ≡ f3 ++ encode_utf8_all (pairs_text C items once L es)
+      → f5 ≡ f4 ++ codes "]\n"
+      → f5 ≡ f0 ++ encode_utf8_all (entry_with C items once L n l es)
+  entry_put items once n l es f0 f1 f2 f3 f4 f5 a b q s t =
+      let place = framed (codes "@[") (codes "], ") l in
+      entry_appended items once n l es f0 f1 f2 (f2 ++ codes " = ") ((f2 ++ codes " = ") ++ place) f3 f4 f5 a b refl refl (q ∙ three_appended f2 (codes " = ") place (codes "[")) s t
 
   -- a key, ` = ` and what stands under it
   pub pair_appended : (items : ℕ) (once : List A) (e : Text × Attribute A) (f0 f1 f2 f3 : List ℕ) → f1 ≡ f0 ++ encode_utf8_all e.0 → f2 ≡ f1 ++ codes " = " → f3 ≡ f2 ++ encode_utf8_all (item L C items once e.1)

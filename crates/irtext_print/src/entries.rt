@@ -1,11 +1,13 @@
 //! The entries of a section, piece by piece. An item is an operation or a block that carries a mark. Each of these calls fails only if
 //! out of memory; what was appended up to the error remains.
-ghost use Rattle.std.specs.Prelude.{◌≡◌, ◌++◌, ◌<◌, ◌^◌, List, [], OnOk, cond, string_bytes};
+ghost use Rattle.std.specs.Prelude.{◌≡◌, ◌++◌, ◌<◌, ◌^◌, List, [], OnOk, codes, cond, string_bytes, true, false};
+ghost use Rattle.irtext_base.specs.declared.location.Source.TheVariants as source;
 ghost use Rattle.irtext_grammar.specs.Contexts.Held.{attribute_of};
 ghost use Rattle.irtext_grammar.specs.Grammar.Tree as tree;
 ghost use Rattle.irtext_grammar.specs.Spelling.Locations.{known_text};
 ghost use Rattle.irtext_grammar.specs.Spelling.Section.{item};
 ghost use Rattle.irtext_grammar.specs.Spelling.Spell.{comma};
+ghost use Rattle.irtext_print.specs.Errors.Located.{framed};
 ghost use Rattle.irtext_print.specs.Printers.Appended.{AppendsText};
 ghost use Rattle.irtext_print.specs.Printers.PieceText.{words};
 ghost use Rattle.irtext_print.specs.Entries as texts;
@@ -13,11 +15,12 @@ ghost use Rattle.irtext_print.specs.Given.{given_pair, attributes_of};
 ghost use Rattle.irtext_print.specs.Mentions as mentions;
 
 use crate::given::{Given, GivenAttribute};
-use crate::location::print::fmt_known;
+use crate::location::print::{fmt_known, fmt_numbers};
 use crate::mentions::{Mentions, note};
 use crate::printable::attributes::fmt_attr;
 use crate::printable::numbers::fmt_number;
 use irtext_base::base::{AttrObj, Identifier};
+use irtext_base::location::{Location, Source};
 use irtext_base::text::{AttrText, IrText};
 use irtext_context::base::Context;
 use std::fmt;
@@ -149,6 +152,49 @@ fn fmt_pairs<'c, A: AttrText<A>>(
     Ok(())
 }
 
+/// Whether a source is in memory, and so has no path.
+pub(crate) fn is_in_memory(src: Source) -> bool
+    ensures { result ≡ elim src [ source.InMemory ↦ true | _ ↦ false ] }
+{
+    matches!(src, Source::InMemory)
+}
+
+/// Appends ` = `, a location if it is known, and `[`.
+fn fmt_any_location<T: IrText<A>, A: AttrText<A>>(
+    location: &Location<A>,
+    ctx: &Context<T, A>,
+    f: &mut String,
+) -> fmt::Result
+    ensures { OnOk result (string_bytes f.new ≡ string_bytes f.old
+        ++ (codes " = " ++ (framed (codes "@[") (codes "], ") (known_text A.written ctx.now.paths location.now) ++ codes "["))) }
+{
+    f.push_str(" = ")?;
+    fmt_known(location, "@[", "], ", ctx, f)?;
+    f.push_str("[")?;
+    Ok(())
+}
+
+/// Appends what is between an entry's index and its attributes: ` = `, the location if it is known, and `[`. For a position in memory,
+/// everything before the line number is appended at once.
+fn fmt_entry_location<T: IrText<A>, A: AttrText<A>>(
+    location: &Location<A>,
+    ctx: &Context<T, A>,
+    f: &mut String,
+) -> fmt::Result
+    ensures { OnOk result (string_bytes f.new ≡ string_bytes f.old
+        ++ (codes " = " ++ (framed (codes "@[") (codes "], ") (known_text A.written ctx.now.paths location.now) ++ codes "["))) }
+{
+    if let Location::SrcPos { src, pos } = location {
+        if is_in_memory(*src) {
+            f.push_str(" = @[<in-memory>: line: ")?;
+            fmt_numbers(pos, f)?;
+            f.push_str("], [")?;
+            return Ok(());
+        }
+    }
+    fmt_any_location(location, ctx, f)
+}
+
 /// Appends the entry of an item, from what the section contains for it: `!0 = @[<in-memory>: line: 1, column: 1], []`.
 pub(crate) fn fmt_entry<'c, T: IrText<A>, A: AttrText<A>>(
     ctx: &Context<T, A>,
@@ -168,9 +214,7 @@ pub(crate) fn fmt_entry<'c, T: IrText<A>, A: AttrText<A>>(
 {
     f.push_str("!")?;
     fmt_number(index as u64, f)?;
-    f.push_str(" = ")?;
-    fmt_known(given.location, "@[", "], ", ctx, f)?;
-    f.push_str("[")?;
+    fmt_entry_location(given.location, ctx, f)?;
     fmt_pairs(given, items, known, f)?;
     f.push_str("]\n")?;
     Ok(())

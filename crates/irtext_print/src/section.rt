@@ -1,6 +1,5 @@
 //! The section after a root. An item is an operation or a block that carries a mark.
-ghost use Rattle.std.specs.Prelude.{◌≡◌, ◌++◌, ◌<◌, ◌^◌, List, [], OnOk, IfErr, codes, length, string_bytes, true, false};
-ghost use Rattle.irtext_base.specs.declared.location.Source.TheVariants as source;
+ghost use Rattle.std.specs.Prelude.{◌≡◌, ◌++◌, ◌<◌, ◌^◌, List, [], OnOk, IfErr, codes, length, string_bytes};
 ghost use Rattle.irtext_grammar.specs.Spelling.Locations.{known_text};
 ghost use Rattle.irtext_grammar.specs.Spelling.Section.{once_texts};
 ghost use Rattle.irtext_print.specs.Errors.Located.{framed};
@@ -11,7 +10,7 @@ ghost use Rattle.irtext_print.specs.Entries as texts;
 ghost use Rattle.irtext_print.specs.Items as section;
 ghost use Rattle.irtext_print.specs.Mentions as mentions;
 
-use crate::entries::fmt_entry;
+use crate::entries::{fmt_entry, is_in_memory};
 use crate::given::given_of;
 use crate::location::print::{fmt_known, fmt_numbers};
 use crate::mentions::Mentions;
@@ -19,7 +18,7 @@ use crate::printable::Refusal;
 use crate::printable::numbers::fmt_number;
 use crate::printable::refusal::memory_alone;
 use indexmap::IndexSet;
-use irtext_base::location::{Location, Source};
+use irtext_base::location::Location;
 use irtext_base::text::{AttrText, IrText};
 use irtext_context::base::{Context, Item};
 use std::fmt;
@@ -132,13 +131,6 @@ pub fn print_section<T: IrText<A>, A: AttrText<A>>(
     ensures refused { IfErr result (λ e. e ≡ refusal.Memory) }
 {
     memory_alone(fmt_section(ctx, items, f))
-}
-
-/// Whether a source is in memory, and so has no path.
-fn is_in_memory(src: Source) -> bool
-    ensures { result ≡ elim src [ source.InMemory ↦ true | _ ↦ false ] }
-{
-    matches!(src, Source::InMemory)
 }
 
 /// Appends the mark and the section of an item if its location is known and is all that the section contains for it. For a position in
