@@ -6,12 +6,11 @@ use Rattle.std.specs.Char.{is_ascii}
 use Rattle.std.specs.Cmp.Lexicographic.{bytes_decides}
 use Rattle.std.specs.List.{list_all}
 use Rattle.std.specs.Str.{bytes_eq, all_scalars}
-use Rattle.irtext_base.specs.Text.{Text, begins, front, after, after_space, begins_word, in_dotted}
-use Rattle.irtext_base.specs.Reading.{keyword}
+use Rattle.irtext_base.specs.Text.{Text, begins, front, after, begins_word, in_dotted}
 use Rattle.irtext_base.specs.Answers.{Outcome, Read, Missing, mapped}
 use Rattle.irtext_base.specs.Faults.{Demand, Unexpected}
 use Rattle.irtext_base.specs.Families.{is_one_of, BeginsWithWord}
-use Rattle.irtext_base.specs.Own.{found, missing, standing, texts_of, Ends, Lawful, Sincere, Unreserved}
+use Rattle.irtext_base.specs.Own.{missing, standing, texts_of, Ends, Lawful, Sincere, Unreserved}
 use Rattle.irtext_base.specs.Stream.{first_of}
 use Rattle.irtext_base.proofs.Along.{front_after}
 use Rattle.irtext_base.proofs.Characters.{and_left, and_right, front_all, after_all}
