@@ -1,5 +1,5 @@
 -- The bytes of texts that are appended one after another.
-use Rattle.std.proofs.Common.{◌≡◌, true, ◌∷◌, ◌++◌, ◌∙◌, sym, ap, append_assoc}
+use Rattle.std.proofs.Common.{◌≡◌, true, ◌++◌, ◌∙◌, sym, ap, append_assoc}
 use Rattle.std.proofs.lemmas.Str.{encodes-append}
 use Rattle.std.specs.Char.{is_ascii}
 use Rattle.std.specs.List.{list_all}

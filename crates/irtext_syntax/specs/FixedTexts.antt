@@ -1,6 +1,6 @@
 -- Fixed texts between parts and around them.
 use Rattle.std.specs.Prelude.{◌≡◌, true, not, ◌++◌}
-use Rattle.std.specs.Char.{is_ascii, is_whitespace}
+use Rattle.std.specs.Char.{is_ascii}
 use Rattle.std.specs.List.{list_all}
 use Rattle.irtext_base.specs.Text.{Text, begins, after_space}
 use Rattle.irtext_base.specs.Own.{found, standing}

@@ -2,8 +2,7 @@
 use Rattle.std.proofs.Common.{◌≡◌, true, Bool, ◌++◌, refl, sym, ◌∙◌, ap, subst}
 use Rattle.std.specs.Prelude.{◌↔◌, IsTrue}
 use Rattle.irtext_base.specs.Text.{Text, after_space}
-use Rattle.irtext_base.specs.Answers.{mapped}
-use Rattle.irtext_base.specs.Own.{standing, found}
+use Rattle.irtext_base.specs.Own.{found}
 use Rattle.irtext_base.proofs.Sincere.{of_mapped, of_sincere, sincere_of}
 use Rattle.irtext_read.specs.Infix.{Reader, ◌⇒◌}
 use Rattle.irtext_syntax.specs.PartLaws.{PartLaw, MissesClosers}

@@ -2,7 +2,7 @@
 use Rattle.std.proofs.Common.{◌≡◌, ℕ, Bool, true, false, ◌∷◌, [], ◌++◌, refl, ◌∙◌, ap, inl, inr, arith}
 use Rattle.std.proofs.lemmas.Bool.Decides.{nat_tests}
 use Rattle.std.specs.Prelude.{◌↔◌, IsTrue}
-use Rattle.irtext_base.specs.Text.{Text, begins, after_space, begins_word}
+use Rattle.irtext_base.specs.Text.{Text, begins_word}
 use Rattle.irtext_base.specs.Own.{standing, texts_of, can_follow, Ends, Lawful, Sincere}
 use Rattle.irtext_base.proofs.Characters.{and_left, word_tight}
 use Rattle.irtext_read.specs.Infix.{Reader}

@@ -1,5 +1,5 @@
 -- For laws of parts: one part after another, as the grammar uses their outcomes.
-use Rattle.std.proofs.Common.{◌≡◌, ℕ, zero, suc, ◌<◌, Bool, true, false, cond, not, Some, [], ◌∷◌, ◌++◌, refl, sym, ◌∙◌, ap, arith, true≢false, subst}
+use Rattle.std.proofs.Common.{◌≡◌, ℕ, zero, suc, ◌<◌, Bool, true, false, cond, not, Some, [], ◌∷◌, refl, sym, ◌∙◌, ap, arith, true≢false}
 use Rattle.std.proofs.lemmas.Bool.Decides.{nat_tests}
 use Rattle.std.proofs.lemmas.Str.{encodes-IsAscii}
 use Rattle.std.proofs.lemmas.Str.Ascii.{IsAscii-nil}
@@ -9,7 +9,7 @@ use Rattle.std.specs.Str.{IsAscii, all_scalars, encode_utf8_all}
 use Rattle.irtext_base.specs.Text.{Text, begins, front, after_space}
 use Rattle.irtext_base.specs.Reading.{the}
 use Rattle.irtext_base.specs.Answers.{Outcome, Read, Missing, Bad, prefixed, mapped, followed}
-use Rattle.irtext_base.specs.Own.{Standing, found, missing, bad, standing}
+use Rattle.irtext_base.specs.Own.{found, missing, standing}
 use Rattle.irtext_base.proofs.Characters.{and_left, and_right}
 use Rattle.irtext_base.proofs.Scalars.{scalars_ascii}
 use Rattle.irtext_base.specs.Faults.{Word, Unexpected}

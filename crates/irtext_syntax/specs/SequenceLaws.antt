@@ -1,13 +1,12 @@
 -- The law of two parts with a fixed text between them, and of a part in brackets, from the laws of the parts.
-use Rattle.std.proofs.Common.{◌≡◌, ℕ, Bool, true, ◌++◌, refl, sym, ◌∙◌, ap, ap₂, append_assoc, subst}
+use Rattle.std.proofs.Common.{◌≡◌, Bool, true, ◌++◌, refl, sym, ◌∙◌, ap, ap₂, append_assoc, subst}
 use Rattle.std.specs.Prelude.{◌↔◌, IsTrue, ◌&&◌}
-use Rattle.std.specs.Str.{all_scalars}
 use Rattle.irtext_base.specs.Text.{Text, after_space}
-use Rattle.irtext_base.specs.Answers.{followed, mapped}
-use Rattle.irtext_base.specs.Own.{found, missing, standing}
-use Rattle.irtext_base.proofs.Characters.{and_left, and_right, after_twice}
+use Rattle.irtext_base.specs.Answers.{mapped}
+use Rattle.irtext_base.specs.Own.{found, standing}
+use Rattle.irtext_base.proofs.Characters.{and_left, and_right}
 use Rattle.irtext_base.proofs.Scalars.{scalars_more}
-use Rattle.irtext_base.proofs.Sincere.{Of, of_followed, of_mapped, of_sincere, sincere_of}
+use Rattle.irtext_base.proofs.Sincere.{of_followed, of_mapped, of_sincere, sincere_of}
 use Rattle.irtext_read.proofs.SincereTokens.{of_text, of_space, of_spaced}
 use Rattle.irtext_read.specs.Demanded.{spaced_at}
 use Rattle.irtext_read.specs.Infix.{Reader, ◌▷◌}

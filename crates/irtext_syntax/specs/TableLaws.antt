@@ -6,12 +6,11 @@ use Rattle.std.specs.Char.{is_ascii}
 use Rattle.std.specs.Cmp.Lexicographic.{bytes_decides}
 use Rattle.std.specs.List.{list_all}
 use Rattle.std.specs.Str.{bytes_eq, all_scalars}
-use Rattle.irtext_base.specs.Text.{Text, begins, front, after, after_space, begins_word, in_dotted}
-use Rattle.irtext_base.specs.Reading.{keyword}
+use Rattle.irtext_base.specs.Text.{Text, begins, front, after, begins_word, in_dotted}
 use Rattle.irtext_base.specs.Answers.{Outcome, Read, Missing, mapped}
 use Rattle.irtext_base.specs.Faults.{Demand, Unexpected}
 use Rattle.irtext_base.specs.Families.{is_one_of, BeginsWithWord}
-use Rattle.irtext_base.specs.Own.{found, missing, standing, texts_of, Ends, Lawful, Sincere, Unreserved}
+use Rattle.irtext_base.specs.Own.{missing, standing, texts_of, Ends, Lawful, Sincere, Unreserved}
 use Rattle.irtext_base.specs.Stream.{first_of}
 use Rattle.irtext_base.proofs.Along.{front_after}
 use Rattle.irtext_base.proofs.Characters.{and_left, and_right, front_all, after_all}
@@ -112,35 +111,39 @@ module _ {W E : Type 0} {choose : Text → Option W} {behind : W → Reader E} {
   pub table_led : ((x : E) → Row choose behind words written x) → BeginsWithWord words written
   table_led rows = record { leads = λ x rest e. ap (is_one_of words) (leads x (rows x) rest e) ∙ and_right (list_all in_dotted (rows x).word) _ (and_right (begins begins_word (rows x).word) _ (rows x).listed) }
 
-  module _ (refusal : Text) (demand : Demand) where
-    abbrev at : Reader E
-    at = table_at choose behind refusal demand
+module _ {W E : Type 0} (choose : Text → Option W) (behind : W → Reader E) (words : List Text) (written : E → Text) (refusal : Text) (demand : Demand) where
+  abbrev at : Reader E
+  at = table_at choose behind refusal demand
 
-    dotted_read : (word rest : Text) (kind : W) → begins begins_word word ≡ true → list_all in_dotted word ≡ true → choose word ≡ Some kind → begins in_dotted rest ≡ false → dotted_at choose refusal demand (word ++ rest) ≡ Read kind word rest
-    dotted_read word rest kind b d c s =
-        ap (λ q. cond q (chosen refusal (front in_dotted (word ++ rest)) (after in_dotted (word ++ rest)) (choose (front in_dotted (word ++ rest)))) (Missing (Unexpected (first_of (word ++ rest)) demand))) (begins_more begins_word word rest b)
-        ∙ (ap₂ (λ f a. chosen refusal f a (choose f)) (front_all in_dotted word rest d s) (after_all in_dotted word rest d s) ∙ ap (chosen refusal word rest) c)
+  dotted_read : (word rest : Text) (kind : W) → begins begins_word word ≡ true → list_all in_dotted word ≡ true → choose word ≡ Some kind → begins in_dotted rest ≡ false → dotted_at choose refusal demand (word ++ rest) ≡ Read kind word rest
+  dotted_read word rest kind b d c s =
+      ap (λ q. cond q (chosen refusal (front in_dotted (word ++ rest)) (after in_dotted (word ++ rest)) (choose (front in_dotted (word ++ rest)))) (Missing (Unexpected (first_of (word ++ rest)) demand))) (begins_more begins_word word rest b)
+      ∙ (ap₂ (λ f a. chosen refusal f a (choose f)) (front_all in_dotted word rest d s) (after_all in_dotted word rest d s) ∙ ap (chosen refusal word rest) c)
 
-    back : (x : E) (r : Row choose behind words written x) (rest : Text) → Ends rest → IsRest at x (written x ++ rest) rest
-    back x r rest e =
-        let b = and_left (begins begins_word r.word) _ r.listed in
-        let d = and_left (list_all in_dotted r.word) _ (and_right (begins begins_word r.word) _ r.listed) in
-        let k = r.back rest e in
-        let flat = ap (λ z. z ++ rest) r.is ∙ append_assoc r.word r.tail rest in
-        let lead = dotted_read r.word (r.tail ++ rest) r.kind b d r.chosen (r.stops rest e) in
-        (k.0, ap (λ z. standing (at z)) flat ∙ then_found (dotted_at choose refusal demand (r.word ++ (r.tail ++ rest))) behind r.kind x (r.tail ++ rest) k.0 (ap standing lead) k.1, k.2)
+  back : (x : E) (r : Row choose behind words written x) (rest : Text) → Ends rest → IsRest at x (written x ++ rest) rest
+  back x r rest e =
+      let b = and_left (begins begins_word r.word) _ r.listed in
+      let d = and_left (list_all in_dotted r.word) _ (and_right (begins begins_word r.word) _ r.listed) in
+      let k = r.back rest e in
+      let flat = ap (λ z. z ++ rest) r.is ∙ append_assoc r.word r.tail rest in
+      let lead = dotted_read r.word (r.tail ++ rest) r.kind b d r.chosen (r.stops rest e) in
+      (k.0, ap (λ z. standing (at z)) flat ∙ then_found (dotted_at choose refusal demand (r.word ++ (r.tail ++ rest))) behind r.kind x (r.tail ++ rest) k.0 (ap standing lead) k.1, k.2)
 
-    pub table_lawful : ((x : E) → Row choose behind words written x) → Lawful E (texts_of at written)
-    table_lawful rows = record {
-      starts = λ x rest. let r = rows x in ap (λ z. begins begins_word (z ++ rest)) r.is ∙ (ap (begins begins_word) (append_assoc r.word r.tail rest) ∙ begins_more begins_word r.word (r.tail ++ rest) (and_left (begins begins_word r.word) _ r.listed));
-      misses = λ text e. then_missing (dotted_at choose refusal demand text) behind (missed (begins begins_word text) _ _ e);
-      again = λ x rest e. back x (rows x) rest e;
-      scalars = λ x. let r = rows x in
-          ap all_scalars r.is ∙ scalars_more r.word r.tail (ascii_scalars r.word (all_ascii r.word (and_left (list_all in_dotted r.word) _ (and_right (begins begins_word r.word) _ r.listed)))) r.scalars;
-    }
+  lawful : ((x : E) → Row choose behind words written x) → Lawful E (texts_of at written)
+  lawful rows = record {
+    starts = λ x rest. let r = rows x in ap (λ z. begins begins_word (z ++ rest)) r.is ∙ (ap (begins begins_word) (append_assoc r.word r.tail rest) ∙ begins_more begins_word r.word (r.tail ++ rest) (and_left (begins begins_word r.word) _ r.listed));
+    misses = λ text e. then_missing (dotted_at choose refusal demand text) behind (missed (begins begins_word text) _ _ e);
+    again = λ x rest e. back x (rows x) rest e;
+    scalars = λ x. let r = rows x in
+        ap all_scalars r.is ∙ scalars_more r.word r.tail (ascii_scalars r.word (all_ascii r.word (and_left (list_all in_dotted r.word) _ (and_right (begins begins_word r.word) _ r.listed)))) r.scalars;
+  }
 
-    pub table_sincere : ((w : W) → Sincere (behind w)) → Sincere at
-    table_sincere s = sincere_of at (λ text. of_followed text _ _ (of_dotted choose refusal demand text) (λ w t. of_sincere (behind w) (s w) t))
+-- the whole family obeys the law, by one row for each variant
+pub table_lawful : {W E : Type 0} {choose : Text → Option W} {behind : W → Reader E} {words : List Text} {written : E → Text} (refusal : Text) (demand : Demand) → ((x : E) → Row choose behind words written x) → Lawful E (texts_of (table_at choose behind refusal demand) written)
+table_lawful {choose = choose} {behind = behind} {words = words} {written = written} refusal demand rows = lawful choose behind words written refusal demand rows
+
+pub table_sincere : {W E : Type 0} {behind : W → Reader E} (choose : Text → Option W) (refusal : Text) (demand : Demand) → ((w : W) → Sincere (behind w)) → Sincere (table_at choose behind refusal demand)
+table_sincere {behind = behind} choose refusal demand s = sincere_of (table_at choose behind refusal demand) (λ text. of_followed text _ _ (of_dotted choose refusal demand text) (λ w t. of_sincere (behind w) (s w) t))
 
 -- what comes after a word is about the text
 pub part_sincere : {E P : Type 0} {reading : Reader P} {text_of : P → Text} {ends : Text → Bool} (make : P → E) → PartLaw reading text_of ends → Sincere (λ text. mapped make ((space_at ▷ reading) text))

@@ -1,5 +1,5 @@
 -- Families whose texts begin with dotted words.
-use Rattle.std.proofs.Common.{◌≡◌, true, false, Bool, Option, Some, List, [], ◌∷◌, ◌++◌}
+use Rattle.std.proofs.Common.{◌≡◌, true, false, Bool, Option, Some, List, ◌++◌}
 use Rattle.std.specs.Prelude.{◌&&◌}
 use Rattle.std.specs.List.{list_all}
 use Rattle.std.specs.Str.{all_scalars}

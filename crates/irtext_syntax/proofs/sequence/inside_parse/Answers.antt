@@ -1,5 +1,4 @@
 use Rattle.std.proofs.Common.{refl}
-use Rattle.irtext_base.specs.Answers.{mapped}
 use Rattle.irtext_base.specs.Text.{Text}
 use Rattle.irtext_read.proofs.Exits.{handed_on}
 use Rattle.irtext_read.proofs.Steps.{alone, first, refuses_seen, last_seen}

@@ -1,4 +1,4 @@
-use Rattle.std.proofs.Common.{[], ◌∷◌, ◌++◌, ◌∙◌, ap, sym, refl, string_bytes, codes}
+use Rattle.std.proofs.Common.{[], ◌∷◌, ◌++◌, ◌∙◌, ap, sym, refl, string_bytes}
 use Rattle.irtext_base.specs.Faults.{characters}
 use Rattle.irtext_read.proofs.Characters.{encodes-characters}
 use Rattle.irtext_syntax.proofs.Written.{ascii_piece, pieces}
