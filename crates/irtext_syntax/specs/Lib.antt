@@ -1,1 +1,9 @@
+-- What callers rely on, in reading order
+pub mod PartLaws
 pub mod ScalarTexts
+pub mod Numbers
+pub mod NumberOf
+pub mod NumberLaws
+-- What the laws of parts are proved with
+pub mod AsciiTexts
+pub mod IntegersBack

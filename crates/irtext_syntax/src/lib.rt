@@ -2,5 +2,7 @@
 #![tactic(auto)]
 
 pub mod characters;
+pub mod number;
+pub mod part;
 
 pub use characters::Characters;
