@@ -1,0 +1,35 @@
+-- The law of a part: how its text is parsed back, whatever it stands in.
+use Rattle.std.specs.Prelude.{◌≡◌, ℕ, Bool, true, ◌&&◌, ◌==◌, ◌∷◌, ◌++◌, codes}
+use Rattle.std.specs.Str.{all_scalars}
+use Rattle.irtext_base.specs.Text.{Text, begins, after_space}
+use Rattle.irtext_base.specs.Format.{has}
+use Rattle.irtext_base.specs.Answers.{Outcome}
+use Rattle.irtext_base.specs.Own.{found, missing, standing, can_follow, Ends, Sincere}
+
+-- a character that closes or separates parts
+abbrev pub is_closer : ℕ → Bool
+is_closer c = has ◌==◌ c (codes ",;:)]}>")
+
+-- the text begins with such a character, or with white space and then such a character
+abbrev pub closes : Text → Bool
+closes text = begins can_follow text && begins is_closer (after_space text)
+
+-- the value is parsed at the beginning of the text, after any white space, and only white space is left before `rest`
+abbrev pub IsRead : {X : Type 0} → (Text → Outcome X) → X → Text → Text → Type 0
+IsRead reading x text rest = (left : Text) × (standing (reading (after_space text)) ≡ found x left) × (after_space left ≡ after_space rest)
+
+-- the law of a part: a printed text is parsed back before every text that can come after it, as each does that begins with a closing
+-- character; printed texts consist of Unicode scalar values; and what the parser says about a text is about that text
+pub record PartLaw {X : Type 0} (reading : Text → Outcome X) (written : X → Text) (ends : Text → Bool) : Type 0 where
+  pub back : (x : X) (rest : Text) → ends rest ≡ true → IsRead reading x (written x ++ rest) rest
+  pub closed : (rest : Text) → closes rest ≡ true → ends rest ≡ true
+  pub scalars : (x : X) → all_scalars (written x) ≡ true
+  pub sincere : Sincere reading
+
+-- no value is found where a closing character comes
+pub record MissesClosers {X : Type 0} (reading : Text → Outcome X) : Type 0 where
+  pub misses : (c : ℕ) (rest : Text) → is_closer c ≡ true → standing (reading (c ∷ rest)) ≡ missing
+
+-- whatever can end a type's or an attribute's text can come next
+pub record EndsAnywhere (ends : Text → Bool) : Type 0 where
+  pub anywhere : (rest : Text) → Ends rest → ends rest ≡ true

@@ -1,0 +1,50 @@
+//! Parts of the texts of types and attributes.
+ghost use Rattle.std.specs.Prelude.{◌≡◌, ◌↔◌, ℕ, List, ◌++◌, Bool, true, IsTrue, IfOk, string_bytes};
+ghost use Rattle.std.specs.Str.{encode_utf8_all};
+ghost use Rattle.irtext_base.specs.Answers.{Outcome};
+ghost use Rattle.irtext_read.specs.MustRead.{MayRead};
+ghost use Rattle.irtext_syntax.specs.PartLaws.{PartLaw, MissesClosers, EndsAnywhere};
+
+use irtext_base::parsable::{ParseResult, TextStream};
+use std::fmt;
+
+/// A part of a type's or an attribute's text, such as a number or a quoted string; a value of `Self` is what it is parsed as. Errors are
+/// those of a context whose attributes are `A`.
+///
+/// White space before a part is skipped by what puts parts together, so a part is parsed from its first character on.
+pub trait Part<A>: Sized + Drop + Eq {
+    // what `read` makes of a text that is next in the stream
+    ghost reading: { List ℕ → Outcome Self };
+    // the characters that `write_text` appends
+    ghost written: { Self → List ℕ };
+    // whether a text can come right after the text of a value: it does not continue it
+    ghost ends: { List ℕ → Bool };
+
+    /// Parses a value. If none begins at the stream's position, the error is not committed and the stream is unchanged. If the text is bad
+    /// further on, if an allocation fails, or if the stream had failed, the error is committed and the stream has failed.
+    fn read(stream: &mut TextStream) -> ParseResult<Self, A>
+        ensures { MayRead (λ s. s) (λ s v. v) (λ x. x) reading stream.old result stream.new };
+
+    /// Appends the text of the value. Fails only when out of memory.
+    fn write_text(&self, f: &mut String) -> fmt::Result
+        ensures { IfOk result (λ _. string_bytes f.new ≡ string_bytes f.old ++ encode_utf8_all (written self.now)) };
+
+    ghost law: { PartLaw reading written ends };
+
+    ghost decides: { (x y : Self) → IsTrue (Self.eq x y) ↔ (x ≡ y) };
+}
+
+/// A part that is missing where a closing character comes, as `)` or `,`: it can be an item of a list, or be left out.
+pub trait Item<A>: Part<A> {
+    ghost misses: { MissesClosers Self.reading };
+}
+
+/// A part that can be the end of a type's or an attribute's text: whatever can come after such a text can come after the part.
+pub trait Last<A>: Part<A> {
+    ghost last: { EndsAnywhere Self.ends };
+}
+
+/// A part after which any text can come, such as one in brackets.
+pub trait Closed<A>: Part<A> {
+    ghost closed: { (rest : List ℕ) → Self.ends rest ≡ true };
+}
