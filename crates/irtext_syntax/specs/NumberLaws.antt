@@ -15,6 +15,7 @@ use Rattle.irtext_read.specs.Integers.{int_at, ranged}
 use Rattle.irtext_read.specs.declared.irfmt.parsers.from_str_radix.FromStrRadix as radix
 use Rattle.irtext_read.proofs.SincereTokens.{of_int, of_ranged}
 use Rattle.irtext_syntax.specs.PartLaws.{PartLaw, MissesClosers, EndsAnywhere, IsRead, is_closer, closes}
+use Rattle.irtext_syntax.specs.PartSteps.{read_here}
 use Rattle.irtext_syntax.specs.Numbers.{fits, narrowed, ends_digits}
 use Rattle.irtext_syntax.specs.NumberOf.{number_if, number_at, number_found}
 use Rattle.irtext_syntax.specs.IntegersBack.{follows_digits, no_digit, closer_no_int, int-here, int_no_space, ascii-int}
@@ -29,10 +30,6 @@ pub of_narrowed : {X Y : Type 0} (make : X → Option Y) (text : Text) (o : Outc
 of_narrowed make text (Read x taken rest) h = of_ranged text taken rest (make x) h.says
 of_narrowed make text (Missing cause) h = of_missing text cause h.says
 of_narrowed make text (Bad cause upto) h = of_bad text cause upto h.says.1.0 h.says.0 h.says.1.1
-
--- a part that is parsed back where its text begins with no white space
-pub read_here : {X : Type 0} (reading : Text → Outcome X) (x : X) (text taken rest : Text) → begins is_whitespace text ≡ false → reading text ≡ Read x taken rest → IsRead reading x text rest
-read_here reading x text taken rest s e = (rest, ap (λ t. standing (reading t)) (after_all is_whitespace [] text refl s) ∙ ap standing e, refl)
 
 module _ {N : Type 0} (g : radix.Ghosts N) (of : ℤ → N) (narrow : (negative : Bool) → g.below negative ≤ 2 ^ 64) (back : (n : N) → of (g.number n) ≡ n) where
   -- the text of a number

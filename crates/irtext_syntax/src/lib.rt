@@ -5,6 +5,7 @@
 pub mod characters;
 pub mod number;
 pub mod part;
+pub mod quoted;
 
 pub use characters::Characters;
 pub use number::Number;
