@@ -4,6 +4,9 @@
 //! - `part`: the trait of a part.
 //! - `sequence`: two parts with a fixed text between them (`Then`), and a part in brackets (`Within`).
 //! - `fixed`, `ready`: fixed texts and brackets, and those that are ready to be used.
+//! - `number`: numbers of every integer type (`Number`).
+//! - `quoted`, `name`: quoted texts and identifiers (`Characters`, `Name`).
+//! - `list`: lists of parts in brackets, with a separator between the items (`ListOf`).
 //! - `own`: the caller's types and attributes as parts.
 //! - `words`, `table`: families whose texts begin with dotted words, as `builtin.integer`, each with a part after it.
 //!
@@ -15,10 +18,20 @@
 //! ```
 #![tactic(auto)]
 
+pub mod characters;
 pub mod fixed;
+pub mod list;
+pub mod name;
+pub mod number;
 pub mod own;
 pub mod part;
+pub mod quoted;
 pub mod ready;
 pub mod sequence;
 pub mod table;
 pub mod words;
+
+pub use characters::Characters;
+pub use list::ListOf;
+pub use name::Name;
+pub use number::Number;

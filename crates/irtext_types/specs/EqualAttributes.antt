@@ -18,7 +18,7 @@ use Rattle.irtext_types.specs.declared.attributes.DemoAttr.{DemoAttr}
 use Rattle.irtext_types.specs.declared.attributes.DemoAttr.TheVariants as attr
 use Rattle.irtext_types.specs.contracts.attributes.integer.IntegerAttrPartialEq.TheImpl as integer_test
 use Rattle.irtext_types.specs.contracts.attributes.function.FunctionAttrPartialEq.TheImpl as function_test
-use Rattle.irtext_types.specs.contracts.characters.CharactersPartialEq.TheImpl as characters_test
+use Rattle.irtext_syntax.specs.contracts.characters.CharactersPartialEq.TheImpl as characters_test
 use Rattle.irtext_types.specs.contracts.type_list.TypeListPartialEq.TheImpl as list_test
 use Rattle.irtext_types.specs.contracts.attributes.DemoAttrPartialEq.TheImpl as attr_test
 use Rattle.irtext_types.specs.contracts.attributes.DemoAttrEq.TheImpl.Laws as attr_laws

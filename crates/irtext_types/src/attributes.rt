@@ -17,7 +17,7 @@ pub mod integer_text;
 use crate::attributes::function::{FunctionAttr, function_parse, write_function};
 use crate::attributes::integer::IntegerAttr;
 use crate::attributes::integer_text::integer_attr_parse;
-use crate::characters::Characters;
+use irtext_syntax::characters::Characters;
 use crate::words::{DottedWord, dotted_parse};
 use irtext_base::parsable::{ParseResult, TextStream};
 use irtext_base::result::{Cause, Expected};

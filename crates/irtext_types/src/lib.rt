@@ -3,7 +3,6 @@
 #![tactic(auto)]
 
 pub mod attributes;
-pub mod characters;
 pub mod dialects;
 pub mod families;
 pub mod integer_type;
@@ -16,7 +15,8 @@ pub mod words;
 pub use attributes::DemoAttr;
 pub use attributes::function::FunctionAttr;
 pub use attributes::integer::IntegerAttr;
-pub use characters::Characters;
+pub use irtext_syntax::Characters;
+pub use irtext_syntax::characters;
 pub use integer_type::{IntegerType, Signedness};
 pub use type_list::TypeList;
 pub use types::DemoType;

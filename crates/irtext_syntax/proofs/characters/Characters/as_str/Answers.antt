@@ -2,8 +2,8 @@ use Rattle.std.proofs.Common.{◌≡◌, ◌∙◌, ap, sym}
 use Rattle.std.proofs.lemmas.Str.{encodes-chars, scalars-chars, IsUtf8-string_bytes}
 use Rattle.std.specs.Prelude.{string_bytes}
 use Rattle.std.specs.Str.{chars, encode_utf8_all}
-use Rattle.irtext_types.specs.ScalarTexts.{ScalarText, scalar_text_is}
-use Rattle.irtext_types.proofs.characters.Characters.as_str.Goals as goal
+use Rattle.irtext_syntax.specs.ScalarTexts.{ScalarText, scalar_text_is}
+use Rattle.irtext_syntax.proofs.characters.Characters.as_str.Goals as goal
 
 pub returns-clause-characters : goal.returns-clause-characters
 returns-clause-characters c =

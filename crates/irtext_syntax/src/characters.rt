@@ -21,7 +21,7 @@ pub struct Characters {
 impl Model for Characters {
     ghost use Rattle.std.specs.Prelude.{string_bytes};
     ghost use Rattle.std.specs.Str.{chars};
-    ghost use Rattle.irtext_types.specs.ScalarTexts.{ScalarText, scalar_text, scalar_text_code};
+    ghost use Rattle.irtext_syntax.specs.ScalarTexts.{ScalarText, scalar_text, scalar_text_code};
 
     ghost Value = { ScalarText };
 

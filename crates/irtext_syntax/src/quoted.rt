@@ -1,0 +1,63 @@
+//! Quoted texts, such as `"a\n"`.
+ghost use Rattle.std.specs.Prelude.{true};
+ghost use Rattle.irtext_syntax.specs.QuotedParts.{characters_at, characters_text};
+
+use crate::characters::Characters;
+
+use crate::part::{Closed, Item, Last, Part, TryClone};
+use irtext_base::parsable::{ParseResult, TextStream};
+use irtext_read::irfmt::parsers::quoted_string_parse;
+use irtext_read::printable::fmt_quoted;
+use std::alloc::AllocError;
+use std::fmt;
+
+/// A quoted text: its characters between quotation marks, with escapes, as `quoted_string_parse` and `fmt_quoted` have them. Fails with
+/// `Unexpected`, uncommitted, if no quotation mark comes next. Every other error is committed.
+impl<A> Part<A> for Characters {
+    ghost use Rattle.irtext_syntax.specs.QuotedLaws.{characters_law, characters_decides};
+
+    ghost reading = { characters_at };
+
+    ghost written = { characters_text };
+
+    ghost ends = { λ rest. true };
+
+    ghost law = { characters_law };
+
+    ghost decides = { characters_decides };
+
+    fn read(stream: &mut TextStream) -> ParseResult<Characters, A> {
+        match quoted_string_parse(stream) {
+            Ok(text) => Ok(Characters::new(text)),
+            Err(fault) => Err(fault),
+        }
+    }
+
+    fn write_text(&self, f: &mut String) -> fmt::Result {
+        fmt_quoted(self.as_str(), f)
+    }
+}
+
+impl TryClone for Characters {
+    fn try_clone(&self) -> Result<Characters, AllocError> {
+        Characters::try_clone(self)
+    }
+}
+
+impl<A> Item<A> for Characters {
+    ghost use Rattle.irtext_syntax.specs.QuotedLaws.{characters_misses};
+
+    ghost misses = { characters_misses };
+}
+
+impl<A> Last<A> for Characters {
+    ghost use Rattle.irtext_syntax.specs.QuotedLaws.{characters_last};
+
+    ghost last = { characters_last };
+}
+
+impl<A> Closed<A> for Characters {
+    ghost use Rattle.std.specs.Prelude.{refl};
+
+    ghost closed = { λ rest. refl };
+}
