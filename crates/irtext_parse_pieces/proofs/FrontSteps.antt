@@ -2,21 +2,22 @@
 use Rattle.std.proofs.Common.{◌≡◌, ℕ, Bool, true, false, Ok, Err, List, [], ◌∷◌, ◌++◌, refl, sym, ◌∙◌, ap, subst, inl}
 use Rattle.std.specs.Char.{is_whitespace}
 use Rattle.irtext_base.specs.Text.{Text, front, after}
-use Rattle.irtext_base.specs.Answers.{Outcome, Read, Missing, Bad, Takes, StarvesHere, followed, prefixed}
+use Rattle.irtext_base.specs.Answers.{Outcome, Read, Missing, Bad, Takes, StarvesHere, Answers, followed, prefixed, unless_failed}
 use Rattle.irtext_base.specs.Locations.{AttrView}
 use Rattle.irtext_base.specs.declared.parsable.fault.ParseFault.{ParseFault}
 use Rattle.irtext_scopes.specs.Names.{KeepsNames}
+use Rattle.irtext_stream.specs.Stream.{Comes}
 use Rattle.irtext_read.specs.Tokens.{space_at, text_at}
 use Rattle.irtext_read.specs.Infix.{Reader, ◌⇒◌}
 use Rattle.irtext_read.specs.MustRead.{MustRead}
-use Rattle.irtext_read.proofs.Spelling.{prefixed-prefixed}
-use Rattle.irtext_read.proofs.Steps.{Lens, Passed, starts, first, more, refuses, spaced, starved, turned, ends}
+use Rattle.irtext_read.proofs.Spelling.{prefixed-prefixed, whole_gives}
+use Rattle.irtext_read.proofs.Steps.{Lens, Passed, starts, first, more, refuses, spaced, turned, ends}
 use Rattle.irtext_grammar.specs.Grammar.Tree as tree
 use Rattle.irtext_grammar.specs.Grammar.Tree.{Piece, Part}
 use Rattle.irtext_nesting.specs.Heads.{Step, front_steps, piece_at}
 use Rattle.irtext_nesting.specs.Resume.{is_flat, front_at}
 use Rattle.irtext_nesting.proofs.Resume.Front.{in_front}
-use Rattle.irtext_base.proofs.Compose.{starves_behind}
+use Rattle.irtext_base.proofs.Compose.{starves_behind, answers_demanded}
 use Rattle.irtext_parse_pieces.specs.declared.pieces.ReadPiece.{ReadPiece}
 use Rattle.irtext_parse_pieces.specs.declared.pieces.ReadPiece.TheVariants as read
 use Rattle.irtext_parse_pieces.specs.Fronts.{IsPart, front_of, MustFront, MustFind}
@@ -56,6 +57,14 @@ module _ {S T A : Type 0} (l : Lens S) (found more : List (ReadPiece T A)) where
   pub word_found : (w : Text) {names : List Text} {old new : S} → more ≡ found ++ (read.Word ∷ []) → MustRead {A = A} l.view l.at (λ (u : Unit {0}). u) (text_at w) old (Ok tt) new
       → MustFind l.view l.at names (text_at w ⇒ λ _. tree.word w) found more old (Ok tt) new
   word_found w e h = plain_there l (λ _. tree.word w) tt h (read.Word, e, (w, refl))
+
+  -- the text was consumed as a whole
+  pub text_taken : (w : Text) {old new : S} → (l.view old).failed ≡ false → Comes w (l.view old) (λ v. new ≡ l.at old v)
+      → MustRead {A = A} l.view l.at (λ (u : Unit {0}). u) (text_at w) old (Ok tt) new
+  text_taken w {old = old} {new = new} fine h =
+      let outcome = unless_failed (l.view old).failed (text_at w (l.view old).rest) in
+      let k : Answers l.view l.at {A = A} (λ (u : Unit {0}). u) outcome old (Ok tt) new = rw fine (whole_gives l.view l.at l.view_at l.at_view l.at_at w h.0 old new h.1 h.2) in
+      record { answers = answers_demanded l.view l.at l.view_at l.at_at {A = A} (λ u. u) outcome old new new (Ok tt) (Ok tt) k (refl, refl) }
 
   -- it is refused
   pub word_missed : (w : Text) {names : List Text} {old new : S} {fault : ParseFault A} → MustRead {A = A} l.view l.at (λ (u : Unit {0}). u) (text_at w) old (Err fault) new
@@ -125,10 +134,6 @@ module _ {S T A : Type 0} (l : Lens S) (types : Text → Outcome T) (attr : Text
     pub front_refused : {mid new : S} {fault : ParseFault A} {more_found : List (ReadPiece T A)} {others more_names : List Text} (rest : List Step) (step : Step) → left ≡ step ∷ rest → is_flat step ≡ true → Fronting names all left old now found → Takes l.view l.at (front is_whitespace (l.view now).rest) (after is_whitespace (l.view now).rest) now mid
         → MustFind {A = A} l.view l.at others (piece_at types attr inside step) found more_found mid (Err fault) new → MustFront l.view l.at more_names types attr inside all old (Err fault) new
     front_refused rest step e b p k h = must_refuse l (refuses l {sees = λ _. []} (behind_piece rest p.parts) (front_next rest step e b p k) h.read)
-
-    -- memory is refused
-    pub front_starved : {more_names : List Text} {new : S} {fault : ParseFault A} → Fronting names all left old now found → StarvesHere l.view l.at now fault new → MustFront l.view l.at more_names types attr inside all old (Err fault) new
-    front_starved p h = must_refuse l (starved l {sees = λ _. []} p.passed h)
 
     -- none of the front is left
     pub front_ends : front_steps left ≡ [] → Fronting names all left old now found → MustFront {A = A} l.view l.at names types attr inside all old (Ok found) now

@@ -1,5 +1,5 @@
 //! The pieces that were parsed before an operation's first region. Words, which are fixed texts, are only counted.
-ghost use Rattle.std.specs.Prelude.{◌≡◌, ◌++◌, ◌∷◌, ◌+◌, ◌<◌, ◌^◌, ℕ, [], length, IfOk, OnOk};
+ghost use Rattle.std.specs.Prelude.{◌≡◌, ◌++◌, ◌∷◌, ◌+◌, ◌<◌, ◌^◌, ℕ, [], length, OnOk, OnErr};
 ghost use Rattle.irtext_parse_pieces.specs.declared.pieces.ReadPiece.TheVariants as read;
 ghost use Rattle.irtext_parse_pieces.specs.Found.{with_words};
 
@@ -7,7 +7,7 @@ use crate::pieces::ReadPiece;
 use std::alloc::{AllocError, Global};
 use std::marker::Model;
 
-/// The capacity that is allocated at once, in pieces that are not words: enough for the canonical form.
+/// The capacity that the first piece allocates, in pieces that are not words: enough for the canonical form.
 const ROOM: usize = 5;
 
 /// Pieces in the order of the text, including words. A word is not stored.
@@ -33,6 +33,18 @@ impl<T, A> Model for Pieces<T, A> {
     ghost invariant = { λ p. p.count ≡ length (with_words p.found.items p.words) };
 }
 
+/// Appends an item. The first one allocates `ROOM` at once. If an allocation fails, nothing changes.
+fn push_roomy<X: Drop>(items: &mut Vec<X>, item: X) -> Result<(), AllocError>
+    ensures items { OnOk result (items.new.items ≡ items.old.items ++ item ∷ []) }
+    ensures err { OnErr result (items.new.items ≡ items.old.items) }
+{
+    if items.is_empty() {
+        items.reserve(ROOM)?;
+    }
+    items.push(item)?;
+    Ok(())
+}
+
 impl<T, A> Pieces<T, A> {
     /// Returns the number of pieces.
     pub fn len(&self) -> usize
@@ -50,16 +62,15 @@ impl<T, A> Pieces<T, A> {
 }
 
 impl<T: Drop, A: Drop> Pieces<T, A> {
-    /// Returns an empty list, with capacity for some pieces.
-    pub fn none(alloc: Global) -> Result<Pieces<T, A>, AllocError>
-        ensures { IfOk result (λ pieces. pieces ≡ []) }
+    /// Returns an empty list. It allocates nothing yet.
+    pub fn none(alloc: Global) -> Pieces<T, A>
+        ensures { result ≡ [] }
     {
-        let found = Vec::with_capacity(alloc, ROOM)?;
-        Ok(Pieces {
-            found,
+        Pieces {
+            found: Vec::new(alloc),
             words: 0,
             count: 0,
-        })
+        }
     }
 
     /// Appends a word.
@@ -76,7 +87,7 @@ impl<T: Drop, A: Drop> Pieces<T, A> {
         requires { length self.old + 1 < 2 ^ 64 }
         ensures { OnOk result (self.new ≡ self.old ++ piece ∷ []) }
     {
-        self.found.push((self.words, piece))?;
+        push_roomy(&mut self.found, (self.words, piece))?;
         self.words = 0;
         self.count = self.count + 1;
         Ok(())

@@ -1,6 +1,9 @@
 //! Parsing of the parts of an operation that its format has before its first region.
-ghost use Rattle.std.specs.Prelude.{◌≡◌, ◌+◌, ◌<◌, ◌^◌, false, length, IfOk};
+ghost use Rattle.std.specs.Prelude.{◌≡◌, ◌+◌, ◌<◌, ◌^◌, Bool, List, false, length, IfOk, MatchBool, Ok};
+ghost use Rattle.irtext_base.specs.Faults.{characters};
+ghost use Rattle.irtext_base.specs.Text.{Text};
 ghost use Rattle.irtext_formats.specs.Directives.{format_of};
+ghost use Rattle.irtext_stream.specs.Stream.{Comes};
 ghost use Rattle.irtext_read.specs.AttrTexts.{attr_at};
 ghost use Rattle.irtext_nesting.specs.Heads.{steps_of, front_steps, piece_at};
 ghost use Rattle.irtext_parse_pieces.specs.Fronts.{MustFront, MustFind};
@@ -20,6 +23,48 @@ use irtext_read::irfmt::parsers::skip_white_space;
 use irtext_read::parsable::OwnStream;
 use irtext_scopes::tracker::NameTracker;
 use std::alloc::AllocError;
+
+/// Consumes a fixed text if the whole of it comes next, and returns whether it does. Otherwise, and on a stream that has failed, nothing
+/// changes.
+#[inline(always)]
+fn text_taken<S: CharStream>(stream: &mut S, text: &str) -> bool
+    ensures { MatchBool result
+        (((S.view stream.old).failed ≡ false) × Comes (characters text.now) (S.view stream.old) (λ v. stream.new ≡ S.at stream.old v))
+        (stream.new ≡ stream.old) }
+{
+    if stream.has_failed() {
+        return false;
+    }
+    if !stream.accept(text) {
+        return false;
+    }
+    true
+}
+
+/// Consumes the fixed text that a step is, if it is one and the whole of it comes next, and appends it to the pieces. Returns whether it
+/// did; otherwise nothing changes. Makes no error, so that a text that is there costs little.
+#[inline(always)]
+fn word_found<S: CharStream, T: IrText<A>, A: AttrText<A>>(
+    stream: &mut S,
+    step: FormatStep<'_>,
+    found: &mut Pieces<T, A>,
+) -> bool
+    requires { length found.old + 1 < 2 ^ 64 }
+    ensures { MatchBool result
+        ((names : List Text) (inside : Bool) → MustFind S.view S.at names
+        (piece_at T.IrText.reading (attr_at A.IrText.reading) inside (seen_step step.entry))
+        found.old found.new stream.old (Ok tt) stream.new)
+        ((stream.new ≡ stream.old) × (found.new ≡ found.old)) }
+{
+    let Some(word) = word_of(step) else {
+        return false;
+    };
+    if !text_taken(stream, word) {
+        return false;
+    }
+    found.push_word();
+    true
+}
 
 /// Parses what a step of a format describes, which is no region, and appends it to the pieces. Every error is committed.
 fn step_found<S: OwnStream, V: Copy, B: Copy, T: IrText<A>, A: AttrText<A>>(
@@ -58,15 +103,15 @@ fn pieces_parse<S: OwnStream, V: Copy, B: Copy, T: IrText<A>, A: AttrText<A>>(
     ensures count { IfOk result (λ found. length found ≡ length (front_steps (steps_of (format_of format.now)))) }
     ensures names { NamesRead names.old names.new }
 {
-    let mut found = match Pieces::none(stream.allocator()) {
-        Ok(found) => found,
-        Err(AllocError) => return Err(out_of_memory(stream)),
-    };
+    let mut found = Pieces::none(stream.allocator());
     while let Some(step) = step_there(format, found.len()) {
         if !reads_piece(step) {
             return Ok(found);
         }
         skip_white_space(stream);
+        if word_found(stream, step, &mut found) {
+            continue;
+        }
         step_found(stream, names, step, inside, &mut found)?;
     }
     Ok(found)

@@ -6,7 +6,7 @@ use Rattle.irtext_read.proofs.Steps.{Lens, lens}
 use Rattle.irtext_nesting.specs.Heads.{steps_of}
 use Rattle.irtext_parse_pieces.proofs.Meanings.{names_none, names_more}
 use Rattle.irtext_parse_pieces.proofs.FormatSteps.{Counts, next_left, none_left, count_none, count_all, count_more, fewer_left, left_more, front_over, front_ended}
-use Rattle.irtext_parse_pieces.proofs.FrontSteps.{Fronting, front_begins, front_more, front_refused, front_starved, front_ends}
+use Rattle.irtext_parse_pieces.proofs.FrontSteps.{Fronting, front_begins, front_more, front_refused, front_ends}
 use Rattle.irtext_parse_pieces.specs.Steps.{seen_step}
 use Rattle.irtext_parse_pieces.proofs.fronts.pieces_parse.Given as given
 use Rattle.irtext_parse_pieces.proofs.fronts.pieces_parse.Goals as goal
@@ -22,17 +22,9 @@ loop-step-init g c =
     let names = c.args.names.now.names in
     let steps = steps_of (format_of c.args.format.now) in (
       names_none c.args.names.now,
-      subst (λ z. Counts (length z) steps (drop (length z) steps)) (sym c.in-Ok.ensures) (count_none steps),
-      λ fine. subst (λ z. Fronting l g.T.IrText.reading (attr_at g.A.IrText.reading) c.args.inside names steps (drop (length z) steps) old old z) (sym c.in-Ok.ensures) (front_begins l g.T.IrText.reading (attr_at g.A.IrText.reading) c.args.inside names steps old fine),
+      subst (λ z. Counts (length z) steps (drop (length z) steps)) (sym c.none-found.ensures) (count_none steps),
+      λ fine. subst (λ z. Fronting l g.T.IrText.reading (attr_at g.A.IrText.reading) c.args.inside names steps (drop (length z) steps) old old z) (sym c.none-found.ensures) (front_begins l g.T.IrText.reading (attr_at g.A.IrText.reading) c.args.inside names steps old fine),
     )
-
-pub returns-in-Err-clause-read : goal.returns-in-Err-clause-read
-returns-in-Err-clause-read g c = λ fine.
-    let l = stream g in
-    front_starved l g.T.IrText.reading (attr_at g.A.IrText.reading) c.args.inside (front_begins l g.T.IrText.reading (attr_at g.A.IrText.reading) c.args.inside c.args.names.now.names (steps_of (format_of c.args.format.now)) c.args.stream.now fine) c.out_of_memory.ensures
-
-pub returns-in-Err-clause-names : goal.returns-in-Err-clause-names
-returns-in-Err-clause-names g c = names_none c.args.names.now
 
 pub returns-then-not-reads_piece-clause-read : goal.returns-then-not-reads_piece-clause-read
 returns-then-not-reads_piece-clause-read g c = λ fine.
@@ -52,8 +44,39 @@ returns-then-not-reads_piece-clause-count g c =
     let over = front_ended (drop n steps) (drop (suc n) steps) step (next_left steps n step there) (sym c.reads_piece.ensures ∙ c.if-not-reads_piece.true) in
     count_all steps (drop n steps) n over c.loop-step.invariant.1
 
+pub word_found-requires : goal.word_found-requires
+word_found-requires g c = subst (λ n. n + 1 < 2 ^ 64) c.len.ensures c.in-Some.ensures.fits
+
+pub loop-step-preserved-then-word_found : goal.loop-step-preserved-then-word_found
+loop-step-preserved-then-word_found g c =
+    let l = stream g in
+    let steps = steps_of (format_of c.args.format.now) in
+    let step = seen_step c.in-Some.step in
+    let found = c.loop-step.found in
+    let new = c.word_found.new in
+    let names = c.loop-step.names in
+    let read = c.if-word_found.ensures names.names c.args.inside in
+    let n = length found in
+    let there : slice_get steps n ≡ Some step = sym (c.in-Some.ensures.step ∙ ap (slice_get steps) c.len.ensures) in
+    let flat = sym c.reads_piece.ensures ∙ c.if-not-reads_piece.false in (
+      c.loop-step.invariant.0,
+      subst (λ z. Counts (length z) steps (drop (length z) steps)) (sym read.means.1) (count_more steps found read.means.0 step there flat c.loop-step.invariant.1),
+      λ fine.
+          subst (λ left. Fronting l g.T.IrText.reading (attr_at g.A.IrText.reading) c.args.inside names.names steps left c.args.stream.now new.stream new.found)
+          (left_more steps found read.means.0 ∙ ap (λ z. drop (length z) steps) (sym read.means.1))
+          (front_more l g.T.IrText.reading (attr_at g.A.IrText.reading) c.args.inside (drop (suc n) steps) step names.names (next_left steps n step there) flat (c.loop-step.invariant.2 fine) c.skip_white_space.ensures (names_none names).kept read),
+    )
+
+pub loop-step-smaller-then-word_found : goal.loop-step-smaller-then-word_found
+loop-step-smaller-then-word_found g c =
+    let steps = steps_of (format_of c.args.format.now) in
+    let step = seen_step c.in-Some.step in
+    let there : slice_get steps (length c.loop-step.found) ≡ Some step = sym (c.in-Some.ensures.step ∙ ap (slice_get steps) c.len.ensures) in
+    let read = c.if-word_found.ensures c.loop-step.names.names c.args.inside in
+    fewer_left steps c.loop-step.found read.means.0 step there _ read.means.1
+
 pub step_found-requires : goal.step_found-requires
-step_found-requires g c = subst (λ n. n + 1 < 2 ^ 64) c.len.ensures c.in-Some.ensures.fits
+step_found-requires g c = subst (λ z. length z + 1 < 2 ^ 64) (sym c.if-word_found.ensures.1) (subst (λ n. n + 1 < 2 ^ 64) c.len.ensures c.in-Some.ensures.fits)
 
 pub returns-in_err-step_found-clause-read : goal.returns-in_err-step_found-clause-read
 returns-in_err-step_found-clause-read g c = λ fine.
@@ -61,8 +84,10 @@ returns-in_err-step_found-clause-read g c = λ fine.
     let step = seen_step c.in-Some.step in
     let n = length c.loop-step.found in
     let there : slice_get steps n ≡ Some step = sym (c.in-Some.ensures.step ∙ ap (slice_get steps) c.len.ensures) in
+    let read0 = rw c.if-word_found.ensures.0 at c.in_err-step_found.ensures.read in
+    let read = rw c.if-word_found.ensures.1 at read0 in
     rw (handed_on c.from_residual.result c.from_residual.ensures.1)
-    (front_refused (stream g) g.T.IrText.reading (attr_at g.A.IrText.reading) c.args.inside (drop (suc n) steps) step (next_left steps n step there) (sym c.reads_piece.ensures ∙ c.if-not-reads_piece.false) (c.loop-step.invariant.2 fine) c.skip_white_space.ensures c.in_err-step_found.ensures.read)
+    (front_refused (stream g) g.T.IrText.reading (attr_at g.A.IrText.reading) c.args.inside (drop (suc n) steps) step (next_left steps n step there) (sym c.reads_piece.ensures ∙ c.if-not-reads_piece.false) (c.loop-step.invariant.2 fine) c.skip_white_space.ensures read)
 
 pub returns-in_err-step_found-clause-names : goal.returns-in_err-step_found-clause-names
 returns-in_err-step_found-clause-names g c = names_more _ _ _ c.loop-step.invariant.0 c.in_err-step_found.ensures.names
@@ -74,7 +99,8 @@ loop-step-preserved g c =
     let step = seen_step c.in-Some.step in
     let found = c.loop-step.found in
     let new = c.step_found.new in
-    let read = c.in_ok-step_found.ensures.read in
+    let read0 = rw c.if-word_found.ensures.0 at c.in_ok-step_found.ensures.read in
+    let read = rw c.if-word_found.ensures.1 at read0 in
     let n = length found in
     let names = new.names.names in
     let there : slice_get steps n ≡ Some step = sym (c.in-Some.ensures.step ∙ ap (slice_get steps) c.len.ensures) in
@@ -92,7 +118,7 @@ loop-step-smaller g c =
     let steps = steps_of (format_of c.args.format.now) in
     let step = seen_step c.in-Some.step in
     let there : slice_get steps (length c.loop-step.found) ≡ Some step = sym (c.in-Some.ensures.step ∙ ap (slice_get steps) c.len.ensures) in
-    let read = c.in_ok-step_found.ensures.read in
+    let read = rw c.if-word_found.ensures.1 at c.in_ok-step_found.ensures.read in
     fewer_left steps c.loop-step.found read.means.0 step there _ read.means.1
 
 pub returns-clause-read : goal.returns-clause-read

@@ -6,9 +6,9 @@ use Rattle.irtext_parse_pieces.proofs.found.Pieces.push.Goals as goal
 pub invariant_of-self-2 : goal.invariant_of-self-2
 invariant_of-self-2 g c =
     let p = c.self.inside in
-    ap (λ n. n + 1) c.self.invariant ∙ sym (one_longer (with_words p.found.items p.words) _ c.args.piece (ap (λ l. with_words l 0) c.in_ok-push.ensures.items ∙ piece_more p.found.items p.words c.args.piece))
+    ap (λ n. n + 1) c.self.invariant ∙ sym (one_longer (with_words p.found.items p.words) _ c.args.piece (ap (λ l. with_words l 0) c.in_ok-push_roomy.ensures.items ∙ piece_more p.found.items p.words c.args.piece))
 
 pub returns : goal.returns
 returns g c =
     let p = c.self.inside in
-    ap (λ l. with_words l 0) c.in_ok-push.ensures.items ∙ piece_more p.found.items p.words c.args.piece ∙ ap (λ l. l ++ (c.args.piece ∷ [])) c.self.view_is
+    ap (λ l. with_words l 0) c.in_ok-push_roomy.ensures.items ∙ piece_more p.found.items p.words c.args.piece ∙ ap (λ l. l ++ (c.args.piece ∷ [])) c.self.view_is
