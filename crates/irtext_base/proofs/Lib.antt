@@ -1,6 +1,9 @@
 pub mod Along
 pub mod Compose
 pub mod Characters
+pub mod NotationDirectives
+pub mod NotationBack
+pub mod NotationPrint
 pub mod Numbers
 pub mod Results
 pub mod Sources

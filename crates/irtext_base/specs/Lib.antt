@@ -2,6 +2,8 @@ pub mod Text
 pub mod Words
 pub mod Reading
 pub mod Format
+pub mod FormatViews
+pub mod Notation
 pub mod Causes
 pub mod Faults
 pub mod Stream

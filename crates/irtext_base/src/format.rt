@@ -2,6 +2,8 @@
 ghost use Rattle.std.specs.Prelude.{Some};
 ghost use Rattle.irtext_base.specs.Causes.{format_fault_text};
 
+pub mod notation;
+
 use crate::base::Identifier;
 use std::fmt;
 use std::fmt::Display;

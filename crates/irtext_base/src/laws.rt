@@ -1,11 +1,14 @@
 //! Laws of the definitions. Each function does nothing: its contract is what is proved.
-ghost use Rattle.std.specs.Prelude.{◌≡◌, ◌↔◌, ℕ, true, List, IsTrue, length};
+ghost use Rattle.std.specs.Prelude.{◌≡◌, ◌↔◌, ℕ, true, List, [], IsTrue, length};
+ghost use Rattle.irtext_base.specs.Format.{Format};
 ghost use Rattle.irtext_base.specs.Locations.{LocationView, attr_view, location_view};
+ghost use Rattle.irtext_base.specs.Notation.{has_notation, notation_at, notation_text};
 ghost use Rattle.irtext_base.specs.Paths.{path_of, is_known, are_known, written_with};
 ghost use Rattle.irtext_base.specs.StableHash.{source_writes, location_writes};
 ghost use Rattle.irtext_base.specs.declared.base.attributes.AttrObj.{AttrObj};
 ghost use Rattle.irtext_base.specs.declared.location.Location.{Location};
 ghost use Rattle.irtext_base.specs.declared.location.Source.{Source};
+ghost use Rattle.irtext_notation.specs.Pieces.{means};
 
 use crate::base::AttrObj;
 use crate::location::{Location, Source};
@@ -37,4 +40,12 @@ pub fn stable_hashes_agree<A: AttrText<A>>()
         IsTrue (are_known (length paths) k) → IsTrue (are_known (length others) l) →
         written_with paths k ≡ written_with others l →
         location_writes A.hash_input paths k ≡ location_writes A.hash_input others l }
+{}
+
+/// The notation of a format denotes that format and no other, if the format has a notation: its literals are printable ASCII, its keys are
+/// identifiers, and its indices are less than 2^64. Each format that a text denotes has one, and nothing is left of the text.
+pub fn notations_come_back()
+    ensures back { (format : Format) → has_notation format ≡ true → notation_at (notation_text format) ≡ means format [] }
+    ensures whole { (text rest : List ℕ) (format : Format) → notation_at text ≡ means format rest →
+        (has_notation format ≡ true) × (rest ≡ []) }
 {}
