@@ -8,18 +8,18 @@ use Rattle.std.specs.Char.{is_ascii_digit, is_ascii_graphic, is_whitespace}
 use Rattle.std.specs.List.{list_all}
 use Rattle.irtext_base.specs.Text.{Text, begins, front, after, after_space, begins_word, in_word, is_identifier}
 use Rattle.irtext_base.specs.Format.{Directive, Format, canonical, custom, word, operand, operands, successor, successors, attribute, dictionary, result_type, region, regions, header}
-use Rattle.irtext_notation.specs.Pieces.{spelled, Meaning, means, lacks, mapped, followed, is_end, past, led, index_of, index_at, closed_at, letters_after}
+use Rattle.irtext_stream.specs.NotationPieces.{spelled, Meaning, means, lacks, mapped, followed, is_end, past, led, index_of, index_at, closed_at, letters_after}
 use Rattle.irtext_base.specs.FormatViews.{format_of}
 use Rattle.irtext_base.specs.Stream.{StreamView}
 use Rattle.irtext_base.specs.declared.format.OpFormat.{OpFormat}
-use Rattle.irtext_notation.specs.declared.fault.NotationFault.{NotationFault}
-use Rattle.irtext_notation.specs.Faults.{whole, Reads}
+use Rattle.irtext_stream.specs.declared.notation.fault.NotationFault.{NotationFault}
+use Rattle.irtext_stream.specs.NotationFaults.{whole, Reads}
 use Rattle.irtext_base.specs.Notation.{Denotes, directive_text, notation_text, variable_at, filled, literal_at, directive_at, directives_after, canonical_at, format_at, notation_at, has_text, has_notation}
-use Rattle.irtext_notation.specs.declared.fault.NotationPart.{NotationPart}
-use Rattle.irtext_notation.specs.declared.fault.NotationPart.TheVariants as part
+use Rattle.irtext_stream.specs.declared.notation.fault.NotationPart.{NotationPart}
+use Rattle.irtext_stream.specs.declared.notation.fault.NotationPart.TheVariants as part
 use Rattle.irtext_base.proofs.Characters.{and_left, and_right, front_all, after_all, identifier_every, identifier_begins}
 use Rattle.irtext_base.proofs.Numbers.{digits_every}
-use Rattle.irtext_notation.proofs.Steps.{index_there}
+use Rattle.irtext_stream.proofs.NotationSteps.{index_there}
 use Rattle.irtext_base.proofs.NotationDirectives.{directive_found, directives_step, all_more, faults_as}
 
 -- a text that is empty, or in front of which a space is

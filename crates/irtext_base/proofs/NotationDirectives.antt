@@ -9,15 +9,15 @@ use Rattle.std.specs.Str.{chars, IsUtf8, encode_utf8_all}
 use Rattle.irtext_base.specs.Text.{Text, begins, front, after, after_space, begins_word, in_word, is_identifier}
 use Rattle.irtext_base.specs.Stream.{StreamView, behind}
 use Rattle.irtext_base.specs.Format.{Directive, canonical, custom, word, operand, operands, successor, successors, attribute, dictionary, result_type, region, regions, header}
-use Rattle.irtext_notation.specs.Pieces.{Meaning, means, lacks, mapped, followed, is_end, past, led, index_of, index_at, closed_at, letters_after}
+use Rattle.irtext_stream.specs.NotationPieces.{Meaning, means, lacks, mapped, followed, is_end, past, led, index_of, index_at, closed_at, letters_after}
 use Rattle.irtext_base.specs.Notation.{variable_at, filled, literal_at, directive_at, directives_after, canonical_at, format_at, notation_at, has_text}
-use Rattle.irtext_notation.specs.Faults.{whole, Faults}
-use Rattle.irtext_notation.specs.declared.fault.NotationPart.{NotationPart}
-use Rattle.irtext_notation.specs.declared.fault.NotationPart.TheVariants as part
-use Rattle.irtext_notation.specs.declared.fault.NotationFault.{NotationFault}
-use Rattle.irtext_notation.specs.declared.fault.NotationFault.TheVariants as fault
+use Rattle.irtext_stream.specs.NotationFaults.{whole, Faults}
+use Rattle.irtext_stream.specs.declared.notation.fault.NotationPart.{NotationPart}
+use Rattle.irtext_stream.specs.declared.notation.fault.NotationPart.TheVariants as part
+use Rattle.irtext_stream.specs.declared.notation.fault.NotationFault.{NotationFault}
+use Rattle.irtext_stream.specs.declared.notation.fault.NotationFault.TheVariants as fault
 use Rattle.irtext_base.proofs.Characters.{and_left, and_right, in_word_small, begins_in}
-use Rattle.irtext_notation.proofs.Steps.{encodes-front, list_all-front, past_shorter, passed_front}
+use Rattle.irtext_stream.proofs.NotationSteps.{encodes-front, list_all-front, past_shorter, passed_front}
 
 -- ---- keys
 -- the word at the beginning of a text is its bytes

@@ -9,7 +9,7 @@ use Rattle.irtext_base.specs.Text.{Text, in_word, is_identifier}
 use Rattle.irtext_base.specs.FormatViews.{directive_of, directives_of}
 use Rattle.irtext_base.specs.Notation.{directive_text, spaced_bytes}
 use Rattle.irtext_base.specs.declared.format.Directive as code
-use Rattle.irtext_notation.proofs.Steps.{encodes-ascii}
+use Rattle.irtext_stream.proofs.NotationSteps.{encodes-ascii}
 use Rattle.irtext_base.proofs.Characters.{and_left, and_right, in_word_small, identifier_every}
 
 word_bytes : (s : Text) → list_all in_word s ≡ true → encode_utf8_all s ≡ s

@@ -8,10 +8,10 @@ use Rattle.std.specs.Str.{encode_utf8_all}
 use Rattle.irtext_base.specs.Text.{Text, begins, front, after, after_space, begins_word, in_word, is_identifier}
 use Rattle.irtext_base.specs.Format.{Format, canonical, custom, Directive, word, operand, operands, successor, successors, attribute, dictionary, result_type, region, regions, header, word_prints}
 use Rattle.irtext_base.specs.declared.format.OpFormat.{OpFormat}
-use Rattle.irtext_notation.specs.Faults.{Faults}
-use Rattle.irtext_notation.specs.declared.fault.NotationFault.{NotationFault}
-use Rattle.irtext_notation.specs.Pieces.{spelled, Meaning, means, lacks, mapped, followed, is_end, past, led, index_at, closed_at, letters_after}
-use Rattle.irtext_notation.specs.declared.fault.NotationPart.TheVariants as part
+use Rattle.irtext_stream.specs.NotationFaults.{Faults}
+use Rattle.irtext_stream.specs.declared.notation.fault.NotationFault.{NotationFault}
+use Rattle.irtext_stream.specs.NotationPieces.{spelled, Meaning, means, lacks, mapped, followed, is_end, past, led, index_at, closed_at, letters_after}
+use Rattle.irtext_stream.specs.declared.notation.fault.NotationPart.TheVariants as part
 
 -- the notation of a directive
 abbrev pub directive_text : Directive → Text

@@ -8,7 +8,7 @@ ghost use Rattle.irtext_base.specs.StableHash.{source_writes, location_writes};
 ghost use Rattle.irtext_base.specs.declared.base.attributes.AttrObj.{AttrObj};
 ghost use Rattle.irtext_base.specs.declared.location.Location.{Location};
 ghost use Rattle.irtext_base.specs.declared.location.Source.{Source};
-ghost use Rattle.irtext_notation.specs.Pieces.{means};
+ghost use Rattle.irtext_stream.specs.NotationPieces.{means};
 
 use crate::base::AttrObj;
 use crate::location::{Location, Source};

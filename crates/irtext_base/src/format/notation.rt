@@ -26,8 +26,8 @@ mod print;
 mod read;
 
 use crate::format::{Directive, OpFormat};
-pub use irtext_notation::fault::{NotationFault, NotationPart};
-use irtext_notation::print::{fmt_closed, fmt_index, fmt_literal, fmt_word};
+pub use irtext_stream::notation::fault::{NotationFault, NotationPart};
+use irtext_stream::notation::print::{fmt_closed, fmt_index, fmt_literal, fmt_word};
 use irtext_stream::stream::TextStream;
 use std::alloc::Global;
 use std::fmt;

@@ -3,12 +3,12 @@ ghost use Rattle.std.specs.Prelude.{[], length};
 ghost use Rattle.irtext_base.specs.Format.{custom};
 ghost use Rattle.irtext_base.specs.FormatViews.{directive_of, directives_of, format_of};
 ghost use Rattle.irtext_base.specs.Notation.{variable_at, literal_at, fixed_at, directive_at, directives_after, notation_at};
-ghost use Rattle.irtext_notation.specs.Faults.{whole, Reads};
+ghost use Rattle.irtext_stream.specs.NotationFaults.{whole, Reads};
 
 use crate::base::Identifier;
 use crate::format::{Directive, OpFormat};
-use irtext_notation::fault::{NotationFault, NotationPart};
-use irtext_notation::pieces::{closed, ended, index, lack, lack_at, letters, next_is_key, past};
+use irtext_stream::notation::fault::{NotationFault, NotationPart};
+use irtext_stream::notation::pieces::{closed, ended, index, lack, lack_at, letters, next_is_key, past};
 use irtext_stream::class::Class;
 use irtext_stream::stream::TextStream;
 

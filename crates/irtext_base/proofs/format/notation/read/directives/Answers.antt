@@ -3,8 +3,8 @@ use Rattle.std.proofs.lemmas.List.{map-append}
 use Rattle.irtext_base.specs.Format.{custom}
 use Rattle.irtext_base.specs.FormatViews.{directive_of, directives_of}
 use Rattle.irtext_base.specs.Notation.{directives_after}
-use Rattle.irtext_notation.specs.Faults.{whole}
-use Rattle.irtext_notation.proofs.Steps.{handed}
+use Rattle.irtext_stream.specs.NotationFaults.{whole}
+use Rattle.irtext_stream.proofs.NotationSteps.{handed}
 use Rattle.irtext_base.proofs.NotationDirectives.{Listed, listed_start, listed_faults, listed_more, listed_shorter, listed_done}
 use Rattle.irtext_base.proofs.format.notation.read.directives.Goals as goal
 

@@ -1,6 +1,6 @@
 use Rattle.std.proofs.Common.{length}
 use Rattle.irtext_base.specs.FormatViews.{directives_of}
-use Rattle.irtext_notation.specs.Faults.{whole}
+use Rattle.irtext_stream.specs.NotationFaults.{whole}
 use Rattle.irtext_base.proofs.NotationDirectives.{Listed}
 use Rattle.irtext_base.proofs.format.notation.read.directives.Given as goal
 

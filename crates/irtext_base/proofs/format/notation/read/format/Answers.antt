@@ -1,9 +1,9 @@
 use Rattle.std.proofs.Common.{sym, ◌∙◌}
 use Rattle.irtext_base.specs.FormatViews.{format_of}
 use Rattle.irtext_base.specs.Notation.{canonical_at, notation_at}
-use Rattle.irtext_notation.specs.Faults.{whole}
-use Rattle.irtext_notation.specs.declared.fault.NotationPart.TheVariants as part
-use Rattle.irtext_notation.proofs.Steps.{handed, lacks_so}
+use Rattle.irtext_stream.specs.NotationFaults.{whole}
+use Rattle.irtext_stream.specs.declared.notation.fault.NotationPart.TheVariants as part
+use Rattle.irtext_stream.proofs.NotationSteps.{handed, lacks_so}
 use Rattle.irtext_base.proofs.NotationDirectives.{faults_as, format_listed, format_canonical, canonical_ends, canonical_goes_on}
 use Rattle.irtext_base.proofs.format.notation.read.format.Goals as goal
 

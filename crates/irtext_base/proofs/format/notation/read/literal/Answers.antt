@@ -3,10 +3,10 @@ use Rattle.std.proofs.lemmas.Bool.Decides.{nat_tests}
 use Rattle.std.proofs.lemmas.Str.{IsUtf8-string_bytes}
 use Rattle.irtext_base.specs.FormatViews.{directive_of}
 use Rattle.irtext_base.specs.Notation.{literal_at, filled}
-use Rattle.irtext_notation.specs.Pieces.{letters_after}
-use Rattle.irtext_notation.specs.Faults.{whole}
-use Rattle.irtext_notation.specs.declared.fault.NotationPart.TheVariants as part
-use Rattle.irtext_notation.proofs.Steps.{lacks_back, handed}
+use Rattle.irtext_stream.specs.NotationPieces.{letters_after}
+use Rattle.irtext_stream.specs.NotationFaults.{whole}
+use Rattle.irtext_stream.specs.declared.notation.fault.NotationPart.TheVariants as part
+use Rattle.irtext_stream.proofs.NotationSteps.{lacks_back, handed}
 use Rattle.irtext_base.proofs.NotationDirectives.{literal_empty, literal_some, faults_followed}
 use Rattle.irtext_base.proofs.format.notation.read.literal.Goals as goal
 

@@ -1,6 +1,6 @@
 use Rattle.std.proofs.Common.{◌≡◌, ◌∙◌, sym, true}
 use Rattle.irtext_base.specs.Text.{begins, begins_word, in_word}
-use Rattle.irtext_notation.proofs.Steps.{passed_front, since_is}
+use Rattle.irtext_stream.proofs.NotationSteps.{passed_front, since_is}
 use Rattle.irtext_base.proofs.NotationDirectives.{front_word, front_identifier, key_there}
 use Rattle.irtext_base.proofs.format.notation.read.variable.Goals as goal
 

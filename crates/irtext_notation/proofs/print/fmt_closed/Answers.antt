@@ -1,7 +1,0 @@
-use Rattle.std.proofs.Common.{arith}
-use Rattle.std.proofs.lemmas.Grind.{common_steps}
-use Rattle.irtext_notation.proofs.Printed.{closed_bytes}
-use Rattle.irtext_notation.proofs.print.fmt_closed.Goals as goal
-
-pub returns : goal.returns
-returns g c = rw (closed_bytes c.args.opening.now c.args.closing.now c.args.index c.utf8.closing) (grind (arith, common_steps))

@@ -1,5 +1,0 @@
-use Rattle.irtext_notation.proofs.Printed.{word_bytes}
-use Rattle.irtext_notation.proofs.print.fmt_word.Goals as goal
-
-pub returns : goal.returns
-returns g c = rw (word_bytes c.args.word.now c.utf8.word) c.write_str.ensures.writes
