@@ -1,4 +1,5 @@
-//! The formats of operations, and the check that a format parses uniquely.
+//! The formats of operations, their notation (`OpFormat::parse`), and the check that a format parses uniquely.
 
+pub use irtext_base::format::notation::{NotationFault, NotationPart};
 pub use irtext_base::format::{Directive, FormatFault, OpFormat};
 pub use irtext_formats::format::check_format;
