@@ -9,4 +9,5 @@ mod lists;
 mod locations;
 mod made;
 mod nested;
+mod notation;
 mod unique;
