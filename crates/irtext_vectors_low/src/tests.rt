@@ -10,4 +10,5 @@ mod lists;
 mod locations;
 mod made;
 mod nested;
+mod notation;
 mod unique;
