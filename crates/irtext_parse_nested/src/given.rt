@@ -1,5 +1,7 @@
 //! The names that the text gives to results and arguments, stored as an attribute.
-ghost use Rattle.std.specs.Prelude.{◌≡◌, ℕ, List, length, map, slice_get, IfOk, OnOk};
+ghost use Rattle.std.specs.Prelude.{◌≡◌, ℕ, List, length, map, slice_get, IfOk, IfSome, OnOk};
+ghost use Rattle.std.specs.Str.{bytes_eq};
+ghost use Rattle.irtext_base.specs.Format.{given_names_key};
 ghost use Rattle.irtext_grammar.specs.Contexts.Held.{entries_of};
 ghost use Rattle.irtext_grammar.specs.Graphs.Build.{put_all, read_names};
 ghost use Rattle.irtext_grammar.specs.Grammar.Tree.{Name};
@@ -7,10 +9,12 @@ ghost use Rattle.irtext_names.specs.Rows.{AreKnown, AreNamed};
 ghost use Rattle.irtext_parse_nested.specs.Ends.{numbers_of};
 
 use crate::definitions::number_at;
-use crate::frame::Names;
+use crate::frame::{BegunOperation, Names};
 use crate::name_errors::identifier_of;
 use crate::operation_parts::stored;
 use irtext_base::base::{AttrObj, GIVEN_NAMES_KEY, Identifier};
+use irtext_base::text::{AttrText, IrText};
+use irtext_context::base::{Context, Operation, OperationAccess, Ptr};
 use irtext_dict::base::AttributeDict;
 use irtext_few::Few;
 use irtext_parse_pieces::names::ReadName;
@@ -36,6 +40,96 @@ fn given_names(
     Ok(given)
 }
 
+/// Whether a text is the key of given names.
+fn is_given_key(text: &str) -> bool
+    ensures { result ≡ bytes_eq given_names_key text.now }
+{
+    GIVEN_NAMES_KEY == text
+}
+
+/// Returns the key of a dictionary's last entry, if that has the given names. Shares its text.
+fn last_key<A: Drop>(attributes: &AttributeDict<A>) -> Option<Identifier>
+    ensures { IfSome result (λ key. key ≡ given_names_key) }
+{
+    let last = attributes.len().checked_sub(1)?;
+    let (key, _) = attributes.get_index(last)?;
+    if !is_given_key(key.as_str()) {
+        return None;
+    }
+    match key.clone() {
+        Ok(copy) => Some(copy),
+        Err(_) => None,
+    }
+}
+
+/// Returns the key of the given names of an operation's neighbour: of the operation before the last one of its block, if that has given
+/// names. Shares its text, so that a key is allocated once for a row of operations.
+fn neighbour_key<T: IrText<A>, A: AttrText<A>>(
+    ctx: &Context<T, A>,
+    op: Ptr<Operation>,
+) -> Option<Identifier>
+    ensures { IfSome result (λ key. key ≡ given_names_key) }
+{
+    if !ctx.contains_operation(op) {
+        return None;
+    }
+    let block = op.get_parent_block(ctx)?;
+    let index = block.num_operations(ctx).checked_sub(2)?;
+    let before = block.get_operation(ctx, index);
+    if !ctx.contains_operation(before) {
+        return None;
+    }
+    last_key(before.attributes(ctx))
+}
+
+/// Returns the key of given names of an operation's neighbour if it has one to share, and if there are names to store under it.
+pub(crate) fn shared_key<T: IrText<A>, A: AttrText<A>>(
+    ctx: &Context<T, A>,
+    begun: &BegunOperation,
+) -> Option<Identifier>
+    ensures { IfSome result (λ key. key ≡ given_names_key) }
+{
+    if begun.names.len() == 0 {
+        return None;
+    }
+    neighbour_key(ctx, begun.op)
+}
+
+/// Returns the key of given names: this one, or a new one.
+fn key_of(alloc: Global, shared: Option<Identifier>) -> Result<Identifier, AllocError>
+    requires { IfSome shared (λ key. key ≡ given_names_key) }
+    ensures { IfOk result (λ key. key ≡ given_names_key) }
+{
+    match shared {
+        Some(key) => Ok(key),
+        None => Identifier::from_word(alloc, GIVEN_NAMES_KEY),
+    }
+}
+
+/// Stores the names as given names, if there are any, under this key or a new one.
+pub(crate) fn names_shared<A: Drop>(
+    alloc: Global,
+    names: &Names,
+    read: &Few<ReadName>,
+    shared: Option<Identifier>,
+    attributes: &mut AttributeDict<A>,
+) -> Result<(), AllocError>
+    requires known { AreKnown (length names.now.names) (numbers_of read.now) }
+    requires key { IfSome shared (λ key. key ≡ given_names_key) }
+    ensures { OnOk result ((ws : List (Name ℕ)) → AreNamed names.now.names (numbers_of read.now) ws
+        → entries_of attributes.new ≡ put_all (entries_of attributes.old) (read_names (map (λ w. w.text) ws))) }
+{
+    if read.len() == 0 {
+        return Ok(());
+    }
+    let given = given_names(alloc, names, read)?;
+    let key = key_of(alloc, shared)?;
+    match stored(attributes, key, AttrObj::GivenNames(given)) {
+        Ok(()) => Ok(()),
+        Err(_) => Err(AllocError),
+    }
+}
+
 /// Stores the names as given names, if there are any.
 pub(crate) fn names_stored<A: Drop>(
     alloc: Global,
@@ -47,13 +141,5 @@ pub(crate) fn names_stored<A: Drop>(
     ensures { OnOk result ((ws : List (Name ℕ)) → AreNamed names.now.names (numbers_of read.now) ws
         → entries_of attributes.new ≡ put_all (entries_of attributes.old) (read_names (map (λ w. w.text) ws))) }
 {
-    if read.len() == 0 {
-        return Ok(());
-    }
-    let given = given_names(alloc, names, read)?;
-    let key = Identifier::from_word(alloc, GIVEN_NAMES_KEY)?;
-    match stored(attributes, key, AttrObj::GivenNames(given)) {
-        Ok(()) => Ok(()),
-        Err(_) => Err(AllocError),
-    }
+    names_shared(alloc, names, read, None, attributes)
 }

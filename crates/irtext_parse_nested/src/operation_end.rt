@@ -42,7 +42,7 @@ ghost use Rattle.irtext_parse_nested.specs.Read.{EndsOperation, RefusesEnd};
 
 use crate::definitions::{Definer, define_values, undefined_error};
 use crate::frame::{BegunOperation, Names};
-use crate::given::names_stored;
+use crate::given::{names_shared, shared_key};
 use crate::name_errors::no_scope_error;
 use irtext_base::parsable::{CharStream, ParseFault, ParseResult, TextStream};
 use irtext_base::result::Cause;
@@ -161,8 +161,9 @@ fn given_kept<T: IrText<A>, A: AttrText<A>>(
     ensures writes { WritesAttributes ctx.old ctx.new begun.now.op }
     ensures gives { OnOk result (GivesNames names.now.names begun.now.names ctx.old ctx.new begun.now.op) }
 {
+    let key = shared_key(ctx, begun);
     let attributes = ctx.operation_attributes_mut(begun.op);
-    names_stored(alloc, names, &begun.names, attributes)
+    names_shared(alloc, names, &begun.names, key, attributes)
 }
 
 /// Stores the names of an operation's results as given names, in the state's context. The only error is `Memory`, committed.

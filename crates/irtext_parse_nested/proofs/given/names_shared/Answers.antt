@@ -1,8 +1,8 @@
 use Rattle.std.proofs.Common.{refl, arith}
 use Rattle.irtext_base.specs.declared.base.attributes.AttrObj.TheVariants.{GivenNames}
 use Rattle.irtext_parse_nested.proofs.NamesGiven.{some_given}
-use Rattle.irtext_parse_nested.proofs.given.names_stored.Goals as goal
-use Rattle.irtext_parse_nested.proofs.given.names_stored.Goals.{in-Ok, in-Err}
+use Rattle.irtext_parse_nested.proofs.given.names_shared.Goals as goal
+use Rattle.irtext_parse_nested.proofs.given.names_shared.Goals.{in-Ok, in-Err}
 
 pub returns : goal.returns
 returns g c = elim c.match-stored.branch [
