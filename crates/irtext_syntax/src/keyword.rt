@@ -32,7 +32,8 @@ pub trait Word {
     ghost is_word: { is_identifier word ≡ true };
 }
 
-/// A word that is always there, as a part without a value.
+/// A word that is always there, as a part without a value, such as `to`. If the longest word that comes next is another one, parsing fails
+/// with `Unexpected`, uncommitted, and the stream is unchanged.
 #[derive(Drop)]
 pub struct Keyword<W> {
     word: PhantomData<W>,
@@ -44,7 +45,8 @@ impl<W> Model for Keyword<W> {
     ghost view = { λ k. tt };
 }
 
-/// A word that is there or not, as a part whose value says which.
+/// A word that is there or not, such as `mut`, as a part whose value says which. If the longest word that comes next is another one, the word
+/// is not there, and nothing is consumed.
 #[derive(Drop)]
 pub struct Flag<W> {
     is_set: bool,

@@ -10,8 +10,8 @@ use crate::part::{Item, Last, Part, TryClone};
 use irtext_base::parsable::{CharStream, ParseResult, TextStream};
 use irtext_base::result::{Cause, Expected};
 use irtext_read::irfmt::faults::{begins, refuse, unexpected};
-use irtext_read::irfmt::parsers::digits::{Radix, out_of_range, take_digits};
 use irtext_read::irfmt::parsers::Class;
+use irtext_read::irfmt::parsers::digits::{Radix, out_of_range, take_digits};
 use std::alloc::AllocError;
 use std::fmt;
 use std::hash::{Hash, Hasher};
@@ -35,7 +35,9 @@ pub trait Range {
     ghost fits: { nat_lt high (2 ^ 64) ≡ true };
 }
 
-/// A number of a range, as a part of a text: as many decimal digits as come next, without a sign. It is printed in decimal.
+/// A number of a range, as a part of a text such as `12`: as many decimal digits as come next, without a sign. It is printed in decimal. If no
+/// digit comes next, parsing fails with `Unexpected`, uncommitted. A number that is not in the range is `NumberRange` at its beginning,
+/// committed.
 pub struct Ranged<R: Range> {
     value: u64,
     range: PhantomData<R>,
