@@ -45,8 +45,8 @@ impl<W> Model for Keyword<W> {
     ghost view = { λ k. tt };
 }
 
-/// A word that is there or not, such as `mut`, as a part whose value says which. If the longest word that comes next is another one, the word
-/// is not there, and nothing is consumed.
+/// A word that is there or not, such as `mut`, as a part whose value says which. If the longest word that comes next is another one, the
+/// word is not there, and nothing is consumed.
 #[derive(Drop)]
 pub struct Flag<W> {
     is_set: bool,

@@ -80,8 +80,9 @@ impl Separated for Curly {
 }
 
 /// A list of parts in the brackets of `B`, such as `[1, 2]`. It is printed with its separator and a space between two items. White space is
-/// skipped before and after each item when it is parsed. If the opening bracket is missing, parsing fails with `Unexpected`, uncommitted. Every
-/// other error is committed: an item that is missing after a separator, an error in an item, and `Unexpected` if the closing bracket is missing.
+/// skipped before and after each item when it is parsed. If the opening bracket is missing, parsing fails with `Unexpected`, uncommitted.
+/// Every other error is committed: an item that is missing after a separator, an error in an item, and `Unexpected` if the closing bracket
+/// is missing.
 #[derive(Drop)]
 pub struct ListOf<B, P> {
     items: Vec<P>,
@@ -236,7 +237,8 @@ impl<A: Drop, B: Separated, P: Item<A>> Part<A> for ListOf<B, P> {
 
     ghost ends = { λ rest. true };
 
-    ghost law = { list_law B.opener B.closer B.opener_printed B.closer_printed B.separator P.reading P.written P.ends B.law B.separates P.law P.misses };
+    ghost law = { list_law B.opener B.closer B.opener_printed B.closer_printed B.separator P.reading P.written P.ends
+        B.law B.separates P.law P.misses };
 
     ghost decides = { pointwise_decides P.decides };
 

@@ -35,8 +35,8 @@ pub trait Range {
     ghost fits: { nat_lt high (2 ^ 64) ≡ true };
 }
 
-/// A number of a range, as a part of a text such as `12`: as many decimal digits as come next, without a sign. It is printed in decimal. If no
-/// digit comes next, parsing fails with `Unexpected`, uncommitted. A number that is not in the range is `NumberRange` at its beginning,
+/// A number of a range, as a part of a text such as `12`: as many decimal digits as come next, without a sign. It is printed in decimal. If
+/// no digit comes next, parsing fails with `Unexpected`, uncommitted. A number that is not in the range is `NumberRange` at its beginning,
 /// committed.
 pub struct Ranged<R: Range> {
     value: u64,
