@@ -15,6 +15,7 @@ pub mod Sequences
 pub mod Owns
 pub mod Words
 pub mod Tables
+pub mod Maybes
 pub mod ReadyTexts
 -- What the laws of parts are proved with
 pub mod PartSteps
@@ -25,3 +26,4 @@ pub mod MappedLaws
 pub mod SequenceLaws
 pub mod OwnLaws
 pub mod TableLaws
+pub mod MaybeLaws
