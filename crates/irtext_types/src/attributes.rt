@@ -74,55 +74,6 @@ impl<B: Drop, I: Part<B>, F: Part<B>> Table<DemoAttrOf<I, F>, B> for AttrWord {
 
     ghost behind = { attr_behind I.reading F.reading };
 
-/// Parses the rest of an attribute, after its word.
-fn attr_parse<A: Drop>(stream: &mut TextStream, word: AttrWord) -> ParseResult<DemoAttr, A>
-    ensures { MustRead (λ s. s) (λ s v. v) (λ a. a) (attr_behind word) stream.old result stream.new }
-{
-    match word {
-        AttrWord::Integer => Ok(DemoAttr::Integer(integer_attr_parse(stream)?)),
-        AttrWord::String => Ok(DemoAttr::String(characters_behind(stream)?)),
-        AttrWord::Function => Ok(DemoAttr::Function(function_parse(stream)?)),
-        AttrWord::Debug => Ok(DemoAttr::Debug(characters_behind(stream)?)),
-    }
-}
-
-/// Appends a word and a quoted string.
-fn write_quoted(word: &str, text: &Characters, f: &mut String) -> fmt::Result
-    ensures { OnOk result (string_bytes f.new ≡ string_bytes f.old ++ (word.now ++ encode_utf8_all (quoted text.now.characters))) }
-{
-    f.push_str(word)?;
-    fmt_quoted(text.as_str(), f)?;
-    Ok(())
-}
-
-/// Appends an integer with its type, after their word.
-fn write_integer(attr: &IntegerAttr, f: &mut String) -> fmt::Result
-    ensures { OnOk result (string_bytes f.new ≡ string_bytes f.old ++ (codes "builtin.integer " ++ integer_attr_text attr.now)) }
-{
-    write!(f, "builtin.integer {attr}")?;
-    Ok(())
-}
-
-impl<B: Drop> IrText<B> for DemoAttr {
-    ghost use Rattle.irtext_types.specs.Attributes.{attr_at, attr_text};
-    ghost use Rattle.irtext_types.specs.AttributeLaws.{attr_lawful};
-    ghost use Rattle.irtext_types.specs.EqualAttributes.{attr_decides};
-    ghost use Rattle.irtext_types.specs.SincereAttributes.{attr_sincere};
-
-    ghost reading = { attr_at };
-
-    ghost written = { attr_text };
-
-    ghost lawful = { attr_lawful };
-
-    ghost sincere = { attr_sincere };
-
-    ghost decides = { attr_decides };
-
-    fn read(stream: &mut TextStream) -> ParseResult<DemoAttr, B> {
-        match dotted_parse(stream, "Unregistered attribute ", Expected::Attribute) {
-            Ok(word) => attr_parse(stream, word),
-            Err(fault) => Err(fault),
     fn parse(self, stream: &mut TextStream) -> ParseResult<DemoAttrOf<I, F>, B> {
         match self {
             AttrWord::Integer => Ok(DemoAttrOf::Integer(behind_word(stream)?)),
@@ -162,7 +113,6 @@ impl<B: Drop, I: Last<B>, F: Last<B>> IrText<B> for DemoAttrOf<I, F> {
     }
 }
 
-impl<B: Drop> AttrText<B> for DemoAttr {
 impl<B: Drop, I: Last<B> + Hash + TryClone, F: Last<B> + Hash + TryClone> AttrText<B> for DemoAttrOf<I, F> {
     ghost use Rattle.irtext_types.specs.Attributes.{is_debug};
     ghost use Rattle.irtext_types.specs.AttributeLaws.{attr_unreserved};
