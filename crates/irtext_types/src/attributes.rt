@@ -100,7 +100,11 @@ impl<B: Drop, I: Last<B>, F: Last<B>> IrText<B> for DemoAttrOf<I, F> {
     ghost decides = { attr_decides I.eq F.eq ⟦<DemoAttrOf<I, F> as PartialEq>⟧.eq (record { integer_integer = λ x y. refl; integer_string = λ x y. refl; integer_function = λ x y. refl; integer_debug = λ x y. refl; string_integer = λ x y. refl; string_string = λ x y. refl; string_function = λ x y. refl; string_debug = λ x y. refl; function_integer = λ x y. refl; function_string = λ x y. refl; function_function = λ x y. refl; function_debug = λ x y. refl; debug_integer = λ x y. refl; debug_string = λ x y. refl; debug_function = λ x y. refl; debug_debug = λ x y. refl }) I.decides F.decides };
 
     fn read(stream: &mut TextStream) -> ParseResult<DemoAttrOf<I, F>, B> {
-        table_parse::<AttrWord, DemoAttrOf<I, F>, B>(stream, "Unregistered attribute ", Expected::Attribute)
+        table_parse::<AttrWord, DemoAttrOf<I, F>, B>(
+            stream,
+            "Unregistered attribute ",
+            Expected::Attribute,
+        )
     }
 
     fn write_text(&self, f: &mut String) -> fmt::Result {
@@ -113,7 +117,8 @@ impl<B: Drop, I: Last<B>, F: Last<B>> IrText<B> for DemoAttrOf<I, F> {
     }
 }
 
-impl<B: Drop, I: Last<B> + Hash + TryClone, F: Last<B> + Hash + TryClone> AttrText<B> for DemoAttrOf<I, F> {
+impl<B: Drop, I: Last<B> + Hash + TryClone, F: Last<B> + Hash + TryClone> AttrText<B>
+    for DemoAttrOf<I, F> {
     ghost use Rattle.irtext_types.specs.Attributes.{is_debug};
     ghost use Rattle.irtext_types.specs.AttributeLaws.{attr_unreserved};
 
@@ -147,7 +152,10 @@ impl<I, F> Worded for DemoAttrOf<I, F> {
     ghost words = { attr_words };
 
     fn has_word(word: &str) -> bool {
-        word == "builtin.integer" || word == "builtin.string" || word == "builtin.function" || word == "test.dbg"
+        word == "builtin.integer"
+            || word == "builtin.string"
+            || word == "builtin.function"
+            || word == "test.dbg"
     }
 }
 
