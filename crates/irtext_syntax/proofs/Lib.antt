@@ -6,3 +6,4 @@ pub mod ItemsRead
 pub mod ListWritten
 pub mod WordRead
 pub mod MaybeRead
+pub mod Rows
