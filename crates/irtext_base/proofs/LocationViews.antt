@@ -1,12 +1,12 @@
 -- What definitions see of a location of each kind.
-use Rattle.std.proofs.Common.{◌≡◌, ◌∙◌, ap, ap₂, sym, List, map, string_bytes, Box, Global, String, Vec, Option, ◌≢◌, subst, false}
+use Rattle.std.proofs.Common.{◌≡◌, ◌∙◌, ap, ap₂, sym, List, map, string_bytes, Box, Global, String, Vec, Option}
 use Rattle.irtext_base.specs.declared.base.attributes.AttrObj.{AttrObj}
-use Rattle.irtext_base.specs.declared.location.Location.{Location, roll-Location, out-Location, roll-out-Location, fold-roll-Location}
+use Rattle.irtext_base.specs.declared.location.Location.{Location, fold-roll-Location}
 use Rattle.irtext_base.specs.declared.location.Location.TheOpen.{Location-F}
 use Rattle.irtext_base.specs.declared.location.Location.TheVariants.{SrcPos, Fused, Named, CallSite, Unknown, rolls-SrcPos, rolls-Fused, rolls-Named, rolls-CallSite, rolls-Unknown}
 use Rattle.irtext_base.specs.declared.location.Source.{Source}
 use Rattle.irtext_stream.specs.declared.position.SourcePosition.{SourcePosition}
-use Rattle.irtext_base.specs.Locations.{LocationView, location_view, view_step, is_plain, attr_view_in, in_row, src_pos, fused, named, call_site, unknown}
+use Rattle.irtext_base.specs.Locations.{LocationView, location_view, view_step, attr_view_in, in_row, src_pos, fused, named, call_site, unknown}
 
 pub seen-src_pos : {A : Type 0} (src : Source) (pos : SourcePosition) → location_view {A = A} (SrcPos src pos) ≡ src_pos src pos
 seen-src_pos {A} src pos = ap location_view (sym (rolls-SrcPos src pos)) ∙ fold-roll-Location A (LocationView A) view_step (Location-F.SrcPos src pos)
@@ -32,16 +32,3 @@ at-named l name child inside e h = ap location_view e ∙ (seen-named name child
 
 pub at-call_site : {A : Type 0} (l : Location A) (callee caller : Box (Location A) Global) (a b : Location A) → l ≡ CallSite callee caller → a ≡ callee.value → b ≡ caller.value → location_view l ≡ call_site (location_view a) (location_view b)
 at-call_site l callee caller a b e h k = ap location_view e ∙ (seen-call_site callee caller ∙ ap₂ (λ x y. call_site (location_view x) (location_view y)) (sym h) (sym k))
-
--- what is neither a place of a source nor unknown is not plain
-nested_layer : {A : Type 0} (x : Location-F A (Location A)) → ((src : Source) (pos : SourcePosition) → roll-Location A x ≢ SrcPos src pos) → roll-Location A x ≢ Unknown
-    → is_plain (location_view (roll-Location A x)) ≡ false
-nested_layer (Location-F.SrcPos src pos) h k = absurd (h src pos (rolls-SrcPos src pos))
-nested_layer {A} (Location-F.Fused m ls) h k = ap is_plain (fold-roll-Location A (LocationView A) view_step (Location-F.Fused m ls))
-nested_layer {A} (Location-F.Named name child) h k = ap is_plain (fold-roll-Location A (LocationView A) view_step (Location-F.Named name child))
-nested_layer {A} (Location-F.CallSite callee caller) h k = ap is_plain (fold-roll-Location A (LocationView A) view_step (Location-F.CallSite callee caller))
-nested_layer Location-F.Unknown h k = absurd (k rolls-Unknown)
-
-pub nested_not_plain : {A : Type 0} (l : Location A) → ((src : Source) (pos : SourcePosition) → l ≢ SrcPos src pos) → l ≢ Unknown → is_plain (location_view l) ≡ false
-nested_not_plain {A} l =
-    subst (λ z. ((src : Source) (pos : SourcePosition) → z ≢ SrcPos src pos) → z ≢ Unknown → is_plain (location_view z) ≡ false) (roll-out-Location A l) (nested_layer (out-Location A l))

@@ -1,10 +1,9 @@
 -- A location in another context says the same text, and what paths were kept on the way can be taken back.
 use Rattle.std.proofs.Common.{◌≡◌, ◌∙◌, ap, ap₂, refl, sym, ℕ, Option, Some, None, List, [], ◌∷◌, ◌++◌, length, take, position, append_assoc, true, false, ◌&&◌, ◌≢◌, fold}
 use Rattle.std.proofs.Math.Seq.{take-append_seam}
-use Rattle.std.proofs.lemmas.Bool.{false≢true}
 use Rattle.std.specs.Prelude.{slice_get}
 use Rattle.std.specs.Str.{bytes_eq}
-use Rattle.irtext_base.specs.Locations.{LocationsOf, LocationView, LocationViews, src_pos, fused, named, call_site, unknown, location, no_location, location_view, is_plain, row_sourced}
+use Rattle.irtext_base.specs.Locations.{LocationsOf, LocationView, LocationViews, src_pos, fused, named, call_site, unknown, location, no_location, location_view, row_sourced}
 use Rattle.irtext_base.specs.Paths.{KeepsPaths, Written, path_of, path_index, with_path, found_or_last, is_known, are_known, row_known, written_with}
 use Rattle.irtext_base.specs.Walks.{taken, row_taken, made, joined, Reached, moving}
 use Rattle.irtext_base.specs.Moves.{path_kept, all_kept, row_kept, all_under, row_under, is_free, KeepsMore}
@@ -151,11 +150,3 @@ module _ {A : Type 0} (from paths : List (List ℕ)) (l : Location A) where
   place_is_kept src pos e h outside =
       let look : location_view l ≡ src_pos src pos = ap location_view e ∙ seen-src_pos src pos in
       ap (λ v. is_free (written_with from v)) look ∙ file_is_kept A from src pos (sym (ap (are_known (length from)) look) ∙ h) outside
-
--- what has parts elsewhere in memory is not free
-pub nested_not_free : {A : Type 0} (from : List (List ℕ)) (v : LocationView A) → is_plain v ≡ false → is_free (written_with from v) ≡ false
-nested_not_free from (src_pos src pos) h = absurd (false≢true (sym h))
-nested_not_free from (fused metadata locations) h = refl
-nested_not_free from (named name child) h = refl
-nested_not_free from (call_site callee caller) h = refl
-nested_not_free from unknown h = absurd (false≢true (sym h))

@@ -118,7 +118,10 @@ impl<A> Location<A> {
     {
         match self {
             Location::Unknown => true,
-            _ => false,
+            Location::SrcPos { .. }
+            | Location::Fused { .. }
+            | Location::Named { .. }
+            | Location::CallSite { .. } => false,
         }
     }
 }

@@ -54,7 +54,10 @@ fn given_to_argument<'c, T: IrText<A>, A: AttrText<A>>(
 }
 
 /// Returns the given name of a value, if it has one. A result of a placeholder has none.
-pub fn given_name<T: IrText<A>, A: AttrText<A>>(ctx: &Context<T, A>, v: Value) -> Option<&Identifier>
+pub fn given_name<T: IrText<A>, A: AttrText<A>>(
+    ctx: &Context<T, A>,
+    v: Value,
+) -> Option<&Identifier>
     requires { ValueStands ctx.now.graph v }
     ensures { option_copied result ≡ given_name ctx.now v }
 {

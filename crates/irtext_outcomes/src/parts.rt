@@ -102,7 +102,10 @@ fn source_kept<T: IrText<A>, A: AttrText<A>>(src: Source, ctx: &Context<T, A>)
 /// The paths and names in a location are UTF-8, its lines and columns fit, and the names in its attributes are identifiers. Recurses into
 /// the locations nested in it, except into the last one at each level, so it uses stack for each level of nesting in other positions.
 #[cycle(kept)]
-pub(crate) fn location_kept<T: IrText<A>, A: AttrText<A>>(location: &Location<A>, ctx: &Context<T, A>)
+pub(crate) fn location_kept<T: IrText<A>, A: AttrText<A>>(
+    location: &Location<A>,
+    ctx: &Context<T, A>,
+)
     ensures fits { AllFit (location_over ctx.now.paths location.now) }
     ensures holds { AllHold IsSpellableAttr (location_over ctx.now.paths location.now) }
 {

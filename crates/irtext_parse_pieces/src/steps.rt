@@ -91,7 +91,11 @@ pub(crate) fn reads_piece(step: FormatStep<'_>) -> bool
     match step {
         FormatStep::Directive(directive) => !reads_regions(directive),
         FormatStep::Regions => false,
-        _ => true,
+        FormatStep::Word(_)
+        | FormatStep::Operands
+        | FormatStep::Successors
+        | FormatStep::Dictionary
+        | FormatStep::Types => true,
     }
 }
 
@@ -104,8 +108,21 @@ pub(crate) fn word_of<'f>(step: FormatStep<'f>) -> Option<&'f str>
         FormatStep::Word(text) => Some(text),
         FormatStep::Directive(directive) => match directive {
             Directive::Literal(text) => Some(text.as_str()),
-            _ => None,
+            Directive::Operand(_)
+            | Directive::Operands
+            | Directive::Successor(_)
+            | Directive::Successors
+            | Directive::Attr(_)
+            | Directive::AttrDict
+            | Directive::ResultType(_)
+            | Directive::Region(_)
+            | Directive::Regions
+            | Directive::SymbolHeader => None,
         },
-        _ => None,
+        FormatStep::Operands
+        | FormatStep::Successors
+        | FormatStep::Dictionary
+        | FormatStep::Types
+        | FormatStep::Regions => None,
     }
 }

@@ -44,10 +44,22 @@ fn kind_of(step: FormatStep<'_>) -> Coming
         FormatStep::Directive(directive) => match directive {
             Directive::Region(_) => Coming::Region,
             Directive::Regions => Coming::Regions,
-            _ => Coming::Piece,
+            Directive::Literal(_)
+            | Directive::Operand(_)
+            | Directive::Operands
+            | Directive::Successor(_)
+            | Directive::Successors
+            | Directive::Attr(_)
+            | Directive::AttrDict
+            | Directive::ResultType(_)
+            | Directive::SymbolHeader => Coming::Piece,
         },
         FormatStep::Regions => Coming::Regions,
-        _ => Coming::Piece,
+        FormatStep::Word(_)
+        | FormatStep::Operands
+        | FormatStep::Successors
+        | FormatStep::Dictionary
+        | FormatStep::Types => Coming::Piece,
     }
 }
 

@@ -75,7 +75,10 @@ fn position_of<A>(loc: &Location<A>) -> SourcePosition
 }
 
 /// The position of the location of an operation.
-fn position_in<T: IrText<A>, A: AttrText<A>>(ctx: &Context<T, A>, op: Ptr<Operation>) -> SourcePosition
+fn position_in<T: IrText<A>, A: AttrText<A>>(
+    ctx: &Context<T, A>,
+    op: Ptr<Operation>,
+) -> SourcePosition
     requires { IsSome (operation ctx.now op) }
     ensures { (view : OperationView T A) → operation ctx.now op ≡ Some view → IsPositionOf view.loc result }
 {

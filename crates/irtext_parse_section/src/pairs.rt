@@ -66,7 +66,10 @@ fn allowed<A: AttrText<A>>(
 }
 
 /// Parses a pair whose attribute is allowed under its key.
-fn kept_parse<A: AttrText<A>>(stream: &mut TextStream, of_block: bool) -> ParseResult<ReadPair<A>, A>
+fn kept_parse<A: AttrText<A>>(
+    stream: &mut TextStream,
+    of_block: bool,
+) -> ParseResult<ReadPair<A>, A>
     ensures { MayMean itself replaced (IsPair (whole stream.old))
         (λ t. kept (rule_for of_block) (pair_at (attr_at A.IrText.reading) t)) stream.old result stream.new }
 {

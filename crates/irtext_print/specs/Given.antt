@@ -79,7 +79,7 @@ module _ {T A : Type 0} (C : Printing T A) where
     abbrev pub entry_of : (A → Bool) → Given A → Entry C
     entry_of is_outlined g = record { location = known_text written ctx.paths g.location.now; attributes = attributes_of is_outlined g }
 
-module _ {T A : Type 0} (types : ir_text.Ghosts T A) (owns : ir_text.Ghosts A A) (attributes : attr_text.Ghosts A) (same : A → A → Bool) (ctx : ContextView T A) where
+module _ {T A : Type 0} (types : ir_text.Ghosts T A) (owns : ir_text.Ghosts A A) (attributes : attr_text.Ghosts A A) (same : A → A → Bool) (ctx : ContextView T A) where
   -- what printing needs to know of the context and of the caller's attributes
   abbrev pub printing_of : Printing T A
   printing_of = printing_over ctx attributes.outlined attributes.print_once same

@@ -73,7 +73,7 @@ module _ {T A : Type 0} (C : Printing T A) where
     abbrev pub alone_of : Option (Entry C) → Text
     alone_of g = cond (is_marked_by C g) (codes " !0" ++ section_of (g ∷ [])) []
 
-module _ {T A : Type 0} (types : ir_text.Ghosts T A) (owns : ir_text.Ghosts A A) (attributes : attr_text.Ghosts A) (same : A → A → Bool) (ctx : ContextView T A) where
+module _ {T A : Type 0} (types : ir_text.Ghosts T A) (owns : ir_text.Ghosts A A) (attributes : attr_text.Ghosts A A) (same : A → A → Bool) (ctx : ContextView T A) where
   -- what the texts of the caller's types and attributes mean, and the formats of the context
   abbrev pub language_of : Language ⊤ T A
   language_of = language_in types owns ctx

@@ -78,7 +78,11 @@ fn fmt_once<A: AttrText<A>>(index: usize, attr: &A, f: &mut String) -> fmt::Resu
 }
 
 /// Appends the print-once attributes, numbered on after all items.
-fn fmt_all_once<A: AttrText<A>>(count: usize, known: &Mentions<'_, A>, f: &mut String) -> fmt::Result
+fn fmt_all_once<A: AttrText<A>>(
+    count: usize,
+    known: &Mentions<'_, A>,
+    f: &mut String,
+) -> fmt::Result
     requires { count < 2 ^ 63 }
     ensures { OnOk result (AppendsText f.old (once_texts (words A.IrText.written) (mentions.asking A.print_once A.eq) count
         (mentions.known_in known.now)) f.new) }

@@ -44,7 +44,7 @@ use Rattle.irtext_print_ops.proofs.Turned.{seen_some, block_there, regions_seen}
 pub handed_on : {R E : Type 0} (P : E → Type 0) (r : Result R E) (e : E) → IsErrAnd r (λ y. y ≡ e) → P e → IfErr r P
 handed_on P r e h p = let q = err_from_is_err_and r h in subst (λ z. IfErr z P) (sym (q.1 ∙ ap Err q.2)) p
 
-module _ {T A : Type 0} (types : ir_text.Ghosts T A) (owns : ir_text.Ghosts A A) (attributes : attr_text.Ghosts A) (same : A → A → Bool) (ctx : ContextView T A) where
+module _ {T A : Type 0} (types : ir_text.Ghosts T A) (owns : ir_text.Ghosts A A) (attributes : attr_text.Ghosts A A) (same : A → A → Bool) (ctx : ContextView T A) where
   -- what a refusal says, from the reason that it gives
   pub under_refuses : {U : Type 0} (p : Ptr Operation) (s : Shown U) (e : Refusal) → (e ≢ Memory → heads.FaultUnder types owns attributes same ctx p s e) → heads.RefusesUnder types owns attributes same ctx p s e
   under_refuses p s Memory h = tt

@@ -47,7 +47,7 @@ abbrev pub or_no_block : {T A : Type 0} → Option (GraphBlock T A) → GraphBlo
 or_no_block None = no_block
 or_no_block (Some h) = h
 
-module _ {T A : Type 0} (types : ir_text.Ghosts T A) (owns : ir_text.Ghosts A A) (attributes : attr_text.Ghosts A) (same : A → A → Bool) (ctx : ContextView T A) where
+module _ {T A : Type 0} (types : ir_text.Ghosts T A) (owns : ir_text.Ghosts A A) (attributes : attr_text.Ghosts A A) (same : A → A → Bool) (ctx : ContextView T A) where
   -- what the texts of the caller's types and attributes mean, and the formats of the context
   abbrev pub language_of : Language ⊤ T A
   language_of = language_in types owns ctx

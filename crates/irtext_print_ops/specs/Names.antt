@@ -12,7 +12,7 @@ use Rattle.irtext_grammar.specs.Graphs.Graph.{Printing}
 use Rattle.irtext_grammar.specs.Spelling.PrintedNames.{value_name, block_name}
 
 -- what printing needs to know of this context and of the caller's attributes
-abbrev pub printing_by : {T A : Type 0} → attr_text.Ghosts A → (A → A → Bool) → ContextView T A → Printing T A
+abbrev pub printing_by : {T A : Type 0} → attr_text.Ghosts A A → (A → A → Bool) → ContextView T A → Printing T A
 printing_by owns same ctx = printing_over ctx owns.outlined owns.print_once same
 
 -- a text, if there is one

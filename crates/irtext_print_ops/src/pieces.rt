@@ -77,7 +77,10 @@ fn fmt_successor_at<T: IrText<A>, A: AttrText<A>>(
 }
 
 /// Returns the type of a value, if it is known.
-pub(crate) fn known_type<T: IrText<A>, A: AttrText<A>>(ctx: &Context<T, A>, value: Value) -> Option<&T>
+pub(crate) fn known_type<T: IrText<A>, A: AttrText<A>>(
+    ctx: &Context<T, A>,
+    value: Value,
+) -> Option<&T>
     requires { ValueStands ctx.now.graph value }
     ensures { option_map (λ t. T.IrText.written t.now) result ≡
         option_and_then (texts.typed_text T.IrText.written ctx.now facet.Type) (value_at ctx.now.graph value) }

@@ -57,7 +57,15 @@ fn fmt_pieces<H: WritesHeads<T, A>, T: IrText<A>, A: AttrText<A>>(
         match directive {
             Directive::Region(_) => return Ok(Stop::Region(at)),
             Directive::Regions => return Ok(Stop::Regions(at)),
-            _ => H::fmt_piece(ctx, op, directives, directive, f)?,
+            Directive::Literal(_)
+            | Directive::Operand(_)
+            | Directive::Operands
+            | Directive::Successor(_)
+            | Directive::Successors
+            | Directive::Attr(_)
+            | Directive::AttrDict
+            | Directive::ResultType(_)
+            | Directive::SymbolHeader => H::fmt_piece(ctx, op, directives, directive, f)?,
         }
     }
     Ok(Stop::End)

@@ -105,7 +105,8 @@ impl<B, L: Family<B>, R: Family<B>, W: Apart<L, R>> Family<B> for Either<L, R, W
     ghost led = { either_led L.words R.words L.reading L.written R.reading R.written L.led R.led };
 }
 
-impl<B, L: AttrText<B> + Family<B>, R: AttrText<B> + Family<B>, W: Apart<L, R>> AttrText<B> for Either<L, R, W> {
+impl<B, L: AttrText<B> + Family<B>, R: AttrText<B> + Family<B>, W: Apart<L, R>> AttrText<B>
+    for Either<L, R, W> {
     ghost use Rattle.irtext_read.specs.Eithers.{either_of};
     ghost use Rattle.irtext_read.specs.EitherLaws.{either_unreserved};
 

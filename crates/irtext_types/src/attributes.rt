@@ -128,7 +128,7 @@ fn write_integer(attr: &IntegerAttr, f: &mut String) -> fmt::Result
     Ok(())
 }
 
-impl<B> IrText<B> for DemoAttr {
+impl<B: Drop> IrText<B> for DemoAttr {
     ghost use Rattle.irtext_types.specs.Attributes.{attr_at, attr_text};
     ghost use Rattle.irtext_types.specs.AttributeLaws.{attr_lawful};
     ghost use Rattle.irtext_types.specs.EqualAttributes.{attr_decides};
@@ -161,7 +161,7 @@ impl<B> IrText<B> for DemoAttr {
     }
 }
 
-impl<B> AttrText<B> for DemoAttr {
+impl<B: Drop> AttrText<B> for DemoAttr {
     ghost use Rattle.irtext_types.specs.Attributes.{is_debug};
     ghost use Rattle.irtext_types.specs.AttributeLaws.{attr_unreserved};
 

@@ -23,11 +23,14 @@ impl Worded for DemoAttr {
     ghost words = { attr_words };
 
     fn has_word(word: &str) -> bool {
-        word == "builtin.integer" || word == "builtin.string" || word == "builtin.function" || word == "test.dbg"
+        word == "builtin.integer"
+            || word == "builtin.string"
+            || word == "builtin.function"
+            || word == "test.dbg"
     }
 }
 
-impl<B> Family<B> for DemoAttr {
+impl<B: Drop> Family<B> for DemoAttr {
     ghost use Rattle.irtext_types.specs.Families.{attr_led};
 
     ghost led = { attr_led };

@@ -52,7 +52,7 @@ refused_as P Q as-q (Err f) h = elim h [ inl m ↦ inl m | inr p ↦ inr (as-q f
 pub closed_where_fits : {T A : Type 0} (written : A → Text) (C : Printing T A) (ctx : ContextView T A) (p : Ptr Operation) (g : Graph T A) → IsClosed written C ctx p g → Distinct C (isolated ctx.dialects) g → Fit C (isolated ctx.dialects) g → ClosedRoot C (isolated ctx.dialects) g
 closed_where_fits written C ctx p g h d f = record { closed = found_closed C (isolated ctx.dialects) g h.found d h.results h.operands h.successors h.alone; fits = f; unlabelled = h.unlabelled }
 
-module _ {T A : Type 0} (types : ir_text.Ghosts T A) (owns : ir_text.Ghosts A A) (attributes : attr_text.Ghosts A) (same : A → A → Bool)
+module _ {T A : Type 0} (types : ir_text.Ghosts T A) (owns : ir_text.Ghosts A A) (attributes : attr_text.Ghosts A A) (same : A → A → Bool)
     (ctx : ContextView T A) (p : Ptr Operation) (g : Graph T A) (sees : seen_root owns.written ctx p ≡ Some g) (nested : Nested (children ctx.graph) (parent ctx.graph)) (layout : Shown (Unit {0})) where
   -- what the caller's types mean by their texts
   abbrev texts : Texts T

@@ -50,7 +50,7 @@ pub record IsClosed {T A : Type 0} (written : A → Text) (C : Printing T A) (ct
   pub found : Found (stood C (isolated ctx.dialects) g)
   pub unlabelled : HoldsNoLabels g
 
-module _ {T A : Type 0} (types : ir_text.Ghosts T A) (owns : ir_text.Ghosts A A) (attributes : attr_text.Ghosts A) (same : A → A → Bool) (ctx : ContextView T A) (p : Ptr Operation) where
+module _ {T A : Type 0} (types : ir_text.Ghosts T A) (owns : ir_text.Ghosts A A) (attributes : attr_text.Ghosts A A) (same : A → A → Bool) (ctx : ContextView T A) (p : Ptr Operation) where
   -- The bytes are the text of a root in this layout, as the definitions of printing give it for the root's graph; and every printed
   -- operation fits its format.
   pub record IsPrinted (layout : Shown (Unit {0})) (bytes : List ℕ) : Type 0 where
@@ -104,7 +104,7 @@ module _ {T A : Type 0} (types : Texts T) (owns : Texts A) (attr : Text → Outc
     pub only : OnlyNew q other left
 
 -- why a text's root is not parsed again: the text was rejected, its root was not printed in this layout, or memory ran out
-abbrev pub IsExcusedAgain : {T A : Type 0} → ir_text.Ghosts T A → ir_text.Ghosts A A → attr_text.Ghosts A → (A → A → Bool) → List ℕ → ContextView T A → ContextView T A → Shown (Unit {0}) → NotAgain A → Type 0
+abbrev pub IsExcusedAgain : {T A : Type 0} → ir_text.Ghosts T A → ir_text.Ghosts A A → attr_text.Ghosts A A → (A → A → Bool) → List ℕ → ContextView T A → ContextView T A → Shown (Unit {0}) → NotAgain A → Type 0
 IsExcusedAgain types owns attributes same bytes ctx after layout (Refused f) = UnlessMemory (RefusesText (texts_of types.reading types.written) (texts_of owns.reading owns.written) (attr_at owns.reading) bytes ctx types.reading) f
 IsExcusedAgain {T} {A} types owns attributes same bytes ctx after layout (Lost lost) =
     (p : Ptr Operation) × ReadsText (texts_of types.reading types.written) (texts_of owns.reading owns.written) (attr_at owns.reading) bytes ctx p after × IsExcused types owns attributes same after p layout lost

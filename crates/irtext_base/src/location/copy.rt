@@ -22,6 +22,20 @@ impl NewSources for SameSources {
     }
 }
 
+/// Copies a location, which may contain others.
+fn copy_nested<A: AttrText<A>>(
+    alloc: Global,
+    location: &Location<A>,
+) -> Result<Location<A>, AllocError>
+    ensures { IfOk result (λ copy. location_view copy ≡ location_view location.now) }
+{
+    let walk = Walk {
+        alloc,
+        sources: &SameSources,
+    };
+    walk.copy(location, &mut ())
+}
+
 /// Copies a location. A copy of a `SrcPos` or an `Unknown` allocates nothing and never fails.
 fn copy_location<A: AttrText<A>>(
     alloc: Global,
@@ -36,12 +50,8 @@ fn copy_location<A: AttrText<A>>(
             pos: *pos,
         }),
         Location::Unknown => Ok(Location::Unknown),
-        _ => {
-            let walk = Walk {
-                alloc,
-                sources: &SameSources,
-            };
-            walk.copy(location, &mut ())
+        Location::Fused { .. } | Location::Named { .. } | Location::CallSite { .. } => {
+            copy_nested(alloc, location)
         }
     }
 }

@@ -36,6 +36,24 @@ impl NewSources for Paths {
     }
 }
 
+/// Copies a location, which may contain others, for other paths. If it fails, some of the location's paths may have been added to them.
+fn move_nested<A: AttrText<A>>(
+    location: &Location<A>,
+    from: &Paths,
+    to: &mut Paths,
+) -> Result<Location<A>, AllocError>
+    requires { IsTrue (are_known (length from.now) (location_view location.now)) }
+    ensures ok { IfOk result (λ l. location_view l ≡ all_under to.old (written_with from.now (location_view location.now))) }
+    ensures kept { OnOk result (to.new ≡ all_kept to.old (written_with from.now (location_view location.now))) }
+    ensures more { KeepsMore to.old to.new }
+{
+    let walk = Walk {
+        alloc: to.allocator(),
+        sources: from,
+    };
+    walk.copy(location, to)
+}
+
 /// Copies a location for other paths. If it fails, some of the location's paths may have been added to them.
 fn move_location<A: AttrText<A>>(
     location: &Location<A>,
@@ -54,12 +72,8 @@ fn move_location<A: AttrText<A>>(
             Ok(Location::SrcPos { src, pos: *pos })
         }
         Location::Unknown => Ok(Location::Unknown),
-        _ => {
-            let walk = Walk {
-                alloc: to.allocator(),
-                sources: from,
-            };
-            walk.copy(location, to)
+        Location::Fused { .. } | Location::Named { .. } | Location::CallSite { .. } => {
+            move_nested(location, from, to)
         }
     }
 }

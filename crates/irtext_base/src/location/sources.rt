@@ -147,7 +147,7 @@ impl Seen {
     {
         match self {
             Seen::One(source) => Some(source),
-            _ => None,
+            Seen::Nothing | Seen::Several => None,
         }
     }
 }

@@ -76,7 +76,10 @@ pub trait BlockAccess: Sized {
     ghost pointer: { Self → Ptr BasicBlock };
 
     /// Returns the block's label, if it has one.
-    fn label<'c, T: IrText<A>, A: AttrText<A>>(self, ctx: &'c Context<T, A>) -> Option<&'c Identifier>
+    fn label<'c, T: IrText<A>, A: AttrText<A>>(
+        self,
+        ctx: &'c Context<T, A>,
+    ) -> Option<&'c Identifier>
         requires { IsSome (block ctx.now (pointer self)) }
         ensures { option_map (λ b. b.label) (block ctx.now (pointer self)) ≡ Some (option_copied result) };
 

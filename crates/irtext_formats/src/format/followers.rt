@@ -73,6 +73,13 @@ pub(crate) fn list_ends(directive: &Directive, rest: &[Directive]) -> bool
         Directive::Operands => !can_follow(rest, '_') && !can_follow(rest, ','),
         Directive::Successors => !can_follow(rest, '^') && !can_follow(rest, ','),
         Directive::Regions => !can_follow(rest, '{'),
-        _ => true,
+        Directive::Literal(_)
+        | Directive::Operand(_)
+        | Directive::Successor(_)
+        | Directive::Attr(_)
+        | Directive::AttrDict
+        | Directive::ResultType(_)
+        | Directive::Region(_)
+        | Directive::SymbolHeader => true,
     }
 }

@@ -58,7 +58,16 @@ pub(crate) fn word_prints(directive: &Directive) -> bool
 {
     match directive {
         Directive::Literal(text) => prints(text),
-        _ => true,
+        Directive::Operand(_)
+        | Directive::Operands
+        | Directive::Successor(_)
+        | Directive::Successors
+        | Directive::Attr(_)
+        | Directive::AttrDict
+        | Directive::ResultType(_)
+        | Directive::Region(_)
+        | Directive::Regions
+        | Directive::SymbolHeader => true,
     }
 }
 
@@ -66,12 +75,18 @@ pub(crate) fn word_prints(directive: &Directive) -> bool
 pub(crate) fn place_of(part: Part, directive: &Directive) -> Option<usize>
     ensures { result ≡ place_of part (directive_of directive.now) }
 {
-    match (part, directive) {
-        (Part::Operand, Directive::Operand(place)) => Some(*place),
-        (Part::Successor, Directive::Successor(place)) => Some(*place),
-        (Part::ResultType, Directive::ResultType(place)) => Some(*place),
-        (Part::Region, Directive::Region(place)) => Some(*place),
-        _ => None,
+    match directive {
+        Directive::Operand(place) => matches!(part, Part::Operand).then_some(*place),
+        Directive::Successor(place) => matches!(part, Part::Successor).then_some(*place),
+        Directive::ResultType(place) => matches!(part, Part::ResultType).then_some(*place),
+        Directive::Region(place) => matches!(part, Part::Region).then_some(*place),
+        Directive::Literal(_)
+        | Directive::Operands
+        | Directive::Successors
+        | Directive::Attr(_)
+        | Directive::AttrDict
+        | Directive::Regions
+        | Directive::SymbolHeader => None,
     }
 }
 
@@ -81,7 +96,16 @@ pub(crate) fn key_of(directive: &Directive) -> Option<&Identifier>
 {
     match directive {
         Directive::Attr(key) => Some(key),
-        _ => None,
+        Directive::Literal(_)
+        | Directive::Operand(_)
+        | Directive::Operands
+        | Directive::Successor(_)
+        | Directive::Successors
+        | Directive::AttrDict
+        | Directive::ResultType(_)
+        | Directive::Region(_)
+        | Directive::Regions
+        | Directive::SymbolHeader => None,
     }
 }
 
@@ -120,7 +144,12 @@ pub(crate) fn is_named(directive: &Directive) -> bool
         Directive::Operand(_) | Directive::Operands => true,
         Directive::Successor(_) | Directive::Successors => true,
         Directive::ResultType(_) => true,
-        _ => false,
+        Directive::Literal(_)
+        | Directive::Attr(_)
+        | Directive::AttrDict
+        | Directive::Region(_)
+        | Directive::Regions
+        | Directive::SymbolHeader => false,
     }
 }
 

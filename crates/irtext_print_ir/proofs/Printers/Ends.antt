@@ -45,7 +45,7 @@ pub both_end : {X E P Q Z : Type 0} (r : Result X E) → (P → Q → Z) → OnO
 both_end (Ok x) f p q = f p q
 both_end (Err e) f p q = tt
 
-module _ {T A : Type 0} (types : ir_text.Ghosts T A) (owns : ir_text.Ghosts A A) (attributes : attr_text.Ghosts A) (same : A → A → Bool) (ctx : ContextView T A) (p : Ptr Operation) where
+module _ {T A : Type 0} (types : ir_text.Ghosts T A) (owns : ir_text.Ghosts A A) (attributes : attr_text.Ghosts A A) (same : A → A → Bool) (ctx : ContextView T A) (p : Ptr Operation) where
   -- where nothing was gathered, it is the mark and the section of the operation alone
   pub alone_ends : IsSome (operation ctx p) → alone_at types owns attributes same ctx (item.Operation p) ≡ end_text types owns attributes same ctx p []
   alone_ends live =

@@ -43,7 +43,7 @@ pub together : {X E P Q R Z : Type 0} (r : Result X E) → (P → Q → R → Z)
 together (Ok x) f p q k = f p q k
 together (Err e) f p q k = tt
 
-module _ {T A U : Type 0} (types : ir_text.Ghosts T A) (owns : ir_text.Ghosts A A) (attributes : attr_text.Ghosts A) (same : A → A → Bool) (ctx : ContextView T A) (p : Ptr Operation) (s : Shown U) where
+module _ {T A U : Type 0} (types : ir_text.Ghosts T A) (owns : ir_text.Ghosts A A) (attributes : attr_text.Ghosts A A) (same : A → A → Bool) (ctx : ContextView T A) (p : Ptr Operation) (s : Shown U) where
   -- the text with the mark, behind so many
   abbrev marked_text : ℕ → Text
   marked_text n = heads.text_under types owns attributes same ctx p s true n

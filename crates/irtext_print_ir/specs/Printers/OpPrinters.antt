@@ -71,7 +71,7 @@ sole _ = None
 abbrev pub sole_region : {T A : Type 0} → ContextView T A → Ptr Operation → Option (Ptr Region)
 sole_region ctx p = sole (regions ctx.graph p)
 
-module _ {T A : Type 0} (types : ir_text.Ghosts T A) (owns : ir_text.Ghosts A A) (attributes : attr_text.Ghosts A) (same : A → A → Bool) (ctx : ContextView T A) (p : Ptr Operation) where
+module _ {T A : Type 0} (types : ir_text.Ghosts T A) (owns : ir_text.Ghosts A A) (attributes : attr_text.Ghosts A A) (same : A → A → Bool) (ctx : ContextView T A) (p : Ptr Operation) where
   -- what is appended for the only region of an operation, and the state after that
   abbrev pub one_gives : {U : Type 0} → Shown U → Option (List ℕ × Shown U)
   one_gives s = option_and_then (λ r. region_gives types owns attributes same ctx r s) (sole_region ctx p)

@@ -46,7 +46,7 @@ pub record Printed {U : Type 0} (whole : Text) (left : Shown U) (misfits : Type 
   pub state : t ≡ left
   pub fits : misfits → ⊥
 
-module _ {T A : Type 0} (types : ir_text.Ghosts T A) (owns : ir_text.Ghosts A A) (attributes : attr_text.Ghosts A) (same : A → A → Bool) (ctx : ContextView T A) where
+module _ {T A : Type 0} (types : ir_text.Ghosts T A) (owns : ir_text.Ghosts A A) (attributes : attr_text.Ghosts A A) (same : A → A → Bool) (ctx : ContextView T A) where
   -- ---- an operation
 
   -- its concrete text: without its own mark, and without a section

@@ -50,7 +50,8 @@ impl<'a, X: Printable<(), T, A>, T: IrText<A>, A: AttrText<A>> Displayable<'a, X
     }
 }
 
-impl<X: Printable<(), T, A>, T: IrText<A>, A: AttrText<A>> fmt::Display for Displayable<'_, X, T, A> {
+impl<X: Printable<(), T, A>, T: IrText<A>, A: AttrText<A>> fmt::Display
+    for Displayable<'_, X, T, A> {
     ghost output = { λ d. text_of (X.gives d.value.now d.ctx.now (fresh d.indent_width d.current_indent d.limit)) };
 
     fn fmt<W: fmt::Write>(&self, f: &mut fmt::Formatter<W>) -> fmt::Result {

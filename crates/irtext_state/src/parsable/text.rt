@@ -123,7 +123,13 @@ where
 }
 
 /// Makes a stream of the characters of a finite iterator, which are collected first. Fails only if an allocation fails.
-pub fn state_stream_from_iterator<'c, T: IrText<A>, A: AttrText<A>, U: Drop, I: Iterator<Item = char>>(
+pub fn state_stream_from_iterator<
+    'c,
+    T: IrText<A>,
+    A: AttrText<A>,
+    U: Drop,
+    I: Iterator<Item = char>,
+>(
     iterator: I,
     state: State<'c, T, A, U>,
 ) -> std::result::Result<StateStream<'c, T, A, U>, AllocError>

@@ -22,7 +22,16 @@ fn lacking_key<'d, A: AttrText<A>>(
             Some(_) => None,
             None => Some(key),
         },
-        _ => None,
+        Directive::Literal(_)
+        | Directive::Operand(_)
+        | Directive::Operands
+        | Directive::Successor(_)
+        | Directive::Successors
+        | Directive::AttrDict
+        | Directive::ResultType(_)
+        | Directive::Region(_)
+        | Directive::Regions
+        | Directive::SymbolHeader => None,
     }
 }
 

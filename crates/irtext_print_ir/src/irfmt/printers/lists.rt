@@ -20,7 +20,8 @@ pub struct IterWithSep<I> {
     pub(crate) separator: ListSeparator,
 }
 
-impl<T: IrText<A>, A: AttrText<A>, U, I: Iterator + Clone + Drop> Printable<U, T, A> for IterWithSep<I>
+impl<T: IrText<A>, A: AttrText<A>, U, I: Iterator + Clone + Drop> Printable<U, T, A>
+    for IterWithSep<I>
 where
     I::Item: Printable<U, T, A> + Drop,
 {
