@@ -1,2 +1,6 @@
+pub mod Written
 pub mod Narrowed
 pub mod QuotedRead
+pub mod Seen
+pub mod ItemsRead
+pub mod ListWritten

@@ -20,7 +20,7 @@ use Rattle.irtext_read.specs.Integers.{int_at, sign_at, no_digit_behind, signed_
 use Rattle.irtext_read.proofs.Decimals.{plain}
 use Rattle.irtext_syntax.specs.PartLaws.{is_closer}
 use Rattle.irtext_syntax.specs.Numbers.{fits}
-use Rattle.irtext_syntax.specs.AsciiTexts.{ascii-from}
+use Rattle.irtext_syntax.specs.PartSteps.{ascii_from}
 
 digit_not_end : (c : ℕ) → can_follow c ≡ true → is_ascii_digit c ≡ false
 digit_not_end c e = grind (arith, nat_tests)
@@ -39,7 +39,7 @@ no_digit (c ∷ rest) (inr e) = digit_not_end c e
 closer_no_sign : (c : ℕ) → is_closer c ≡ true → is_sign c ≡ false
 closer_no_sign c e = grind (arith, nat_tests)
 
-closer_no_digit : (c : ℕ) → is_closer c ≡ true → is_ascii_digit c ≡ false
+pub closer_no_digit : (c : ℕ) → is_closer c ≡ true → is_ascii_digit c ≡ false
 closer_no_digit c e = grind (arith, nat_tests)
 
 module _ (below : Bool → ℕ) where
@@ -93,4 +93,4 @@ module _ (below : Bool → ℕ) where
     -- an integer's text is ASCII
     pub ascii-int : (z : ℤ) → fits below z ≡ true → IsAscii (signed_decimal z)
     ascii-int (pos n) e = IsAscii-decimal n (small n false e)
-    ascii-int (negsuc n) e = IsAscii-append (45 ∷ []) (decimal (suc n)) (ascii-from (45 ∷ []) refl) (IsAscii-decimal (suc n) (small (suc n) true e))
+    ascii-int (negsuc n) e = IsAscii-append (45 ∷ []) (decimal (suc n)) (ascii_from (45 ∷ []) refl) (IsAscii-decimal (suc n) (small (suc n) true e))

@@ -15,15 +15,12 @@ use Rattle.irtext_read.specs.Integers.{int_at, ranged}
 use Rattle.irtext_read.specs.declared.irfmt.parsers.from_str_radix.FromStrRadix as radix
 use Rattle.irtext_read.proofs.SincereTokens.{of_int, of_ranged}
 use Rattle.irtext_syntax.specs.PartLaws.{PartLaw, MissesClosers, EndsAnywhere, IsRead, is_closer, closes}
-use Rattle.irtext_syntax.specs.PartSteps.{read_here}
+use Rattle.irtext_syntax.specs.PartSteps.{not_true}
+use Rattle.irtext_syntax.specs.ReadHere.{read_here}
 use Rattle.irtext_syntax.specs.Numbers.{fits, narrowed, ends_digits}
 use Rattle.irtext_syntax.specs.NumberOf.{number_if, number_at, number_found}
 use Rattle.irtext_syntax.specs.IntegersBack.{follows_digits, no_digit, closer_no_int, int-here, int_no_space, ascii-int}
 use Rattle.irtext_syntax.specs.declared.number.Number.{Number}
-
-not_true : (b : Bool) → not b ≡ true → b ≡ false
-not_true true e = absurd (cc)
-not_true false e = refl
 
 -- a narrowed outcome is of the text that the outcome is of
 pub of_narrowed : {X Y : Type 0} (make : X → Option Y) (text : Text) (o : Outcome X) → Of text o → Of text (narrowed make o)

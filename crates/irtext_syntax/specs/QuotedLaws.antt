@@ -1,21 +1,21 @@
 -- The law of quoted texts, as parts of a text.
-use Rattle.std.proofs.Common.{◌≡◌, ◌∙◌, ℕ, Bool, true, false, cond, [], ◌∷◌, ◌++◌, refl, sym, ap, codes, arith}
-use Rattle.std.proofs.lemmas.Bool.Decides.{nat_tests}
+use Rattle.std.proofs.Common.{◌≡◌, ◌∙◌, ℕ, Bool, true, false, cond, [], ◌∷◌, ◌++◌, refl, sym, ap, codes}
 use Rattle.std.proofs.lemmas.Str.{chars-encodes}
 use Rattle.std.specs.Cmp.Lexicographic.{bytes_decides, nat_list_eq_equiv}
 use Rattle.std.specs.Prelude.{◌↔◌, IsTrue}
 use Rattle.std.specs.Str.{chars, encode_utf8_all, bytes_eq}
 use Rattle.irtext_base.specs.Text.{Text}
-use Rattle.irtext_base.specs.Reading.{the}
 use Rattle.irtext_base.specs.Answers.{Outcome, Read, mapped, followed}
 use Rattle.irtext_base.specs.Own.{missing, standing}
 use Rattle.irtext_base.proofs.Scalars.{scalars_quoted}
 use Rattle.irtext_base.proofs.Sincere.{of_mapped, sincere_of}
+use Rattle.irtext_read.specs.Tokens.{text_at}
 use Rattle.irtext_read.specs.QuotedTexts.{quoted_at, units_at}
 use Rattle.irtext_read.proofs.QuotedBack.{quoted_back}
 use Rattle.irtext_read.proofs.SincereTokens.{of_quoted}
 use Rattle.irtext_syntax.specs.PartLaws.{PartLaw, MissesClosers, EndsAnywhere, is_closer}
-use Rattle.irtext_syntax.specs.PartSteps.{read_here, text_missed}
+use Rattle.irtext_syntax.specs.PartSteps.{mapped_missing, then_missing, word_misses}
+use Rattle.irtext_syntax.specs.ReadHere.{read_here}
 use Rattle.irtext_syntax.specs.QuotedParts.{characters_at, characters_text}
 use Rattle.irtext_syntax.specs.ScalarTexts.{ScalarText, scalar_text, scalar_text_found, scalar_text_same}
 
@@ -31,15 +31,12 @@ characters_law = record {
   sincere = sincere_of characters_at (λ text. of_mapped text scalar_text (quoted_at text) (of_quoted text));
 }
 
-closer_no_mark : (c : ℕ) → is_closer c ≡ true → the 34 c ≡ false
-closer_no_mark c e = grind (arith, nat_tests)
-
-quoted_missed : (c : ℕ) (rest : Text) → the 34 c ≡ false → standing (characters_at (c ∷ rest)) ≡ missing
+quoted_missed : (c : ℕ) (rest : Text) → is_closer c ≡ true → standing (characters_at (c ∷ rest)) ≡ missing
 unfolding quoted_at
-quoted_missed c rest e = text_missed 34 [] c rest (λ _ t. units_at [] t) scalar_text e
+quoted_missed c rest e = mapped_missing scalar_text _ (then_missing (text_at (codes "\"") (c ∷ rest)) (λ _ t. units_at [] t) (word_misses (codes "\"") refl c rest e))
 
 pub characters_misses : MissesClosers characters_at
-characters_misses = record { misses = λ c rest e. quoted_missed c rest (closer_no_mark c e) }
+characters_misses = record { misses = quoted_missed }
 
 pub characters_last : EndsAnywhere (λ rest. true)
 characters_last = record { anywhere = λ rest e. refl }

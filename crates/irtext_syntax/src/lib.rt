@@ -1,11 +1,37 @@
 //! Parts, of which the texts of a dialect's types and attributes are made: each is parsed and printed, and has a law by which the text of the
 //! whole is parsed back. So the author of a dialect puts a type or an attribute together from parts, and proves nothing.
+//!
+//! - `part`: the trait of a part.
+//! - `sequence`: two parts with a fixed text between them (`Then`), and a part in brackets (`Within`).
+//! - `fixed`, `ready`: fixed texts and brackets, and those that are ready to be used.
+//! - `number`: numbers of every integer type (`Number`).
+//! - `quoted`, `name`: quoted texts and identifiers (`Characters`, `Name`).
+//! - `list`: lists of parts in brackets, with a separator between the items (`ListOf`).
+//! - `own`: the caller's types and attributes as parts.
+//! - `words`, `table`: families whose texts begin with dotted words, as `builtin.integer`, each with a part after it.
+//!
+//! `Within<Angle, Then<Number<i64>, Colon, IntegerType>>` is the part whose text is `<5: si32>`. An enum of attributes has one line for each
+//! variant in its laws:
+//!
+//! ```text
+//! rows (Integer a) = part_row (codes "my.integer") word.Integer Integer a law last refl refl refl (λ text. refl)
+//! ```
 #![tactic(auto)]
 
 pub mod characters;
+pub mod fixed;
+pub mod list;
+pub mod name;
 pub mod number;
+pub mod own;
 pub mod part;
 pub mod quoted;
+pub mod ready;
+pub mod sequence;
+pub mod table;
+pub mod words;
 
 pub use characters::Characters;
+pub use list::ListOf;
+pub use name::Name;
 pub use number::Number;

@@ -4,7 +4,7 @@ ghost use Rattle.std.specs.Cmp.{on_equiv, on_per, unsigned_Decides, signed_Decid
 ghost use Rattle.std.specs.Fmt.{signed_decimal};
 ghost use Rattle.irtext_syntax.specs.Numbers.{fits, natural};
 
-use crate::part::{Item, Last, Part};
+use crate::part::{Item, Last, Part, TryClone};
 use irtext_base::parsable::{ParseResult, TextStream};
 use irtext_read::irfmt::parsers::{FromStrRadix, int_parse};
 use std::alloc::AllocError;
@@ -159,6 +159,12 @@ impl<N: FromStrRadix + Copy> Clone for Number<N> {
     ghost is_clone = { λ n copy. copy ≡ n };
 
     fn clone(&self) -> Result<Number<N>, AllocError> {
+        Ok(*self)
+    }
+}
+
+impl<N: Integer> TryClone for Number<N> {
+    fn try_clone(&self) -> Result<Number<N>, AllocError> {
         Ok(*self)
     }
 }

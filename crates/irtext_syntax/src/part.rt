@@ -6,6 +6,7 @@ ghost use Rattle.irtext_read.specs.MustRead.{MayRead};
 ghost use Rattle.irtext_syntax.specs.PartLaws.{PartLaw, MissesClosers, EndsAnywhere};
 
 use irtext_base::parsable::{ParseResult, TextStream};
+use std::alloc::AllocError;
 use std::fmt;
 
 /// A part of a type's or an attribute's text, such as a number or a quoted string; a value of `Self` is what it is parsed as. Errors are
@@ -47,4 +48,11 @@ pub trait Last<A>: Part<A> {
 /// A part after which any text can come, such as one in brackets.
 pub trait Closed<A>: Part<A> {
     ghost closed: { (rest : List ℕ) → Self.ends rest ≡ true };
+}
+
+/// A value that can be copied. A copy equals the value.
+pub trait TryClone: Sized {
+    /// Returns an equal copy. Fails only if an allocation fails.
+    fn try_clone(&self) -> Result<Self, AllocError>
+        ensures { IfOk result (λ copy. copy ≡ self.now) };
 }

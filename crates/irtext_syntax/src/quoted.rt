@@ -3,10 +3,12 @@ ghost use Rattle.std.specs.Prelude.{true};
 ghost use Rattle.irtext_syntax.specs.QuotedParts.{characters_at, characters_text};
 
 use crate::characters::Characters;
-use crate::part::{Closed, Item, Last, Part};
+
+use crate::part::{Closed, Item, Last, Part, TryClone};
 use irtext_base::parsable::{ParseResult, TextStream};
 use irtext_read::irfmt::parsers::quoted_string_parse;
 use irtext_read::printable::fmt_quoted;
+use std::alloc::AllocError;
 use std::fmt;
 
 /// A quoted text: its characters between quotation marks, with escapes, as `quoted_string_parse` and `fmt_quoted` have them. Fails with
@@ -33,6 +35,12 @@ impl<A> Part<A> for Characters {
 
     fn write_text(&self, f: &mut String) -> fmt::Result {
         fmt_quoted(self.as_str(), f)
+    }
+}
+
+impl TryClone for Characters {
+    fn try_clone(&self) -> Result<Characters, AllocError> {
+        Characters::try_clone(self)
     }
 }
 

@@ -1,0 +1,5 @@
+use Rattle.irtext_read.proofs.Steps.{alone, insisted}
+use Rattle.irtext_syntax.proofs.sequence.demanded.Goals as goal
+
+pub returns : goal.returns
+returns g c = insisted alone c.read-answer.ensures c.committed.ensures

@@ -1,0 +1,6 @@
+use Rattle.std.proofs.Common.{◌++◌, ◌∙◌, ap, sym, string_bytes}
+use Rattle.irtext_read.proofs.Characters.{encodes-characters}
+use Rattle.irtext_syntax.proofs.table.write_word.Goals as goal
+
+pub returns : goal.returns
+returns c = c.in_ok-push_str.ensures.bytes ∙ ap (λ z. string_bytes c.args.f.now ++ z) (sym (encodes-characters c.args.word.now c.utf8.word))

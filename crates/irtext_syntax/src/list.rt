@@ -1,0 +1,277 @@
+//! Lists of parts in brackets, with a separator between the items.
+ghost use Rattle.std.specs.Prelude.{◌≡◌, ◌++◌, ℕ, List, IfOk, OnOk, string_bytes};
+ghost use Rattle.std.specs.Cmp.{on_equiv, on_per};
+ghost use Rattle.std.specs.Cmp.Lexicographic.{pointwise, lists_equiv, lists_per};
+ghost use Rattle.std.specs.Hash as fed;
+ghost use Rattle.std.specs.Str.{encode_utf8_all};
+ghost use Rattle.irtext_read.specs.ListOutcomes.{separated_at};
+ghost use Rattle.irtext_read.specs.MustRead.{MayRead, MustRead};
+ghost use Rattle.irtext_syntax.specs.ListParts.{SeparatorLaw, tail_text, joined_text, list_text, items_at, list_at};
+
+use crate::fixed::{Brackets, close_demanded, open_parse};
+
+use crate::part::{Closed, Item, Last, Part, TryClone};
+use crate::ready::{Angle, Curly, Round, Square};
+use irtext_base::parsable::{ParseResult, TextStream};
+use irtext_read::irfmt::parsers::list_parser;
+use std::alloc::{AllocError, Global};
+use std::fmt;
+use std::hash::{Hash, Hasher};
+use std::marker::{Model, PhantomData};
+
+/// The separator between the items of a list in these brackets: `,`, `;` or `:`. The closing bracket does not begin with it. The law is
+/// computed: `ghost separates = { record { ending = refl; apart = λ rest. refl } }`.
+pub trait Separated: Brackets {
+    // the separator
+    ghost separator: { ℕ };
+
+    /// Returns the separator.
+    fn separator() -> char
+        ensures { result ≡ separator };
+
+    ghost separates: { SeparatorLaw separator Self.closer_printed };
+}
+
+impl Separated for Angle {
+    ghost use Rattle.irtext_syntax.specs.ListParts.{comma_in_angle};
+
+    ghost separator = { 44 };
+
+    ghost separates = { comma_in_angle };
+
+    fn separator() -> char {
+        ','
+    }
+}
+
+impl Separated for Round {
+    ghost use Rattle.irtext_syntax.specs.ListParts.{comma_in_round};
+
+    ghost separator = { 44 };
+
+    ghost separates = { comma_in_round };
+
+    fn separator() -> char {
+        ','
+    }
+}
+
+impl Separated for Square {
+    ghost use Rattle.irtext_syntax.specs.ListParts.{comma_in_square};
+
+    ghost separator = { 44 };
+
+    ghost separates = { comma_in_square };
+
+    fn separator() -> char {
+        ','
+    }
+}
+
+impl Separated for Curly {
+    ghost use Rattle.irtext_syntax.specs.ListParts.{comma_in_curly};
+
+    ghost separator = { 44 };
+
+    ghost separates = { comma_in_curly };
+
+    fn separator() -> char {
+        ','
+    }
+}
+
+/// A list of parts in the brackets of `B`, such as `[1, 2]`. It is printed with its separator and a space between two items. White space is
+/// skipped before and after each item when it is parsed.
+#[derive(Drop)]
+pub struct ListOf<B, P> {
+    items: Vec<P>,
+    brackets: PhantomData<B>,
+}
+
+impl<B, P> Model for ListOf<B, P> {
+    ghost use Rattle.std.specs.Prelude.{List};
+
+    ghost Value = { List P };
+
+    ghost view = { λ l. l.items.items };
+}
+
+impl<B, P> ListOf<B, P> {
+    /// Makes a list of these items.
+    pub fn new(items: Vec<P>) -> ListOf<B, P>
+        ensures { result ≡ items.items }
+    {
+        ListOf {
+            items,
+            brackets: PhantomData,
+        }
+    }
+
+    /// Returns the items.
+    pub fn as_slice(&self) -> &[P]
+        ensures { result.now ≡ self.now }
+    {
+        self.items.as_slice()
+    }
+}
+
+/// Returns equal copies of the items. Fails only if an allocation fails.
+fn copies<P: TryClone + Drop>(alloc: Global, items: &[P]) -> Result<Vec<P>, AllocError>
+    ensures { IfOk result (λ copies. copies.items ≡ items.now) }
+{
+    let mut copies = Vec::new(alloc);
+    for item in items {
+        copies.push(item.try_clone()?)?;
+    }
+    Ok(copies)
+}
+
+impl<B, P: TryClone + Drop> TryClone for ListOf<B, P> {
+    fn try_clone(&self) -> Result<ListOf<B, P>, AllocError> {
+        let items = copies(*self.items.allocator(), self.items.as_slice())?;
+        Ok(ListOf::new(items))
+    }
+}
+
+impl<B, P: fmt::Debug> fmt::Debug for ListOf<B, P> {
+    fn fmt<W: fmt::Write>(&self, f: &mut fmt::Formatter<W>) -> fmt::Result {
+        self.items.fmt(f)
+    }
+}
+
+impl<B, P: PartialEq> PartialEq for ListOf<B, P> {
+    ghost eq = { λ x y. pointwise P.eq x y };
+
+    ghost laws = { on_per (λ l. l) (lists_per P.PartialEq.laws) };
+
+    fn eq(&self, other: &Self) -> bool {
+        self.as_slice() == other.as_slice()
+    }
+}
+
+impl<B, P: Eq> Eq for ListOf<B, P> {
+    ghost laws = { on_equiv (λ l. l) (lists_equiv P.Eq.laws) };
+}
+
+impl<B, P: Hash + Eq> Hash for ListOf<B, P> {
+    ghost hash_input = { λ l. fed.slice P.hash_input l };
+
+    ghost respects_eq = { (fed.items_Alike (record { fed = P.respects_eq })).fed };
+
+    fn hash<H: Hasher>(&self, state: &mut H) {
+        self.as_slice().hash(state);
+    }
+}
+
+/// Parses an item.
+fn item_parse<P: Part<A>, A>(stream: &mut TextStream) -> ParseResult<P, A>
+    ensures { MayRead (λ s. s) (λ s v. v) (λ x. x) P.reading stream.old result stream.new }
+{
+    <P as Part<A>>::read(stream)
+}
+
+/// Parses items with the separator between them, or none, with optional white space after each item and each separator.
+fn separated_parse<P: Part<A>, A: Drop>(
+    stream: &mut TextStream,
+    separator: char,
+) -> ParseResult<Vec<P>, A>
+    ensures { MayRead (λ s. s) (λ s v. v) (λ items. items.items) (separated_at separator P.reading) stream.old result stream.new }
+{
+    list_parser(stream, separator, |s: &mut TextStream| {
+        item_parse::<P, A>(s)
+    })
+}
+
+/// Parses items and the closing bracket, which is required.
+fn items_parse<B: Separated, P: Part<A>, A: Drop>(
+    stream: &mut TextStream,
+) -> ParseResult<Vec<P>, A>
+    ensures { MustRead (λ s. s) (λ s v. v) (λ items. items.items)
+        (items_at B.separator P.reading B.closer) stream.old result stream.new }
+{
+    let items = separated_parse(stream, B::separator())?;
+    close_demanded::<B, A>(stream)?;
+    Ok(items)
+}
+
+/// Appends the separator, a space and the item, for each item.
+fn write_tail<P: Part<A>, A>(separator: char, items: &[P], f: &mut String) -> fmt::Result
+    ensures { OnOk result (string_bytes f.new ≡ string_bytes f.old ++ encode_utf8_all (tail_text separator P.written items.now)) }
+{
+    for item in items {
+        write!(f, "{separator} ")?;
+        item.write_text(f)?;
+    }
+    Ok(())
+}
+
+/// Appends the items, with the separator and a space between two.
+fn write_joined<P: Part<A>, A>(separator: char, items: &[P], f: &mut String) -> fmt::Result
+    ensures { OnOk result (string_bytes f.new ≡ string_bytes f.old ++ encode_utf8_all (joined_text separator P.written items.now)) }
+{
+    if let Some((first, rest)) = items.split_first() {
+        first.write_text(f)?;
+        write_tail(separator, rest, f)?;
+    }
+    Ok(())
+}
+
+/// Appends the items in brackets.
+fn write_list<B: Separated, P: Part<A>, A>(items: &[P], f: &mut String) -> fmt::Result
+    ensures { OnOk result (string_bytes f.new ≡
+        string_bytes f.old ++ encode_utf8_all (list_text B.opener_printed B.separator P.written B.closer_printed items.now)) }
+{
+    f.push_str(B::printed_opening())?;
+    write_joined(B::separator(), items, f)?;
+    f.push_str(B::printed_closing())?;
+    Ok(())
+}
+
+impl<A: Drop, B: Separated, P: Item<A>> Part<A> for ListOf<B, P> {
+    ghost use Rattle.std.specs.Prelude.{true};
+    ghost use Rattle.irtext_syntax.specs.ListLaws.{list_law};
+    ghost use Rattle.std.specs.Cmp.Lexicographic.{pointwise_decides};
+
+    ghost reading = { list_at B.opener B.separator P.reading B.closer };
+
+    ghost written = { list_text B.opener_printed B.separator P.written B.closer_printed };
+
+    ghost ends = { λ rest. true };
+
+    ghost law = { list_law B.opener B.closer B.opener_printed B.closer_printed B.separator P.reading P.written P.ends B.law B.separates P.law P.misses };
+
+    ghost decides = { pointwise_decides P.decides };
+
+    fn read(stream: &mut TextStream) -> ParseResult<ListOf<B, P>, A> {
+        match open_parse::<B, A>(stream) {
+            Ok(()) => {}
+            Err(fault) => return Err(fault),
+        }
+        match items_parse::<B, P, A>(stream) {
+            Ok(items) => Ok(ListOf::new(items)),
+            Err(fault) => Err(fault),
+        }
+    }
+
+    fn write_text(&self, f: &mut String) -> fmt::Result {
+        write_list::<B, P, A>(self.as_slice(), f)
+    }
+}
+
+impl<A: Drop, B: Separated, P: Item<A>> Item<A> for ListOf<B, P> {
+    ghost use Rattle.irtext_syntax.specs.ListLaws.{list_misses};
+
+    ghost misses = { list_misses B.opener B.closer B.opener_printed B.closer_printed B.separator P.reading B.law };
+}
+
+impl<A: Drop, B: Separated, P: Item<A>> Last<A> for ListOf<B, P> {
+    ghost use Rattle.std.specs.Prelude.{refl};
+
+    ghost last = { record { anywhere = λ rest e. refl } };
+}
+
+impl<A: Drop, B: Separated, P: Item<A>> Closed<A> for ListOf<B, P> {
+    ghost use Rattle.std.specs.Prelude.{refl};
+
+    ghost closed = { λ rest. refl };
+}

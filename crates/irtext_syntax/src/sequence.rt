@@ -1,0 +1,200 @@
+//! Two parts with a fixed text between them, and a part in brackets.
+ghost use Rattle.std.specs.Prelude.{◌≡◌, ◌++◌, OnOk, string_bytes};
+ghost use Rattle.std.specs.Str.{encode_utf8_all};
+ghost use Rattle.irtext_read.specs.MustRead.{MustRead};
+ghost use Rattle.irtext_syntax.specs.Sequences.{then_text, second_at, within_text, inside_at};
+
+use crate::fixed::{After, Between, Brackets, between_demanded, close_demanded, open_parse};
+use crate::part::{Closed, Item, Last, Part, TryClone};
+use irtext_base::parsable::{ParseResult, TextStream};
+use irtext_read::irfmt::faults::committed;
+use std::alloc::AllocError;
+use std::fmt;
+use std::marker::PhantomData;
+
+/// Two parts with the fixed text of `W` between them, as `5: si32`.
+#[derive(Drop)]
+#[derive_where(PartialEq, Eq, Hash, Debug; P, Q)]
+pub struct Then<P, W, Q> {
+    pub first: P,
+    pub second: Q,
+    #[derive_where(skip)]
+    pub between: PhantomData<W>,
+}
+
+/// A part in the brackets of `B`, as `<5: si32>`.
+#[derive(Drop)]
+#[derive_where(PartialEq, Eq, Hash, Debug; P)]
+pub struct Within<B, P> {
+    pub inside: P,
+    #[derive_where(skip)]
+    pub brackets: PhantomData<B>,
+}
+
+/// Parses a required part. Every error is committed.
+pub fn demanded<P: Part<A>, A>(stream: &mut TextStream) -> ParseResult<P, A>
+    ensures { MustRead (λ s. s) (λ s v. v) (λ x. x) P.reading stream.old result stream.new }
+{
+    let answer = <P as Part<A>>::read(stream);
+    committed(stream, answer)
+}
+
+/// Parses the fixed text and the second part, which are required after the first part.
+fn second_parse<P: Part<A>, W: Between, Q: Part<A>, A>(
+    stream: &mut TextStream,
+    first: P,
+) -> ParseResult<Then<P, W, Q>, A>
+    ensures { MustRead (λ s. s) (λ s v. v) (λ x. x) (second_at W.text Q.reading first) stream.old result stream.new }
+{
+    between_demanded::<W, A>(stream)?;
+    let second = demanded(stream)?;
+    Ok(Then {
+        first,
+        second,
+        between: PhantomData,
+    })
+}
+
+/// Appends two parts with the fixed text of `W` between them. Fails only when out of memory.
+pub fn write_then<P: Part<A>, W: Between, Q: Part<A>, A>(
+    first: &P,
+    second: &Q,
+    f: &mut String,
+) -> fmt::Result
+    ensures { OnOk result (string_bytes f.new ≡ string_bytes f.old ++ encode_utf8_all (then_text P.written W.printed Q.written first.now second.now)) }
+{
+    first.write_text(f)?;
+    f.push_str(W::printed())?;
+    second.write_text(f)?;
+    Ok(())
+}
+
+impl<A, P: Part<A>, W: After<A, P>, Q: Part<A>> Part<A> for Then<P, W, Q> {
+    ghost use Rattle.std.specs.Prelude.{refl};
+    ghost use Rattle.irtext_syntax.specs.Sequences.{then_at, of_then};
+    ghost use Rattle.irtext_syntax.specs.SequenceLaws.{then_law, then_decides};
+
+    ghost reading = { then_at P.reading W.text Q.reading };
+
+    ghost written = { of_then P.written W.printed Q.written };
+
+    ghost ends = { Q.ends };
+
+    ghost law = { then_law P.reading P.written P.ends W.text W.printed Q.reading Q.written Q.ends P.law W.law W.after Q.law };
+
+    ghost decides = { then_decides P.eq Q.eq ⟦<Then<P, W, Q> as PartialEq>⟧.eq (λ x y. refl) P.decides Q.decides };
+
+    fn read(stream: &mut TextStream) -> ParseResult<Then<P, W, Q>, A> {
+        match <P as Part<A>>::read(stream) {
+            Ok(first) => second_parse(stream, first),
+            Err(fault) => Err(fault),
+        }
+    }
+
+    fn write_text(&self, f: &mut String) -> fmt::Result {
+        write_then::<P, W, Q, A>(&self.first, &self.second, f)
+    }
+}
+
+/// Parses the part inside the brackets and the closing bracket.
+fn inside_parse<B: Brackets, P: Part<A>, A>(stream: &mut TextStream) -> ParseResult<Within<B, P>, A>
+    ensures { MustRead (λ s. s) (λ s v. v) (λ x. x) (inside_at B.closer P.reading) stream.old result stream.new }
+{
+    let inside = demanded(stream)?;
+    close_demanded::<B, A>(stream)?;
+    Ok(Within {
+        inside,
+        brackets: PhantomData,
+    })
+}
+
+/// Appends a part in the brackets of `B`. Fails only when out of memory.
+pub fn write_within<B: Brackets, P: Part<A>, A>(inside: &P, f: &mut String) -> fmt::Result
+    ensures { OnOk result (string_bytes f.new ≡ string_bytes f.old ++ encode_utf8_all (within_text B.opener_printed P.written B.closer_printed inside.now)) }
+{
+    f.push_str(B::printed_opening())?;
+    inside.write_text(f)?;
+    f.push_str(B::printed_closing())?;
+    Ok(())
+}
+
+impl<A, B: Brackets, P: Part<A>> Part<A> for Within<B, P> {
+    ghost use Rattle.std.specs.Prelude.{refl};
+    ghost use Rattle.irtext_syntax.specs.Sequences.{within_at, of_within, anything};
+    ghost use Rattle.irtext_syntax.specs.SequenceLaws.{within_law, within_decides};
+
+    ghost reading = { within_at B.opener B.closer P.reading };
+
+    ghost written = { of_within B.opener_printed P.written B.closer_printed };
+
+    ghost ends = { anything };
+
+    ghost law = { within_law B.opener B.closer B.opener_printed B.closer_printed P.reading P.written P.ends B.law P.law };
+
+    ghost decides = { within_decides P.eq ⟦<Within<B, P> as PartialEq>⟧.eq (λ x y. refl) P.decides };
+
+    fn read(stream: &mut TextStream) -> ParseResult<Within<B, P>, A> {
+        match open_parse::<B, A>(stream) {
+            Ok(()) => inside_parse(stream),
+            Err(fault) => Err(fault),
+        }
+    }
+
+    fn write_text(&self, f: &mut String) -> fmt::Result {
+        write_within::<B, P, A>(&self.inside, f)
+    }
+}
+
+impl<A, B: Brackets, P: Part<A>> Item<A> for Within<B, P> {
+    ghost use Rattle.irtext_syntax.specs.SequenceLaws.{within_misses};
+
+    ghost misses = { within_misses B.opener B.closer B.opener_printed B.closer_printed P.reading B.law };
+}
+
+impl<A, B: Brackets, P: Part<A>> Last<A> for Within<B, P> {
+    ghost use Rattle.irtext_syntax.specs.Sequences.{anything_ends};
+
+    ghost last = { anything_ends };
+}
+
+impl<A, B: Brackets, P: Part<A>> Closed<A> for Within<B, P> {
+    ghost use Rattle.std.specs.Prelude.{refl};
+
+    ghost closed = { λ rest. refl };
+}
+
+impl<A, P: Item<A>, W: After<A, P>, Q: Part<A>> Item<A> for Then<P, W, Q> {
+    ghost use Rattle.irtext_syntax.specs.SequenceLaws.{then_misses};
+
+    ghost misses = { then_misses P.reading W.text Q.reading P.misses };
+}
+
+impl<A, P: Part<A>, W: After<A, P>, Q: Last<A>> Last<A> for Then<P, W, Q> {
+    ghost last = { Q.last };
+}
+
+impl<A, P: Part<A>, W: After<A, P>, Q: Closed<A>> Closed<A> for Then<P, W, Q> {
+    ghost closed = { Q.closed };
+}
+
+impl<P: TryClone + Drop, W, Q: TryClone> TryClone for Then<P, W, Q> {
+    fn try_clone(&self) -> Result<Then<P, W, Q>, AllocError> {
+        let first = self.first.try_clone()?;
+        let second = self.second.try_clone()?;
+        Ok(Then {
+            first,
+            second,
+            between: PhantomData,
+        })
+    }
+}
+
+impl<B, P: TryClone> TryClone for Within<B, P> {
+    fn try_clone(&self) -> Result<Within<B, P>, AllocError> {
+        let inside = self.inside.try_clone()?;
+        Ok(Within {
+            inside,
+            brackets: PhantomData,
+        })
+    }
+}

@@ -1,0 +1,82 @@
+//! Families of types or attributes whose texts begin with dotted words: what comes after each word.
+ghost use Rattle.std.specs.Prelude.{◌≡◌, ◌++◌, ◌∷◌, OnOk, List, ℕ, string_bytes};
+ghost use Rattle.std.specs.Str.{encode_utf8_all};
+ghost use Rattle.irtext_base.specs.Answers.{Outcome};
+ghost use Rattle.irtext_base.specs.Faults.{characters, demand_of};
+ghost use Rattle.irtext_read.specs.Infix.{nothing, ◌▷◌};
+ghost use Rattle.irtext_read.specs.MustRead.{MayRead, MustRead};
+ghost use Rattle.irtext_read.specs.Tokens.{space_at};
+ghost use Rattle.irtext_syntax.specs.Tables.{table_at};
+
+use crate::part::Part;
+use crate::sequence::demanded;
+use crate::words::{DottedWord, dotted_parse};
+use irtext_base::parsable::{CharStream, ParseResult, TextStream};
+use irtext_base::result::{Cause, Expected};
+use irtext_read::irfmt::faults::refuse;
+use irtext_read::irfmt::parsers::skip_white_space;
+use std::fmt;
+
+/// The words of a family `E` of types or attributes, each with what comes after it.
+pub trait Table<E, A>: DottedWord {
+    // what is parsed after a word
+    ghost behind: { Self → List ℕ → Outcome E };
+
+    /// Parses the rest of a value, after its word. Every error is committed.
+    fn parse(self, stream: &mut TextStream) -> ParseResult<E, A>
+        ensures { MustRead (λ s. s) (λ s v. v) (λ x. x) (behind self) stream.old result stream.new };
+}
+
+/// Parses a word of the table, and what comes after it. If no word begins, fails with `Unexpected`, uncommitted. Every other error is
+/// committed: an unknown word is an `OwnText` of `refusal` and the word, at its beginning.
+pub fn table_parse<W: Table<E, A>, E: Drop, A>(
+    stream: &mut TextStream,
+    refusal: &str,
+    expected: Expected,
+) -> ParseResult<E, A>
+    ensures { MayRead (λ s. s) (λ s v. v) (λ x. x) (table_at W.word W.behind refusal.now (demand_of expected)) stream.old result stream.new }
+{
+    match dotted_parse::<W, A>(stream, refusal, expected) {
+        Ok(word) => word.parse(stream),
+        Err(fault) => Err(fault),
+    }
+}
+
+/// Parses a required part after a word, with optional white space between. Every error is committed.
+pub fn behind_word<P: Part<A>, A>(stream: &mut TextStream) -> ParseResult<P, A>
+    ensures { MustRead (λ s. s) (λ s v. v) (λ x. x) (space_at ▷ P.reading) stream.old result stream.new }
+{
+    if stream.has_failed() {
+        return Err(refuse(stream, Cause::StreamFailed));
+    }
+    skip_white_space(stream);
+    demanded(stream)
+}
+
+/// Returns the value of a word that has nothing after it.
+pub fn word_alone<E: Drop, A>(stream: &mut TextStream, value: E) -> ParseResult<E, A>
+    ensures { MustRead (λ s. s) (λ s v. v) (λ x. x) (nothing value) stream.old result stream.new }
+{
+    if stream.has_failed() {
+        return Err(refuse(stream, Cause::StreamFailed));
+    }
+    Ok(value)
+}
+
+/// Appends a word, a space and a part. Fails only when out of memory.
+pub fn write_row<P: Part<A>, A>(word: &str, part: &P, f: &mut String) -> fmt::Result
+    ensures { OnOk result (string_bytes f.new ≡ string_bytes f.old ++ encode_utf8_all (characters word.now ++ (32 ∷ P.written part.now))) }
+{
+    f.push_str(word)?;
+    f.push_str(" ")?;
+    part.write_text(f)?;
+    Ok(())
+}
+
+/// Appends a word that has nothing after it. Fails only when out of memory.
+pub fn write_word(word: &str, f: &mut String) -> fmt::Result
+    ensures { OnOk result (string_bytes f.new ≡ string_bytes f.old ++ encode_utf8_all (characters word.now)) }
+{
+    f.push_str(word)?;
+    Ok(())
+}
