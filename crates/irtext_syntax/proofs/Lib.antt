@@ -4,3 +4,4 @@ pub mod QuotedRead
 pub mod Seen
 pub mod ItemsRead
 pub mod ListWritten
+pub mod WordRead

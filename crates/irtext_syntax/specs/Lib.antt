@@ -7,8 +7,13 @@ pub mod QuotedLaws
 pub mod Numbers
 pub mod NumberOf
 pub mod NumberLaws
+pub mod Ranges
+pub mod RangeOf
+pub mod RangeLaws
 pub mod NameTexts
 pub mod NameLaws
+pub mod KeywordTexts
+pub mod KeywordLaws
 pub mod ListParts
 pub mod ListLaws
 pub mod Sequences

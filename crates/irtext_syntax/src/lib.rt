@@ -4,8 +4,9 @@
 //! - `part`: the trait of a part.
 //! - `sequence`: two parts with a fixed text between them (`Then`), and a part in brackets (`Within`).
 //! - `fixed`, `ready`: fixed texts and brackets, and those that are ready to be used.
-//! - `number`: numbers of every integer type (`Number`).
+//! - `number`, `range`: numbers of every integer type, and numbers of a range (`Number`, `Ranged`).
 //! - `quoted`, `name`: quoted texts and identifiers (`Characters`, `Name`).
+//! - `keyword`: a fixed word that is always there, or that is there or not (`Keyword`, `Flag`).
 //! - `list`: lists of parts in brackets, with a separator between the items (`ListOf`).
 //! - `own`: the caller's types and attributes as parts.
 //! - `words`, `table`: families whose texts begin with dotted words, as `builtin.integer`, each with a part after it.
@@ -20,18 +21,22 @@
 
 pub mod characters;
 pub mod fixed;
+pub mod keyword;
 pub mod list;
 pub mod name;
 pub mod number;
 pub mod own;
 pub mod part;
 pub mod quoted;
+pub mod range;
 pub mod ready;
 pub mod sequence;
 pub mod table;
 pub mod words;
 
 pub use characters::Characters;
+pub use keyword::{Flag, Keyword};
 pub use list::ListOf;
 pub use name::Name;
 pub use number::Number;
+pub use range::Ranged;

@@ -9,7 +9,6 @@ ghost use Rattle.irtext_read.specs.MustRead.{MayRead, MustRead};
 ghost use Rattle.irtext_syntax.specs.ListParts.{SeparatorLaw, tail_text, joined_text, list_text, items_at, list_at};
 
 use crate::fixed::{Brackets, close_demanded, open_parse};
-
 use crate::part::{Closed, Item, Last, Part, TryClone};
 use crate::ready::{Angle, Curly, Round, Square};
 use irtext_base::parsable::{ParseResult, TextStream};
@@ -81,7 +80,9 @@ impl Separated for Curly {
 }
 
 /// A list of parts in the brackets of `B`, such as `[1, 2]`. It is printed with its separator and a space between two items. White space is
-/// skipped before and after each item when it is parsed.
+/// skipped before and after each item when it is parsed. If the opening bracket is missing, parsing fails with `Unexpected`, uncommitted.
+/// Every other error is committed: an item that is missing after a separator, an error in an item, and `Unexpected` if the closing bracket
+/// is missing.
 #[derive(Drop)]
 pub struct ListOf<B, P> {
     items: Vec<P>,
@@ -183,9 +184,7 @@ fn separated_parse<P: Part<A>, A: Drop>(
 }
 
 /// Parses items and the closing bracket, which is required.
-fn items_parse<B: Separated, P: Part<A>, A: Drop>(
-    stream: &mut TextStream,
-) -> ParseResult<Vec<P>, A>
+fn items_parse<B: Separated, P: Part<A>, A: Drop>(stream: &mut TextStream) -> ParseResult<Vec<P>, A>
     ensures { MustRead (λ s. s) (λ s v. v) (λ items. items.items)
         (items_at B.separator P.reading B.closer) stream.old result stream.new }
 {
@@ -238,7 +237,8 @@ impl<A: Drop, B: Separated, P: Item<A>> Part<A> for ListOf<B, P> {
 
     ghost ends = { λ rest. true };
 
-    ghost law = { list_law B.opener B.closer B.opener_printed B.closer_printed B.separator P.reading P.written P.ends B.law B.separates P.law P.misses };
+    ghost law = { list_law B.opener B.closer B.opener_printed B.closer_printed B.separator P.reading P.written P.ends
+        B.law B.separates P.law P.misses };
 
     ghost decides = { pointwise_decides P.decides };
 

@@ -17,7 +17,8 @@ use std::fmt;
 use std::hash::{Hash, Hasher};
 use std::marker::Model;
 
-/// An identifier, as a part of a text: the longest one that comes next.
+/// An identifier, as a part of a text such as `v_1`: the longest one that comes next. If none does, parsing fails with `Unexpected`,
+/// uncommitted.
 #[derive(Drop)]
 pub struct Name {
     identifier: Identifier,

@@ -147,7 +147,9 @@ impl Integer for isize {
     ghost decides = { signed_Decides };
 }
 
-/// A number of an integer type, as a part of a text: parsed with an optional sign, and printed in decimal.
+/// A number of an integer type, as a part of a text such as `-12`: an optional `+` or `-`, and as many decimal digits as come next. It is
+/// printed in decimal. If there is no digit, parsing fails with `Unexpected`, committed after a sign and otherwise uncommitted. A number
+/// that does not fit its type is `NumberRange` at its beginning, committed.
 pub struct Number<N: FromStrRadix> {
     value: N,
     ghost in_range: { fits N.below (N.number value) ≡ true },

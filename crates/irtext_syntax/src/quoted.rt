@@ -3,7 +3,6 @@ ghost use Rattle.std.specs.Prelude.{true};
 ghost use Rattle.irtext_syntax.specs.QuotedParts.{characters_at, characters_text};
 
 use crate::characters::Characters;
-
 use crate::part::{Closed, Item, Last, Part, TryClone};
 use irtext_base::parsable::{ParseResult, TextStream};
 use irtext_read::irfmt::parsers::quoted_string_parse;
