@@ -5,3 +5,4 @@ pub mod Seen
 pub mod ItemsRead
 pub mod ListWritten
 pub mod WordRead
+pub mod MaybeRead

@@ -20,6 +20,7 @@ pub mod Sequences
 pub mod Owns
 pub mod Words
 pub mod Tables
+pub mod Maybes
 pub mod ReadyTexts
 -- What the laws of parts are proved with
 pub mod PartSteps
@@ -30,3 +31,4 @@ pub mod MappedLaws
 pub mod SequenceLaws
 pub mod OwnLaws
 pub mod TableLaws
+pub mod MaybeLaws

@@ -23,6 +23,7 @@ pub mod characters;
 pub mod fixed;
 pub mod keyword;
 pub mod list;
+pub mod maybe;
 pub mod name;
 pub mod number;
 pub mod own;

@@ -4,20 +4,16 @@
 
 pub mod attributes;
 pub mod dialects;
-pub mod families;
 pub mod integer_type;
-pub mod type_list;
-pub mod type_list_text;
 pub mod types;
 pub mod width;
-pub mod words;
 
 pub use attributes::DemoAttr;
-pub use attributes::function::FunctionAttr;
+pub use attributes::function::{FunctionAttr, TypeList};
 pub use attributes::integer::IntegerAttr;
-pub use irtext_syntax::Characters;
-pub use irtext_syntax::characters;
 pub use integer_type::{IntegerType, Signedness};
-pub use type_list::TypeList;
+pub use irtext_syntax::characters;
+pub use irtext_syntax::characters::Characters;
+pub use irtext_syntax::words;
 pub use types::DemoType;
 pub use width::Width;

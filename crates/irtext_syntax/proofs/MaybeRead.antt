@@ -1,0 +1,25 @@
+-- A part that may be left out is read as nothing where none begins.
+use Rattle.std.proofs.Common.{◌≡◌, inl, inr, Bool, true, false, Option, None, Ok, Err, [], refl, sym, ◌∙◌, subst, true≢false}
+use Rattle.irtext_base.specs.Text.{Text}
+use Rattle.irtext_base.specs.Stream.{StreamView}
+use Rattle.irtext_base.specs.Answers.{Outcome, Read, Missing, Bad, Answers, Takes, unless_failed}
+use Rattle.irtext_base.specs.declared.parsable.fault.ParseFault.{ParseFault}
+use Rattle.irtext_base.proofs.Compose.{takes_none}
+use Rattle.irtext_read.specs.MustRead.{MayRead}
+use Rattle.irtext_syntax.specs.Maybes.{or_none, maybe_at}
+
+committed_not : {A : Type 0} (fault : ParseFault A) → fault.committed ≡ true → fault.committed ≡ false → ⊥
+committed_not fault e f = true≢false (sym e ∙ f)
+
+-- an error that is not committed is one where none begins
+left_out : {X A : Type 0} (old new : StreamView) (b : Bool) (o : Outcome X) (fault : ParseFault A) → fault.committed ≡ false → Answers (λ s. s) (λ s v. v) {A = A} {Y = X} (λ x. x) (unless_failed b o) old (Err fault) new
+    → Answers (λ s. s) (λ s v. v) {A = A} {Y = Option X} (λ x. x) (unless_failed b (or_none o old.rest)) old (Ok None) new
+left_out old new b o fault f (inl h) = absurd (committed_not fault h.committed f)
+left_out old new true o fault f (inr h) = absurd (committed_not fault h.committed f)
+left_out old new false (Read x taken rest) fault f (inr h) = absurd h
+left_out old new false (Missing cause) fault f (inr h) = (refl, subst (λ z. Takes (λ s. s) (λ s v. v) [] old.rest old z) (sym h.left) (takes_none (λ s. s) (λ s v. v) (λ s v. refl) (λ s v w. refl) (λ s. refl) old))
+left_out old new false (Bad cause upto) fault f (inr h) = absurd (committed_not fault h.committed f)
+
+pub nothing_read : {X A : Type 0} (old new : StreamView) (reading : Text → Outcome X) (fault : ParseFault A) → fault.committed ≡ false → MayRead {Y = X} (λ s. s) (λ s v. v) (λ x. x) reading old (Err fault) new
+    → MayRead {A = A} {Y = Option X} (λ s. s) (λ s v. v) (λ x. x) (maybe_at reading) old (Ok None) new
+nothing_read old new reading fault f h = record { answers = left_out old new old.failed (reading old.rest) fault f h.answers }

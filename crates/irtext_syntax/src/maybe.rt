@@ -1,0 +1,41 @@
+//! Parts that may be left out.
+use crate::part::{Item, Part};
+use irtext_base::parsable::{ParseResult, TextStream};
+use std::fmt;
+
+/// A part that may be left out. It is missing if no value of `P` begins, and nothing is then printed. So that this is seen, a closing
+/// character has to come after it, as `>` or `,`, with or without white space before it.
+impl<A: Drop, P: Item<A>> Part<A> for Option<P> {
+    ghost use Rattle.std.specs.Prelude.{refl};
+    ghost use Rattle.irtext_syntax.specs.Maybes.{maybe_at, maybe_text, maybe_ends};
+    ghost use Rattle.irtext_syntax.specs.MaybeLaws.{maybe_law, maybe_decides};
+
+    ghost reading = { maybe_at P.reading };
+
+    ghost written = { maybe_text P.written };
+
+    ghost ends = { maybe_ends P.ends };
+
+    ghost law = { maybe_law P.reading P.written P.ends P.law P.misses };
+
+    ghost decides = { maybe_decides P.eq ⟦<Option<P> as PartialEq>⟧.eq refl (λ x. refl) (λ x. refl) (λ x y. refl) P.decides };
+
+    fn read(stream: &mut TextStream) -> ParseResult<Option<P>, A> {
+        match <P as Part<A>>::read(stream) {
+            Ok(value) => Ok(Some(value)),
+            Err(fault) => {
+                if fault.committed {
+                    return Err(fault);
+                }
+                Ok(None)
+            }
+        }
+    }
+
+    fn write_text(&self, f: &mut String) -> fmt::Result {
+        match self {
+            Some(value) => value.write_text(f),
+            None => Ok(()),
+        }
+    }
+}
