@@ -1,0 +1,1 @@
+-- What is needed besides the laws of texts: nothing

@@ -1,0 +1,42 @@
+-- For callers: predicates obey the law of a part. Their texts are those of a table of words, so a row for each gives the law.
+use Rattle.std.proofs.Common.{◌≡◌, refl, codes}
+use Rattle.std.specs.Prelude.{◌↔◌, IsTrue}
+use Rattle.irtext_base.specs.Faults.{AnAttribute}
+use Rattle.irtext_base.specs.Own.{texts_of, Lawful, Sincere}
+use Rattle.irtext_syntax.specs.OwnLaws.{text_law, text_misses}
+use Rattle.irtext_syntax.specs.Owns.{ends_text}
+use Rattle.irtext_syntax.specs.PartLaws.{PartLaw, MissesClosers}
+use Rattle.irtext_syntax.specs.TableLaws.{word_row, word_sincere, table_lawful, table_sincere}
+use Rattle.irtext_syntax.specs.Tables.{Row}
+use Rattle.irtext_arith.specs.Predicates.{predicate_words, predicate_word, predicate_text, predicate_behind, predicate_at}
+use Rattle.irtext_arith.specs.declared.predicate.Predicate.{Predicate}
+use Rattle.irtext_arith.specs.declared.predicate.Predicate.TheVariants.{Equal, Different, Less, LessOrEqual}
+use Rattle.irtext_arith.specs.contracts.predicate.PredicatePartialEq.TheImpl as test
+
+-- how the text of each predicate is parsed back
+rows : (x : Predicate) → Row predicate_word predicate_behind predicate_words predicate_text x
+rows Equal = word_row (codes "eq") Equal Equal refl refl refl (λ text. refl)
+rows Different = word_row (codes "ne") Different Different refl refl refl (λ text. refl)
+rows Less = word_row (codes "lt") Less Less refl refl refl (λ text. refl)
+rows LessOrEqual = word_row (codes "le") LessOrEqual LessOrEqual refl refl refl (λ text. refl)
+
+lawful : Lawful Predicate (texts_of predicate_at predicate_text)
+lawful = table_lawful (codes "Unknown predicate ") AnAttribute rows
+
+sincere : Sincere predicate_at
+sincere = table_sincere predicate_word (codes "Unknown predicate ") AnAttribute word_sincere
+
+-- as a part of other texts
+pub predicate_law : PartLaw predicate_at predicate_text ends_text
+predicate_law = text_law predicate_at predicate_text lawful sincere
+
+pub predicate_misses : MissesClosers predicate_at
+predicate_misses = text_misses predicate_at predicate_text lawful
+
+-- predicates are equal exactly if they are the same
+pub predicate_decides : (x y : Predicate) → IsTrue (test.ghosts.eq x y) ↔ (x ≡ y)
+predicate_decides Equal Equal = (λ e. refl, λ e. refl)
+predicate_decides Different Different = (λ e. refl, λ e. refl)
+predicate_decides Less Less = (λ e. refl, λ e. refl)
+predicate_decides LessOrEqual LessOrEqual = (λ e. refl, λ e. refl)
+predicate_decides _ _ = (λ e. absurd (cc), λ e. absurd (cc))

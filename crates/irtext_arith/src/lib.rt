@@ -1,0 +1,28 @@
+//! The dialect `arith`: its types, attributes and operations.
+//!
+//! The texts of its types and attributes, where N is a number, S a string, T a type of the context, P a part of the dialect's own:
+//!
+//! - `arith.int N`
+//! - `arith.index`
+//! - `arith.value <N: T>`
+//! - `arith.predicate P`
+//! - `arith.doc "S"`
+//!
+//! `register_arith` registers its operations, by these formats:
+//!
+//! - `arith.constant`: ``$arith_value `:` type($0)``
+//! - `arith.add`: ``$0 `,` $1 `:` type($0)``
+//! - `arith.compare`: ``$arith_predicate $0 `,` $1 `:` type($0)``
+//! - `arith.func`: ``@name {0}``, isolated from above
+//! - `arith.return`: ``operands``
+#![tactic(auto)]
+
+pub mod attributes;
+pub mod operations;
+pub mod predicate;
+pub mod types;
+
+pub use attributes::ArithAttr;
+pub use operations::register_arith;
+pub use predicate::Predicate;
+pub use types::ArithType;

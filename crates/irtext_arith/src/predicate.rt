@@ -1,0 +1,102 @@
+//! A part of the dialect's own: how two integers are compared.
+use irtext_base::parsable::{ParseResult, TextStream};
+use irtext_base::result::Expected;
+use irtext_syntax::part::{Item, Last, Part, TryClone};
+use irtext_syntax::table::{Table, table_parse, word_alone, write_word};
+use irtext_syntax::words::DottedWord;
+use std::alloc::AllocError;
+use std::fmt;
+
+/// How two integers are compared. An unknown word is an error with the text `Unknown predicate ` and the word, at its beginning.
+#[derive(Clone, Copy, PartialEq, Eq, Hash, Debug)]
+pub enum Predicate {
+    /// Printed as `eq`.
+    Equal,
+    /// Printed as `ne`.
+    Different,
+    /// Printed as `lt`.
+    Less,
+    /// Printed as `le`.
+    LessOrEqual,
+}
+
+/// Each predicate is its own word.
+impl DottedWord for Predicate {
+    ghost use Rattle.irtext_arith.specs.Predicates.{predicate_word};
+
+    ghost word = { predicate_word };
+
+    fn of(text: &str) -> Option<Predicate> {
+        if text == "eq" {
+            return Some(Predicate::Equal);
+        }
+        if text == "ne" {
+            return Some(Predicate::Different);
+        }
+        if text == "lt" {
+            return Some(Predicate::Less);
+        }
+        if text == "le" {
+            return Some(Predicate::LessOrEqual);
+        }
+        None
+    }
+}
+
+/// Nothing comes after a predicate's word.
+impl<A> Table<Predicate, A> for Predicate {
+    ghost use Rattle.irtext_arith.specs.Predicates.{predicate_behind};
+
+    ghost behind = { predicate_behind };
+
+    fn parse(self, stream: &mut TextStream) -> ParseResult<Predicate, A> {
+        word_alone(stream, self)
+    }
+}
+
+impl<A> Part<A> for Predicate {
+    ghost use Rattle.irtext_syntax.specs.Owns.{ends_text};
+    ghost use Rattle.irtext_arith.specs.Predicates.{predicate_at, predicate_text};
+    ghost use Rattle.irtext_arith.specs.PredicateLaws.{predicate_law, predicate_decides};
+
+    ghost reading = { predicate_at };
+
+    ghost written = { predicate_text };
+
+    ghost ends = { ends_text };
+
+    ghost law = { predicate_law };
+
+    ghost decides = { predicate_decides };
+
+    fn read(stream: &mut TextStream) -> ParseResult<Predicate, A> {
+        table_parse::<Predicate, Predicate, A>(stream, "Unknown predicate ", Expected::Attribute)
+    }
+
+    fn write_text(&self, f: &mut String) -> fmt::Result {
+        match self {
+            Predicate::Equal => write_word("eq", f),
+            Predicate::Different => write_word("ne", f),
+            Predicate::Less => write_word("lt", f),
+            Predicate::LessOrEqual => write_word("le", f),
+        }
+    }
+}
+
+impl<A> Item<A> for Predicate {
+    ghost use Rattle.irtext_arith.specs.PredicateLaws.{predicate_misses};
+
+    ghost misses = { predicate_misses };
+}
+
+impl<A> Last<A> for Predicate {
+    ghost use Rattle.irtext_syntax.specs.OwnLaws.{own_last};
+
+    ghost last = { own_last };
+}
+
+impl TryClone for Predicate {
+    fn try_clone(&self) -> Result<Predicate, AllocError> {
+        Ok(*self)
+    }
+}
