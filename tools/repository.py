@@ -30,6 +30,8 @@ def files_below(folder, ending):
 
 
 @dataclass
+EXAMPLES = ("irtext_arith", "irtext_two_dialects")
+
 class Crate:
     name: str
     below: list
@@ -50,10 +52,15 @@ class Crate:
         return [it for it in files_below(here, ".edit") if os.path.dirname(it) == here]
 
     @property
+    def is_example(self):
+        """Whether it is an example for authors of dialects, whose definitions are no part of the product's."""
+        return self.name in EXAMPLES
+
+    @property
     def is_library(self):
-        """Whether it is a library of the product, and no program and no crate of tests and rows."""
+        """Whether it is a library of the product, and no program, no example and no crate of tests and rows."""
         is_program = os.path.isfile(os.path.join(self.folder, "src", "main.rt"))
-        return not is_program and not self.name.startswith("irtext_vectors")
+        return not is_program and not self.is_example and not self.name.startswith("irtext_vectors")
 
 
 def crates():

@@ -6,7 +6,4 @@ pub mod ItemsRead
 pub mod ListWritten
 pub mod WordRead
 pub mod MaybeRead
-<<<<<<< HEAD
 pub mod Rows
-=======
->>>>>>> h/dialect
