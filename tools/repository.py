@@ -9,6 +9,8 @@ import sys
 from dataclasses import dataclass, field
 
 TOP = os.path.dirname(os.path.dirname(os.path.realpath(__file__)))
+# crates for authors of dialects to copy from
+EXAMPLES = ("irtext_arith", "irtext_two_dialects")
 
 
 def text_of(path):
@@ -30,8 +32,6 @@ def files_below(folder, ending):
 
 
 @dataclass
-EXAMPLES = ("irtext_arith", "irtext_two_dialects")
-
 class Crate:
     name: str
     below: list
