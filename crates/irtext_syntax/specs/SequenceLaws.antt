@@ -36,8 +36,7 @@ module _ {P W Q : Type 0} (first : Reader P) (first_text : P → Text) (first_en
       let one = p.back x.first (printed ++ tail) (after tail) in
       let two = q.back x.second rest e in
       let last = then_found (spaced_at text one.0) (λ _ t. mapped (then_with x.first) (second t)) tt x (after_space tail) two.0 (between_found text printed one.0 tail w one.2) (mapped_found (then_with x.first) (second (after_space tail)) x.second two.0 two.1) in
-      let flat = append_assoc (first_text x.first) (printed ++ second_text x.second) rest ∙ ap (λ z. first_text x.first ++ z) (append_assoc printed (second_text x.second) rest) in
-      (
+      let flat = append_assoc (first_text x.first) (printed ++ second_text x.second) rest ∙ ap (λ z. first_text x.first ++ z) (append_assoc printed (second_text x.second) rest) in (
         two.0,
         ap (λ z. standing (at (after_space z))) flat ∙ then_found (first (after_space (first_text x.first ++ (printed ++ tail)))) (λ y t. second_at text second y t) x.first x one.0 two.0 one.1 last,
         two.2,
@@ -76,8 +75,7 @@ module _ {B P : Type 0} (opener closer opener_printed closer_printed : Text) (in
       let one = p.back x.inside behind (p.closed behind (b.closing rest)) in
       let shut = mapped_found (λ _. within_with x.inside) (close_at closer one.0) tt rest (spaced_same (word closer) one.0 behind one.2 ∙ b.shuts rest) in
       let last = then_found (inside (after_space tail)) (λ y t. shut_at closer y t) x.inside x one.0 rest one.1 shut in
-      let flat = append_assoc opener_printed (inside_text x.inside ++ closer_printed) rest ∙ ap (λ z. opener_printed ++ z) (append_assoc (inside_text x.inside) closer_printed rest) in
-      (
+      let flat = append_assoc opener_printed (inside_text x.inside ++ closer_printed) rest ∙ ap (λ z. opener_printed ++ z) (append_assoc (inside_text x.inside) closer_printed rest) in (
         rest,
         ap (λ z. standing (within (after_space z))) flat ∙ then_found (open_at opener (after_space (opener_printed ++ tail))) (λ _ t. inside_at closer inside t) tt x (after_space tail) rest (b.opens tail) last,
         refl,

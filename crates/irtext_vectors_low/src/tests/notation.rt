@@ -21,7 +21,10 @@ const REFUSED: &[(&str, &str)] = &[
     ("$0\n $", "line: 2, column: 3: expected a key or an index"),
     ("$+1", "line: 1, column: 2: expected a key or an index"),
     ("^x", "line: 1, column: 2: expected an index"),
-    ("^18446744073709551616", "line: 1, column: 2: expected an index"),
+    (
+        "^18446744073709551616",
+        "line: 1, column: 2: expected an index",
+    ),
     ("type($0", "line: 1, column: 8: expected `)`"),
     ("type($k)", "line: 1, column: 7: expected an index"),
     ("{0 }", "line: 1, column: 3: expected `}`"),

@@ -7,9 +7,11 @@ ghost use Rattle.irtext_stream.specs.NotationFaults.{whole, Reads};
 
 use crate::base::Identifier;
 use crate::format::{Directive, OpFormat};
-use irtext_stream::notation::fault::{NotationFault, NotationPart};
-use irtext_stream::notation::pieces::{closed, ended, index, lack, lack_at, letters, next_is_key, past};
 use irtext_stream::class::Class;
+use irtext_stream::notation::fault::{NotationFault, NotationPart};
+use irtext_stream::notation::pieces::{
+    closed, ended, index, lack, lack_at, letters, next_is_key, past,
+};
 use irtext_stream::stream::TextStream;
 
 /// Parses the key of an attribute or the index of an operand, after a `$`.
