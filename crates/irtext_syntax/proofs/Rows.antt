@@ -7,7 +7,7 @@ use Rattle.irtext_base.specs.Own.{Ends}
 use Rattle.irtext_read.specs.BeginningWords.{word_leads}
 use Rattle.irtext_read.specs.Infix.{Reader, nothing}
 use Rattle.irtext_syntax.specs.NameTexts.{word_text, word_text_is}
-use Rattle.irtext_syntax.specs.TableLaws.{word_row}
+use Rattle.irtext_syntax.specs.TableLaws.{word_row, spaced_word_row}
 use Rattle.irtext_syntax.specs.Tables.{Row}
 
 -- the only type, and its word
@@ -28,6 +28,13 @@ text_of index = codes "my.index"
 
 rows : (x : Index) → Row word_of behind words text_of x
 rows index = word_row (codes "my.index") index index refl refl refl (λ text. refl)
+
+-- the same with a space after the word
+abbrev spaced_text : Index → Text
+spaced_text index = codes "my.index "
+
+spaced_rows : (x : Index) → Row word_of behind words spaced_text x
+spaced_rows index = spaced_word_row (codes "my.index") index index refl refl refl (λ text. refl)
 
 leads : (rest : Text) → Ends rest → is_one_of words (front in_dotted (codes "my.index" ++ rest)) ≡ true
 leads rest e = word_leads words (codes "my.index") rest refl refl e

@@ -1,1 +1,4 @@
+pub mod IntegersFit
+pub mod Quoted
+pub mod ItemRules
 pub mod DemoFormats

@@ -1,73 +1,67 @@
--- For callers: the demo attributes obey the laws of parsing and printing.
-use Rattle.std.proofs.Common.{◌≡◌, Bool, true, sym, refl, ◌∙◌, ap, subst, true≢false, codes}
-use Rattle.std.specs.Prelude.{◌↔◌, IsTrue}
-use Rattle.irtext_base.specs.Families.{BeginsWithWord}
-use Rattle.irtext_base.specs.Faults.{AnAttribute}
-use Rattle.irtext_base.specs.Own.{texts_of, Lawful, Sincere, Unreserved}
-use Rattle.irtext_base.specs.Text.{Text}
-use Rattle.irtext_read.specs.Infix.{Reader}
-use Rattle.irtext_syntax.specs.PartLaws.{PartLaw, EndsAnywhere}
-use Rattle.irtext_syntax.specs.QuotedLaws.{characters_law, characters_last, characters_decides}
-use Rattle.irtext_syntax.specs.TableLaws.{part_row, part_sincere, table_lawful, table_led, table_sincere, table_unreserved}
-use Rattle.irtext_syntax.specs.Tables.{Row}
-use Rattle.irtext_types.specs.Attributes.{attr_words, attr_word, attr_text, attr_behind, attr_at, ComparesAlike}
-use Rattle.irtext_types.specs.declared.attributes.AttrWord.{AttrWord}
-use Rattle.irtext_types.specs.declared.attributes.AttrWord.TheVariants as word
-use Rattle.irtext_types.specs.declared.attributes.DemoAttrOf.{DemoAttrOf}
-use Rattle.irtext_types.specs.declared.attributes.DemoAttrOf.TheVariants as attr
+-- For callers: the demo attributes obey the law of parsing and printing.
+use Rattle.std.proofs.Common.{◌≡◌, true, false, ◌∷◌, [], ◌++◌, ◌==◌, drop, refl, sym, ◌∙◌, ap, codes, true≢false}
+use Rattle.irtext_base.specs.Text.{Text, begins, after_space, begins_word}
+use Rattle.irtext_base.specs.Reading.{keyword}
+use Rattle.irtext_base.specs.Answers.{Outcome, Read, prefixed, mapped}
+use Rattle.irtext_base.specs.Own.{found, missing, standing, texts_of, Ends, Lawful, Unreserved}
+use Rattle.irtext_base.specs.Quoted.{quoted}
+use Rattle.irtext_base.proofs.Scalars.{AreScalars, scalars_more, scalars_ascii, scalars_quoted}
+use Rattle.irtext_types.specs.FunctionAttributes.{function_text}
+use Rattle.irtext_types.specs.IntegerAttributes.{integer_attr_text}
+use Rattle.irtext_read.specs.Infix.{◌▷◌}
+use Rattle.irtext_read.specs.Tokens.{space_at}
+use Rattle.irtext_read.proofs.QuotedBack.{quoted_back}
+use Rattle.irtext_types.specs.Attributes.{attr_text, characters_at, attr_behind, attr_at}
+use Rattle.irtext_types.specs.ScalarTexts.{ScalarText, scalar_text, scalar_text_found}
+use Rattle.irtext_types.specs.FunctionTexts.{ascii-function}
+use Rattle.irtext_types.specs.IntegerTexts.{ascii-integer_attr}
+use Rattle.irtext_types.specs.FunctionsBack.{function-here}
+use Rattle.irtext_types.specs.IntegersBack.{integer_attr-here}
+use Rattle.irtext_types.specs.TypesBack.{behind_one, dotted_missed}
+use Rattle.irtext_types.specs.declared.attributes.DemoAttr.{DemoAttr}
+use Rattle.irtext_types.specs.declared.attributes.DemoAttr.TheVariants as attr
 
-module _ {I F : Type 0} {integer_at : Reader I} {integer_text : I → Text} {integer_ends : Text → Bool} {function_at : Reader F} {function_text : F → Text} {function_ends : Text → Bool}
-    (i : PartLaw integer_at integer_text integer_ends) (f : PartLaw function_at function_text function_ends) where
-  sincere_behind : (w : AttrWord) → Sincere (attr_behind integer_at function_at w)
-  sincere_behind word.Integer = part_sincere attr.Integer i
-  sincere_behind word.String = part_sincere attr.String characters_law
-  sincere_behind word.Function = part_sincere attr.Function f
-  sincere_behind word.Debug = part_sincere attr.Debug characters_law
+attributes_start : (x : DemoAttr) (rest : Text) → begins begins_word (attr_text x ++ rest) ≡ true
+attributes_start (attr.Integer a) rest = refl
+attributes_start (attr.String text) rest = refl
+attributes_start (attr.Function a) rest = refl
+attributes_start (attr.Debug text) rest = refl
 
-  pub attr_sincere : Sincere (attr_at integer_at function_at)
-  attr_sincere = table_sincere attr_word (codes "Unregistered attribute ") AnAttribute sincere_behind
+attributes_miss : (text : Text) → begins begins_word text ≡ false → standing (attr_at text) ≡ missing
+attributes_miss text e = dotted_missed attr_behind (begins begins_word text) _ _ e
 
-  module _ (il : EndsAnywhere integer_ends) (fl : EndsAnywhere function_ends) where
-    rows : (x : DemoAttrOf I F) → Row attr_word (attr_behind integer_at function_at) attr_words (attr_text integer_text function_text) x
-    rows (attr.Integer a) = part_row (codes "builtin.integer") word.Integer attr.Integer a i il refl refl refl (λ text. refl)
-    rows (attr.String s) = part_row (codes "builtin.string") word.String attr.String s characters_law characters_last refl refl refl (λ text. refl)
-    rows (attr.Function a) = part_row (codes "builtin.function") word.Function attr.Function a f fl refl refl refl (λ text. refl)
-    rows (attr.Debug s) = part_row (codes "test.dbg") word.Debug attr.Debug s characters_law characters_last refl refl refl (λ text. refl)
+-- a quoted string that was printed after a space is parsed back
+quoted-behind : (s : ScalarText) (rest : Text) → (space_at ▷ characters_at) (32 ∷ (quoted s.characters ++ rest)) ≡ Read s (32 ∷ quoted s.characters) rest
+quoted-behind s rest =
+    behind_one characters_at (quoted s.characters ++ rest) refl ∙ (ap (λ o. prefixed (32 ∷ []) (mapped scalar_text o)) (quoted_back s.characters rest)
+    ∙ ap (λ t. let o : Outcome ScalarText = Read t (32 ∷ quoted s.characters) rest in o) (scalar_text_found s))
 
-    pub attr_lawful : Lawful (DemoAttrOf I F) (texts_of (attr_at integer_at function_at) (attr_text integer_text function_text))
-    attr_lawful = table_lawful (codes "Unregistered attribute ") AnAttribute rows
+attributes_again : (x : DemoAttr) (rest : Text) → Ends rest → (left : Text) × (standing (attr_at (attr_text x ++ rest)) ≡ found x left) × (after_space left ≡ after_space rest)
+attributes_again (attr.Integer a) rest e = (rest, ap (λ o. standing (prefixed (codes "builtin.integer") (mapped attr.Integer o))) (integer_attr-here a rest).1, refl)
+attributes_again (attr.String cs) rest e = (rest, ap (λ o. standing (prefixed (codes "builtin.string") (mapped attr.String o))) (quoted-behind cs rest), refl)
+attributes_again (attr.Function a) rest e = (rest, ap (λ o. standing (prefixed (codes "builtin.function") (mapped attr.Function o))) (function-here a rest).1, refl)
+attributes_again (attr.Debug cs) rest e = (rest, ap (λ o. standing (prefixed (codes "test.dbg") (mapped attr.Debug o))) (quoted-behind cs rest), refl)
 
-    pub attr_led : BeginsWithWord attr_words (attr_text integer_text function_text)
-    attr_led = table_led rows
+attributes_scalars : (x : DemoAttr) → AreScalars (attr_text x)
+attributes_scalars (attr.Integer a) = scalars_more (codes "builtin.integer ") (integer_attr_text a) refl (scalars_ascii (integer_attr_text a) (ascii-integer_attr a))
+attributes_scalars (attr.String s) = scalars_more (codes "builtin.string ") (quoted s.characters) refl (scalars_quoted s.characters s.scalars)
+attributes_scalars (attr.Function a) = scalars_more (codes "builtin.function ") (function_text a) refl (scalars_ascii (function_text a) (ascii-function a))
+attributes_scalars (attr.Debug s) = scalars_more (codes "test.dbg ") (quoted s.characters) refl (scalars_quoted s.characters s.scalars)
 
-    pub attr_unreserved : Unreserved (DemoAttrOf I F) (texts_of (attr_at integer_at function_at) (attr_text integer_text function_text))
-    attr_unreserved = table_unreserved (attr_at integer_at function_at) rows refl
+pub attr_lawful : Lawful DemoAttr (texts_of attr_at attr_text)
+attr_lawful = record { starts = attributes_start; misses = attributes_miss; again = attributes_again; scalars = attributes_scalars }
 
-module _ {I F : Type 0} (integer_eq : I → I → Bool) (function_eq : F → F → Bool) (eq : DemoAttrOf I F → DemoAttrOf I F → Bool) (c : ComparesAlike integer_eq function_eq eq)
-    (i : (x y : I) → IsTrue (integer_eq x y) ↔ (x ≡ y)) (f : (x y : F) → IsTrue (function_eq x y) ↔ (x ≡ y)) where
-  attr_same : (x y : DemoAttrOf I F) → eq x y ≡ true → x ≡ y
-  attr_same (attr.Integer x) (attr.Integer y) e = ap attr.Integer ((i x y).0 (sym (c.integer_integer x y) ∙ e))
-  attr_same (attr.Integer x) (attr.String y) e = absurd (true≢false (sym e ∙ c.integer_string x y))
-  attr_same (attr.Integer x) (attr.Function y) e = absurd (true≢false (sym e ∙ c.integer_function x y))
-  attr_same (attr.Integer x) (attr.Debug y) e = absurd (true≢false (sym e ∙ c.integer_debug x y))
-  attr_same (attr.String x) (attr.Integer y) e = absurd (true≢false (sym e ∙ c.string_integer x y))
-  attr_same (attr.String x) (attr.String y) e = ap attr.String ((characters_decides x y).0 (sym (c.string_string x y) ∙ e))
-  attr_same (attr.String x) (attr.Function y) e = absurd (true≢false (sym e ∙ c.string_function x y))
-  attr_same (attr.String x) (attr.Debug y) e = absurd (true≢false (sym e ∙ c.string_debug x y))
-  attr_same (attr.Function x) (attr.Integer y) e = absurd (true≢false (sym e ∙ c.function_integer x y))
-  attr_same (attr.Function x) (attr.String y) e = absurd (true≢false (sym e ∙ c.function_string x y))
-  attr_same (attr.Function x) (attr.Function y) e = ap attr.Function ((f x y).0 (sym (c.function_function x y) ∙ e))
-  attr_same (attr.Function x) (attr.Debug y) e = absurd (true≢false (sym e ∙ c.function_debug x y))
-  attr_same (attr.Debug x) (attr.Integer y) e = absurd (true≢false (sym e ∙ c.debug_integer x y))
-  attr_same (attr.Debug x) (attr.String y) e = absurd (true≢false (sym e ∙ c.debug_string x y))
-  attr_same (attr.Debug x) (attr.Function y) e = absurd (true≢false (sym e ∙ c.debug_function x y))
-  attr_same (attr.Debug x) (attr.Debug y) e = ap attr.Debug ((characters_decides x y).0 (sym (c.debug_debug x y) ∙ e))
+no_given_names : (a : DemoAttr) (rest left : Text) → keyword (codes "builtin.given_names") (attr_text a ++ rest) left → ⊥
+no_given_names (attr.Integer a) rest left k = true≢false (ap (λ t. begins (λ c. c == 103) (drop 8 t)) (sym k.0))
+no_given_names (attr.String text) rest left k = true≢false (ap (λ t. begins (λ c. c == 103) (drop 8 t)) (sym k.0))
+no_given_names (attr.Function a) rest left k = true≢false (ap (λ t. begins (λ c. c == 103) (drop 8 t)) (sym k.0))
+no_given_names (attr.Debug text) rest left k = true≢false (ap (begins (λ c. c == 98)) (sym k.0))
 
-  attr_own : (x : DemoAttrOf I F) → eq x x ≡ true
-  attr_own (attr.Integer x) = c.integer_integer x x ∙ (i x x).1 refl
-  attr_own (attr.String x) = c.string_string x x ∙ (characters_decides x x).1 refl
-  attr_own (attr.Function x) = c.function_function x x ∙ (f x x).1 refl
-  attr_own (attr.Debug x) = c.debug_debug x x ∙ (characters_decides x x).1 refl
+no_identifier : (a : DemoAttr) (rest left : Text) → keyword (codes "builtin.identifier") (attr_text a ++ rest) left → ⊥
+no_identifier (attr.Integer a) rest left k = true≢false (ap (λ t. begins (λ c. c == 100) (drop 9 t)) (sym k.0))
+no_identifier (attr.String text) rest left k = true≢false (ap (λ t. begins (λ c. c == 105) (drop 8 t)) (sym k.0))
+no_identifier (attr.Function a) rest left k = true≢false (ap (λ t. begins (λ c. c == 105) (drop 8 t)) (sym k.0))
+no_identifier (attr.Debug text) rest left k = true≢false (ap (begins (λ c. c == 98)) (sym k.0))
 
-  pub attr_decides : (x y : DemoAttrOf I F) → IsTrue (eq x y) ↔ (x ≡ y)
-  attr_decides x y = (attr_same x y, λ e. subst (λ z. eq x z ≡ true) e (attr_own x))
+pub attr_unreserved : Unreserved DemoAttr (texts_of attr_at attr_text)
+attr_unreserved = record { given_names = no_given_names; identifier = no_identifier }

@@ -1,5 +1,5 @@
 -- For callers: the texts of integer types.
-use Rattle.std.specs.Prelude.{ℕ, Bool, not, cond, Option, Some, None, ◌++◌, codes, decimal}
+use Rattle.std.specs.Prelude.{ℕ, cond, Option, Some, None, ◌++◌, codes, decimal}
 use Rattle.std.specs.Char.{is_ascii_digit}
 use Rattle.irtext_base.specs.Text.{Text, begins, front, after}
 use Rattle.irtext_base.specs.Reading.{the}
@@ -49,7 +49,3 @@ integer_type_with kind width = record { kind = kind; width = width }
 -- a sign and a width, without white space between them
 abbrev pub integer_type_at : Text → Outcome IntegerType
 integer_type_at = signedness_at ▶ λ kind. width_at ⇒ integer_type_with kind
-
--- no digit comes next
-abbrev pub integer_type_ends : Text → Bool
-integer_type_ends rest = not (begins is_ascii_digit rest)

@@ -1,35 +1,42 @@
 //! The demo attributes: integers with their type, strings, function types, and debug notes, which are printed in the section after a
 //! root.
+ghost use Rattle.std.specs.Prelude.{◌≡◌, ◌++◌, OnOk, codes, string_bytes};
+ghost use Rattle.std.specs.Str.{encode_utf8_all};
+ghost use Rattle.irtext_base.specs.Answers.{Answers, unless_failed};
+ghost use Rattle.irtext_base.specs.Quoted.{quoted};
+ghost use Rattle.irtext_read.specs.Infix.{◌▷◌};
+ghost use Rattle.irtext_read.specs.MustRead.{MustRead};
+ghost use Rattle.irtext_read.specs.Tokens.{space_at};
+ghost use Rattle.irtext_types.specs.Attributes.{attr_behind, characters_at};
+ghost use Rattle.irtext_types.specs.IntegerAttributes.{integer_attr_text};
+
 pub mod function;
 pub mod integer;
+pub mod integer_text;
 
-use crate::attributes::function::FunctionAttr;
+use crate::attributes::function::{FunctionAttr, function_parse, write_function};
 use crate::attributes::integer::IntegerAttr;
+use crate::attributes::integer_text::integer_attr_parse;
+use crate::words::{DottedWord, dotted_parse};
 use irtext_base::parsable::{ParseResult, TextStream};
-use irtext_base::result::Expected;
-use irtext_base::text::{AttrText, Family, IrText, Worded};
+use irtext_base::result::{Cause, Expected};
+use irtext_base::text::{AttrText, IrText};
+use irtext_read::irfmt::faults::{committed, refuse};
+use irtext_read::irfmt::parsers::{quoted_string_parse, skip_white_space};
+use irtext_read::printable::fmt_quoted;
 use irtext_syntax::characters::Characters;
-use irtext_syntax::part::{Last, Part, TryClone};
-use irtext_syntax::table::{Table, behind_word, table_parse, write_row};
-use irtext_syntax::words::DottedWord;
 use std::alloc::AllocError;
 use std::fmt;
-use std::hash::Hash;
 
 /// A demo attribute.
-pub type DemoAttr = DemoAttrOf<IntegerAttr, FunctionAttr>;
-
-/// A demo attribute, over any part for integers and any for function types. The laws of these parts come with the bounds of the `impl`s
-/// below, so none of them names a law.
-#[derive(Drop)]
-#[derive_where(PartialEq, Eq, Hash, Debug; I, F)]
-pub enum DemoAttrOf<I, F> {
+#[derive(PartialEq, Eq, Hash, Debug, Drop)]
+pub enum DemoAttr {
     /// Printed as `builtin.integer <N: W>`.
-    Integer(I),
+    Integer(IntegerAttr),
     /// Printed as `builtin.string "S"`.
     String(Characters),
     /// Printed as `builtin.function <(T, ..)->(T, ..)>`.
-    Function(F),
+    Function(FunctionAttr),
     /// Printed as `test.dbg "S"`, once, in the section after the root.
     Debug(Characters),
 }
@@ -69,56 +76,92 @@ impl DottedWord for AttrWord {
     }
 }
 
-impl<B: Drop, I: Part<B>, F: Part<B>> Table<DemoAttrOf<I, F>, B> for AttrWord {
-    ghost use Rattle.irtext_types.specs.Attributes.{attr_behind};
-
-    ghost behind = { attr_behind I.reading F.reading };
-
-    fn parse(self, stream: &mut TextStream) -> ParseResult<DemoAttrOf<I, F>, B> {
-        match self {
-            AttrWord::Integer => Ok(DemoAttrOf::Integer(behind_word(stream)?)),
-            AttrWord::String => Ok(DemoAttrOf::String(behind_word(stream)?)),
-            AttrWord::Function => Ok(DemoAttrOf::Function(behind_word(stream)?)),
-            AttrWord::Debug => Ok(DemoAttrOf::Debug(behind_word(stream)?)),
-        }
+/// Parses a quoted string.
+fn characters_parse<A>(stream: &mut TextStream) -> ParseResult<Characters, A>
+    ensures { Answers (λ s. s) (λ s v. v) (λ c. c)
+        (unless_failed stream.old.failed (characters_at stream.old.rest)) stream.old result stream.new }
+{
+    match quoted_string_parse(stream) {
+        Ok(text) => Ok(Characters::new(text)),
+        Err(fault) => Err(fault),
     }
 }
 
-impl<B: Drop, I: Last<B>, F: Last<B>> IrText<B> for DemoAttrOf<I, F> {
-    ghost use Rattle.std.specs.Prelude.{refl};
+/// Parses a required quoted string after optional white space.
+fn characters_behind<A>(stream: &mut TextStream) -> ParseResult<Characters, A>
+    ensures { MustRead (λ s. s) (λ s v. v) (λ c. c) (space_at ▷ characters_at) stream.old result stream.new }
+{
+    if stream.has_failed() {
+        return Err(refuse(stream, Cause::StreamFailed));
+    }
+    skip_white_space(stream);
+    let found = characters_parse(stream);
+    committed(stream, found)
+}
+
+/// Parses the rest of an attribute, after its word.
+fn attr_parse<A: Drop>(stream: &mut TextStream, word: AttrWord) -> ParseResult<DemoAttr, A>
+    ensures { MustRead (λ s. s) (λ s v. v) (λ a. a) (attr_behind word) stream.old result stream.new }
+{
+    match word {
+        AttrWord::Integer => Ok(DemoAttr::Integer(integer_attr_parse(stream)?)),
+        AttrWord::String => Ok(DemoAttr::String(characters_behind(stream)?)),
+        AttrWord::Function => Ok(DemoAttr::Function(function_parse(stream)?)),
+        AttrWord::Debug => Ok(DemoAttr::Debug(characters_behind(stream)?)),
+    }
+}
+
+/// Appends a word and a quoted string.
+fn write_quoted(word: &str, text: &Characters, f: &mut String) -> fmt::Result
+    ensures { OnOk result (string_bytes f.new ≡ string_bytes f.old ++ (word.now ++ encode_utf8_all (quoted text.now.characters))) }
+{
+    f.push_str(word)?;
+    fmt_quoted(text.as_str(), f)?;
+    Ok(())
+}
+
+/// Appends an integer with its type, after their word.
+fn write_integer(attr: &IntegerAttr, f: &mut String) -> fmt::Result
+    ensures { OnOk result (string_bytes f.new ≡ string_bytes f.old ++ (codes "builtin.integer " ++ integer_attr_text attr.now)) }
+{
+    write!(f, "builtin.integer {attr}")?;
+    Ok(())
+}
+
+impl<B: Drop> IrText<B> for DemoAttr {
     ghost use Rattle.irtext_types.specs.Attributes.{attr_at, attr_text};
-    ghost use Rattle.irtext_types.specs.AttributeLaws.{attr_lawful, attr_sincere, attr_decides};
+    ghost use Rattle.irtext_types.specs.AttributeLaws.{attr_lawful};
+    ghost use Rattle.irtext_types.specs.EqualAttributes.{attr_decides};
+    ghost use Rattle.irtext_types.specs.SincereAttributes.{attr_sincere};
 
-    ghost reading = { attr_at I.reading F.reading };
+    ghost reading = { attr_at };
 
-    ghost written = { attr_text I.written F.written };
+    ghost written = { attr_text };
 
-    ghost lawful = { attr_lawful I.law F.law I.last F.last };
+    ghost lawful = { attr_lawful };
 
-    ghost sincere = { attr_sincere I.law F.law };
+    ghost sincere = { attr_sincere };
 
-    ghost decides = { attr_decides I.eq F.eq ⟦<DemoAttrOf<I, F> as PartialEq>⟧.eq (record { integer_integer = λ x y. refl; integer_string = λ x y. refl; integer_function = λ x y. refl; integer_debug = λ x y. refl; string_integer = λ x y. refl; string_string = λ x y. refl; string_function = λ x y. refl; string_debug = λ x y. refl; function_integer = λ x y. refl; function_string = λ x y. refl; function_function = λ x y. refl; function_debug = λ x y. refl; debug_integer = λ x y. refl; debug_string = λ x y. refl; debug_function = λ x y. refl; debug_debug = λ x y. refl }) I.decides F.decides };
+    ghost decides = { attr_decides };
 
-    fn read(stream: &mut TextStream) -> ParseResult<DemoAttrOf<I, F>, B> {
-        table_parse::<AttrWord, DemoAttrOf<I, F>, B>(
-            stream,
-            "Unregistered attribute ",
-            Expected::Attribute,
-        )
+    fn read(stream: &mut TextStream) -> ParseResult<DemoAttr, B> {
+        match dotted_parse(stream, "Unregistered attribute ", Expected::Attribute) {
+            Ok(word) => attr_parse(stream, word),
+            Err(fault) => Err(fault),
+        }
     }
 
     fn write_text(&self, f: &mut String) -> fmt::Result {
         match self {
-            DemoAttrOf::Integer(attr) => write_row::<I, B>("builtin.integer", attr, f),
-            DemoAttrOf::String(text) => write_row::<Characters, B>("builtin.string", text, f),
-            DemoAttrOf::Function(attr) => write_row::<F, B>("builtin.function", attr, f),
-            DemoAttrOf::Debug(text) => write_row::<Characters, B>("test.dbg", text, f),
+            DemoAttr::Integer(attr) => write_integer(attr, f),
+            DemoAttr::String(text) => write_quoted("builtin.string ", text, f),
+            DemoAttr::Function(attr) => write_function(attr, f),
+            DemoAttr::Debug(text) => write_quoted("test.dbg ", text, f),
         }
     }
 }
 
-impl<B: Drop, I: Last<B> + Hash + TryClone, F: Last<B> + Hash + TryClone> AttrText<B>
-    for DemoAttrOf<I, F> {
+impl<B: Drop> AttrText<B> for DemoAttr {
     ghost use Rattle.irtext_types.specs.Attributes.{is_debug};
     ghost use Rattle.irtext_types.specs.AttributeLaws.{attr_unreserved};
 
@@ -126,41 +169,22 @@ impl<B: Drop, I: Last<B> + Hash + TryClone, F: Last<B> + Hash + TryClone> AttrTe
 
     ghost print_once = { is_debug };
 
-    ghost unreserved = { attr_unreserved I.law F.law I.last F.last };
+    ghost unreserved = { attr_unreserved };
 
     fn is_outlined(&self) -> bool {
-        matches!(self, DemoAttrOf::Debug(_))
+        matches!(self, DemoAttr::Debug(_))
     }
 
     fn is_print_once(&self) -> bool {
-        matches!(self, DemoAttrOf::Debug(_))
+        matches!(self, DemoAttr::Debug(_))
     }
 
-    fn try_clone(&self) -> Result<DemoAttrOf<I, F>, AllocError> {
+    fn try_clone(&self) -> Result<DemoAttr, AllocError> {
         match self {
-            DemoAttrOf::Integer(attr) => Ok(DemoAttrOf::Integer(attr.try_clone()?)),
-            DemoAttrOf::String(text) => Ok(DemoAttrOf::String(text.try_clone()?)),
-            DemoAttrOf::Function(attr) => Ok(DemoAttrOf::Function(attr.try_clone()?)),
-            DemoAttrOf::Debug(text) => Ok(DemoAttrOf::Debug(text.try_clone()?)),
+            DemoAttr::Integer(attr) => Ok(DemoAttr::Integer(*attr)),
+            DemoAttr::String(text) => Ok(DemoAttr::String(text.try_clone()?)),
+            DemoAttr::Function(attr) => Ok(DemoAttr::Function(attr.try_clone()?)),
+            DemoAttr::Debug(text) => Ok(DemoAttr::Debug(text.try_clone()?)),
         }
     }
-}
-
-impl<I, F> Worded for DemoAttrOf<I, F> {
-    ghost use Rattle.irtext_types.specs.Attributes.{attr_words};
-
-    ghost words = { attr_words };
-
-    fn has_word(word: &str) -> bool {
-        word == "builtin.integer"
-            || word == "builtin.string"
-            || word == "builtin.function"
-            || word == "test.dbg"
-    }
-}
-
-impl<B: Drop, I: Last<B>, F: Last<B>> Family<B> for DemoAttrOf<I, F> {
-    ghost use Rattle.irtext_types.specs.AttributeLaws.{attr_led};
-
-    ghost led = { attr_led I.law F.law I.last F.last };
 }

@@ -1,0 +1,67 @@
+//! The dotted words that types and attributes begin with, such as `builtin.integer`.
+ghost use Rattle.std.specs.Prelude.{◌≡◌, ◌⊎◌, ◌++◌, ℕ, List, Option};
+ghost use Rattle.std.specs.Str.{encode_utf8_all};
+ghost use Rattle.irtext_base.specs.Answers.{Answers, StarvesHere, FailsBehind, unless_failed};
+ghost use Rattle.irtext_base.specs.Faults.{demand_of, OwnText};
+ghost use Rattle.irtext_base.specs.Places.{StandsBehind};
+ghost use Rattle.irtext_types.specs.Words.{dotted_at};
+
+use irtext_base::parsable::{CharStream, ParseFault, ParseResult, Place, TextStream};
+use irtext_base::result::{Cause, Expected};
+use irtext_read::irfmt::faults::{begins, out_of_memory, refuse, refuse_at, unexpected};
+use irtext_read::irfmt::parsers::{Class, skip_class};
+
+/// The words that values of one kind begin with.
+pub trait DottedWord: Copy {
+    // the word that a text is, if it is one
+    ghost word: { List ℕ → Option Self };
+
+    /// Returns the word that the text is, or `None` if it is not one.
+    fn of(text: &str) -> Option<Self>
+        ensures { result ≡ word text.now };
+}
+
+/// Returns the error `OwnText` for an unknown word that begins at an earlier position. The error is at that position, and its text is
+/// `refusal` and then the word. If the text cannot be allocated, returns `Memory` at the current position. The error is committed, and
+/// the stream is marked as failed.
+#[cold]
+#[inline(never)]
+fn unregistered<A>(stream: &mut TextStream, place: Place, refusal: &str) -> ParseFault<A>
+    requires { (passed taken : List ℕ) × (passed ++ taken ≡ stream.old.passed) × StandsBehind place passed }
+    ensures { (passed taken : List ℕ) → passed ++ taken ≡ stream.old.passed → StandsBehind place passed →
+        StarvesHere (λ s. s) (λ s v. v) stream.old result stream.new ⊎
+        FailsBehind (λ s. s) (λ s v. v)
+        (OwnText (refusal.now ++ encode_utf8_all taken)) passed stream.old result stream.new }
+{
+    let word = stream.text_since(place);
+    match format!(in stream.allocator(); "{refusal}{word}") {
+        Ok(text) => refuse_at(stream, place, Cause::OwnText(text)),
+        Err(_) => out_of_memory(stream),
+    }
+}
+
+/// Parses the longest dotted word that comes next. Fails with `Unexpected`, uncommitted, if there is none, and with `OwnText`, committed,
+/// at the beginning of the word if it is unknown.
+pub fn dotted_parse<W: DottedWord, A>(
+    stream: &mut TextStream,
+    refusal: &str,
+    expected: Expected,
+) -> ParseResult<W, A>
+    ensures { Answers (λ s. s) (λ s v. v) (λ w. w)
+        (unless_failed stream.old.failed (dotted_at W.word refusal.now (demand_of expected) stream.old.rest))
+        stream.old result stream.new }
+{
+    if stream.has_failed() {
+        return Err(refuse(stream, Cause::StreamFailed));
+    }
+    if !begins(stream, Class::Beginning) {
+        return Err(unexpected(stream, expected));
+    }
+    let place = stream.position();
+    skip_class(stream, Class::Dotted);
+    let found = stream.text_since(place);
+    if let Some(word) = W::of(found) {
+        return Ok(word);
+    }
+    Err(unregistered(stream, place, refusal))
+}
