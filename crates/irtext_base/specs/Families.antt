@@ -1,5 +1,7 @@
 -- The words of a family of types or of attributes.
-use Rattle.std.specs.Prelude.{◌≡◌, Bool, true, false, cond, ◌||◌, List, [], ◌∷◌, ◌++◌}
+use Prim.Native.Char.{Char}
+use Prim.Native.String.{String, [] as none, ◌∷◌ as ◌∷ᶜ◌}
+use Rattle.std.specs.Prelude.{◌≡◌, ℕ, zero, suc, ◌-◌, Bool, true, false, cond, ◌||◌, List, [], ◌∷◌, ◌++◌, map}
 use Rattle.std.specs.Str.{bytes_eq}
 use Rattle.irtext_base.specs.Text.{Text, front, in_dotted}
 use Rattle.irtext_base.specs.Own.{Ends}
@@ -13,6 +15,24 @@ is_one_of (w ∷ words) word = bytes_eq word w || is_one_of words word
 abbrev pub shared : List Text → List Text → List Text
 shared [] others = []
 shared (w ∷ words) others = cond (is_one_of others w) (w ∷ shared words others) (shared words others)
+
+-- the printable characters of ASCII
+abbrev printable : String
+printable = " !\"#$%&'()*+,-./0123456789:;<=>?@ABCDEFGHIJKLMNOPQRSTUVWXYZ[\\]^_`abcdefghijklmnopqrstuvwxyz{|}~"
+
+abbrev character_at : String → ℕ → Char
+character_at none n = "?"
+character_at (c ∷ᶜ s) zero = c
+character_at (c ∷ᶜ s) (suc n) = character_at s n
+
+-- a word as a quoted text, as an error of the checker shows it; words are of ASCII
+abbrev pub quoted : Text → String
+quoted [] = none
+quoted (c ∷ word) = character_at printable (c - 32) ∷ᶜ quoted word
+
+-- two families have no word in common; if they have, the error shows the words
+abbrev pub AreApart : List Text → List Text → Type 0
+AreApart words others = map quoted (shared words others) ≡ []
 
 -- each printed text begins with one of the words, if what follows it can end it
 pub record BeginsWithWord {X : Type 0} (words : List Text) (written : X → Text) : Type 0 where

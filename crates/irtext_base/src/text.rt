@@ -3,7 +3,7 @@ ghost use Rattle.std.specs.Prelude.{◌≡◌, ℕ, List, [], ◌++◌, ◌↔�
 ghost use Rattle.std.specs.Str.{encode_utf8_all};
 ghost use Rattle.irtext_base.specs.Answers.{Outcome, Answers, unless_failed};
 ghost use Rattle.irtext_base.specs.Own.{Lawful, Sincere, Unreserved, texts_of};
-ghost use Rattle.irtext_base.specs.Families.{BeginsWithWord, is_one_of, shared};
+ghost use Rattle.irtext_base.specs.Families.{BeginsWithWord, AreApart, is_one_of};
 
 use crate::parsable::{ParseResult, TextStream};
 use std::alloc::AllocError;
@@ -77,7 +77,7 @@ pub trait Family<B>: IrText<B> + Worded {
 
 /// Says that two families have no word in common, so that the first word of a text tells which family it is of. `Self` is a type without
 /// values, of the crate that puts the two families together; that crate needs to own neither of them. The law is computed:
-/// `ghost apart = { refl }`.
+/// `ghost apart = { refl }`. If they have a word in common the checker's error shows it.
 pub trait Apart<L: Worded, R: Worded> {
-    ghost apart: { shared L.words R.words ≡ [] };
+    ghost apart: { AreApart L.words R.words };
 }

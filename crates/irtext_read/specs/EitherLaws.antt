@@ -8,8 +8,8 @@ use Rattle.irtext_base.specs.Answers.{Outcome, Read, Missing, Bad, mapped}
 use Rattle.irtext_base.specs.Own.{found, missing, standing, texts_of, Ends, Lawful, Sincere, Unreserved}
 use Rattle.irtext_base.proofs.Characters.{or_left}
 use Rattle.irtext_base.proofs.Sincere.{of_either, of_mapped, of_sincere, sincere_of}
-use Rattle.irtext_base.specs.Families.{is_one_of, shared, BeginsWithWord}
-use Rattle.irtext_read.specs.EitherWords.{one_of_both, not_one_of, or_right}
+use Rattle.irtext_base.specs.Families.{is_one_of, AreApart, BeginsWithWord}
+use Rattle.irtext_read.specs.EitherWords.{one_of_both, none_shared, not_one_of, or_right}
 use Rattle.irtext_read.specs.Eithers.{right, either_at, either_of}
 use Rattle.irtext_read.specs.declared.either.Either.{Either}
 use Rattle.irtext_read.specs.declared.either.Either.TheVariants.{Left, Right}
@@ -44,7 +44,7 @@ module _ {L R W : Type 0} (words others : List Text) (left_at : Text → Outcome
       by (Left x) rest e = one_of_both words others _ ∙ or_left _ _ (l.leads x rest e)
       by (Right y p) rest e = one_of_both words others _ ∙ or_right _ _ (r.leads y rest e)
 
-  pub either_lawful : Lawful L (texts_of left_at left_text) → Lawful R (texts_of right_at right_text) → BeginsWithWord words left_text → BeginsWithWord others right_text → shared words others ≡ [] → Lawful (Either L R W) (texts_of at text_of)
+  pub either_lawful : Lawful L (texts_of left_at left_text) → Lawful R (texts_of right_at right_text) → BeginsWithWord words left_text → BeginsWithWord others right_text → AreApart words others → Lawful (Either L R W) (texts_of at text_of)
   either_lawful l r ll rl d = record { starts = starts; misses = misses; again = again; scalars = scalars }
     where
       starts : (x : Either L R W) (rest : Text) → begins begins_word (text_of x ++ rest) ≡ true
@@ -62,7 +62,7 @@ module _ {L R W : Type 0} (words others : List Text) (left_at : Text → Outcome
 
       again : (x : Either L R W) (rest : Text) → Ends rest → (left : Text) × (standing (at (text_of x ++ rest)) ≡ found x left) × (after_space left ≡ after_space rest)
       again (Left x) rest e = let k = l.again x rest e in (k.0, ours (left_text x ++ rest) x k.0 (ll.leads x rest e) k.1, k.2)
-      again (Right y p) rest e = let k = r.again y rest e in (k.0, theirs (right_text y ++ rest) y k.0 (not_one_of words others _ d (rl.leads y rest e)) k.1, k.2)
+      again (Right y p) rest e = let k = r.again y rest e in (k.0, theirs (right_text y ++ rest) y k.0 (not_one_of words others _ (none_shared words others d) (rl.leads y rest e)) k.1, k.2)
 
       scalars : (x : Either L R W) → all_scalars (text_of x) ≡ true
       scalars (Left x) = l.scalars x
