@@ -7,3 +7,4 @@ pub mod Dialects
 pub mod Named
 pub mod DialectTables
 pub mod Locations
+pub mod RefusedOps

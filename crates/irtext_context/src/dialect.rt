@@ -17,6 +17,7 @@ ghost use Rattle.irtext_base.specs.declared.location.Location.{Unknown};
 
 mod key;
 mod named;
+mod operation;
 mod table;
 
 use crate::dialect::key::{SymNameKey, key_for};

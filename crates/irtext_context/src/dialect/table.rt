@@ -21,7 +21,7 @@ use irtext_base::text::{AttrText, IrText};
 use std::alloc::{AllocError, Global};
 
 /// Makes a dialect without operations, and its key, a name that carries this index as a hint for lookups.
-fn empty(
+pub(crate) fn empty(
     alloc: Global,
     name: &DialectName,
     index: usize,
@@ -35,7 +35,7 @@ fn empty(
 }
 
 /// Appends a dialect. If an allocation fails, the entries are unchanged.
-fn put_last(
+pub(crate) fn put_last(
     dialects: &mut IndexMap<DialectName, Dialect>,
     key: DialectName,
     dialect: Dialect,
@@ -86,7 +86,7 @@ impl<T: IrText<A>, A: AttrText<A>> Context<T, A> {
     ghost use Rattle.irtext_context.specs.DialectLends.{LendsDialectAt};
 
     /// Borrows the dialect at an index as `&mut`.
-    fn dialect_at(&mut self, index: usize) -> &mut Dialect
+    pub(crate) fn dialect_at(&mut self, index: usize) -> &mut Dialect
         requires { index < length self.old.dialects }
         ensures* lends { sem 𝓛 (LendsDialectAt T.row A.row self.entry index result) }
         ensures value { slice_get (values_of self.old.dialects) index ≡ Some result.now }
