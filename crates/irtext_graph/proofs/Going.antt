@@ -24,6 +24,7 @@ use Rattle.irtext_graph.proofs.Inside.{within_self, within_or}
 use Rattle.irtext_graph.proofs.Nests.{told, climb-same}
 use Rattle.irtext_graph.proofs.Preorders.{onward_same}
 use Rattle.irtext_graph.proofs.Same.{object_tells}
+use Rattle.irtext_graph.proofs.Stores.{seen_mapped}
 
 module _ {X : Type 0} where
   places_self : (s : Store X) → SamePlaces s s
@@ -79,43 +80,17 @@ module _ {O B T : Type 0} where
   module _ (f : O → O) (h : B → B) where
     operation_changed : (old new : GraphView O B T) (p : Ptr Operation) → get new.operations p ≡ option_map (object_of (with_data f)) (get old.operations p) → ChangedObject old new (TheOperation p) f h
     operation_changed old new p e = record {
-      what = ap (λ s. option_map (λ d. AnOperation d.0 d.1) (content_of s)) e ∙ what (get old.operations p);
-      holder = ap (λ s. option_map TheBlock (parent_of s)) e ∙ holder (get old.operations p);
-      items = ap (λ s. map TheRegion (children_of s)) e ∙ items (get old.operations p);
+      what = ap (λ s. option_map (λ d. AnOperation d.0 d.1) (content_of s)) e ∙ seen_mapped (object_of (with_data f)) (λ s. option_map (λ d. AnOperation d.0 d.1) (content_of s)) (λ s. option_map (changed f h) (option_map (λ d. AnOperation d.0 d.1) (content_of s))) refl (λ x. refl) (get old.operations p);
+      holder = ap (λ s. option_map TheBlock (parent_of s)) e ∙ seen_mapped (object_of (with_data f)) (λ s. option_map TheBlock (parent_of s)) (λ s. option_map TheBlock (parent_of s)) refl (λ x. refl) (get old.operations p);
+      items = ap (λ s. map TheRegion (children_of s)) e ∙ seen_mapped (object_of (with_data f)) (λ s. map TheRegion (children_of s)) (λ s. map TheRegion (children_of s)) refl (λ x. refl) (get old.operations p);
     }
-      where
-        what : (s : Option (Entry (Node BasicBlock Region (OperationContent O T)))) → ◌≡◌ {A = Option (Content O B T)} (option_map (λ d. AnOperation d.0 d.1) (content_of (option_map (object_of (with_data f)) s)))
-            (option_map (changed f h) (option_map (λ d. AnOperation d.0 d.1) (content_of s)))
-        what None = refl
-        what (Some s) = refl
-
-        holder : (s : Option (Entry (Node BasicBlock Region (OperationContent O T)))) → option_map TheBlock (parent_of (option_map (object_of (with_data f)) s)) ≡ option_map TheBlock (parent_of s)
-        holder None = refl
-        holder (Some s) = refl
-
-        items : (s : Option (Entry (Node BasicBlock Region (OperationContent O T)))) → map TheRegion (children_of (option_map (object_of (with_data f)) s)) ≡ map TheRegion (children_of s)
-        items None = refl
-        items (Some s) = refl
 
     block_changed : (old new : GraphView O B T) (p : Ptr BasicBlock) → get new.blocks p ≡ option_map (object_of (with_block h)) (get old.blocks p) → ChangedObject old new (TheBlock p) f h
     block_changed old new p e = record {
-      what = ap (λ s. option_map (λ d. ABlock d.0 d.1) (content_of s)) e ∙ what (get old.blocks p);
-      holder = ap (λ s. option_map TheRegion (parent_of s)) e ∙ holder (get old.blocks p);
-      items = ap (λ s. map TheOperation (children_of s)) e ∙ items (get old.blocks p);
+      what = ap (λ s. option_map (λ d. ABlock d.0 d.1) (content_of s)) e ∙ seen_mapped (object_of (with_block h)) (λ s. option_map (λ d. ABlock d.0 d.1) (content_of s)) (λ s. option_map (changed f h) (option_map (λ d. ABlock d.0 d.1) (content_of s))) refl (λ x. refl) (get old.blocks p);
+      holder = ap (λ s. option_map TheRegion (parent_of s)) e ∙ seen_mapped (object_of (with_block h)) (λ s. option_map TheRegion (parent_of s)) (λ s. option_map TheRegion (parent_of s)) refl (λ x. refl) (get old.blocks p);
+      items = ap (λ s. map TheOperation (children_of s)) e ∙ seen_mapped (object_of (with_block h)) (λ s. map TheOperation (children_of s)) (λ s. map TheOperation (children_of s)) refl (λ x. refl) (get old.blocks p);
     }
-      where
-        what : (s : Option (Entry (Node Region Operation (BlockContent B T)))) → ◌≡◌ {A = Option (Content O B T)} (option_map (λ d. ABlock d.0 d.1) (content_of (option_map (object_of (with_block h)) s)))
-            (option_map (changed f h) (option_map (λ d. ABlock d.0 d.1) (content_of s)))
-        what None = refl
-        what (Some s) = refl
-
-        holder : (s : Option (Entry (Node Region Operation (BlockContent B T)))) → option_map TheRegion (parent_of (option_map (object_of (with_block h)) s)) ≡ option_map TheRegion (parent_of s)
-        holder None = refl
-        holder (Some s) = refl
-
-        items : (s : Option (Entry (Node Region Operation (BlockContent B T)))) → map TheOperation (children_of (option_map (object_of (with_block h)) s)) ≡ map TheOperation (children_of s)
-        items None = refl
-        items (Some s) = refl
 
     -- the data of one operation are written
     pub edits_operation : (old new : GraphView O B T) (p : Ptr Operation) → EditsOperation old new p f → EditsObject old new (TheOperation p) f h

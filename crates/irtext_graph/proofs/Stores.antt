@@ -16,6 +16,18 @@ use Rattle.irtext_graph.proofs.Pointers.{ptr_or}
 use Rattle.irtext_graph.specs.Lending.{with_content_at}
 use Rattle.irtext_graph.proofs.Arenas.{Edited, edited, lent, stands}
 
+-- what is seen of an option that is mapped is what is seen of the option, if that is so of each value and of none
+pub seen_mapped : {A B V : Type 0} (change : A → B) (f : Option B → V) (g : Option A → V) → f None ≡ g None → ((a : A) → f (Some (change a)) ≡ g (Some a)) → (s : Option A) → f (option_map change s) ≡ g s
+seen_mapped change f g none some None = none
+seen_mapped change f g none some (Some a) = some a
+
+-- what an edit leaves of each object is seen of all objects as before
+pub edited_same : {X V K : Type 0} (old new : Store X) (p : Ptr K) (change : X → X) (f : Option (Entry X) → V) → ((o : Entry X) → f (Some (object_of change o)) ≡ f (Some o)) → Edits old new p change → (q : Ptr K) → f (get new q) ≡ f (get old q)
+edited_same old new p change f same e q = elim (ptr_or q p) [
+  | inl here ↦ ap (λ r. f (get new r)) here ∙ ap f e.updates.changed ∙ seen_mapped (object_of change) f f refl same (get old p) ∙ sym (ap (λ r. f (get old r)) here)
+  | inr ne ↦ ap f (e.updates.others q ne)
+]
+
 module _ {X Y : Type 0} (see : X → Y) where
   pub held : (s : Option (Slot X)) (g : ℕ) → object_in (option_map (cell_of see) s) g ≡ option_map (object_of see) (arena.found s g)
   held None g = refl
