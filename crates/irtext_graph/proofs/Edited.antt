@@ -1,5 +1,5 @@
 -- An edit of one operation's data leaves what stands in what, what uses what, and how old each object is.
-use Rattle.std.proofs.Common.{◌≡◌, ◌∙◌, inl, inr, refl, sym, ap, ℕ, Option, Some, None, slice_get, map}
+use Rattle.std.proofs.Common.{◌≡◌, ◌∙◌, refl, sym, ap, ℕ, Option, Some, slice_get, map}
 use Rattle.std.specs.Option.{option_map}
 use Rattle.irtext_graph.specs.Back.{owner, operands_of, successors_of, IsClosedBelow}
 use Rattle.irtext_graph.specs.Content.{Node, Content.{AnOperation, ABlock, ARegion}, OperationContent}

@@ -1,7 +1,6 @@
 -- The data of all that stands inside an object are changed, one object behind the other: what is done so far, and that all is done at the end.
 use Rattle.std.proofs.Common.{◌≡◌, ◌≢◌, ◌<◌, ◌∙◌, ◌⊎◌, ◌∷◌, ℕ, suc, refl, sym, ap, arith, inl, inr, subst, Option, Some, None, IsSome, IfSome, length, map}
 use Rattle.std.specs.Option.{option_map}
-use Rattle.irtext_graph.specs.declared.arena.Entry.{Entry}
 use Rattle.irtext_graph.specs.declared.arena.Ptr.{Ptr}
 use Rattle.irtext_graph.specs.declared.object.Operation.{Operation}
 use Rattle.irtext_graph.specs.declared.object.BasicBlock.{BasicBlock}
@@ -9,7 +8,7 @@ use Rattle.irtext_graph.specs.declared.object.Region.{Region}
 use Rattle.irtext_graph.specs.declared.object.Object.{Object}
 use Rattle.irtext_graph.specs.declared.object.Object.TheVariants.{TheOperation, TheBlock, TheRegion}
 use Rattle.irtext_graph.specs.Chained.{Among}
-use Rattle.irtext_graph.specs.Content.{Node, Content, Content.{AnOperation, ABlock, ARegion}, OperationContent, BlockContent, RegionContent}
+use Rattle.irtext_graph.specs.Content.{Content, Content.{AnOperation, ABlock, ARegion}, RegionContent}
 use Rattle.irtext_graph.specs.Data.{with_data, with_block, with_operation_data, with_block_data, EditsOperation, EditsBlock}
 use Rattle.irtext_graph.specs.Graph.{GraphView, SamePlaces, parent, children, content, parent_of, children_of, content_of, Stands, IsInside, IsNew, KeepsOlder}
 use Rattle.irtext_graph.specs.Nested.{Nested}
@@ -42,6 +41,9 @@ module _ {X : Type 0} where
 module _ {O B T : Type 0} where
   rest_self : (g : GraphView O B T) → KeepsRest g g
   rest_self g = record { operation_places = places_self g.operations; block_places = places_self g.blocks; region_places = places_self g.regions; made = refl; values = refl; first_place = refl }
+
+  rest_of : (g h : GraphView O B T) → SamePlaces g.operations h.operations → SamePlaces g.blocks h.blocks → SamePlaces g.regions h.regions → h.made ≡ g.made → h.values ≡ g.values → h.first_place ≡ g.first_place → KeepsRest g h
+  rest_of g h operations blocks regions made values first = record { operation_places = operations; block_places = blocks; region_places = regions; made = made; values = values; first_place = first }
 
   rest_on : (g h k : GraphView O B T) → KeepsRest g h → KeepsRest h k → KeepsRest g k
   rest_on g h k a b = record {
@@ -97,14 +99,7 @@ module _ {O B T : Type 0} where
     edits_operation old new p e = record {
       here = operation_changed old new p e.operations.updates.changed;
       others = others;
-      rest = record {
-        operation_places = places_edited old.operations new.operations p (with_data f) e.operations;
-        block_places = places_is old.blocks new.blocks e.blocks;
-        region_places = places_is old.regions new.regions e.regions;
-        made = e.made;
-        values = e.values;
-        first_place = e.first_place;
-      };
+      rest = rest_of old new (places_edited old.operations new.operations p (with_data f) e.operations) (places_is old.blocks new.blocks e.blocks) (places_is old.regions new.regions e.regions) e.made e.values e.first_place;
     }
       where
         others : (q : Object) → q ≢ TheOperation p → SameObject old new q
@@ -117,14 +112,7 @@ module _ {O B T : Type 0} where
     edits_block old new p e = record {
       here = block_changed old new p e.blocks.updates.changed;
       others = others;
-      rest = record {
-        operation_places = places_is old.operations new.operations e.operations;
-        block_places = places_edited old.blocks new.blocks p (with_block h) e.blocks;
-        region_places = places_is old.regions new.regions e.regions;
-        made = e.made;
-        values = e.values;
-        first_place = e.first_place;
-      };
+      rest = rest_of old new (places_is old.operations new.operations e.operations) (places_edited old.blocks new.blocks p (with_block h) e.blocks) (places_is old.regions new.regions e.regions) e.made e.values e.first_place;
     }
       where
         others : (q : Object) → q ≢ TheBlock p → SameObject old new q

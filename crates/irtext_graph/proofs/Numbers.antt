@@ -21,7 +21,7 @@ use Rattle.irtext_graph.specs.Graph.{GraphView, graph_of, numbered, content, con
 use Rattle.irtext_graph.specs.Numbers.{AreNumbered}
 use Rattle.irtext_graph.specs.Objects.{what}
 use Rattle.irtext_graph.specs.Parts.{value_at, results_of, arguments_of}
-use Rattle.irtext_graph.specs.Store.{Store, Edits, get, object_of, object_in, cell_of}
+use Rattle.irtext_graph.specs.Store.{get, object_of, object_in, cell_of}
 use Rattle.irtext_graph.specs.Used as used
 use Rattle.irtext_graph.specs.Used.{Replaces, without_uses_in}
 use Rattle.irtext_graph.proofs.Nests.{told}

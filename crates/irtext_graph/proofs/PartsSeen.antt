@@ -1,8 +1,8 @@
 -- What the view says of an object's parts is what the arenas hold.
-use Rattle.std.proofs.Common.{◌≡◌, ◌<◌, ◌∙◌, ℕ, refl, ap, arith, Option, Some, None, length, slice_get, IsSome}
+use Rattle.std.proofs.Common.{◌≡◌, ◌<◌, ◌∙◌, ℕ, refl, ap, arith, Option, Some, None, length, slice_get, get_or, IsSome}
 use Rattle.std.specs.Option.{option_map}
 use Rattle.std.proofs.lemmas.List.{length-map}
-use Rattle.std.proofs.lemmas.Option.{slice_get-map}
+use Rattle.std.proofs.lemmas.Option.{slice_get-map, slice_get_read}
 use Rattle.irtext_graph.specs.declared.graph.Counters.{Counters}
 use Rattle.irtext_graph.specs.Arena as arena
 use Rattle.irtext_graph.specs.declared.arena.Entry.{Entry}
@@ -71,14 +71,14 @@ module _ {O B T : Type 0} (m : ℕ) (v : Counters) (x : Objects O B T) where
     pub operand_seen : (i : ℕ) → slice_get (operands (graph_of m v x) p) i ≡ option_map (λ u. u.def) (slice_get n.data.operands i)
     operand_seen i = ap (λ c. slice_get (operands_of c) i) (operation_seen p n e) ∙ slice_get-map (λ u. u.def) n.data.operands i
 
-    pub operand_read : (i : ℕ) (u : Use (Value)) → i < length (operands (graph_of m v x) p) → (i < length n.data.operands → slice_get n.data.operands i ≡ Some u) → slice_get (operands (graph_of m v x) p) i ≡ Some u.def
-    operand_read i u low read = let k = operand_count in operand_seen i ∙ ap (option_map (λ u. u.def)) (read (omega (arith, low, k)))
+    pub operand_read : (i : ℕ) (u : Use (Value)) → i < length (operands (graph_of m v x) p) → u ≡ get_or n.data.operands i u → slice_get (operands (graph_of m v x) p) i ≡ Some u.def
+    operand_read i u low read = let k = operand_count in operand_seen i ∙ ap (option_map (λ u. u.def)) (slice_get_read n.data.operands (length n.data.operands) i u refl (omega (arith, low, k)) read)
 
     pub successor_seen : (i : ℕ) → slice_get (successors (graph_of m v x) p) i ≡ option_map (λ u. u.def) (slice_get n.data.successors i)
     successor_seen i = ap (λ c. slice_get (successors_of c) i) (operation_seen p n e) ∙ slice_get-map (λ u. u.def) n.data.successors i
 
-    pub successor_read : (i : ℕ) (u : Use (Ptr BasicBlock)) → i < length (successors (graph_of m v x) p) → (i < length n.data.successors → slice_get n.data.successors i ≡ Some u) → slice_get (successors (graph_of m v x) p) i ≡ Some u.def
-    successor_read i u low read = let k = successor_count in successor_seen i ∙ ap (option_map (λ u. u.def)) (read (omega (arith, low, k)))
+    pub successor_read : (i : ℕ) (u : Use (Ptr BasicBlock)) → i < length (successors (graph_of m v x) p) → u ≡ get_or n.data.successors i u → slice_get (successors (graph_of m v x) p) i ≡ Some u.def
+    successor_read i u low read = let k = successor_count in successor_seen i ∙ ap (option_map (λ u. u.def)) (slice_get_read n.data.successors (length n.data.successors) i u refl (omega (arith, low, k)) read)
 
   pub argument_count : (p : Ptr BasicBlock) (n : Nest Region Operation (BlockData B T)) → option_map (λ o. o.content) (arena.get x.blocks p) ≡ Some n → length (arguments (graph_of m v x) p) ≡ length n.data.arguments
   argument_count p n e = ap (λ c. length (arguments_of c)) (block_seen p n e) ∙ length-map n.data.arguments typed

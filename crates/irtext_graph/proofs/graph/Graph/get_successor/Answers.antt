@@ -1,5 +1,3 @@
-use Rattle.std.proofs.Common.{refl}
-use Rattle.std.proofs.lemmas.Option.{slice_get_read}
 use Rattle.irtext_graph.proofs.PartsSeen.{operation_there, successor_read}
 use Rattle.irtext_graph.proofs.graph.Graph.get_successor.Goals as goal
 
@@ -8,5 +6,4 @@ content-requires g c = operation_there c.self.inside.made c.self.inside.counters
 
 pub returns : goal.returns
 returns g c =
-    rw (← c.self.view_is) (successor_read c.self.inside.made c.self.inside.counters c.self.inside.objects c.args.op c.content.result.now c.content.ensures c.args.i c.index.result.now (rw (← c.self.view_is) at c.requires.within)
-    (λ low. slice_get_read c.content.result.now.data.successors _ c.args.i c.index.result.now refl low c.index.ensures))
+    rw (← c.self.view_is) (successor_read c.self.inside.made c.self.inside.counters c.self.inside.objects c.args.op c.content.result.now c.content.ensures c.args.i c.index.result.now (rw (← c.self.view_is) at c.requires.within) c.index.ensures)
