@@ -4,7 +4,7 @@ use Rattle.std.specs.Option.{option_map}
 use Rattle.std.proofs.lemmas.Bool.{ltb-false, le-ltb}
 use Rattle.std.proofs.lemmas.Option.{slice_get-map}
 use Rattle.irtext_graph.specs.declared.graph.Counters.{Counters}
-use Rattle.irtext_graph.specs.Arena.{get, found, born_in, AtLeast, HasFew, AreOlder, Sheds}
+use Rattle.irtext_graph.specs.Arena.{get, born_in, AtLeast, HasFew, Sheds}
 use Rattle.irtext_graph.specs.Used.{user}
 use Rattle.irtext_graph.specs.Back.{ShedsAll, owner, operands_of, successors_of, IsClosedBelow, RollsBack}
 use Rattle.irtext_graph.specs.Content.{Content, Content.{AnOperation}, node_of, operation_content, block_content, region_content}
@@ -48,7 +48,7 @@ use Rattle.irtext_graph.proofs.Places.{kids_live}
 use Rattle.irtext_graph.proofs.Sheds.{shed_all, shed_object, older_shed}
 use Rattle.irtext_graph.proofs.Stores.{get_seen, returns_seen}
 use Rattle.irtext_graph.proofs.Views.{up_seen, kids_seen, what_seen}
-use Rattle.irtext_graph.proofs.Stores.{found_seen, length_seen, returned-keeps}
+use Rattle.irtext_graph.proofs.Stores.{length_seen, returned-keeps, older_of}
 use Rattle.irtext_graph.proofs.Logs.{same_age, logged_cut}
 use Rattle.irtext_graph.proofs.Moves.{lower}
 use Rattle.std.proofs.lemmas.Option.{cond_some}
@@ -97,19 +97,6 @@ module _ {X Y : Type 0} (see : X → Y) where
       let m = length_seen see a.slots.items in
       let n = length_seen see b.slots.items in
       omega (arith, f, l, m, n)
-
-  older_of : (made : ℕ) (a b : Arena X) → store_of see b ≡ store_of see a → AreOlder made a → AreOlder made b
-  older_of made a b e h i g o f =
-      go (found (slice_get a.slots.items i) g) refl
-      (sym (found_seen see a i g) ∙ ap (λ s. store.object_in (slice_get s.cells i) g) (sym e) ∙ found_seen see b i g ∙ ap (option_map (object_of see)) f)
-    where
-      go : (s : Option (Entry X)) → found (slice_get a.slots.items i) g ≡ s → option_map (object_of see) s ≡ Some (object_of see o) → o.born < made
-      go None k q = absurd (cc)
-      go (Some x) k q =
-          let r : object_of see x ≡ object_of see o = some_eq q in
-          let n : x.born ≡ o.born = ap (λ (z : Entry Y). z.born) r in
-          let l = h i g x k in
-          omega (arith, l, n)
 
 pub op_lives : {O B T : Type 0} (x : Objects O B T) (p : Ptr Operation) → (get x.operations p ≡ None → ⊥) → Lives x (TheOperation p)
 op_lives x p n = datum_there (λ d. AnOperation d.0 (operation_content d.1)) (get x.operations p) (go (get x.operations p) n)

@@ -29,7 +29,7 @@ use Rattle.irtext_graph.proofs.Linked.{defined_tells}
 use Rattle.irtext_graph.proofs.Nests.{renested, some_eq}
 use Rattle.irtext_graph.proofs.Redirected.{replaced_kept}
 use Rattle.irtext_graph.proofs.Same.{object_tells}
-use Rattle.irtext_graph.proofs.Stores.{get_mapped, mapped_seen}
+use Rattle.irtext_graph.proofs.Stores.{get_mapped, mapped_seen, seen_mapped}
 use Rattle.irtext_graph.proofs.SameSeen.{few_seen, older_seen}
 use Rattle.irtext_graph.proofs.UsesSeen.{val_seen}
 use Rattle.irtext_graph.proofs.Views.{up_seen, kids_seen}
@@ -43,20 +43,12 @@ itself d e x same = go (eq_defined x d) refl
 
 module _ {O B T : Type 0} where
   parent_bare : (g : GraphView O B T) (q : Object) → parent (without_uses g) q ≡ parent g q
-  parent_bare g (TheOperation p) = ap (λ s. option_map TheBlock (parent_of s)) (get_mapped without_uses_in g.operations p) ∙ go (get g.operations p)
-    where
-      go : (s : Option (Entry (Node BasicBlock Region (OperationContent O T)))) → option_map TheBlock (parent_of (option_map (object_of without_uses_in) s)) ≡ option_map TheBlock (parent_of s)
-      go None = refl
-      go (Some e) = refl
+  parent_bare g (TheOperation p) = ap (λ s. option_map TheBlock (parent_of s)) (get_mapped without_uses_in g.operations p) ∙ seen_mapped (object_of without_uses_in) (λ s. option_map TheBlock (parent_of s)) (λ s. option_map TheBlock (parent_of s)) refl (λ e. refl) (get g.operations p)
   parent_bare g (TheBlock p) = refl
   parent_bare g (TheRegion p) = refl
 
   children_bare : (g : GraphView O B T) (q : Object) → children (without_uses g) q ≡ children g q
-  children_bare g (TheOperation p) = ap (λ s. map TheRegion (children_of s)) (get_mapped without_uses_in g.operations p) ∙ go (get g.operations p)
-    where
-      go : (s : Option (Entry (Node BasicBlock Region (OperationContent O T)))) → map TheRegion (children_of (option_map (object_of without_uses_in) s)) ≡ map TheRegion (children_of s)
-      go None = refl
-      go (Some e) = refl
+  children_bare g (TheOperation p) = ap (λ s. map TheRegion (children_of s)) (get_mapped without_uses_in g.operations p) ∙ seen_mapped (object_of without_uses_in) (λ s. map TheRegion (children_of s)) (λ s. map TheRegion (children_of s)) refl (λ e. refl) (get g.operations p)
   children_bare g (TheBlock p) = refl
   children_bare g (TheRegion p) = refl
 

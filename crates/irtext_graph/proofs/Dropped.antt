@@ -1,5 +1,5 @@
 -- The uses that are dropped, operation by operation.
-use Rattle.std.proofs.Common.{◌≡◌, ◌≢◌, ◌<◌, ◌∙◌, ℕ, refl, sym, ap, arith, inl, inr, Option, Some, None, IsSome, slice_get, length, option_map}
+use Rattle.std.proofs.Common.{◌≡◌, ◌≢◌, ◌∙◌, ℕ, refl, sym, ap, inl, inr, Option, Some, None, IsSome, slice_get, length, option_map, subst}
 use Rattle.std.proofs.lemmas.Option.{slice_get-map}
 use Rattle.irtext_graph.specs.declared.arena.Arena.{Arena}
 use Rattle.irtext_graph.specs.declared.arena.Ptr.{Ptr}
@@ -28,12 +28,13 @@ use Rattle.irtext_graph.specs.Nest.{datum_in}
 use Rattle.irtext_graph.specs.Objects.{what, SamePlaces}
 use Rattle.irtext_graph.specs.Uses.{use_at, val, operand_in, successor_in, result_in, argument_in, preds_in, first_of, head_at, def_of, prev_of, next_of, either, AreUsesLinked, eq_site, eq_defined}
 use Rattle.irtext_graph.specs.Erasing.{user, named_at}
-use Rattle.irtext_graph.proofs.Nests.{told, some_eq}
+use Rattle.irtext_graph.proofs.Nests.{told}
 use Rattle.irtext_graph.proofs.Same.{object_tells}
 use Rattle.irtext_graph.proofs.Linked.{site_tells, defined_tells}
 use Rattle.irtext_graph.proofs.Chains.{reframed}
-use Rattle.irtext_graph.proofs.Stores.{get_seen, generation_seen, length_seen}
+use Rattle.irtext_graph.proofs.Stores.{get_seen, generation_seen, length_seen, older_of}
 use Rattle.irtext_graph.proofs.Views.{what_seen}
+use Rattle.irtext_graph.proofs.PartsSeen.{some_of, of_some}
 
 -- arenas that are seen as the same have the same places
 pub places_alike : {X Y : Type 0} (see : X → Y) (a b : Arena X) → store_of see b ≡ store_of see a → KeepsPlaces a b
@@ -41,22 +42,8 @@ places_alike {X} {Y} see a b e = record {
   generations = λ i. sym (generation_seen see b i) ∙ ap (λ s. generation_at s i) e ∙ generation_seen see a i;
   free = ap (λ s. s.free) e;
   len = sym (length_seen see b.slots.items) ∙ ap (λ s. length s.cells) e ∙ length_seen see a.slots.items;
-  age = λ m old i g o f. go m old i g o f;
+  age = λ m. older_of see m a b e;
 }
-  where
-    go : (m : ℕ) → AreOlder m a → (i g : ℕ) (o : Entry X) → arena.found (slice_get b.slots.items i) g ≡ Some o → o.born < m
-    go m old i g o f =
-        let p : Ptr Operation = record { index = i; generation = g; of = record {} } in
-        let k : option_map (object_of see) (arena.get a p) ≡ Some (object_of see o) = sym (get_seen see a p) ∙ ap (λ s. get s p) (sym e) ∙ get_seen see b p ∙ ap (option_map (object_of see)) f in
-        at (arena.get a p) refl k
-      where
-        at : (s : Option (Entry X)) → arena.found (slice_get a.slots.items i) g ≡ s → option_map (object_of see) s ≡ Some (object_of see o) → o.born < m
-        at None h k = absurd (cc)
-        at (Some x) h k =
-            let z : object_of see x ≡ object_of see o = some_eq k in
-            let born : x.born ≡ o.born = ap (λ (y : Entry Y). y.born) z in
-            let l = old i g x h in
-            omega (arith, born, l)
 
 module _ {O B T : Type 0} where
   -- what is named at a place, as the object shows it
@@ -82,24 +69,17 @@ module _ {O B T : Type 0} where
 
   -- where objects are the same, the same uses are there
   pub use_there : (x y : Objects O B T) (u : Site) → what y (user u) ≡ what x (user u) → IsSome (use_at y u) → IsSome (use_at x u)
-  use_there x y u e l = back (use_at x u) (use_at y u) (sym (named_what x u) ∙ ap (λ k. named_at k u) (sym e) ∙ named_what y u) l
-    where
-      back : (s t : Option (Use Defined)) → option_map (λ o. o.def) s ≡ option_map (λ o. o.def) t → IsSome t → IsSome s
-      back None None e l = l
-      back None (Some t) e l = absurd (cc)
-      back (Some s) t e l = refl
+  use_there x y u e l =
+      let same : option_map (λ o. o.def) (use_at x u) ≡ option_map (λ o. o.def) (use_at y u) = sym (named_what x u) ∙ ap (λ k. named_at k u) (sym e) ∙ named_what y u in
+      some_of (λ o. o.def) (use_at x u) (subst IsSome (sym same) (of_some (λ o. o.def) (use_at y u) l))
 
   pub alike_what : (x y : Objects O B T) → seen y ≡ seen x → (q : Object) → what y q ≡ what x q
   alike_what x y e q = sym (what_seen 0 no_counters y q) ∙ ap (λ g. content g q) e ∙ what_seen 0 no_counters x q
 
   pub alike_there : (x y : Objects O B T) → seen y ≡ seen x → (p : Ptr Operation) → IsSome (arena.get x.operations p) → IsSome (arena.get y.operations p)
-  alike_there x y e p l = back (arena.get y.operations p) (arena.get x.operations p)
-      (sym (get_seen (node_of operation_content) y.operations p) ∙ ap (λ (g : GraphView O B T). get g.operations p) e ∙ get_seen (node_of operation_content) x.operations p) l
-    where
-      back : (s t : Option (Entry (Nest BasicBlock Region (OperationData O T)))) → option_map (object_of (node_of operation_content)) s ≡ option_map (object_of (node_of operation_content)) t → IsSome t → IsSome s
-      back None None e l = l
-      back None (Some t) e l = absurd (cc)
-      back (Some s) t e l = refl
+  alike_there x y e p l =
+      let same = sym (get_seen (node_of operation_content) y.operations p) ∙ ap (λ (g : GraphView O B T). get g.operations p) e ∙ get_seen (node_of operation_content) x.operations p in
+      some_of (object_of (node_of operation_content)) (arena.get y.operations p) (subst IsSome (sym same) (of_some (object_of (node_of operation_content)) (arena.get x.operations p) l))
 
   pub alike_places : (x y : Objects O B T) → seen y ≡ seen x → SamePlaces x y
   alike_places x y e = record {

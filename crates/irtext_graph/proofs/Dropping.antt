@@ -22,19 +22,10 @@ use Rattle.irtext_graph.specs.Preorder.{left, slots}
 use Rattle.irtext_graph.proofs.Nests.{told, some_eq, renested, climb-same}
 use Rattle.irtext_graph.proofs.Same.{object_tells}
 use Rattle.irtext_graph.proofs.Inside.{within_self}
-use Rattle.irtext_graph.proofs.Pointers.{ptr_or}
 use Rattle.irtext_graph.proofs.Views.{up_seen, kids_seen, what_seen}
 use Rattle.irtext_graph.proofs.Kept.{places_on, places_self}
 use Rattle.irtext_graph.proofs.Afters.{all_left, same_left}
-
-module _ {O T : Type 0} where
-  parent_same : (e : Option (Entry (Node BasicBlock Region (OperationContent O T)))) → parent_of (option_map (object_of without_uses_in) e) ≡ parent_of e
-  parent_same None = refl
-  parent_same (Some e) = refl
-
-  children_same : (e : Option (Entry (Node BasicBlock Region (OperationContent O T)))) → children_of (option_map (object_of without_uses_in) e) ≡ children_of e
-  children_same None = refl
-  children_same (Some e) = refl
+use Rattle.irtext_graph.proofs.Stores.{edited_same}
 
 module _ {O B T : Type 0} where
   content_dropped : (e : Option (Entry (Node BasicBlock Region (OperationContent O T))))
@@ -50,18 +41,12 @@ module _ {O B T : Type 0} where
 
   module _ (x y : Objects O B T) (p : Ptr Operation) (e : Edits (seen x).operations (seen y).operations p without_uses_in) (blocks : (seen y).blocks ≡ (seen x).blocks) (regions : (seen y).regions ≡ (seen x).regions) where
     edit_up : (q : Object) → parent (seen y) q ≡ parent (seen x) q
-    edit_up (TheOperation q) = ap (option_map TheBlock) (elim (ptr_or q p) [
-      | inl s ↦ ap (λ r. parent_of (get (seen y).operations r)) s ∙ ap parent_of e.updates.changed ∙ parent_same (get (seen x).operations p) ∙ sym (ap (λ r. parent_of (get (seen x).operations r)) s)
-      | inr n ↦ ap parent_of (e.updates.others q n)
-    ])
+    edit_up (TheOperation q) = ap (option_map TheBlock) (edited_same (seen x).operations (seen y).operations p without_uses_in parent_of (λ s. refl) e q)
     edit_up (TheBlock q) = ap (λ s. option_map TheRegion (parent_of (get s q))) blocks
     edit_up (TheRegion q) = ap (λ s. option_map TheOperation (parent_of (get s q))) regions
 
     edit_kids : (q : Object) → children (seen y) q ≡ children (seen x) q
-    edit_kids (TheOperation q) = ap (map TheRegion) (elim (ptr_or q p) [
-      | inl s ↦ ap (λ r. children_of (get (seen y).operations r)) s ∙ ap children_of e.updates.changed ∙ children_same (get (seen x).operations p) ∙ sym (ap (λ r. children_of (get (seen x).operations r)) s)
-      | inr n ↦ ap children_of (e.updates.others q n)
-    ])
+    edit_kids (TheOperation q) = ap (map TheRegion) (edited_same (seen x).operations (seen y).operations p without_uses_in children_of (λ s. refl) e q)
     edit_kids (TheBlock q) = ap (λ s. map TheOperation (children_of (get s q))) blocks
     edit_kids (TheRegion q) = ap (λ s. map TheBlock (children_of (get s q))) regions
 

@@ -1,5 +1,5 @@
 -- An edit of one operation's data leaves what stands in what, what uses what, and how old each object is.
-use Rattle.std.proofs.Common.{◌≡◌, ◌∙◌, inl, inr, refl, sym, ap, ℕ, Option, Some, None, slice_get, map}
+use Rattle.std.proofs.Common.{◌≡◌, ◌∙◌, refl, sym, ap, ℕ, Option, Some, slice_get, map}
 use Rattle.std.specs.Option.{option_map}
 use Rattle.irtext_graph.specs.Back.{owner, operands_of, successors_of, IsClosedBelow}
 use Rattle.irtext_graph.specs.Content.{Node, Content.{AnOperation, ABlock, ARegion}, OperationContent}
@@ -14,51 +14,26 @@ use Rattle.irtext_graph.specs.declared.object.Object.{Object}
 use Rattle.irtext_graph.specs.declared.object.Object.TheVariants.{TheOperation, TheBlock, TheRegion}
 use Rattle.irtext_graph.specs.declared.object.Operation.{Operation}
 use Rattle.irtext_graph.specs.declared.object.Region.{Region}
-use Rattle.irtext_graph.proofs.Pointers.{ptr_or}
+use Rattle.irtext_graph.proofs.Stores.{edited_same}
 
 module _ {O B T : Type 0} (m : ℕ) (g h : GraphView O B T) (p : Ptr Operation) (change : O → O) (e : EditsOperation g h p change) where
-  abbrev OperationEntry : Type 0
-  OperationEntry = Entry (Node BasicBlock Region (OperationContent O T))
-
   -- what an edit of its data doesn't show in is seen of each operation as before
-  seen_as_before : {V : Type 0} (see : Option OperationEntry → V) → ((s : Option OperationEntry) → see (option_map (object_of (with_data change)) s) ≡ see s) → (q : Ptr Operation) → see (get h.operations q) ≡ see (get g.operations q)
-  seen_as_before see same q = elim (ptr_or q p) [
-    | inl f ↦ ap (λ q. see (get h.operations q)) f ∙ (ap see e.operations.updates.changed ∙ (same (get g.operations p) ∙ ap (λ q. see (get g.operations q)) (sym f)))
-    | inr n ↦ ap see (e.operations.updates.others q n)
-  ]
-
-  same_parent : (s : Option OperationEntry) → parent_of (option_map (object_of (with_data change)) s) ≡ parent_of s
-  same_parent None = refl
-  same_parent (Some x) = refl
-
-  same_children : (s : Option OperationEntry) → children_of (option_map (object_of (with_data change)) s) ≡ children_of s
-  same_children None = refl
-  same_children (Some x) = refl
-
-  same_age : (s : Option OperationEntry) → is_older {O = O} {B = B} {T = T} m (option_map (λ d. AnOperation d.0 d.1) (content_of (option_map (object_of (with_data change)) s))) ≡ is_older {O = O} {B = B} {T = T} m (option_map (λ d. AnOperation d.0 d.1) (content_of s))
-  same_age None = refl
-  same_age (Some x) = refl
-
-  same_operands : (s : Option OperationEntry) → operands_of (option_map (object_of (with_data change)) s) ≡ operands_of s
-  same_operands None = refl
-  same_operands (Some x) = refl
-
-  same_successors : (s : Option OperationEntry) → successors_of (option_map (object_of (with_data change)) s) ≡ successors_of s
-  same_successors None = refl
-  same_successors (Some x) = refl
+  seen_as_before : {V : Type 0} (see : Option (Entry (Node BasicBlock Region (OperationContent O T))) → V)
+      → ((x : Entry (Node BasicBlock Region (OperationContent O T))) → see (Some (object_of (with_data change) x)) ≡ see (Some x)) → (q : Ptr Operation) → see (get h.operations q) ≡ see (get g.operations q)
+  seen_as_before see same q = edited_same g.operations h.operations p (with_data change) see same e.operations q
 
   parents_stay : (o : Object) → parent h o ≡ parent g o
-  parents_stay (TheOperation q) = ap (option_map TheBlock) (seen_as_before parent_of same_parent q)
+  parents_stay (TheOperation q) = ap (option_map TheBlock) (seen_as_before parent_of (λ x. refl) q)
   parents_stay (TheBlock b) = ap (λ s. option_map TheRegion (parent_of (get s b))) e.blocks
   parents_stay (TheRegion r) = ap (λ s. option_map TheOperation (parent_of (get s r))) e.regions
 
   children_stay : (o : Object) → children h o ≡ children g o
-  children_stay (TheOperation q) = ap (map TheRegion) (seen_as_before children_of same_children q)
+  children_stay (TheOperation q) = ap (map TheRegion) (seen_as_before children_of (λ x. refl) q)
   children_stay (TheBlock b) = ap (λ s. map TheOperation (children_of (get s b))) e.blocks
   children_stay (TheRegion r) = ap (λ s. map TheBlock (children_of (get s r))) e.regions
 
   ages_stay : (o : Object) → is_older m (content h o) ≡ is_older m (content g o)
-  ages_stay (TheOperation q) = seen_as_before (λ s. is_older {O = O} {B = B} {T = T} m (option_map (λ d. AnOperation d.0 d.1) (content_of s))) same_age q
+  ages_stay (TheOperation q) = seen_as_before (λ s. is_older {O = O} {B = B} {T = T} m (option_map (λ d. AnOperation d.0 d.1) (content_of s))) (λ x. refl) q
   ages_stay (TheBlock b) = ap (λ s. is_older {O = O} {B = B} {T = T} m (option_map (λ d. ABlock d.0 d.1) (content_of (get s b)))) e.blocks
   ages_stay (TheRegion r) = ap (λ s. is_older {O = O} {B = B} {T = T} m (option_map (λ d. ARegion d.0 d.1) (content_of (get s r)))) e.regions
 
@@ -67,6 +42,6 @@ module _ {O B T : Type 0} (m : ℕ) (g h : GraphView O B T) (p : Ptr Operation) 
   edited_closed c = record {
     parents = λ o k f n. ages_stay o ∙ c.parents o k (sym (parents_stay o) ∙ f) (sym (ages_stay k) ∙ n);
     children = λ o k i f n. ages_stay o ∙ c.children o k i (ap (λ l. slice_get l i) (sym (children_stay o)) ∙ f) (sym (ages_stay k) ∙ n);
-    operands = λ q i v f n. ages_stay (TheOperation q) ∙ c.operands q i v (ap (λ l. slice_get l i) (sym (seen_as_before operands_of same_operands q)) ∙ f) (sym (ages_stay (owner v)) ∙ n);
-    successors = λ q i b f n. ages_stay (TheOperation q) ∙ c.successors q i b (ap (λ l. slice_get l i) (sym (seen_as_before successors_of same_successors q)) ∙ f) (sym (ages_stay (TheBlock b)) ∙ n);
+    operands = λ q i v f n. ages_stay (TheOperation q) ∙ c.operands q i v (ap (λ l. slice_get l i) (sym (seen_as_before operands_of (λ x. refl) q)) ∙ f) (sym (ages_stay (owner v)) ∙ n);
+    successors = λ q i b f n. ages_stay (TheOperation q) ∙ c.successors q i b (ap (λ l. slice_get l i) (sym (seen_as_before successors_of (λ x. refl) q)) ∙ f) (sym (ages_stay (TheBlock b)) ∙ n);
   }

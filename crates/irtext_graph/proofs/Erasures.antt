@@ -41,19 +41,6 @@ use Rattle.irtext_graph.proofs.Dropped.{named_what}
 use Rattle.irtext_graph.proofs.Dropping.{way_same}
 
 module _ {O B T : Type 0} where
-  pub sound_dropped : (made : ℕ) (x y : Objects O B T) → IsSound made x → IsForest y → AreUsesLinked y → ((u : Site) → IsSome (use_at y u) → IsSome (val y u)) → SamePlaces x y → IsSound made y
-  sound_dropped made x y i f linked used p = record {
-    forest = f;
-    uses = linked;
-    all_used = used;
-    few_operations = let n = p.operation_places.len in let m = i.few_operations in omega (arith, n, m);
-    few_blocks = let n = p.block_places.len in let m = i.few_blocks in omega (arith, n, m);
-    few_regions = let n = p.region_places.len in let m = i.few_regions in omega (arith, n, m);
-    older_operations = p.operation_places.age made i.older_operations;
-    older_blocks = p.block_places.age made i.older_blocks;
-    older_regions = p.region_places.age made i.older_regions;
-  }
-
   pub drops_seen : (m : ℕ) (v : Counters) (x y : Objects O B T) (o : Object) → ((q : Object) → Within (up x) o q → what y q ≡ option_map without_uses (what x q)) → ((q : Object) → (Within (up x) o q → ⊥) → what y q ≡ what x q)
       → ((q : Object) → up y q ≡ up x q) → ((q : Object) → kids y q ≡ kids x q) → SamePlaces x y → DropsUses (graph_of m v x) (graph_of m v y) o
   drops_seen m v x y o inside others ups lists p = record {

@@ -63,19 +63,24 @@ module _ {P C E : Type 0} where
           → ◌≡◌ {A = Option (Entry (Node P C E))} (Some (record { born = b; content = record { parent = p; children = c; content = d } })) (Some (record { born = b'; content = record { parent = p'; children = c'; content = d' } }))
       go b b' p p' c c' d d' e f g h = rw (e, f, g, h) refl
 
+  -- an entry is what is seen of its parent, its children and its content
+  pub entry_alike : {K L : Type 0} (up : Ptr P → K) → ((p q : Ptr P) → up p ≡ up q → p ≡ q) → (down : Ptr C → L) → ((p q : Ptr C) → down p ≡ down q → p ≡ q) → (x y : Option (Entry (Node P C E)))
+      → option_map up (parent_of x) ≡ option_map up (parent_of y) → map down (children_of x) ≡ map down (children_of y) → content_of x ≡ content_of y → x ≡ y
+  entry_alike up same_up down same_down x y p c d = entry_same x y (option_same up same_up (parent_of x) (parent_of y) p) (map_same down same_down (children_of x) (children_of y) c) d
+
   -- the object is made before the mark or is not there before it
   older_none : (m : ℕ) (x : Option (Entry (Node P C E))) → ((d : ℕ × E) → content_of x ≡ Some d → nat_lt d.0 m ≡ false) → older m x ≡ None
   older_none m None h = refl
   older_none m (Some x) h = ap (λ b. cond b (Some x) None) (h (x.born, x.content.content) refl)
 
 module _ {O B T : Type 0} where
-  abbrev as_operation : ℕ × OperationContent O T → Content O B T
+  abbrev pub as_operation : ℕ × OperationContent O T → Content O B T
   as_operation d = AnOperation d.0 d.1
 
-  abbrev as_block : ℕ × BlockContent B T → Content O B T
+  abbrev pub as_block : ℕ × BlockContent B T → Content O B T
   as_block d = ABlock d.0 d.1
 
-  abbrev as_region : ℕ × RegionContent → Content O B T
+  abbrev pub as_region : ℕ × RegionContent → Content O B T
   as_region d = ARegion d.0 d.1
 
   pub operation_content_same : (g h : GraphView O B T) (p : Ptr Operation) → content h (TheOperation p) ≡ content g (TheOperation p) → content_of (get h.operations p) ≡ content_of (get g.operations p)
@@ -120,24 +125,15 @@ module _ {O B T : Type 0} where
   stood_keeps m g h f made values first = record {
     operations = λ p. elim (f (TheOperation p)) [
       | inl n ↦ new_operation m h p n.1 ∙ sym (new_operation m g p n.0)
-      | inr s ↦ ap (older m) (entry_same (get h.operations p) (get g.operations p)
-          (option_same TheBlock block_same (parent_of (get h.operations p)) (parent_of (get g.operations p)) s.0)
-          (map_same TheRegion region_same (children_of (get h.operations p)) (children_of (get g.operations p)) s.1)
-          (operation_content_same g h p s.2))
+      | inr s ↦ ap (older m) (entry_alike TheBlock block_same TheRegion region_same (get h.operations p) (get g.operations p) s.0 s.1 (operation_content_same g h p s.2))
     ];
     blocks = λ p. elim (f (TheBlock p)) [
       | inl n ↦ new_block m h p n.1 ∙ sym (new_block m g p n.0)
-      | inr s ↦ ap (older m) (entry_same (get h.blocks p) (get g.blocks p)
-          (option_same TheRegion region_same (parent_of (get h.blocks p)) (parent_of (get g.blocks p)) s.0)
-          (map_same TheOperation operation_same (children_of (get h.blocks p)) (children_of (get g.blocks p)) s.1)
-          (block_content_same g h p s.2))
+      | inr s ↦ ap (older m) (entry_alike TheRegion region_same TheOperation operation_same (get h.blocks p) (get g.blocks p) s.0 s.1 (block_content_same g h p s.2))
     ];
     regions = λ p. elim (f (TheRegion p)) [
       | inl n ↦ new_region m h p n.1 ∙ sym (new_region m g p n.0)
-      | inr s ↦ ap (older m) (entry_same (get h.regions p) (get g.regions p)
-          (option_same TheOperation operation_same (parent_of (get h.regions p)) (parent_of (get g.regions p)) s.0)
-          (map_same TheBlock block_same (children_of (get h.regions p)) (children_of (get g.regions p)) s.1)
-          (region_content_same g h p s.2))
+      | inr s ↦ ap (older m) (entry_alike TheOperation operation_same TheBlock block_same (get h.regions p) (get g.regions p) s.0 s.1 (region_content_same g h p s.2))
     ];
     made = made;
     values = values;

@@ -1,7 +1,6 @@
 -- The data of all that stands inside an object are changed, one object behind the other: what is done so far, and that all is done at the end.
 use Rattle.std.proofs.Common.{◌≡◌, ◌≢◌, ◌<◌, ◌∙◌, ◌⊎◌, ◌∷◌, ℕ, suc, refl, sym, ap, arith, inl, inr, subst, Option, Some, None, IsSome, IfSome, length, map}
 use Rattle.std.specs.Option.{option_map}
-use Rattle.irtext_graph.specs.declared.arena.Entry.{Entry}
 use Rattle.irtext_graph.specs.declared.arena.Ptr.{Ptr}
 use Rattle.irtext_graph.specs.declared.object.Operation.{Operation}
 use Rattle.irtext_graph.specs.declared.object.BasicBlock.{BasicBlock}
@@ -9,7 +8,7 @@ use Rattle.irtext_graph.specs.declared.object.Region.{Region}
 use Rattle.irtext_graph.specs.declared.object.Object.{Object}
 use Rattle.irtext_graph.specs.declared.object.Object.TheVariants.{TheOperation, TheBlock, TheRegion}
 use Rattle.irtext_graph.specs.Chained.{Among}
-use Rattle.irtext_graph.specs.Content.{Node, Content, Content.{AnOperation, ABlock, ARegion}, OperationContent, BlockContent, RegionContent}
+use Rattle.irtext_graph.specs.Content.{Content, Content.{AnOperation, ABlock, ARegion}, RegionContent}
 use Rattle.irtext_graph.specs.Data.{with_data, with_block, with_operation_data, with_block_data, EditsOperation, EditsBlock}
 use Rattle.irtext_graph.specs.Graph.{GraphView, SamePlaces, parent, children, content, parent_of, children_of, content_of, Stands, IsInside, IsNew, KeepsOlder}
 use Rattle.irtext_graph.specs.Nested.{Nested}
@@ -24,6 +23,7 @@ use Rattle.irtext_graph.proofs.Inside.{within_self, within_or}
 use Rattle.irtext_graph.proofs.Nests.{told, climb-same}
 use Rattle.irtext_graph.proofs.Preorders.{onward_same}
 use Rattle.irtext_graph.proofs.Same.{object_tells}
+use Rattle.irtext_graph.proofs.Stores.{seen_mapped}
 
 module _ {X : Type 0} where
   places_self : (s : Store X) → SamePlaces s s
@@ -41,6 +41,9 @@ module _ {X : Type 0} where
 module _ {O B T : Type 0} where
   rest_self : (g : GraphView O B T) → KeepsRest g g
   rest_self g = record { operation_places = places_self g.operations; block_places = places_self g.blocks; region_places = places_self g.regions; made = refl; values = refl; first_place = refl }
+
+  rest_of : (g h : GraphView O B T) → SamePlaces g.operations h.operations → SamePlaces g.blocks h.blocks → SamePlaces g.regions h.regions → h.made ≡ g.made → h.values ≡ g.values → h.first_place ≡ g.first_place → KeepsRest g h
+  rest_of g h operations blocks regions made values first = record { operation_places = operations; block_places = blocks; region_places = regions; made = made; values = values; first_place = first }
 
   rest_on : (g h k : GraphView O B T) → KeepsRest g h → KeepsRest h k → KeepsRest g k
   rest_on g h k a b = record {
@@ -79,57 +82,24 @@ module _ {O B T : Type 0} where
   module _ (f : O → O) (h : B → B) where
     operation_changed : (old new : GraphView O B T) (p : Ptr Operation) → get new.operations p ≡ option_map (object_of (with_data f)) (get old.operations p) → ChangedObject old new (TheOperation p) f h
     operation_changed old new p e = record {
-      what = ap (λ s. option_map (λ d. AnOperation d.0 d.1) (content_of s)) e ∙ what (get old.operations p);
-      holder = ap (λ s. option_map TheBlock (parent_of s)) e ∙ holder (get old.operations p);
-      items = ap (λ s. map TheRegion (children_of s)) e ∙ items (get old.operations p);
+      what = ap (λ s. option_map (λ d. AnOperation d.0 d.1) (content_of s)) e ∙ seen_mapped (object_of (with_data f)) (λ s. option_map (λ d. AnOperation d.0 d.1) (content_of s)) (λ s. option_map (changed f h) (option_map (λ d. AnOperation d.0 d.1) (content_of s))) refl (λ x. refl) (get old.operations p);
+      holder = ap (λ s. option_map TheBlock (parent_of s)) e ∙ seen_mapped (object_of (with_data f)) (λ s. option_map TheBlock (parent_of s)) (λ s. option_map TheBlock (parent_of s)) refl (λ x. refl) (get old.operations p);
+      items = ap (λ s. map TheRegion (children_of s)) e ∙ seen_mapped (object_of (with_data f)) (λ s. map TheRegion (children_of s)) (λ s. map TheRegion (children_of s)) refl (λ x. refl) (get old.operations p);
     }
-      where
-        what : (s : Option (Entry (Node BasicBlock Region (OperationContent O T)))) → ◌≡◌ {A = Option (Content O B T)} (option_map (λ d. AnOperation d.0 d.1) (content_of (option_map (object_of (with_data f)) s)))
-            (option_map (changed f h) (option_map (λ d. AnOperation d.0 d.1) (content_of s)))
-        what None = refl
-        what (Some s) = refl
-
-        holder : (s : Option (Entry (Node BasicBlock Region (OperationContent O T)))) → option_map TheBlock (parent_of (option_map (object_of (with_data f)) s)) ≡ option_map TheBlock (parent_of s)
-        holder None = refl
-        holder (Some s) = refl
-
-        items : (s : Option (Entry (Node BasicBlock Region (OperationContent O T)))) → map TheRegion (children_of (option_map (object_of (with_data f)) s)) ≡ map TheRegion (children_of s)
-        items None = refl
-        items (Some s) = refl
 
     block_changed : (old new : GraphView O B T) (p : Ptr BasicBlock) → get new.blocks p ≡ option_map (object_of (with_block h)) (get old.blocks p) → ChangedObject old new (TheBlock p) f h
     block_changed old new p e = record {
-      what = ap (λ s. option_map (λ d. ABlock d.0 d.1) (content_of s)) e ∙ what (get old.blocks p);
-      holder = ap (λ s. option_map TheRegion (parent_of s)) e ∙ holder (get old.blocks p);
-      items = ap (λ s. map TheOperation (children_of s)) e ∙ items (get old.blocks p);
+      what = ap (λ s. option_map (λ d. ABlock d.0 d.1) (content_of s)) e ∙ seen_mapped (object_of (with_block h)) (λ s. option_map (λ d. ABlock d.0 d.1) (content_of s)) (λ s. option_map (changed f h) (option_map (λ d. ABlock d.0 d.1) (content_of s))) refl (λ x. refl) (get old.blocks p);
+      holder = ap (λ s. option_map TheRegion (parent_of s)) e ∙ seen_mapped (object_of (with_block h)) (λ s. option_map TheRegion (parent_of s)) (λ s. option_map TheRegion (parent_of s)) refl (λ x. refl) (get old.blocks p);
+      items = ap (λ s. map TheOperation (children_of s)) e ∙ seen_mapped (object_of (with_block h)) (λ s. map TheOperation (children_of s)) (λ s. map TheOperation (children_of s)) refl (λ x. refl) (get old.blocks p);
     }
-      where
-        what : (s : Option (Entry (Node Region Operation (BlockContent B T)))) → ◌≡◌ {A = Option (Content O B T)} (option_map (λ d. ABlock d.0 d.1) (content_of (option_map (object_of (with_block h)) s)))
-            (option_map (changed f h) (option_map (λ d. ABlock d.0 d.1) (content_of s)))
-        what None = refl
-        what (Some s) = refl
-
-        holder : (s : Option (Entry (Node Region Operation (BlockContent B T)))) → option_map TheRegion (parent_of (option_map (object_of (with_block h)) s)) ≡ option_map TheRegion (parent_of s)
-        holder None = refl
-        holder (Some s) = refl
-
-        items : (s : Option (Entry (Node Region Operation (BlockContent B T)))) → map TheOperation (children_of (option_map (object_of (with_block h)) s)) ≡ map TheOperation (children_of s)
-        items None = refl
-        items (Some s) = refl
 
     -- the data of one operation are written
     pub edits_operation : (old new : GraphView O B T) (p : Ptr Operation) → EditsOperation old new p f → EditsObject old new (TheOperation p) f h
     edits_operation old new p e = record {
       here = operation_changed old new p e.operations.updates.changed;
       others = others;
-      rest = record {
-        operation_places = places_edited old.operations new.operations p (with_data f) e.operations;
-        block_places = places_is old.blocks new.blocks e.blocks;
-        region_places = places_is old.regions new.regions e.regions;
-        made = e.made;
-        values = e.values;
-        first_place = e.first_place;
-      };
+      rest = rest_of old new (places_edited old.operations new.operations p (with_data f) e.operations) (places_is old.blocks new.blocks e.blocks) (places_is old.regions new.regions e.regions) e.made e.values e.first_place;
     }
       where
         others : (q : Object) → q ≢ TheOperation p → SameObject old new q
@@ -142,14 +112,7 @@ module _ {O B T : Type 0} where
     edits_block old new p e = record {
       here = block_changed old new p e.blocks.updates.changed;
       others = others;
-      rest = record {
-        operation_places = places_is old.operations new.operations e.operations;
-        block_places = places_edited old.blocks new.blocks p (with_block h) e.blocks;
-        region_places = places_is old.regions new.regions e.regions;
-        made = e.made;
-        values = e.values;
-        first_place = e.first_place;
-      };
+      rest = rest_of old new (places_is old.operations new.operations e.operations) (places_edited old.blocks new.blocks p (with_block h) e.blocks) (places_is old.regions new.regions e.regions) e.made e.values e.first_place;
     }
       where
         others : (q : Object) → q ≢ TheBlock p → SameObject old new q

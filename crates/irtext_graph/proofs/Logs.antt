@@ -141,40 +141,35 @@ module _ {O B T : Type 0} where
       low : (k : ℕ) (o : Object) (b : ℕ) → slice_get log k ≡ Some (record { born = b; object = o }) → b < mark → k < n
       low k o b e less = elim (lower k n) [ inl l ↦ l | inr h ↦ absurd (let s = since k (record { born = b; object = o }) h e in omega (arith, s, less)) ]
 
-module _ {X K : Type 0} where
-  came_in : (a b : Arena X) (p : Ptr K) (x : Entry X) → Updates a b p (Some x) → (q : Ptr K) (n : ℕ) → born_in (get b q) ≡ Some n → (born_in (get a q) ≡ Some n) ⊎ ((q ≡ p) × (n ≡ x.born))
-  came_in a b p x u q n e = elim (ptr_or q p) [
+module _ {X K : Type 0} (kind : Ptr K → Object) (o : Object) (made : ℕ) where
+  -- each object of one kind was there with its age, or is o and was made then
+  abbrev Came : Arena X → Arena X → Type 0
+  Came a b = (q : Ptr K) (n : ℕ) → born_in (get b q) ≡ Some n → (born_in (get a q) ≡ Some n) ⊎ ((kind q ≡ o) × (n ≡ made))
+
+  came_in : (a b : Arena X) (p : Ptr K) (x : Entry X) → Updates a b p (Some x) → x.born ≡ made → kind p ≡ o → Came a b
+  came_in a b p x u born is q n e = elim (ptr_or q p) [
     | inr away ↦ inl (ap born_in (sym (u.others q away)) ∙ e)
-    | inl here ↦ inr (here, let f : Some x.born ≡ Some n = sym (ap born_in (ap (get b) here ∙ u.changed)) ∙ e in cc)
+    | inl here ↦ inr (ap kind here ∙ is, let f : Some x.born ≡ Some n = sym (ap born_in (ap (get b) here ∙ u.changed)) ∙ e in let g : n ≡ x.born = cc in g ∙ born)
   ]
 
 module _ {O B T : Type 0} where
+  came_by : (x y : Objects O B T) (o : Object) (made : ℕ) → Came TheOperation o made x.operations y.operations → Came TheBlock o made x.blocks y.blocks → Came TheRegion o made x.regions y.regions
+      → (q : Object) (b : ℕ) → age y q ≡ Some b → (age x q ≡ Some b) ⊎ ((q ≡ o) × (b ≡ made))
+  came_by x y o made operations blocks regions (TheOperation q) = operations q
+  came_by x y o made operations blocks regions (TheBlock q) = blocks q
+  came_by x y o made operations blocks regions (TheRegion q) = regions q
+
   pub region_noted : (made : ℕ) (log after : List Made) (x : Objects O B T) (a : Arena (Nest Operation BasicBlock RegionData)) (p : Ptr Region) (e : Entry (Nest Operation BasicBlock RegionData))
       → after ≡ log ++ record { born = made; object = TheRegion p } ∷ [] → IsLogged made log x → Updates x.regions a p (Some e) → e.born ≡ made → IsLogged (made + 1) after (record x { regions = a })
-  region_noted made log after x a p e noted i u born = logged_noted made log after x (record x { regions = a }) (TheRegion p) noted i came
-    where
-      came : (q : Object) (b : ℕ) → age (record x { regions = a }) q ≡ Some b → (age x q ≡ Some b) ⊎ ((q ≡ TheRegion p) × (b ≡ made))
-      came (TheOperation q) b f = inl f
-      came (TheBlock q) b f = inl f
-      came (TheRegion q) b f = elim (came_in x.regions a p e u q b f) [ inl was ↦ inl was | inr new ↦ inr (ap TheRegion new.0, new.1 ∙ born) ]
+  region_noted made log after x a p e noted i u born = logged_noted made log after x (record x { regions = a }) (TheRegion p) noted i (came_by x (record x { regions = a }) (TheRegion p) made (λ q n f. inl f) (λ q n f. inl f) (came_in TheRegion (TheRegion p) made x.regions a p e u born refl))
 
   pub block_noted : (made : ℕ) (log after : List Made) (x : Objects O B T) (a : Arena (Nest Region Operation (BlockData B T))) (p : Ptr BasicBlock) (e : Entry (Nest Region Operation (BlockData B T)))
       → after ≡ log ++ record { born = made; object = TheBlock p } ∷ [] → IsLogged made log x → Updates x.blocks a p (Some e) → e.born ≡ made → IsLogged (made + 1) after (record x { blocks = a })
-  block_noted made log after x a p e noted i u born = logged_noted made log after x (record x { blocks = a }) (TheBlock p) noted i came
-    where
-      came : (q : Object) (b : ℕ) → age (record x { blocks = a }) q ≡ Some b → (age x q ≡ Some b) ⊎ ((q ≡ TheBlock p) × (b ≡ made))
-      came (TheOperation q) b f = inl f
-      came (TheRegion q) b f = inl f
-      came (TheBlock q) b f = elim (came_in x.blocks a p e u q b f) [ inl was ↦ inl was | inr new ↦ inr (ap TheBlock new.0, new.1 ∙ born) ]
+  block_noted made log after x a p e noted i u born = logged_noted made log after x (record x { blocks = a }) (TheBlock p) noted i (came_by x (record x { blocks = a }) (TheBlock p) made (λ q n f. inl f) (came_in TheBlock (TheBlock p) made x.blocks a p e u born refl) (λ q n f. inl f))
 
   pub operation_noted : (made : ℕ) (log after : List Made) (x : Objects O B T) (a : Arena (Nest BasicBlock Region (OperationData O T))) (p : Ptr Operation) (e : Entry (Nest BasicBlock Region (OperationData O T)))
       → after ≡ log ++ record { born = made; object = TheOperation p } ∷ [] → IsLogged made log x → Updates x.operations a p (Some e) → e.born ≡ made → IsLogged (made + 1) after (record x { operations = a })
-  operation_noted made log after x a p e noted i u born = logged_noted made log after x (record x { operations = a }) (TheOperation p) noted i came
-    where
-      came : (q : Object) (b : ℕ) → age (record x { operations = a }) q ≡ Some b → (age x q ≡ Some b) ⊎ ((q ≡ TheOperation p) × (b ≡ made))
-      came (TheBlock q) b f = inl f
-      came (TheRegion q) b f = inl f
-      came (TheOperation q) b f = elim (came_in x.operations a p e u q b f) [ inl was ↦ inl was | inr new ↦ inr (ap TheOperation new.0, new.1 ∙ born) ]
+  operation_noted made log after x a p e noted i u born = logged_noted made log after x (record x { operations = a }) (TheOperation p) noted i (came_by x (record x { operations = a }) (TheOperation p) made (came_in TheOperation (TheOperation p) made x.operations a p e u born refl) (λ q n f. inl f) (λ q n f. inl f))
 
   pub region_ages : (x : Objects O B T) (a : Arena (Nest Operation BasicBlock RegionData)) → a.slots.items ≡ x.regions.slots.items → (o : Object) (b : ℕ) → age (record x { regions = a }) o ≡ Some b → age x o ≡ Some b
   region_ages x a e (TheOperation p) b f = f

@@ -21,12 +21,12 @@ use Rattle.irtext_graph.specs.Graph.{GraphView, graph_of, numbered, content, con
 use Rattle.irtext_graph.specs.Numbers.{AreNumbered}
 use Rattle.irtext_graph.specs.Objects.{what}
 use Rattle.irtext_graph.specs.Parts.{value_at, results_of, arguments_of}
-use Rattle.irtext_graph.specs.Store.{Store, Edits, get, object_of, object_in, cell_of}
+use Rattle.irtext_graph.specs.Store.{get, object_of, object_in, cell_of}
 use Rattle.irtext_graph.specs.Used as used
 use Rattle.irtext_graph.specs.Used.{Replaces, without_uses_in}
 use Rattle.irtext_graph.proofs.Nests.{told}
 use Rattle.irtext_graph.proofs.Same.{ptr_tells}
-use Rattle.irtext_graph.proofs.Stores.{get_mapped}
+use Rattle.irtext_graph.proofs.Stores.{get_mapped, seen_mapped, edited_same}
 use Rattle.irtext_graph.proofs.Views.{what_seen}
 
 -- the numbers of values that are made together go up by one
@@ -44,35 +44,15 @@ older_or_gone {X} {Y} m f none (Some e) = go (nat_lt e.born m)
     go true = inl refl
     go false = inr none
 
--- what an edit leaves of an object leaves what it says of the object
-edited_same : {X Y K : Type 0} (old new : Store X) (p : Ptr K) (change : X → X) (f : Option (Entry X) → Y) → ((s : Option (Entry X)) → f (option_map (object_of change) s) ≡ f s) → Edits old new p change
-    → (q : Ptr K) → f (get new q) ≡ f (get old q)
-edited_same old new p change f same e q = elim (told ptr_tells q p) [
-  | inl here ↦ ap (λ r. f (get new r)) here ∙ ap f e.updates.changed ∙ same (get old p) ∙ sym (ap (λ r. f (get old r)) here)
-  | inr ne ↦ ap f (e.updates.others q ne)
-]
-
 module _ {O T : Type 0} where
   -- a result of an operation, where there is one
   abbrev result_of : ℕ → Option (Entry (Node BasicBlock Region (OperationContent O T))) → Option (Typed T)
   result_of i s = slice_get (results_of (option_map (λ e. e.content.content) s)) i
 
-  -- what is done to an operation without changing its results
-  results_stay : (change : Node BasicBlock Region (OperationContent O T) → Node BasicBlock Region (OperationContent O T)) → ((n : Node BasicBlock Region (OperationContent O T)) → (change n).content.results ≡ n.content.results)
-      → (i : ℕ) (s : Option (Entry (Node BasicBlock Region (OperationContent O T)))) → result_of i (option_map (object_of change) s) ≡ result_of i s
-  results_stay change same i None = refl
-  results_stay change same i (Some e) = ap (λ rs. slice_get rs i) (same e.content)
-
 module _ {B T : Type 0} where
   -- an argument of a block, where there is one
   abbrev argument_of : ℕ → Option (Entry (Node Region Operation (BlockContent B T))) → Option (Typed T)
   argument_of i s = slice_get (arguments_of (option_map (λ e. e.content.content) s)) i
-
-  -- what is done to a block without changing its arguments
-  arguments_stay : (change : Node Region Operation (BlockContent B T) → Node Region Operation (BlockContent B T)) → ((n : Node Region Operation (BlockContent B T)) → (change n).content.arguments ≡ n.content.arguments)
-      → (i : ℕ) (s : Option (Entry (Node Region Operation (BlockContent B T)))) → argument_of i (option_map (object_of change) s) ≡ argument_of i s
-  arguments_stay change same i None = refl
-  arguments_stay change same i (Some e) = ap (λ rs. slice_get rs i) (same e.content)
 
 module _ {O B T : Type 0} where
   -- a value by what its object is
@@ -180,14 +160,14 @@ module _ {O B T : Type 0} where
   }
     where
       bare : (g : GraphView O B T) (v : Value) → value_at (used.without_uses g) v ≡ value_at g v
-      bare g (Result p i) = ap (result_of i) (get_mapped without_uses_in g.operations p) ∙ results_stay without_uses_in (λ n. refl) i (get g.operations p)
+      bare g (Result p i) = ap (result_of i) (get_mapped without_uses_in g.operations p) ∙ seen_mapped (object_of without_uses_in) (result_of i) (result_of i) refl (λ o. refl) (get g.operations p)
       bare g (Argument p i) = refl
 
   pub edited_numbers : (old new : GraphView O B T) (p : Ptr Operation) (change : O → O) → EditsOperation old new p change → KeepsNumbers old new
   edited_numbers old new p change e = record { values = let k = e.values in omega (arith, k); at = λ v. inl (at v) }
     where
       at : (v : Value) → value_at new v ≡ value_at old v
-      at (Result q i) = edited_same old.operations new.operations p (with_data change) (result_of i) (results_stay (with_data change) (λ n. refl) i) e.operations q
+      at (Result q i) = edited_same old.operations new.operations p (with_data change) (result_of i) (λ o. refl) e.operations q
       at (Argument q i) = ap (λ s. argument_of i (get s q)) e.blocks
 
   pub edited_block_numbers : (old new : GraphView O B T) (p : Ptr BasicBlock) (change : B → B) → EditsBlock old new p change → KeepsNumbers old new
@@ -195,7 +175,7 @@ module _ {O B T : Type 0} where
     where
       at : (v : Value) → value_at new v ≡ value_at old v
       at (Result q i) = ap (λ s. result_of i (get s q)) e.operations
-      at (Argument q i) = edited_same old.blocks new.blocks p (with_block change) (argument_of i) (arguments_stay (with_block change) (λ n. refl) i) e.blocks q
+      at (Argument q i) = edited_same old.blocks new.blocks p (with_block change) (argument_of i) (λ o. refl) e.blocks q
 
   -- values came that draw the next numbers, and each other is as it was
   module _ (old new : GraphView O B T) (types : List T) (made : ℕ → Value) (values : new.values ≡ old.values + length types)

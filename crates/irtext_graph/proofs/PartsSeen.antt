@@ -1,8 +1,8 @@
 -- What the view says of an object's parts is what the arenas hold.
-use Rattle.std.proofs.Common.{◌≡◌, ◌∙◌, ℕ, refl, ap, Option, Some, None, length, slice_get, IsSome}
+use Rattle.std.proofs.Common.{◌≡◌, ◌<◌, ◌∙◌, ℕ, refl, ap, arith, Option, Some, None, length, slice_get, get_or, IsSome}
 use Rattle.std.specs.Option.{option_map}
 use Rattle.std.proofs.lemmas.List.{length-map}
-use Rattle.std.proofs.lemmas.Option.{slice_get-map}
+use Rattle.std.proofs.lemmas.Option.{slice_get-map, slice_get_read}
 use Rattle.irtext_graph.specs.declared.graph.Counters.{Counters}
 use Rattle.irtext_graph.specs.Arena as arena
 use Rattle.irtext_graph.specs.declared.arena.Entry.{Entry}
@@ -17,6 +17,7 @@ use Rattle.irtext_graph.specs.declared.object.Value.TheVariants.{Result, Argumen
 use Rattle.irtext_graph.specs.declared.objects.Objects.{Objects}
 use Rattle.irtext_graph.specs.declared.objects.OperationData.{OperationData}
 use Rattle.irtext_graph.specs.declared.objects.BlockData.{BlockData}
+use Rattle.irtext_graph.specs.declared.objects.Use.{Use}
 use Rattle.irtext_graph.specs.declared.arena.Arena.{Arena}
 use Rattle.irtext_graph.specs.Store.{store_of, get, object_of}
 use Rattle.irtext_graph.specs.Nest.{datum_in}
@@ -24,7 +25,7 @@ use Rattle.irtext_graph.specs.Content.{node_of, typed, operation_content, block_
 use Rattle.irtext_graph.specs.Graph.{graph_of, Stands}
 use Rattle.irtext_graph.specs.Uses.{result_in, argument_in}
 use Rattle.irtext_graph.specs.Parts.{operation_at, block_at, operands_of, successors_of, results_of, arguments_of, operands, successors, results, arguments, value_at, ValueStands, definition_at}
-use Rattle.irtext_graph.proofs.Stores.{get_seen}
+use Rattle.irtext_graph.proofs.Stores.{get_seen, seen_mapped}
 use Rattle.irtext_graph.proofs.Views.{lives_at}
 
 pub some_of : {A V : Type 0} (f : A → V) (o : Option A) → IsSome (option_map f o) → IsSome o
@@ -42,11 +43,7 @@ there (Some e) h = refl
 module _ {P C D E : Type 0} (see : D → E) where
   -- what is seen of an object that stands is what is seen of its data
   pub seen_of : {K : Type 0} (a : Arena (Nest P C D)) (p : Ptr K) → option_map (λ e. e.content.content) (get (store_of (node_of see) a) p) ≡ option_map (λ o. see o.content.data) (arena.get a p)
-  seen_of a p = ap (option_map (λ e. e.content.content)) (get_seen (node_of see) a p) ∙ go (arena.get a p)
-    where
-      go : (s : Option (Entry (Nest P C D))) → option_map (λ e. e.content.content) (option_map (object_of (node_of see)) s) ≡ option_map (λ o. see o.content.data) s
-      go None = refl
-      go (Some o) = refl
+  seen_of a p = ap (option_map (λ e. e.content.content)) (get_seen (node_of see) a p) ∙ seen_mapped (object_of (node_of see)) (option_map (λ e. e.content.content)) (option_map (λ o. see o.content.data)) refl (λ o. refl) (arena.get a p)
 
   -- the same by the content
   seen_by : (s : Option (Entry (Nest P C D))) (n : Nest P C D) → option_map (λ o. o.content) s ≡ Some n → option_map (λ o. see o.content.data) s ≡ Some (see n.data)
@@ -74,8 +71,14 @@ module _ {O B T : Type 0} (m : ℕ) (v : Counters) (x : Objects O B T) where
     pub operand_seen : (i : ℕ) → slice_get (operands (graph_of m v x) p) i ≡ option_map (λ u. u.def) (slice_get n.data.operands i)
     operand_seen i = ap (λ c. slice_get (operands_of c) i) (operation_seen p n e) ∙ slice_get-map (λ u. u.def) n.data.operands i
 
+    pub operand_read : (i : ℕ) (u : Use (Value)) → i < length (operands (graph_of m v x) p) → u ≡ get_or n.data.operands i u → slice_get (operands (graph_of m v x) p) i ≡ Some u.def
+    operand_read i u low read = let k = operand_count in operand_seen i ∙ ap (option_map (λ u. u.def)) (slice_get_read n.data.operands (length n.data.operands) i u refl (omega (arith, low, k)) read)
+
     pub successor_seen : (i : ℕ) → slice_get (successors (graph_of m v x) p) i ≡ option_map (λ u. u.def) (slice_get n.data.successors i)
     successor_seen i = ap (λ c. slice_get (successors_of c) i) (operation_seen p n e) ∙ slice_get-map (λ u. u.def) n.data.successors i
+
+    pub successor_read : (i : ℕ) (u : Use (Ptr BasicBlock)) → i < length (successors (graph_of m v x) p) → u ≡ get_or n.data.successors i u → slice_get (successors (graph_of m v x) p) i ≡ Some u.def
+    successor_read i u low read = let k = successor_count in successor_seen i ∙ ap (option_map (λ u. u.def)) (slice_get_read n.data.successors (length n.data.successors) i u refl (omega (arith, low, k)) read)
 
   pub argument_count : (p : Ptr BasicBlock) (n : Nest Region Operation (BlockData B T)) → option_map (λ o. o.content) (arena.get x.blocks p) ≡ Some n → length (arguments (graph_of m v x) p) ≡ length n.data.arguments
   argument_count p n e = ap (λ c. length (arguments_of c)) (block_seen p n e) ∙ length-map n.data.arguments typed

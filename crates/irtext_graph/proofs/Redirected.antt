@@ -49,21 +49,19 @@ still_free e (Some o) h = go o.links.linked h
     go false h = refl
 
 -- a use names a value where it is an operand, and a block where it is a successor
-operand_names : (o : Option (Use _)) (b : _) → def_of (option_map (either OfValue) o) ≡ Some (OfBlock b) → ⊥
-operand_names None b e = cc
-operand_names (Some o) b e = go o.links.linked e
+names_none : {X : Type 0} (kind : X → Defined) (d : Defined) → ((x : X) → kind x ≢ d) → (o : Option (Use X)) → def_of (option_map (either kind) o) ≡ Some d → ⊥
+names_none kind d apart None e = cc
+names_none kind d apart (Some o) e = go o.links.linked e
   where
-    go : (t : Bool) → cond t (Some (OfValue o.def)) None ≡ Some (OfBlock b) → ⊥
-    go true e = cc
+    go : (t : Bool) → cond t (Some (kind o.def)) None ≡ Some d → ⊥
+    go true e = apart o.def (some_eq e)
     go false e = cc
 
+operand_names : (o : Option (Use _)) (b : _) → def_of (option_map (either OfValue) o) ≡ Some (OfBlock b) → ⊥
+operand_names o b = names_none OfValue (OfBlock b) (λ v e. absurd (cc)) o
+
 successor_names : (o : Option (Use _)) (v : _) → def_of (option_map (either OfBlock) o) ≡ Some (OfValue v) → ⊥
-successor_names None v e = cc
-successor_names (Some o) v e = go o.links.linked e
-  where
-    go : (t : Bool) → cond t (Some (OfBlock o.def)) None ≡ Some (OfValue v) → ⊥
-    go true e = cc
-    go false e = cc
+successor_names o v = names_none OfBlock (OfValue v) (λ b e. absurd (cc)) o
 
 -- what is not d stays where e takes the place of d
 pub replaced_kept : (d e : Defined) (o : Option Defined) → (o ≡ Some d → ⊥) → option_map (replaced d e) o ≡ o

@@ -93,31 +93,30 @@ module _ {O B T : Type 0} where
   in_operation : (x : Objects O B T) (p : Ptr Operation) (e : Entry (Nest BasicBlock Region (OperationData O T))) (u : Site) → get x.operations p ≡ Some e → Among u (of_slot p.index (Full p.generation e)) → Among u (sites x)
   in_operation x p e u at m = in_from u 0 p.index p.index x.operations.slots.items (Full p.generation e) (stands (slice_get x.operations.slots.items p.index) p.generation e at) (omega arith) m
 
+  -- a use that an operation holds in one of its lists is among them
+  among_held : {D : Type 0} (x : Objects O B T) (p : Ptr Operation) (s : Entry (Nest BasicBlock Region (OperationData O T))) → get x.operations p ≡ Some s
+      → (kind : D → Defined) (at : Ptr Operation → ℕ → Site) (us : List (Use D)) (i : ℕ)
+      → (Among (at (ptr_of p.index p.generation) i) (row (at (ptr_of p.index p.generation)) (length us)) → Among (at (ptr_of p.index p.generation) i) (of_slot p.index (Full p.generation s)))
+      → IsSome (option_map (either kind) (slice_get us i)) → Among (at p i) (sites x)
+  among_held x p s e kind at us i into l = elim (seen (slice_get us i)) [
+    | inl none ↦ absurd (let k = none in cc)
+    | inr (o, f) ↦
+        let same : ptr_of p.index p.generation ≡ p = ptr_same (ptr_of p.index p.generation) p refl refl in
+        let m = into (in_row (at (ptr_of p.index p.generation)) (length us) i (slice_get_within us i o f)) in
+        in_operation x p s (at p i) e (subst (λ q. Among (at q i) (of_slot p.index (Full p.generation s))) same m)
+  ]
+
   among_sites : (x : Objects O B T) (u : Site) → IsSome (use_at x u) → Among u (sites x)
   among_sites x (AtOperand p i) l = go (get x.operations p) refl l
     where
       go : (s : Option (Entry (Nest BasicBlock Region (OperationData O T)))) → get x.operations p ≡ s → IsSome (option_map (either OfValue) (operand_in s i)) → Among (AtOperand p i) (sites x)
       go None e l = absurd (cc)
-      go (Some s) e l = elim (seen (slice_get s.content.data.operands i)) [
-        | inl none ↦ absurd (let k = none in cc)
-        | inr (o, f) ↦
-            let same : ptr_of p.index p.generation ≡ p = ptr_same (ptr_of p.index p.generation) p refl refl in
-            let m = in_row (AtOperand (ptr_of p.index p.generation)) (length s.content.data.operands) i (slice_get_within s.content.data.operands i o f) in
-            in_operation x p s (AtOperand p i) e (subst (λ q. Among (AtOperand q i) (of_slot p.index (Full p.generation s))) same
-            (among_left (AtOperand (ptr_of p.index p.generation) i) (row (AtOperand (ptr_of p.index p.generation)) (length s.content.data.operands)) (row (AtSuccessor (ptr_of p.index p.generation)) (length s.content.data.successors)) m))
-      ]
+      go (Some s) e l = among_held x p s e OfValue AtOperand s.content.data.operands i (among_left _ _ _) l
   among_sites x (AtSuccessor p i) l = go (get x.operations p) refl l
     where
       go : (s : Option (Entry (Nest BasicBlock Region (OperationData O T)))) → get x.operations p ≡ s → IsSome (option_map (either OfBlock) (successor_in s i)) → Among (AtSuccessor p i) (sites x)
       go None e l = absurd (cc)
-      go (Some s) e l = elim (seen (slice_get s.content.data.successors i)) [
-        | inl none ↦ absurd (let k = none in cc)
-        | inr (o, f) ↦
-            let same : ptr_of p.index p.generation ≡ p = ptr_same (ptr_of p.index p.generation) p refl refl in
-            let m = in_row (AtSuccessor (ptr_of p.index p.generation)) (length s.content.data.successors) i (slice_get_within s.content.data.successors i o f) in
-            in_operation x p s (AtSuccessor p i) e (subst (λ q. Among (AtSuccessor q i) (of_slot p.index (Full p.generation s))) same
-            (among_right (AtSuccessor (ptr_of p.index p.generation) i) (row (AtOperand (ptr_of p.index p.generation)) (length s.content.data.operands)) (row (AtSuccessor (ptr_of p.index p.generation)) (length s.content.data.successors)) m))
-      ]
+      go (Some s) e l = among_held x p s e OfBlock AtSuccessor s.content.data.successors i (among_right _ _ _) l
 
   next_there : (x : Objects O B T) (u w : Site) → nxt x u ≡ Some w → IsSome (use_at x u)
   next_there x u w e = go (use_at x u) e

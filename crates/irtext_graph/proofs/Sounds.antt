@@ -1,5 +1,5 @@
 -- What is always true of the objects stays true.
-use Rattle.std.proofs.Common.{◌≡◌, ◌≢◌, ◌<◌, ◌+◌, ◌⊎◌, ◌∙◌, ℕ, refl, sym, ap, arith, inl, inr, Option, Some, None, [], map, length, slice_get}
+use Rattle.std.proofs.Common.{◌≡◌, ◌≢◌, ◌<◌, ◌+◌, ◌⊎◌, ◌∙◌, ℕ, refl, sym, ap, arith, inl, inr, Option, Some, None, IsSome, [], map, length, slice_get}
 use Rattle.std.specs.Option.{option_map}
 use Rattle.irtext_few.specs.Growing.{listed}
 use Rattle.irtext_graph.specs.Arena.{get, found, HasFew, Inserts}
@@ -161,6 +161,20 @@ module _ {O B T : Type 0} where
   head_same x y (OfValue (Argument b i)) s = arguments_is (get y.blocks b) i ∙ ap (λ d. arguments_of d i) (s.block b refl) ∙ sym (arguments_is (get x.blocks b) i)
   head_same x y (OfBlock b) s = first_pred_is (get y.blocks b) ∙ ap first_pred_of (s.block b refl) ∙ sym (first_pred_is (get x.blocks b))
 
+  -- other links and another forest of the same objects
+  pub sound_dropped : (made : ℕ) (x y : Objects O B T) → IsSound made x → IsForest y → AreUsesLinked y → ((u : Site) → IsSome (use_at y u) → IsSome (val y u)) → SamePlaces x y → IsSound made y
+  sound_dropped made x y i f linked used p = record {
+    forest = f;
+    uses = linked;
+    all_used = used;
+    few_operations = let n = p.operation_places.len in let m = i.few_operations in omega (arith, n, m);
+    few_blocks = let n = p.block_places.len in let m = i.few_blocks in omega (arith, n, m);
+    few_regions = let n = p.region_places.len in let m = i.few_regions in omega (arith, n, m);
+    older_operations = p.operation_places.age made i.older_operations;
+    older_blocks = p.block_places.age made i.older_blocks;
+    older_regions = p.region_places.age made i.older_regions;
+  }
+
   module _ (x y : Objects O B T) (s : SameData x y) where
     pub same_use : (u : Site) → use_at y u ≡ use_at x u
     same_use u = use_same x y u (datum_at s (user u))
@@ -178,17 +192,7 @@ module _ {O B T : Type 0} where
 
     -- another forest of the same objects
     pub sound_moved : (made : ℕ) → IsSound made x → IsForest y → SamePlaces x y → IsSound made y
-    sound_moved made i f p = record {
-      forest = f;
-      uses = uses_kept i.uses;
-      all_used = λ u l. rw (same_use u) (i.all_used u (rw (same_use u) at l));
-      few_operations = let n = p.operation_places.len in let m = i.few_operations in omega (arith, n, m);
-      few_blocks = let n = p.block_places.len in let m = i.few_blocks in omega (arith, n, m);
-      few_regions = let n = p.region_places.len in let m = i.few_regions in omega (arith, n, m);
-      older_operations = p.operation_places.age made i.older_operations;
-      older_blocks = p.block_places.age made i.older_blocks;
-      older_regions = p.region_places.age made i.older_regions;
-    }
+    sound_moved made i f p = sound_dropped made x y i f (uses_kept i.uses) (λ u l. rw (same_use u) (i.all_used u (rw (same_use u) at l))) p
 
   -- a region came that stands nowhere and holds none
   module _ (x : Objects O B T) (made : ℕ) (after : Arena (Nest Operation BasicBlock RegionData)) (p : Ptr Region) (e : Entry (Nest Operation BasicBlock RegionData)) (i : Inserts x.regions after p e) (none : e.content.parent ≡ None) (empty : listed e.content.children ≡ []) where

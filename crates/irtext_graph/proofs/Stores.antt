@@ -10,11 +10,23 @@ use Rattle.irtext_graph.specs.declared.arena.Entry.{Entry}
 use Rattle.irtext_graph.specs.declared.arena.Arena.{Arena}
 use Rattle.irtext_graph.specs.declared.arena.Ptr.{Ptr}
 use Rattle.irtext_graph.specs.Arena as arena
-use Rattle.irtext_graph.specs.Arena.{older}
+use Rattle.irtext_graph.specs.Arena.{AreOlder, older}
 use Rattle.irtext_graph.specs.Store.{Cell, Store, object_of, cell_of, store_of, mapped, object_in, get, drawn, generation_at, next_index, is_full, count, Updates, Inserts, Edits, before, Returns}
 use Rattle.irtext_graph.proofs.Pointers.{ptr_or}
 use Rattle.irtext_graph.specs.Lending.{with_content_at}
 use Rattle.irtext_graph.proofs.Arenas.{Edited, edited, lent, stands}
+
+-- what is seen of an option that is mapped is what is seen of the option, if that is so of each value and of none
+pub seen_mapped : {A B V : Type 0} (change : A → B) (f : Option B → V) (g : Option A → V) → f None ≡ g None → ((a : A) → f (Some (change a)) ≡ g (Some a)) → (s : Option A) → f (option_map change s) ≡ g s
+seen_mapped change f g none some None = none
+seen_mapped change f g none some (Some a) = some a
+
+-- what an edit leaves of each object is seen of all objects as before
+pub edited_same : {X V K : Type 0} (old new : Store X) (p : Ptr K) (change : X → X) (f : Option (Entry X) → V) → ((o : Entry X) → f (Some (object_of change o)) ≡ f (Some o)) → Edits old new p change → (q : Ptr K) → f (get new q) ≡ f (get old q)
+edited_same old new p change f same e q = elim (ptr_or q p) [
+  | inl here ↦ ap (λ r. f (get new r)) here ∙ ap f e.updates.changed ∙ seen_mapped (object_of change) f f refl same (get old p) ∙ sym (ap (λ r. f (get old r)) here)
+  | inr ne ↦ ap f (e.updates.others q ne)
+]
 
 module _ {X Y : Type 0} (see : X → Y) where
   pub held : (s : Option (Slot X)) (g : ℕ) → object_in (option_map (cell_of see) s) g ≡ option_map (object_of see) (arena.found s g)
@@ -228,3 +240,18 @@ get_mapped {X} {Y} f s p = ap (λ c. object_in c p.generation) (slice_get-map (�
         cases : (t : Bool) → cond t (option_map (object_of f) c.object) None ≡ option_map (object_of f) (cond t c.object None)
         cases true = refl
         cases false = refl
+
+module _ {X Y : Type 0} (see : X → Y) where
+  -- what is seen as the same is of the same age
+  pub older_of : (made : ℕ) (a b : Arena X) → store_of see b ≡ store_of see a → AreOlder made a → AreOlder made b
+  older_of made a b e h i g o f =
+      go (arena.found (slice_get a.slots.items i) g) refl
+      (sym (found_seen see a i g) ∙ ap (λ s. object_in (slice_get s.cells i) g) (sym e) ∙ found_seen see b i g ∙ ap (option_map (object_of see)) f)
+    where
+      go : (s : Option (Entry X)) → arena.found (slice_get a.slots.items i) g ≡ s → option_map (object_of see) s ≡ Some (object_of see o) → o.born < made
+      go None k q = absurd (cc)
+      go (Some x) k q =
+          let r : object_of see x ≡ object_of see o = cc in
+          let n : x.born ≡ o.born = ap (λ (z : Entry Y). z.born) r in
+          let l = h i g x k in
+          omega (arith, l, n)

@@ -19,29 +19,21 @@ use Rattle.irtext_graph.specs.Nest.{parent_in, children_in, datum_in}
 use Rattle.irtext_graph.specs.Objects.{up, kids, what, Lives, SameNodes}
 use Rattle.irtext_graph.specs.Objects as objects
 use Rattle.irtext_graph.specs.Graph.{SamePlaces, graph_of, parent_of, children_of, content_of, parent, children, content, Stands, IsInside, CanInsert, KeepsObjects, Appends}
-use Rattle.irtext_graph.proofs.Stores.{get_seen, generation_seen, length_seen, mapped_seen}
+use Rattle.irtext_graph.proofs.Stores.{get_seen, generation_seen, length_seen, mapped_seen, seen_mapped}
 
 module _ {P C D E : Type 0} (see : D → E) where
+  seen_as : {K V : Type 0} (f : Option (Entry (Node P C E)) → V) (g : Option (Entry (Nest P C D)) → V) → f None ≡ g None → ((e : Entry (Nest P C D)) → f (Some (object_of (node_of see) e)) ≡ g (Some e))
+      → (a : Arena (Nest P C D)) (p : Ptr K) → f (get (store_of (node_of see) a) p) ≡ g (arena.get a p)
+  seen_as f g none some a p = ap f (get_seen (node_of see) a p) ∙ seen_mapped (object_of (node_of see)) f g none some (arena.get a p)
+
   parent_seen : {K : Type 0} (a : Arena (Nest P C D)) (p : Ptr K) → parent_of (get (store_of (node_of see) a) p) ≡ parent_in (arena.get a p)
-  parent_seen a p = ap parent_of (get_seen (node_of see) a p) ∙ go (arena.get a p)
-    where
-      go : (e : Option (Entry (Nest P C D))) → parent_of (option_map (object_of (node_of see)) e) ≡ parent_in e
-      go None = refl
-      go (Some e) = refl
+  parent_seen a p = seen_as parent_of parent_in refl (λ e. refl) a p
 
   children_seen : {K : Type 0} (a : Arena (Nest P C D)) (p : Ptr K) → children_of (get (store_of (node_of see) a) p) ≡ children_in (arena.get a p)
-  children_seen a p = ap children_of (get_seen (node_of see) a p) ∙ go (arena.get a p)
-    where
-      go : (e : Option (Entry (Nest P C D))) → children_of (option_map (object_of (node_of see)) e) ≡ children_in e
-      go None = refl
-      go (Some e) = refl
+  children_seen a p = seen_as children_of children_in refl (λ e. refl) a p
 
   content_seen : {K V : Type 0} (f : ℕ → E → V) (a : Arena (Nest P C D)) (p : Ptr K) → option_map (λ d. f d.0 d.1) (content_of (get (store_of (node_of see) a) p)) ≡ option_map (λ d. f d.0 (see d.1)) (datum_in (arena.get a p))
-  content_seen {V = V} f a p = ap (λ e. option_map (λ d. f d.0 d.1) (content_of e)) (get_seen (node_of see) a p) ∙ go (arena.get a p)
-    where
-      go : (e : Option (Entry (Nest P C D))) → option_map (λ d. f d.0 d.1) (content_of (option_map (object_of (node_of see)) e)) ≡ option_map (λ d. f d.0 (see d.1)) (datum_in e)
-      go None = refl
-      go (Some e) = refl
+  content_seen f a p = seen_as (λ e. option_map (λ d. f d.0 d.1) (content_of e)) (λ e. option_map (λ d. f d.0 (see d.1)) (datum_in e)) refl (λ e. refl) a p
 
   pub places_seen : (a b : Arena (Nest P C D)) → KeepsPlaces a b → SamePlaces (store_of (node_of see) a) (store_of (node_of see) b)
   places_seen a b k = record {

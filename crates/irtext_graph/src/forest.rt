@@ -25,17 +25,7 @@ impl<O: Drop, B: Drop, T: Drop> Objects<O, B, T> {
         requires lives { Lives self.now c }
         ensures { IsTrue result ↔ CanInsert self.now k c }
     {
-        if self.parent_of(c).is_some() {
-            return false;
-        }
-        let mut at = Some(k);
-        while let Some(o) = at {
-            if same_object(o, c) {
-                return false;
-            }
-            at = self.parent_of(o);
-        }
-        true
+        self.parent_of(c).is_none() && !self.is_inside(c, k)
     }
 
     /// Whether q is o or nested in o.

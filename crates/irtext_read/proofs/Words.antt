@@ -1,10 +1,8 @@
 -- Fronts of ASCII characters: their bytes, and the identifiers among them.
-use Rattle.std.proofs.Common.{◌≡◌, ℕ, ◌<◌, Bool, true, false, List, cond, [], ◌∷◌, ◌++◌, refl, sym, ◌∙◌, ap, arith}
+use Rattle.std.proofs.Common.{◌≡◌, ℕ, ◌<◌, true, List, [], ◌∷◌, ◌++◌, sym, ◌∙◌, ap, arith}
 use Rattle.std.proofs.lemmas.Bool.Decides.{nat_tests}
-use Rattle.std.proofs.lemmas.Str.{encode_ascii}
 use Rattle.std.specs.Str.{encode_utf8_all}
 use Rattle.std.specs.Char.{is_ascii_digit, is_ascii_hexdigit}
-use Rattle.std.specs.List.{list_all}
 use Rattle.irtext_base.specs.Text.{Text, begins, front, after, begins_word, in_word, is_identifier}
 use Rattle.irtext_base.specs.Stream.{StreamView}
 use Rattle.irtext_base.specs.Places.{StandsBehind}
@@ -16,6 +14,7 @@ use Rattle.irtext_read.specs.Tokens.{has}
 use Rattle.irtext_read.specs.declared.irfmt.parsers.digits.Radix.{Radix}
 use Rattle.irtext_read.specs.declared.irfmt.parsers.digits.Radix.TheVariants as radix
 use Rattle.irtext_stream.specs.declared.class.Class.{Class}
+pub use Rattle.irtext_stream.proofs.NotationSteps.{encodes-front, list_all-front}
 
 in_word_ascii : (c : ℕ) → in_word c ≡ true → c < 128
 in_word_ascii c e = grind (arith, nat_tests)
@@ -25,15 +24,6 @@ is_ascii_digit_ascii c e = grind (arith, nat_tests)
 
 begins_word_in_word : (c : ℕ) → begins_word c ≡ true → in_word c ≡ true
 begins_word_in_word c e = grind (arith, nat_tests)
-
--- the bytes of a front whose characters are ASCII
-pub encodes-front : (p : ℕ → Bool) → ((c : ℕ) → p c ≡ true → c < 128) → (text : Text) → encode_utf8_all (front p text) ≡ front p text
-encodes-front p h [] = refl
-encodes-front p h (c ∷ text) =
-    elim (p c) as (λ b. p c ≡ b → encode_utf8_all (cond b (c ∷ front p text) []) ≡ cond b (c ∷ front p text) []) [
-      | true ↦ (λ e. rw (encode_ascii c (h c e)) (ap (λ z. c ∷ z) (encodes-front p h text)))
-      | false ↦ (λ e. refl)
-    ] refl
 
 pub encodes-front_word : (text : Text) → encode_utf8_all (front in_word text) ≡ front in_word text
 encodes-front_word = encodes-front in_word in_word_ascii
@@ -50,15 +40,6 @@ encodes-front_hexdigits = encodes-front is_ascii_hexdigit is_ascii_hexdigit_asci
 encodes-digits : (r : Radix) (text : Text) → encode_utf8_all (front (is_digit_in r) text) ≡ front (is_digit_in r) text
 encodes-digits radix.Decimal = encodes-front_digits
 encodes-digits radix.Hexadecimal = encodes-front_hexdigits
-
--- all of a front passes
-pub list_all-front : (p : ℕ → Bool) (text : Text) → list_all p (front p text) ≡ true
-list_all-front p [] = refl
-list_all-front p (c ∷ text) =
-    elim (p c) as (λ b. p c ≡ b → list_all p (cond b (c ∷ front p text) []) ≡ true) [
-      | true ↦ (λ e. rw e (list_all-front p text))
-      | false ↦ (λ e. refl)
-    ] refl
 
 -- the word at the beginning of a text is an identifier
 pub is_identifier-front : (text : Text) → begins begins_word text ≡ true → is_identifier (front in_word text) ≡ true

@@ -1,5 +1,6 @@
 use Rattle.irtext_graph.proofs.Views.{lives_at}
-use Rattle.irtext_graph.proofs.Erasures.{sound_dropped, drops_seen, dropped-keeps, inside_known}
+use Rattle.irtext_graph.proofs.Sounds.{sound_dropped}
+use Rattle.irtext_graph.proofs.Erasures.{drops_seen, dropped-keeps, inside_known}
 use Rattle.irtext_graph.proofs.LogsSeen.{logged_dropped}
 use Rattle.irtext_graph.proofs.Numbers.{numbers_kept, dropped_numbers}
 use Rattle.irtext_graph.proofs.graph.Graph.drop_all_uses.Goals as goal

@@ -1,4 +1,4 @@
-use Rattle.std.proofs.Common.{arith}
+use Rattle.std.proofs.Common.{◌∙◌, sym}
 use Rattle.irtext_graph.proofs.PartsSeen.{operation_there, result_count}
 use Rattle.irtext_graph.proofs.graph.Graph.num_results.Goals as goal
 
@@ -6,6 +6,4 @@ pub content-requires : goal.content-requires
 content-requires g c = operation_there c.self.inside.made c.self.inside.counters c.self.inside.objects c.args.op (rw (← c.self.view_is) at c.requires)
 
 pub returns : goal.returns
-returns g c =
-    let k = result_count c.self.inside.made c.self.inside.counters c.self.inside.objects c.args.op c.content.result.now c.content.ensures in
-    rw (← c.self.view_is) (omega (arith, c.len.ensures, k))
+returns g c = rw (← c.self.view_is) (c.len.ensures ∙ sym (result_count c.self.inside.made c.self.inside.counters c.self.inside.objects c.args.op c.content.result.now c.content.ensures))

@@ -1,22 +1,22 @@
 use Rattle.std.proofs.Common.{◌≡◌, ap, arith, refl, length}
 use Rattle.irtext_few.specs.Growing.{listed}
-use Rattle.irtext_graph.specs.Nest.{kids, children_in, parent_in, datum_in}
-use Rattle.irtext_graph.proofs.Arenas.{replaced, same_view, places_kept, stood}
-use Rattle.irtext_graph.proofs.Children.{links_with}
+use Rattle.irtext_graph.specs.Nest.{kids, children_in}
+use Rattle.irtext_graph.proofs.Arenas.{stood}
+use Rattle.irtext_graph.proofs.Children.{links_with, other_children}
 use Rattle.std.proofs.lemmas.List.Edits.{length-remove}
 use Rattle.irtext_graph.proofs.nest.Arena+Nest+P+C+D.remove_child.Goals as goal
 
 pub returns-clause-places : goal.returns-clause-places
-returns-clause-places g c = places_kept c.args.self.now c.args.p c.content_mut.result.now _ c.content_mut.ensures.value
+returns-clause-places g c = (other_children c.args.self.now c.args.p c.content_mut.result.now _ refl refl c.content_mut.ensures.value).places
 
 pub returns-clause-ups : goal.returns-clause-ups
-returns-clause-ups g c = λ q. same_view parent_in (replaced c.args.self.now c.args.p c.content_mut.result.now _ c.content_mut.ensures.value) (λ b. refl) q
+returns-clause-ups g c = (other_children c.args.self.now c.args.p c.content_mut.result.now _ refl refl c.content_mut.ensures.value).ups
 
 pub returns-clause-data : goal.returns-clause-data
-returns-clause-data g c = λ q. same_view datum_in (replaced c.args.self.now c.args.p c.content_mut.result.now _ c.content_mut.ensures.value) (λ b. refl) q
+returns-clause-data g c = (other_children c.args.self.now c.args.p c.content_mut.result.now _ refl refl c.content_mut.ensures.value).datums
 
 pub returns-clause-others : goal.returns-clause-others
-returns-clause-others g c = λ q ne. ap children_in ((replaced c.args.self.now c.args.p c.content_mut.result.now _ c.content_mut.ensures.value).others q ne)
+returns-clause-others g c = (other_children c.args.self.now c.args.p c.content_mut.result.now _ refl refl c.content_mut.ensures.value).others
 
 pub returns-clause-less : goal.returns-clause-less
 returns-clause-less g c =
