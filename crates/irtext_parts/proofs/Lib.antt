@@ -2,3 +2,4 @@ mod Preds
 mod Unions
 mod FirstResults
 mod Gathered
+mod NestedOperations

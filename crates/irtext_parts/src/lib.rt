@@ -4,6 +4,7 @@
 
 pub mod block;
 mod gather;
+pub mod nested;
 pub mod operation;
 pub mod region;
 pub mod value;

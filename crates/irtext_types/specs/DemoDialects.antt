@@ -3,8 +3,8 @@ use Rattle.std.specs.Prelude.{◌≡◌, ◌⊎◌, Bool, true, false, List, [],
 use Rattle.std.specs.Str.{bytes_eq}
 use Rattle.irtext_base.specs.Text.{Text}
 use Rattle.irtext_base.specs.Format.{Directive, Format, canonical, custom, word, operand, operands, successor, attribute, result_type, region, header}
-use Rattle.irtext_context.specs.Dialects.{Table, with_op}
-use Rattle.irtext_context.specs.DialectTable.{dialect_or_new, with_dialect}
+use Rattle.irtext_context.specs.Dialects.{Table}
+use Rattle.irtext_context.specs.DialectTable.{dialect_or_new, with_operation}
 use Rattle.irtext_base.specs.declared.base.identifier.OpId.{OpId}
 use Rattle.irtext_base.specs.declared.result.Cause.{Cause, Memory, WrongDialect}
 use Rattle.irtext_types.specs.declared.dialects.Demo.{Demo}
@@ -85,10 +85,6 @@ demo_op demo.Global = global_op
 abbrev pub demo_operations : List DemoOp
 demo_operations =
     module_op ∷ function_op ∷ constant_op ∷ return_op ∷ use_op ∷ make_op ∷ branch_op ∷ scope_op ∷ nop_op ∷ global_op ∷ []
-
--- the dialects with one more operation, or with another format and isolation of one that is registered
-abbrev pub with_operation : List (Text × Table) → OpId → Format → Bool → List (Text × Table)
-with_operation dialects id format isolated = with_dialect dialects id.dialect (with_op (dialect_or_new dialects id.dialect) id format isolated)
 
 -- the dialects with this operation registered
 abbrev pub with_demo : List (Text × Table) → DemoOp → List (Text × Table)

@@ -8,25 +8,12 @@ ghost use Rattle.irtext_base.specs.Text.{is_identifier};
 ghost use Rattle.irtext_base.specs.declared.location.Location.{Unknown};
 ghost use Rattle.irtext_types.specs.DemoDialects.{demo_operations, demo_op, with_demo, with_all, Refuses, RefusesOne};
 
-use irtext_base::base::{Identifier, OpId};
+use irtext_base::base::Identifier;
 use irtext_base::format::{Directive, OpFormat};
-use irtext_base::location::Location;
-use irtext_base::result::{Cause, Error, ErrorKind, Result as Answer};
+use irtext_base::result::{ErrorKind, Result as Answer};
 use irtext_base::text::{AttrText, IrText};
 use irtext_context::base::Context;
-use irtext_context::dialect::{Dialect, DialectName};
 use std::alloc::{AllocError, Global};
-
-/// Returns the error for an allocation that failed.
-fn out_of_memory<A>() -> Error<A>
-    ensures { result ≡ record { kind = ErrorKind.InvalidArgument; err = Cause.Memory; loc = Unknown } }
-{
-    Error {
-        kind: ErrorKind::InvalidArgument,
-        err: Cause::Memory,
-        loc: Location::Unknown,
-    }
-}
 
 /// The operations of the demo dialects.
 #[derive(Clone, Copy)]
@@ -88,16 +75,6 @@ fn row(demo: Demo) -> (&'static str, &'static str, bool)
     }
 }
 
-/// Returns the operation's id.
-fn id(alloc: Global, demo: Demo) -> Result<OpId, AllocError>
-    ensures { IfOk result (λ id. id ≡ (demo_op demo).id) }
-{
-    let (dialect, name, _) = row(demo);
-    let dialect = Identifier::from_word(alloc, dialect)?;
-    let name = Identifier::from_word(alloc, name)?;
-    Ok(OpId { dialect, name })
-}
-
 /// Returns the literal `:`.
 fn colon(alloc: Global) -> Result<Directive, AllocError>
     ensures { IfOk result (λ d. directive_of d ≡ word (codes ":")) }
@@ -142,23 +119,16 @@ fn op_format(alloc: Global, demo: Demo) -> Result<OpFormat, AllocError>
     Ok(OpFormat::Custom(directives))
 }
 
-/// Registers the operation with its dialect. On an error the dialect may stay registered, without the operation.
+/// Registers the operation, and its dialect if it is not registered yet. On an error the context is unchanged.
 fn add<T: IrText<A>, A: AttrText<A>>(ctx: &mut Context<T, A>, demo: Demo) -> Answer<(), A>
     ensures ok { OnOk result (ctx.new.dialects ≡ with_demo ctx.old.dialects (demo_op demo)) }
     ensures rest { ctx.new ≡ record ctx.old { dialects = ctx.new.dialects } }
     ensures kind { IfErr result (λ e. (e.kind ≡ ErrorKind.InvalidArgument) × (e.loc ≡ Unknown)) }
     ensures refused { IfErr result (λ e. Refuses ctx.old.dialects (demo_op demo) e.err) }
 {
-    let alloc = ctx.allocator();
-    let (Ok(id), Ok(format)) = (id(alloc, demo), op_format(alloc, demo)) else {
-        return Err(out_of_memory());
-    };
-    let Ok(name) = id.dialect.clone() else {
-        return Err(out_of_memory());
-    };
-    let (_, _, isolated) = row(demo);
-    let dialect = Dialect::register(ctx, &DialectName::from(name))?;
-    dialect.add_op(id, format, isolated)
+    let (dialect, name, isolated) = row(demo);
+    let format = op_format(ctx.allocator(), demo)?;
+    ctx.register_op(dialect, name, format, isolated)
 }
 
 /// Registers operations one after the other, up to the first that fails. Those before it stay registered.

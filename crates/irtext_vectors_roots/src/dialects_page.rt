@@ -1,7 +1,6 @@
 //! The example of docs/DIALECTS.md, as it is there (`tools/pages` compares both), with a test of it.
 use irtext_types::{DemoAttr, DemoType};
-use pliron_text::base::{Context, Identifier, OpId};
-use pliron_text::dialect::{Dialect, DialectName};
+use pliron_text::base::Context;
 use pliron_text::format::{Directive, OpFormat};
 use pliron_text::result::Result as Answer;
 use std::alloc::{AllocError, Global};
@@ -14,12 +13,8 @@ fn make_format(alloc: Global) -> Result<OpFormat, AllocError> {
 }
 
 fn register_make(ctx: &mut Context<DemoType, DemoAttr>) -> Answer<(), DemoAttr> {
-    let alloc = ctx.allocator();
-    let name: Identifier = Identifier::try_new(alloc, "mine")?;
-    let id = OpId::try_new(alloc, "mine", "make")?;
-    let format = make_format(alloc)?;
-    let dialect = Dialect::register(ctx, &DialectName::from(name))?;
-    dialect.add_op(id, format, false)
+    let format = make_format(ctx.allocator())?;
+    ctx.register_op("mine", "make", format, false)
 }
 
 use crate::reading::{root, whole};
