@@ -21,6 +21,11 @@ pub seen_mapped : {A B V : Type 0} (change : A → B) (f : Option B → V) (g : 
 seen_mapped change f g none some None = none
 seen_mapped change f g none some (Some a) = some a
 
+-- two views of an option are the same where they are the same of each value and of none
+pub same_views : {A V : Type 0} (f g : Option A → V) → f None ≡ g None → ((a : A) → f (Some a) ≡ g (Some a)) → (s : Option A) → f s ≡ g s
+same_views f g none some None = none
+same_views f g none some (Some a) = some a
+
 -- what an edit leaves of each object is seen of all objects as before
 pub edited_same : {X V K : Type 0} (old new : Store X) (p : Ptr K) (change : X → X) (f : Option (Entry X) → V) → ((o : Entry X) → f (Some (object_of change o)) ≡ f (Some o)) → Edits old new p change → (q : Ptr K) → f (get new q) ≡ f (get old q)
 edited_same old new p change f same e q = elim (ptr_or q p) [
@@ -184,6 +189,10 @@ module _ {X : Type 0} where
   none_yet None g less = refl
   none_yet (Some c) g less = ap (λ b. cond b c.object None) (ne_eqb c.generation g (λ e. omega (arith, e, less)))
 
+  -- where an object was stored none was before
+  pub inserted_new : {K : Type 0} (old new : Store X) (p : Ptr K) (x : Entry X) → Inserts old new p x → get old p ≡ None
+  inserted_new old new p x i = none_yet (slice_get old.cells p.index) p.generation (let n = i.next in omega (arith, n))
+
   -- what is no older than a mark is not there before it
   not_older : (mark : ℕ) (o : Entry X) → mark ≤ o.born → older mark (Some o) ≡ None
   not_older mark o up = ap (λ b. cond b (Some o) None) (le-ltb o.born mark up)
@@ -202,8 +211,7 @@ module _ {X : Type 0} where
     where
       go : (q ≡ p) ⊎ (q ≢ p) → before mark new q ≡ before mark old q
       go (inl s) =
-          let was : get old p ≡ None = none_yet (slice_get old.cells p.index) p.generation (let n = i.next in omega (arith, n)) in
-          ap (before mark new) s ∙ ap (older mark) i.updates.changed ∙ not_older mark x up ∙ sym (ap (older mark) was) ∙ sym (ap (before mark old) s)
+          ap (before mark new) s ∙ ap (older mark) i.updates.changed ∙ not_older mark x up ∙ sym (ap (older mark) (inserted_new old new p x i)) ∙ sym (ap (before mark old) s)
       go (inr n) = ap (older mark) (i.updates.others q n)
 
   -- an edit keeps what is older than the object
