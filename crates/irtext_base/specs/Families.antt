@@ -25,14 +25,14 @@ character_at none n = "?"
 character_at (c ∷ᶜ s) zero = c
 character_at (c ∷ᶜ s) (suc n) = character_at s n
 
--- a word as a quoted text, as an error of the checker shows it; words are of ASCII
-abbrev pub quoted : Text → String
-quoted [] = none
-quoted (c ∷ word) = character_at printable (c - 32) ∷ᶜ quoted word
+-- a word as a text, which an error of the checker shows in letters; words are of ASCII
+abbrev pub readable : Text → String
+readable [] = none
+readable (c ∷ word) = character_at printable (c - 32) ∷ᶜ readable word
 
 -- two families have no word in common; if they have, the error shows the words
 abbrev pub AreApart : List Text → List Text → Type 0
-AreApart words others = map quoted (shared words others) ≡ []
+AreApart words others = map readable (shared words others) ≡ []
 
 -- each printed text begins with one of the words, if what follows it can end it
 pub record BeginsWithWord {X : Type 0} (words : List Text) (written : X → Text) : Type 0 where

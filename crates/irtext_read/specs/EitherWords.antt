@@ -4,7 +4,7 @@ use Rattle.std.specs.Prelude.{map}
 use Rattle.std.specs.Cmp.Lexicographic.{bytes_decides}
 use Rattle.std.specs.Str.{bytes_eq}
 use Rattle.irtext_base.specs.Text.{Text}
-use Rattle.irtext_base.specs.Families.{is_one_of, quoted, shared, AreApart}
+use Rattle.irtext_base.specs.Families.{is_one_of, readable, shared, AreApart}
 
 joined : (a b c : Bool) (x y : Bool) → x ≡ b || c → y ≡ (a || b) || c → (a || x) ≡ y
 joined true b c x y e f = sym f
@@ -34,13 +34,13 @@ not_one_of (w ∷ words) others word e f = by (is_one_of others w) refl (λ k. n
         (λ k. true≢false (sym (subst (λ z. is_one_of others z ≡ true) ((bytes_decides word w).0 k) f) ∙ h))
         (more (apart false h))
 
-none_quoted : (words : List Text) → map quoted words ≡ [] → words ≡ []
-none_quoted [] e = refl
-none_quoted (w ∷ words) e = absurd (cc)
+none_readable : (words : List Text) → map readable words ≡ [] → words ≡ []
+none_readable [] e = refl
+none_readable (w ∷ words) e = absurd (cc)
 
 -- no word is shared by families that are apart
 pub none_shared : (words others : List Text) → AreApart words others → shared words others ≡ []
-none_shared words others e = none_quoted (shared words others) e
+none_shared words others e = none_readable (shared words others) e
 
 pub or_right : (a b : Bool) → b ≡ true → (a || b) ≡ true
 or_right true b e = refl
