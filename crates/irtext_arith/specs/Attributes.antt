@@ -1,15 +1,26 @@
--- For callers: the texts of the attributes of the dialect `arith`, given those of their parts.
-use Rattle.std.specs.Prelude.{Bool, true, false, cond, Option, Some, None, List, [], ◌∷◌, ◌++◌, codes}
+-- For callers: the texts of the attributes of the dialect `arith`, over the types `T` of the context.
+use Rattle.std.specs.Prelude.{ℤ, Bool, true, false, cond, Option, Some, None, List, [], ◌∷◌, ◌++◌, codes}
 use Rattle.std.specs.Str.{bytes_eq}
 use Rattle.irtext_base.specs.Text.{Text}
 use Rattle.irtext_base.specs.Faults.{AnAttribute}
 use Rattle.irtext_read.specs.Infix.{Reader, ◌▷◌, ◌⇒◌}
 use Rattle.irtext_read.specs.Tokens.{space_at}
+use Rattle.irtext_syntax.specs.IntegerKinds.{i64}
+use Rattle.irtext_syntax.specs.ScalarTexts.{ScalarText}
+use Rattle.irtext_syntax.specs.Shapes.{Shape, angle, colon, number, quoted, own, then_of, within}
 use Rattle.irtext_syntax.specs.Tables.{table_at}
+use Rattle.irtext_syntax.specs.declared.number.Number.{Number}
+use Rattle.irtext_syntax.specs.declared.own.Own.{Own}
+use Rattle.irtext_syntax.specs.declared.ready.Angle.{Angle}
+use Rattle.irtext_syntax.specs.declared.ready.Colon.{Colon}
+use Rattle.irtext_syntax.specs.declared.sequence.Then.{Then}
+use Rattle.irtext_syntax.specs.declared.sequence.Within.{Within}
+use Rattle.irtext_arith.specs.Predicates.{predicate}
+use Rattle.irtext_arith.specs.declared.predicate.Predicate.{Predicate}
 use Rattle.irtext_arith.specs.declared.attributes.AttrWord.{AttrWord}
 use Rattle.irtext_arith.specs.declared.attributes.AttrWord.TheVariants as word
-use Rattle.irtext_arith.specs.declared.attributes.ArithAttrOf.{ArithAttrOf}
-use Rattle.irtext_arith.specs.declared.attributes.ArithAttrOf.TheVariants as attr
+use Rattle.irtext_arith.specs.declared.attributes.ArithAttr.{ArithAttr}
+use Rattle.irtext_arith.specs.declared.attributes.ArithAttr.TheVariants as attr
 
 -- the words that attributes begin with
 abbrev pub attr_words : List Text
@@ -19,30 +30,50 @@ attr_words = codes "arith.value" ∷ codes "arith.predicate" ∷ codes "arith.do
 abbrev pub attr_word : Text → Option AttrWord
 attr_word text = cond (bytes_eq text (codes "arith.value")) (Some word.Value) (cond (bytes_eq text (codes "arith.predicate")) (Some word.Compares) (cond (bytes_eq text (codes "arith.doc")) (Some word.Doc) None))
 
--- the text that is printed for an attribute, given those of their parts
-abbrev pub attr_text : {V C D : Type 0} → (V → Text) → (C → Text) → (D → Text) → ArithAttrOf V C D → Text
-attr_text value_text compares_text doc_text (attr.Value x) = codes "arith.value " ++ value_text x
-attr_text value_text compares_text doc_text (attr.Compares x) = codes "arith.predicate " ++ compares_text x
-attr_text value_text compares_text doc_text (attr.Doc x) = codes "arith.doc " ++ doc_text x
+module _ {T : Type 0} (type_at : Reader T) (type_text : T → Text) (type_eq : T → T → Bool) where
+  -- what comes after `arith.value`: <N: T>
+  abbrev pub value_shape : Shape (Within Angle (Then (Number ℤ i64.radix) Colon (Own T)))
+  value_shape = within angle (then_of (number i64) colon (own type_at type_text type_eq))
 
--- the rest of an attribute, after its word
-abbrev pub attr_behind : {V C D : Type 0} → Reader V → Reader C → Reader D → AttrWord → Reader (ArithAttrOf V C D)
-attr_behind value_at compares_at doc_at word.Value = (space_at ▷ value_at) ⇒ attr.Value
-attr_behind value_at compares_at doc_at word.Compares = (space_at ▷ compares_at) ⇒ attr.Compares
-attr_behind value_at compares_at doc_at word.Doc = (space_at ▷ doc_at) ⇒ attr.Doc
+  -- what comes after `arith.predicate`: P
+  abbrev pub compares_shape : Shape Predicate
+  compares_shape = predicate
 
--- an attribute's word, and the rest of the attribute
-abbrev pub attr_at : {V C D : Type 0} → Reader V → Reader C → Reader D → Reader (ArithAttrOf V C D)
-attr_at value_at compares_at doc_at = table_at attr_word (attr_behind value_at compares_at doc_at) (codes "Unregistered attribute ") AnAttribute
+  -- what comes after `arith.doc`: "S"
+  abbrev pub doc_shape : Shape ScalarText
+  doc_shape = quoted
+
+  -- the text that is printed for an attribute
+  abbrev pub attr_text : ArithAttr T → Text
+  attr_text (attr.Value x) = codes "arith.value " ++ value_shape.written x
+  attr_text (attr.Compares x) = codes "arith.predicate " ++ compares_shape.written x
+  attr_text (attr.Doc x) = codes "arith.doc " ++ doc_shape.written x
+
+  -- the rest of an attribute, after its word
+  abbrev pub attr_behind : AttrWord → Reader (ArithAttr T)
+  attr_behind word.Value = (space_at ▷ value_shape.reading) ⇒ attr.Value
+  attr_behind word.Compares = (space_at ▷ compares_shape.reading) ⇒ attr.Compares
+  attr_behind word.Doc = (space_at ▷ doc_shape.reading) ⇒ attr.Doc
+
+  -- an attribute's word, and the rest of the attribute
+  abbrev pub attr_at : Reader (ArithAttr T)
+  attr_at = table_at attr_word attr_behind (codes "Unregistered attribute ") AnAttribute
+
+  -- whether two attributes are equal
+  abbrev pub attr_eq : ArithAttr T → ArithAttr T → Bool
+  attr_eq (attr.Value x) (attr.Value y) = value_shape.test x y
+  attr_eq (attr.Compares x) (attr.Compares y) = compares_shape.test x y
+  attr_eq (attr.Doc x) (attr.Doc y) = doc_shape.test x y
+  attr_eq _ _ = false
 
 -- the attributes that the section after the root holds
-abbrev pub is_outlined : {V C D : Type 0} → ArithAttrOf V C D → Bool
+abbrev pub is_outlined : {T : Type 0} → ArithAttr T → Bool
 is_outlined (attr.Value x) = false
 is_outlined (attr.Compares x) = false
 is_outlined (attr.Doc x) = true
 
 -- the attributes that the section prints once
-abbrev pub is_print_once : {V C D : Type 0} → ArithAttrOf V C D → Bool
+abbrev pub is_print_once : {T : Type 0} → ArithAttr T → Bool
 is_print_once (attr.Value x) = false
 is_print_once (attr.Compares x) = false
 is_print_once (attr.Doc x) = true

@@ -3,12 +3,13 @@ use Rattle.std.proofs.Common.{◌≡◌, refl, codes}
 use Rattle.std.specs.Prelude.{◌↔◌, IsTrue}
 use Rattle.irtext_base.specs.Faults.{AnAttribute}
 use Rattle.irtext_base.specs.Own.{texts_of, Lawful, Sincere}
-use Rattle.irtext_syntax.specs.OwnLaws.{text_law, text_misses}
+use Rattle.irtext_syntax.specs.OwnLaws.{own_last, text_law, text_misses}
 use Rattle.irtext_syntax.specs.Owns.{ends_text}
-use Rattle.irtext_syntax.specs.PartLaws.{PartLaw, MissesClosers}
+use Rattle.irtext_syntax.specs.PartLaws.{PartLaw, MissesClosers, EndsAnywhere}
+use Rattle.irtext_syntax.specs.ShapeLaws.{Proved}
 use Rattle.irtext_syntax.specs.TableLaws.{word_row, word_sincere, table_lawful, table_sincere}
 use Rattle.irtext_syntax.specs.Tables.{Row}
-use Rattle.irtext_arith.specs.Predicates.{predicate_words, predicate_word, predicate_text, predicate_behind, predicate_at}
+use Rattle.irtext_arith.specs.Predicates.{predicate_words, predicate_word, predicate_text, predicate_behind, predicate_at, predicate}
 use Rattle.irtext_arith.specs.declared.predicate.Predicate.{Predicate}
 use Rattle.irtext_arith.specs.declared.predicate.Predicate.TheVariants.{Equal, Different, Less, LessOrEqual}
 use Rattle.irtext_arith.specs.contracts.predicate.PredicatePartialEq.TheImpl as test
@@ -40,3 +41,10 @@ predicate_decides Different Different = (λ e. refl, λ e. refl)
 predicate_decides Less Less = (λ e. refl, λ e. refl)
 predicate_decides LessOrEqual LessOrEqual = (λ e. refl, λ e. refl)
 predicate_decides _ _ = (λ e. absurd (cc), λ e. absurd (cc))
+
+pub predicate_proved : Proved predicate
+predicate_proved = record { law = predicate_law; decides = predicate_decides }
+
+-- whatever can come after an attribute can come after a predicate
+pub predicate_last : EndsAnywhere predicate.ends
+predicate_last = own_last

@@ -4,8 +4,11 @@ use Rattle.std.specs.Str.{bytes_eq}
 use Rattle.irtext_base.specs.Text.{Text}
 use Rattle.irtext_base.specs.Faults.{AnAttribute}
 use Rattle.irtext_read.specs.Infix.{Reader, nothing}
+use Rattle.irtext_syntax.specs.Owns.{ends_text}
+use Rattle.irtext_syntax.specs.Shapes.{Shape}
 use Rattle.irtext_syntax.specs.Tables.{table_at}
 use Rattle.irtext_arith.specs.declared.predicate.Predicate.{Predicate}
+use Rattle.irtext_arith.specs.contracts.predicate.PredicatePartialEq.TheImpl as test
 use Rattle.irtext_arith.specs.declared.predicate.Predicate.TheVariants.{Equal, Different, Less, LessOrEqual}
 
 -- the words of predicates
@@ -31,3 +34,7 @@ predicate_behind x = nothing x
 -- the word of a predicate; any other word is an error
 abbrev pub predicate_at : Reader Predicate
 predicate_at = table_at predicate_word predicate_behind (codes "Unknown predicate ") AnAttribute
+
+-- as a part of other texts
+abbrev pub predicate : Shape Predicate
+predicate = record { reading = predicate_at; written = predicate_text; ends = ends_text; test = test.ghosts.eq }

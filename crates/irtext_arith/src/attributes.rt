@@ -4,7 +4,7 @@ use irtext_base::parsable::{ParseResult, TextStream};
 use irtext_base::result::Expected;
 use irtext_base::text::{AttrText, Family, IrText, Worded};
 use irtext_syntax::own::Own;
-use irtext_syntax::part::{Last, Part, TryClone};
+use irtext_syntax::part::TryClone;
 use irtext_syntax::ready::{Angle, Colon};
 use irtext_syntax::sequence::{Then, Within};
 use irtext_syntax::table::{Table, behind_word, table_parse, write_row};
@@ -18,18 +18,15 @@ use std::hash::Hash;
 pub type ValueText<T> = Within<Angle, Then<Number<i64>, Colon, Own<T>>>;
 
 /// An attribute of the dialect `arith`, over the types `T` of the context.
-pub type ArithAttr<T> = ArithAttrOf<ValueText<T>, Predicate, Characters>;
-
-/// An attribute of the dialect, over any parts. The laws of these come with the bounds of the `impl`s below, so none of them names a law.
 #[derive(Drop)]
-#[derive_where(PartialEq, Eq, Hash, Debug; V, C, D)]
-pub enum ArithAttrOf<V, C, D> {
+#[derive_where(PartialEq, Eq, Hash, Debug; T)]
+pub enum ArithAttr<T> {
     /// Printed as `arith.value <N: T>`.
-    Value(V),
+    Value(ValueText<T>),
     /// Printed as `arith.predicate P`.
-    Compares(C),
+    Compares(Predicate),
     /// Printed as `arith.doc "S"`, once, in the section after the root.
-    Doc(D),
+    Doc(Characters),
 }
 
 /// The words that attributes of the dialect begin with.
@@ -62,37 +59,38 @@ impl DottedWord for AttrWord {
     }
 }
 
-impl<B, V: Part<B>, C: Part<B>, D: Part<B>> Table<ArithAttrOf<V, C, D>, B> for AttrWord {
+impl<B, T: IrText<B>> Table<ArithAttr<T>, B> for AttrWord {
     ghost use Rattle.irtext_arith.specs.Attributes.{attr_behind};
 
-    ghost behind = { attr_behind V.reading C.reading D.reading };
+    ghost behind = { attr_behind T.reading T.written T.eq };
 
-    fn parse(self, stream: &mut TextStream) -> ParseResult<ArithAttrOf<V, C, D>, B> {
+    fn parse(self, stream: &mut TextStream) -> ParseResult<ArithAttr<T>, B> {
         match self {
-            AttrWord::Value => Ok(ArithAttrOf::Value(behind_word(stream)?)),
-            AttrWord::Compares => Ok(ArithAttrOf::Compares(behind_word(stream)?)),
-            AttrWord::Doc => Ok(ArithAttrOf::Doc(behind_word(stream)?)),
+            AttrWord::Value => Ok(ArithAttr::Value(behind_word(stream)?)),
+            AttrWord::Compares => Ok(ArithAttr::Compares(behind_word(stream)?)),
+            AttrWord::Doc => Ok(ArithAttr::Doc(behind_word(stream)?)),
         }
     }
 }
 
-impl<B, V: Last<B>, C: Last<B>, D: Last<B>> IrText<B> for ArithAttrOf<V, C, D> {
+impl<B, T: IrText<B>> IrText<B> for ArithAttr<T> {
     ghost use Rattle.std.specs.Prelude.{refl};
+    ghost use Rattle.irtext_arith.specs.declared.attributes.ArithAttr.TheVariants.{Value, Compares, Doc};
     ghost use Rattle.irtext_arith.specs.Attributes.{attr_at, attr_text};
     ghost use Rattle.irtext_arith.specs.AttributeLaws.{attr_lawful, attr_sincere, attr_decides};
 
-    ghost reading = { attr_at V.reading C.reading D.reading };
+    ghost reading = { attr_at T.reading T.written T.eq };
 
-    ghost written = { attr_text V.written C.written D.written };
+    ghost written = { attr_text T.reading T.written T.eq };
 
-    ghost lawful = { attr_lawful V.law C.law D.law V.last C.last D.last };
+    ghost lawful = { attr_lawful T.lawful T.sincere T.decides };
 
-    ghost sincere = { attr_sincere V.law C.law D.law };
+    ghost sincere = { attr_sincere T.lawful T.sincere T.decides };
 
-    ghost decides = { attr_decides ⟦<ArithAttrOf<V, C, D> as PartialEq>⟧.eq V.eq C.eq D.eq (λ x y. refl) (λ x y. refl) (λ x y. refl) (λ x y. refl) (λ x y. refl) (λ x y. refl) (λ x y. refl) (λ x y. refl) (λ x y. refl) V.decides C.decides D.decides };
+    ghost decides = { attr_decides T.lawful T.sincere T.decides ⟦<ArithAttr<T> as PartialEq>⟧.eq (elim [ Value x ↦ elim [ Value y ↦ refl | Compares y ↦ refl | Doc y ↦ refl ] | Compares x ↦ elim [ Value y ↦ refl | Compares y ↦ refl | Doc y ↦ refl ] | Doc x ↦ elim [ Value y ↦ refl | Compares y ↦ refl | Doc y ↦ refl ] ]) };
 
-    fn read(stream: &mut TextStream) -> ParseResult<ArithAttrOf<V, C, D>, B> {
-        table_parse::<AttrWord, ArithAttrOf<V, C, D>, B>(
+    fn read(stream: &mut TextStream) -> ParseResult<ArithAttr<T>, B> {
+        table_parse::<AttrWord, ArithAttr<T>, B>(
             stream,
             "Unregistered attribute ",
             Expected::Attribute,
@@ -101,19 +99,14 @@ impl<B, V: Last<B>, C: Last<B>, D: Last<B>> IrText<B> for ArithAttrOf<V, C, D> {
 
     fn write_text(&self, f: &mut String) -> fmt::Result {
         match self {
-            ArithAttrOf::Value(part) => write_row::<V, B>("arith.value", part, f),
-            ArithAttrOf::Compares(part) => write_row::<C, B>("arith.predicate", part, f),
-            ArithAttrOf::Doc(part) => write_row::<D, B>("arith.doc", part, f),
+            ArithAttr::Value(part) => write_row::<ValueText<T>, B>("arith.value", part, f),
+            ArithAttr::Compares(part) => write_row::<Predicate, B>("arith.predicate", part, f),
+            ArithAttr::Doc(part) => write_row::<Characters, B>("arith.doc", part, f),
         }
     }
 }
 
-impl<
-    B,
-    V: Last<B> + Hash + TryClone,
-    C: Last<B> + Hash + TryClone,
-    D: Last<B> + Hash + TryClone,
-> AttrText<B> for ArithAttrOf<V, C, D> {
+impl<B, T: IrText<B> + Hash + TryClone> AttrText<B> for ArithAttr<T> {
     ghost use Rattle.irtext_arith.specs.Attributes.{is_outlined, is_print_once};
     ghost use Rattle.irtext_arith.specs.AttributeLaws.{attr_unreserved};
 
@@ -121,26 +114,26 @@ impl<
 
     ghost print_once = { is_print_once };
 
-    ghost unreserved = { attr_unreserved V.law C.law D.law V.last C.last D.last };
+    ghost unreserved = { attr_unreserved T.lawful T.sincere T.decides };
 
     fn is_outlined(&self) -> bool {
-        matches!(self, ArithAttrOf::Doc(_))
+        matches!(self, ArithAttr::Doc(_))
     }
 
     fn is_print_once(&self) -> bool {
-        matches!(self, ArithAttrOf::Doc(_))
+        matches!(self, ArithAttr::Doc(_))
     }
 
-    fn try_clone(&self) -> Result<ArithAttrOf<V, C, D>, AllocError> {
+    fn try_clone(&self) -> Result<ArithAttr<T>, AllocError> {
         match self {
-            ArithAttrOf::Value(part) => Ok(ArithAttrOf::Value(part.try_clone()?)),
-            ArithAttrOf::Compares(part) => Ok(ArithAttrOf::Compares(part.try_clone()?)),
-            ArithAttrOf::Doc(part) => Ok(ArithAttrOf::Doc(part.try_clone()?)),
+            ArithAttr::Value(part) => Ok(ArithAttr::Value(part.try_clone()?)),
+            ArithAttr::Compares(part) => Ok(ArithAttr::Compares(part.try_clone()?)),
+            ArithAttr::Doc(part) => Ok(ArithAttr::Doc(part.try_clone()?)),
         }
     }
 }
 
-impl<V, C, D> Worded for ArithAttrOf<V, C, D> {
+impl<T> Worded for ArithAttr<T> {
     ghost use Rattle.irtext_arith.specs.Attributes.{attr_words};
 
     ghost words = { attr_words };
@@ -150,8 +143,8 @@ impl<V, C, D> Worded for ArithAttrOf<V, C, D> {
     }
 }
 
-impl<B, V: Last<B>, C: Last<B>, D: Last<B>> Family<B> for ArithAttrOf<V, C, D> {
+impl<B, T: IrText<B>> Family<B> for ArithAttr<T> {
     ghost use Rattle.irtext_arith.specs.AttributeLaws.{attr_led};
 
-    ghost led = { attr_led V.law C.law D.law V.last C.last D.last };
+    ghost led = { attr_led T.lawful T.sincere T.decides };
 }

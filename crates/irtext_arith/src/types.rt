@@ -3,21 +3,17 @@ use irtext_base::parsable::{ParseResult, TextStream};
 use irtext_base::result::Expected;
 use irtext_base::text::{Family, IrText, Worded};
 use irtext_syntax::Number;
-use irtext_syntax::part::{Last, Part, TryClone};
+use irtext_syntax::part::TryClone;
 use irtext_syntax::table::{Table, behind_word, table_parse, word_alone, write_row, write_word};
 use irtext_syntax::words::DottedWord;
 use std::alloc::AllocError;
 use std::fmt;
 
 /// A type of the dialect `arith`.
-pub type ArithType = ArithTypeOf<Number<u32>>;
-
-/// A type of the dialect, over any parts. The laws of these come with the bounds of the `impl`s below, so none of them names a law.
-#[derive(Drop)]
-#[derive_where(PartialEq, Eq, Hash, Debug; I)]
-pub enum ArithTypeOf<I> {
+#[derive(PartialEq, Eq, Hash, Debug, Drop)]
+pub enum ArithType {
     /// Printed as `arith.int N`.
-    Int(I),
+    Int(Number<u32>),
     /// Printed as `arith.index`.
     Index,
 }
@@ -47,56 +43,55 @@ impl DottedWord for TypeWord {
     }
 }
 
-impl<A, I: Part<A>> Table<ArithTypeOf<I>, A> for TypeWord {
+impl<A> Table<ArithType, A> for TypeWord {
     ghost use Rattle.irtext_arith.specs.Types.{type_behind};
 
-    ghost behind = { type_behind I.reading };
+    ghost behind = { type_behind };
 
-    fn parse(self, stream: &mut TextStream) -> ParseResult<ArithTypeOf<I>, A> {
+    fn parse(self, stream: &mut TextStream) -> ParseResult<ArithType, A> {
         match self {
-            TypeWord::Int => Ok(ArithTypeOf::Int(behind_word(stream)?)),
-            TypeWord::Index => word_alone(stream, ArithTypeOf::Index),
+            TypeWord::Int => Ok(ArithType::Int(behind_word(stream)?)),
+            TypeWord::Index => word_alone(stream, ArithType::Index),
         }
     }
 }
 
-impl<A, I: Last<A>> IrText<A> for ArithTypeOf<I> {
-    ghost use Rattle.std.specs.Prelude.{refl};
+impl<A> IrText<A> for ArithType {
     ghost use Rattle.irtext_arith.specs.Types.{type_at, type_text};
     ghost use Rattle.irtext_arith.specs.TypeLaws.{type_lawful, type_sincere, type_decides};
 
-    ghost reading = { type_at I.reading };
+    ghost reading = { type_at };
 
-    ghost written = { type_text I.written };
+    ghost written = { type_text };
 
-    ghost lawful = { type_lawful I.law I.last };
+    ghost lawful = { type_lawful };
 
-    ghost sincere = { type_sincere I.law };
+    ghost sincere = { type_sincere };
 
-    ghost decides = { type_decides ⟦<ArithTypeOf<I> as PartialEq>⟧.eq I.eq (λ x y. refl) (λ x. refl) (λ y. refl) refl I.decides };
+    ghost decides = { type_decides };
 
-    fn read(stream: &mut TextStream) -> ParseResult<ArithTypeOf<I>, A> {
-        table_parse::<TypeWord, ArithTypeOf<I>, A>(stream, "Unregistered type ", Expected::Type)
+    fn read(stream: &mut TextStream) -> ParseResult<ArithType, A> {
+        table_parse::<TypeWord, ArithType, A>(stream, "Unregistered type ", Expected::Type)
     }
 
     fn write_text(&self, f: &mut String) -> fmt::Result {
         match self {
-            ArithTypeOf::Int(part) => write_row::<I, A>("arith.int", part, f),
-            ArithTypeOf::Index => write_word("arith.index", f),
+            ArithType::Int(part) => write_row::<Number<u32>, A>("arith.int", part, f),
+            ArithType::Index => write_word("arith.index", f),
         }
     }
 }
 
-impl<I: TryClone> TryClone for ArithTypeOf<I> {
-    fn try_clone(&self) -> Result<ArithTypeOf<I>, AllocError> {
+impl TryClone for ArithType {
+    fn try_clone(&self) -> Result<ArithType, AllocError> {
         match self {
-            ArithTypeOf::Int(part) => Ok(ArithTypeOf::Int(part.try_clone()?)),
-            ArithTypeOf::Index => Ok(ArithTypeOf::Index),
+            ArithType::Int(part) => Ok(ArithType::Int(part.try_clone()?)),
+            ArithType::Index => Ok(ArithType::Index),
         }
     }
 }
 
-impl<I> Worded for ArithTypeOf<I> {
+impl Worded for ArithType {
     ghost use Rattle.irtext_arith.specs.Types.{type_words};
 
     ghost words = { type_words };
@@ -106,8 +101,8 @@ impl<I> Worded for ArithTypeOf<I> {
     }
 }
 
-impl<A, I: Last<A>> Family<A> for ArithTypeOf<I> {
+impl<A> Family<A> for ArithType {
     ghost use Rattle.irtext_arith.specs.TypeLaws.{type_led};
 
-    ghost led = { type_led I.law I.last };
+    ghost led = { type_led };
 }

@@ -4,7 +4,7 @@ use Rattle.std.specs.Bool.{MatchBool}
 use Rattle.irtext_base.specs.Text.{Text, front, after, in_word}
 use Rattle.irtext_base.specs.Stream.{StreamView, first_of}
 use Rattle.irtext_base.specs.Faults.{Demand, Word, Unexpected, characters}
-use Rattle.irtext_base.specs.Answers.{Outcome, Read, Missing, Gives, Takes, Passes, Starves, StarvesHere, Refuses, unless_failed}
+use Rattle.irtext_base.specs.Answers.{Read, Missing, Gives, Takes, Passes, Starves, StarvesHere, Refuses, unless_failed}
 use Rattle.irtext_base.specs.declared.parsable.fault.ParseFault.{ParseFault}
 use Rattle.irtext_base.proofs.Compose.{takes_none, starves_behind}
 use Rattle.irtext_syntax.specs.KeywordTexts.{is_next, keyword_at, flag_at}

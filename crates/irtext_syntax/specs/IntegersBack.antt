@@ -1,5 +1,5 @@
 -- For theorems: an integer that was printed in decimal is parsed back.
-use Rattle.std.proofs.Common.{◌≡◌, ℕ, ℤ, pos, negsuc, suc, ◌<◌, ◌≤◌, ◌^◌, Bool, true, false, cond, Some, None, [], ◌∷◌, ◌++◌, length, refl, sym, ◌∙◌, ap, ap₂, arith, nat_lt, decimal, inl, inr}
+use Rattle.std.proofs.Common.{◌≡◌, ℕ, ℤ, pos, negsuc, suc, ◌<◌, ◌≤◌, ◌^◌, Bool, true, false, cond, Some, None, [], ◌∷◌, ◌++◌, length, refl, ◌∙◌, ap, ap₂, arith, nat_lt, decimal, inl, inr}
 use Rattle.std.proofs.lemmas.Bool.Decides.{nat_tests}
 use Rattle.std.proofs.lemmas.Fmt.{decimal_is_IsNumeral, IsAscii-decimal}
 use Rattle.std.proofs.lemmas.Str.{IsAscii-append}

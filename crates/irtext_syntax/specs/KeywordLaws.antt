@@ -1,14 +1,14 @@
 -- The laws of fixed words, as parts of a text.
-use Rattle.std.proofs.Common.{◌≡◌, ◌∙◌, ℕ, Bool, true, false, cond, [], ◌∷◌, ◌++◌, refl, sym, ap, ap₂, true≢false}
+use Rattle.std.proofs.Common.{◌≡◌, ◌∙◌, Bool, true, false, cond, [], ◌∷◌, ◌++◌, refl, sym, ap, ap₂, true≢false}
 use Rattle.std.specs.Char.{is_whitespace}
 use Rattle.std.specs.Cmp.Lexicographic.{bytes_decides}
-use Rattle.std.specs.Prelude.{◌↔◌, IsTrue, not, ◌&&◌, ⊤}
+use Rattle.std.specs.Prelude.{◌↔◌, IsTrue, not, ⊤}
 use Rattle.std.specs.Str.{all_scalars, bytes_eq, encode_utf8_all}
 use Rattle.std.proofs.lemmas.Str.{encodes-IsAscii}
 use Rattle.irtext_base.specs.Text.{Text, begins, front, after, after_space, in_word, is_identifier}
 use Rattle.irtext_base.specs.Answers.{Outcome, Read, Missing}
 use Rattle.irtext_base.specs.Faults.{Unexpected, Word, characters}
-use Rattle.irtext_base.specs.Own.{found, missing, standing, can_follow}
+use Rattle.irtext_base.specs.Own.{standing, can_follow}
 use Rattle.irtext_base.specs.Stream.{first_of}
 use Rattle.irtext_base.proofs.Along.{front_after}
 use Rattle.irtext_base.proofs.Characters.{and_left, and_right, after_twice, front_all, after_all, identifier_every, identifier_begins, follow_no_word}
@@ -18,7 +18,7 @@ use Rattle.irtext_syntax.specs.CloserTests.{both, closer_follows}
 use Rattle.irtext_syntax.specs.KeywordTexts.{is_next, keyword_at, flag_at, flag_text, ends_flag}
 use Rattle.irtext_syntax.specs.NameTexts.{ends_word}
 use Rattle.irtext_syntax.specs.NameLaws.{no_space_in_word, follows_word, ascii_word}
-use Rattle.irtext_syntax.specs.PartLaws.{IsRead, PartLaw, MissesClosers, is_closer, closes}
+use Rattle.irtext_syntax.specs.PartLaws.{IsRead, PartLaw, MissesClosers, is_closer}
 use Rattle.irtext_syntax.specs.PartSteps.{not_true}
 use Rattle.irtext_syntax.specs.ReadHere.{read_here}
 

@@ -32,3 +32,6 @@ pub mod SequenceLaws
 pub mod OwnLaws
 pub mod TableLaws
 pub mod MaybeLaws
+pub mod IntegerKinds
+pub mod Shapes
+pub mod ShapeLaws

@@ -1,15 +1,13 @@
 -- The law of lists of parts in brackets, from the law of the parts.
-use Rattle.std.proofs.Common.{◌≡◌, ℕ, zero, suc, ◌≤◌, ◌+◌, Bool, true, false, cond, List, [], ◌∷◌, ◌++◌, length, length-append, append-nil, refl, sym, ◌∙◌, ap, ap₂, append_assoc, arith, true≢false}
+use Rattle.std.proofs.Common.{◌≡◌, ℕ, zero, suc, ◌≤◌, ◌+◌, Bool, true, false, cond, List, [], ◌∷◌, ◌++◌, length, length-append, append-nil, refl, sym, ◌∙◌, ap, append_assoc, arith, true≢false}
 use Rattle.std.proofs.lemmas.Bool.Decides.{nat_tests}
 use Rattle.std.specs.Char.{is_whitespace, is_ascii}
-use Rattle.std.specs.List.{list_all}
-use Rattle.std.specs.Prelude.{◌&&◌}
 use Rattle.std.specs.Str.{all_scalars}
-use Rattle.irtext_base.specs.Text.{Text, begins, front, after_space}
+use Rattle.irtext_base.specs.Text.{Text, begins, after_space}
 use Rattle.irtext_base.specs.Reading.{the}
 use Rattle.irtext_base.specs.Answers.{Outcome, Read, Missing, Bad, mapped, followed}
 use Rattle.irtext_base.specs.Own.{found, missing, standing, can_follow}
-use Rattle.irtext_base.proofs.Characters.{and_left, and_right, after_twice}
+use Rattle.irtext_base.proofs.Characters.{and_right, after_twice}
 use Rattle.irtext_base.proofs.Scalars.{scalars_more}
 use Rattle.irtext_base.proofs.Sincere.{Of, of_followed, of_mapped, of_sincere, sincere_of}
 use Rattle.irtext_read.specs.Tokens.{space_at, text_at, word}

@@ -1,5 +1,5 @@
 -- The law of a part that may be left out, from the law of the part.
-use Rattle.std.proofs.Common.{◌≡◌, ℕ, Bool, true, false, ◌&&◌, Option, Some, None, [], ◌∷◌, ◌++◌, refl, sym, ◌∙◌, ap, subst, true≢false}
+use Rattle.std.proofs.Common.{◌≡◌, Bool, true, false, ◌&&◌, Option, Some, None, [], ◌∷◌, ◌++◌, refl, sym, ◌∙◌, ap, subst, true≢false}
 use Rattle.std.specs.Prelude.{◌↔◌, IsTrue}
 use Rattle.irtext_base.specs.Text.{Text, begins, after_space}
 use Rattle.irtext_base.specs.Answers.{Outcome, Read, Missing, Bad}
@@ -10,7 +10,7 @@ use Rattle.std.specs.Char.{is_whitespace}
 use Rattle.std.specs.Str.{all_scalars}
 use Rattle.irtext_read.specs.Infix.{Reader}
 use Rattle.irtext_syntax.specs.Maybes.{or_none, maybe_at, maybe_text, maybe_ends}
-use Rattle.irtext_syntax.specs.PartLaws.{is_closer, closes, IsRead, PartLaw, MissesClosers}
+use Rattle.irtext_syntax.specs.PartLaws.{is_closer, IsRead, PartLaw, MissesClosers}
 
 -- what is found is found, and where it is missing nothing is consumed
 or_none_found : {X : Type 0} (o : Outcome X) (text : Text) (x : X) (rest : Text) → standing o ≡ found x rest → standing (or_none o text) ≡ found (Some x) rest

@@ -1,5 +1,5 @@
 -- The law of identifiers, as parts of a text.
-use Rattle.std.proofs.Common.{◌≡◌, ◌∙◌, ◌<◌, ℕ, zero, suc, Bool, true, false, cond, List, [], ◌∷◌, ◌++◌, refl, sym, ap, ap₂, true≢false}
+use Rattle.std.proofs.Common.{◌≡◌, ◌∙◌, ◌<◌, ℕ, zero, suc, true, false, cond, [], ◌∷◌, ◌++◌, refl, sym, ap, ap₂, true≢false}
 use Rattle.std.specs.Cmp.Lexicographic.{pointwise, bytes_decides}
 use Rattle.std.specs.Char.{is_whitespace}
 use Rattle.std.specs.List.{list_all}
@@ -7,10 +7,10 @@ use Rattle.std.specs.Prelude.{◌↔◌, IsTrue, not, Some, nat_eq}
 use Rattle.std.specs.Str.{IsAscii, encode_utf8_all}
 use Rattle.std.proofs.lemmas.Str.{encodes-IsAscii}
 use Rattle.std.proofs.lemmas.Str.Ascii.{IsAscii-nil}
-use Rattle.irtext_base.specs.Text.{Text, begins, front, after, begins_word, in_word, is_identifier}
+use Rattle.irtext_base.specs.Text.{Text, begins, front, after, begins_word, in_word}
 use Rattle.irtext_base.specs.Answers.{Outcome, Read, Missing, mapped}
 use Rattle.irtext_base.specs.Faults.{AnIdentifier, Unexpected}
-use Rattle.irtext_base.specs.Own.{found, missing, standing, can_follow, Ends}
+use Rattle.irtext_base.specs.Own.{missing, standing, can_follow}
 use Rattle.irtext_base.specs.Stream.{first_of}
 use Rattle.irtext_base.proofs.Characters.{and_left, and_right, is_false, begins_in, follow_no_word, front_all, after_all, identifier_every, identifier_begins, word_no_space, in_word_small, ends_word as no_word_ends}
 use Rattle.irtext_base.proofs.Scalars.{scalars_ascii}
@@ -18,7 +18,7 @@ use Rattle.irtext_base.proofs.Along.{front_after}
 use Rattle.irtext_base.proofs.Sincere.{Of, of_either, of_mapped, of_missing, of_read, sincere_of}
 use Rattle.irtext_read.specs.Tokens.{identifier_at, word_at}
 use Rattle.irtext_syntax.specs.CloserTests.{closer_follows}
-use Rattle.irtext_syntax.specs.PartLaws.{PartLaw, MissesClosers, EndsAnywhere, is_closer, closes}
+use Rattle.irtext_syntax.specs.PartLaws.{PartLaw, MissesClosers, EndsAnywhere}
 use Rattle.irtext_syntax.specs.PartSteps.{not_true}
 use Rattle.irtext_syntax.specs.ReadHere.{read_here}
 use Rattle.irtext_syntax.specs.NameTexts.{WordText, word_text, word_text_found, name_at, name_text, ends_word}

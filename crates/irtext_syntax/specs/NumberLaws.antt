@@ -1,23 +1,23 @@
 -- The law of numbers of an integer type, as parts of a text.
-use Rattle.std.proofs.Common.{◌≡◌, ◌∙◌, ◌≤◌, ◌^◌, ℕ, ℤ, Bool, true, false, Option, Some, None, [], ◌∷◌, ◌++◌, refl, sym, ap, subst}
-use Rattle.std.specs.Prelude.{◌↔◌, IsTrue, not, ◌&&◌, unwrap_or}
-use Rattle.std.specs.Char.{is_ascii_digit, is_whitespace}
+use Rattle.std.proofs.Common.{◌≡◌, ◌∙◌, ◌≤◌, ◌^◌, ℤ, Bool, false, Option, Some, ◌++◌, sym, ap}
+use Rattle.std.specs.Prelude.{◌↔◌, IsTrue, not, unwrap_or}
+use Rattle.std.specs.Char.{is_ascii_digit}
 use Rattle.std.specs.Fmt.{signed_decimal}
 use Rattle.std.specs.Str.{encode_utf8_all}
 use Rattle.std.proofs.lemmas.Str.{encodes-IsAscii}
-use Rattle.irtext_base.specs.Text.{Text, begins, after_space}
+use Rattle.irtext_base.specs.Text.{Text, begins}
 use Rattle.irtext_base.specs.Answers.{Outcome, Read, Missing, Bad}
-use Rattle.irtext_base.specs.Own.{found, missing, standing, can_follow, Ends}
-use Rattle.irtext_base.proofs.Characters.{and_left, after_all}
+use Rattle.irtext_base.specs.Own.{standing, can_follow}
+use Rattle.irtext_base.proofs.Characters.{and_left}
 use Rattle.irtext_base.proofs.Scalars.{scalars_ascii}
 use Rattle.irtext_base.proofs.Sincere.{Of, of_missing, of_bad, sincere_of}
 use Rattle.irtext_read.specs.Integers.{int_at, ranged}
 use Rattle.irtext_read.specs.declared.irfmt.parsers.from_str_radix.FromStrRadix as radix
 use Rattle.irtext_read.proofs.SincereTokens.{of_int, of_ranged}
-use Rattle.irtext_syntax.specs.PartLaws.{PartLaw, MissesClosers, EndsAnywhere, IsRead, is_closer, closes}
+use Rattle.irtext_syntax.specs.PartLaws.{PartLaw, MissesClosers, EndsAnywhere}
 use Rattle.irtext_syntax.specs.PartSteps.{not_true}
 use Rattle.irtext_syntax.specs.ReadHere.{read_here}
-use Rattle.irtext_syntax.specs.Numbers.{fits, narrowed, ends_digits}
+use Rattle.irtext_syntax.specs.Numbers.{narrowed, ends_digits}
 use Rattle.irtext_syntax.specs.NumberOf.{number_if, number_at, number_found}
 use Rattle.irtext_syntax.specs.IntegersBack.{follows_digits, no_digit, closer_no_int, int-here, int_no_space, ascii-int}
 use Rattle.irtext_syntax.specs.declared.number.Number.{Number}

@@ -1,11 +1,11 @@
 -- The law of quoted texts, as parts of a text.
-use Rattle.std.proofs.Common.{◌≡◌, ◌∙◌, ℕ, Bool, true, false, cond, [], ◌∷◌, ◌++◌, refl, sym, ap, codes}
+use Rattle.std.proofs.Common.{◌≡◌, ◌∙◌, ℕ, true, [], ◌∷◌, ◌++◌, refl, sym, ap, codes}
 use Rattle.std.proofs.lemmas.Str.{chars-encodes}
-use Rattle.std.specs.Cmp.Lexicographic.{bytes_decides, nat_list_eq_equiv}
+use Rattle.std.specs.Cmp.Lexicographic.{bytes_decides}
 use Rattle.std.specs.Prelude.{◌↔◌, IsTrue}
 use Rattle.std.specs.Str.{chars, encode_utf8_all, bytes_eq}
 use Rattle.irtext_base.specs.Text.{Text}
-use Rattle.irtext_base.specs.Answers.{Outcome, Read, mapped, followed}
+use Rattle.irtext_base.specs.Answers.{Outcome, Read, mapped}
 use Rattle.irtext_base.specs.Own.{missing, standing}
 use Rattle.irtext_base.proofs.Scalars.{scalars_quoted}
 use Rattle.irtext_base.proofs.Sincere.{of_mapped, sincere_of}

@@ -1,5 +1,5 @@
 -- The law of numbers of a range, as parts of a text.
-use Rattle.std.proofs.Common.{◌≡◌, ◌∙◌, ◌<◌, ◌^◌, ℕ, Bool, true, false, cond, Option, Some, None, [], ◌∷◌, ◌++◌, length, refl, sym, ap, ap₂, arith, decimal, nat_lt}
+use Rattle.std.proofs.Common.{◌≡◌, ◌∙◌, ◌<◌, ◌^◌, ℕ, true, false, cond, Some, [], ◌∷◌, ◌++◌, length, refl, sym, ap, ap₂, arith, decimal, nat_lt}
 use Rattle.std.proofs.lemmas.Bool.Decides.{nat_tests}
 use Rattle.std.proofs.lemmas.Fmt.{decimal_is_IsNumeral, IsAscii-decimal}
 use Rattle.std.proofs.lemmas.Str.{encodes-IsAscii}
@@ -12,10 +12,10 @@ use Rattle.std.specs.Str.Parse.{digits_value}
 use Rattle.irtext_base.specs.Text.{Text, begins, front, after}
 use Rattle.irtext_base.specs.Stream.{first_of}
 use Rattle.irtext_base.specs.Faults.{ADigit, Unexpected}
-use Rattle.irtext_base.specs.Answers.{Outcome, Read, Missing}
-use Rattle.irtext_base.specs.Own.{missing, standing, can_follow}
+use Rattle.irtext_base.specs.Answers.{Read, Missing}
+use Rattle.irtext_base.specs.Own.{standing, can_follow}
 use Rattle.irtext_base.proofs.Along.{front_after}
-use Rattle.irtext_base.proofs.Characters.{and_left, and_right, front_all, after_all}
+use Rattle.irtext_base.proofs.Characters.{and_left, front_all, after_all}
 use Rattle.irtext_base.proofs.Numbers.{digits_every}
 use Rattle.irtext_base.proofs.Scalars.{scalars_ascii}
 use Rattle.irtext_base.proofs.Sincere.{of_either, of_missing, sincere_of}

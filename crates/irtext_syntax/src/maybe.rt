@@ -1,6 +1,7 @@
 //! Parts that may be left out.
-use crate::part::{Item, Part};
+use crate::part::{Item, Part, TryClone};
 use irtext_base::parsable::{ParseResult, TextStream};
+use std::alloc::AllocError;
 use std::fmt;
 
 /// A part that may be left out. It is missing if no value of `P` begins, and nothing is then printed. So that this is seen, a closing
@@ -36,6 +37,15 @@ impl<A: Drop, P: Item<A>> Part<A> for Option<P> {
         match self {
             Some(value) => value.write_text(f),
             None => Ok(()),
+        }
+    }
+}
+
+impl<P: TryClone> TryClone for Option<P> {
+    fn try_clone(&self) -> Result<Option<P>, AllocError> {
+        match self {
+            Some(value) => Ok(Some(value.try_clone()?)),
+            None => Ok(None),
         }
     }
 }
