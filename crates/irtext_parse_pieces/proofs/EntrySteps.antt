@@ -1,20 +1,22 @@
 -- Steps of the reader of dictionaries.
-use Rattle.std.proofs.Common.{◌≡◌, ℕ, true, false, Result, Ok, Err, Option, Some, None, List, [], ◌∷◌, length, refl, sym, subst, ◌∙◌}
+use Rattle.std.proofs.Common.{◌≡◌, ℕ, true, false, Result, Ok, Err, Option, Some, None, List, [], ◌∷◌, ◌++◌, length, refl, sym, subst, ◌∙◌, codes}
 use Rattle.std.specs.Char.{is_whitespace}
 use Rattle.std.specs.Prelude.{Vec}
+use Rattle.std.specs.Str.{chars}
 use Rattle.std.specs.Global.{Global}
 use Rattle.irtext_base.specs.Text.{Text, begins, front, after}
 use Rattle.irtext_base.specs.Reading.{the}
-use Rattle.irtext_base.specs.Answers.{Outcome, Takes, Answers, mapped, followed, unless_failed}
+use Rattle.irtext_base.specs.Answers.{Outcome, Read, Takes, Gives, Answers, demanded, mapped, followed, unless_failed}
 use Rattle.irtext_base.specs.Locations.{AttrView, attr_view}
 use Rattle.irtext_base.specs.declared.base.attributes.AttrObj.{AttrObj}
 use Rattle.irtext_base.specs.declared.base.attributes.AttrObj.TheVariants.{GivenNames, Ident, Own}
 use Rattle.irtext_base.specs.declared.parsable.fault.ParseFault.{ParseFault}
 use Rattle.irtext_base.proofs.Compose.{takes_none, gives_mapped, refuses_mapped, refuses_first_demanded, refuses_mapped_demanded}
 use Rattle.irtext_stream.specs.Places.{StandsBehind}
+use Rattle.irtext_stream.specs.Stream.{Comes}
 use Rattle.irtext_read.specs.ListOutcomes.{items_after, separated_at}
 use Rattle.irtext_read.specs.MustRead.{MustRead}
-use Rattle.irtext_read.specs.Tokens.{identifier_at}
+use Rattle.irtext_read.specs.Tokens.{identifier_at, word_at}
 use Rattle.irtext_read.proofs.Steps.{Lens, seen_alone}
 use Rattle.irtext_grammar.specs.Contexts.Held.{attribute_of}
 use Rattle.irtext_grammar.specs.Grammar.Tree.{Name, Attribute}
@@ -33,6 +35,15 @@ tree_of_view (GivenNames names) = refl
 tree_of_view (Ident name) = refl
 tree_of_view (Own a) = refl
 
+chars_brackets : chars (codes "[]") ≡ codes "[]"
+unfolding chars
+chars_brackets = refl
+
+-- no entries stand between brackets
+no_entry : {A : Type 0} (attr : Text → Outcome (AttrView A)) (rest : Text) → dictionary_at attr (codes "[]" ++ rest) ≡ Read [] (codes "[]") rest
+unfolding dictionary_at word_at
+no_entry attr rest = refl
+
 module _ {S A : Type 0} (l : Lens S) where
   -- an attribute that was read, as trees hold it
   pub as_tree : {f : Text → Outcome (AttrView A)} {old new : S} (r : Result (AttrObj A) (ParseFault A)) → MustRead l.view l.at attr_view f old r new → MustRead l.view l.at attribute_of (λ t. mapped attr_tree (f t)) old r new
@@ -49,6 +60,16 @@ module _ {S A : Type 0} (l : Lens S) where
         means = record { named = refl; place = record { passed = (l.view old).passed; rest = (l.view old).rest; same = refl; stands = p; counts = refl } };
         read = record { answers = gives_mapped l.view l.at l.view_at l.at_at (name_of place) (l.view old).failed (identifier_at (l.view old).rest) old new key.name (name_of place key.name) refl h };
       }
+
+  -- brackets with nothing between them were consumed
+  pub no_entries : (attr : Text → Outcome (AttrView A)) {old new : S} → (l.view old).failed ≡ false → (none : Vec (Key × AttrObj A) Global) → none.items ≡ [] → Comes (chars (codes "[]")) (l.view old) (λ v. new ≡ l.at old v)
+      → MustEntries {A = A} l.view l.at (dictionary_at attr) old (Ok none) new
+  no_entries attr {old = old} {new = new} fine none e h =
+      let k : Comes (codes "[]") (l.view old) (λ v. new ≡ l.at old v) = subst (λ t. Comes t (l.view old) (λ v. new ≡ l.at old v)) chars_brackets h in
+      let g : Gives l.view l.at (demanded (unless_failed false (dictionary_at attr (l.view old).rest))) old [] new =
+      subst (λ t. Gives l.view l.at (demanded (unless_failed false (dictionary_at attr t))) old [] new) (sym k.1)
+      (subst (λ o. Gives l.view l.at (demanded (unless_failed false o)) old [] new) (sym (no_entry attr k.0)) (refl, record { is = k.2; same = sym k.1 })) in
+      record { meant = λ _. []; means = rw e tt; read = record { answers = rw fine g } }
 
   -- it is refused
   pub key_refused : {Means : Key → Name ℕ → Type 0} {old new : S} {fault : ParseFault A} → Answers l.view l.at (λ (name : Text). name) (unless_failed (l.view old).failed (identifier_at (l.view old).rest)) old (Err fault) new → MayMean l.view l.at Means name_at old (Err fault) new

@@ -103,10 +103,9 @@ fn entries_parse<S: OwnStream, A: AttrText<A>>(stream: &mut S) -> ParseResult<Ve
     }
 }
 
-/// Parses a dictionary: entries in brackets, separated by `,`, each a key, `:` and an attribute, as `[key: attribute]`. Reserved and
-/// repeated keys are accepted here. An empty dictionary allocates nothing, and one with entries allocates a vector. Every error is
-/// committed.
-pub fn dictionary_parse<S: OwnStream, A: AttrText<A>>(
+/// Parses a dictionary: entries in brackets, separated by `,`.
+#[inline(never)]
+fn bracketed_parse<S: OwnStream, A: AttrText<A>>(
     stream: &mut S,
 ) -> ParseResult<Vec<ReadEntry<A>>, A>
     ensures { MustEntries S.CharStream.view S.CharStream.at (dictionary_at (attr_at A.IrText.reading)) stream.old result stream.new }
@@ -116,6 +115,24 @@ pub fn dictionary_parse<S: OwnStream, A: AttrText<A>>(
     let entries = entries_parse(stream)?;
     text_demanded(stream, "]")?;
     Ok(entries)
+}
+
+/// Parses a dictionary: entries in brackets, separated by `,`, each a key, `:` and an attribute, as `[key: attribute]`. Reserved and
+/// repeated keys are accepted here. An empty dictionary allocates nothing, and one with entries allocates a vector. Every error is
+/// committed.
+#[inline(always)]
+pub fn dictionary_parse<S: OwnStream, A: AttrText<A>>(
+    stream: &mut S,
+) -> ParseResult<Vec<ReadEntry<A>>, A>
+    ensures { MustEntries S.CharStream.view S.CharStream.at (dictionary_at (attr_at A.IrText.reading)) stream.old result stream.new }
+{
+    if stream.has_failed() {
+        return bracketed_parse(stream);
+    }
+    if stream.accept("[]") {
+        return Ok(Vec::new(stream.allocator()));
+    }
+    bracketed_parse(stream)
 }
 
 /// Parses a dictionary as `dictionary_parse` does if `[` comes next; otherwise returns `None`. Every error is committed.

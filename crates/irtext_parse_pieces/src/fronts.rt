@@ -67,6 +67,7 @@ fn word_found<S: CharStream, T: IrText<A>, A: AttrText<A>>(
 }
 
 /// Parses what a step of a format describes, which is no region, and appends it to the pieces. Every error is committed.
+#[inline(always)]
 fn step_found<S: OwnStream, V: Copy, B: Copy, T: IrText<A>, A: AttrText<A>>(
     stream: &mut S,
     names: &mut NameTracker<V, B>,

@@ -51,6 +51,7 @@ pub(crate) fn with_item<X: Drop>(
 }
 
 /// Parses a name that is used, of a value or of a block. If none comes next, the error is uncommitted and the stream is unchanged.
+#[inline(always)]
 fn named_parse<S: CharStream, V: Copy, B: Copy, A>(
     stream: &mut S,
     names: &mut NameTracker<V, B>,
@@ -109,6 +110,7 @@ pub(crate) fn none_named<S: CharStream>(stream: &S, kind: NameKind) -> bool
 /// Parses names that are used, of values or of blocks, separated by `,` and with white space after each. `inside` says whether they are
 /// inside of a region; outside of every region the first name is an error. If no name comes next, returns an empty list. Every error is
 /// committed.
+#[inline(always)]
 pub fn names_parse<S: CharStream, V: Copy, B: Copy, A: Drop>(
     stream: &mut S,
     names: &mut NameTracker<V, B>,

@@ -15,8 +15,9 @@ pub struct ReadMark {
     pub at: Place,
 }
 
-/// Parses a mark, `!` and an index, as `!3`. If `!` does not come next, returns `None`. Every error is committed.
-pub fn mark_parse<S: CharStream, A>(stream: &mut S) -> ParseResult<Option<ReadMark>, A>
+/// Parses a mark, if `!` comes next.
+#[inline(never)]
+fn mark_there<S: CharStream, A>(stream: &mut S) -> ParseResult<Option<ReadMark>, A>
     ensures { MustMean S.view S.at (IsMarkIf (whole (S.view stream.old))) mark_if_at stream.old result stream.new }
 {
     if stream.has_failed() {
@@ -28,4 +29,18 @@ pub fn mark_parse<S: CharStream, A>(stream: &mut S) -> ParseResult<Option<ReadMa
     let at = stream.position();
     let index = index_demanded(stream)?;
     Ok(Some(ReadMark { index, at }))
+}
+
+/// Parses a mark, `!` and an index, as `!3`. If `!` does not come next, returns `None`. Every error is committed.
+#[inline(always)]
+pub fn mark_parse<S: CharStream, A>(stream: &mut S) -> ParseResult<Option<ReadMark>, A>
+    ensures { MustMean S.view S.at (IsMarkIf (whole (S.view stream.old))) mark_if_at stream.old result stream.new }
+{
+    if stream.has_failed() {
+        return mark_there(stream);
+    }
+    if !next_is(stream, '!') {
+        return Ok(None);
+    }
+    mark_there(stream)
 }

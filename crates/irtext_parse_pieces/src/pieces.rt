@@ -222,6 +222,7 @@ fn no_piece<S: OwnStream, T: IrText<A>, A: AttrText<A>>(
 }
 
 /// Parses what a directive describes.
+#[inline(never)]
 fn piece_parse<S: OwnStream, V: Copy, B: Copy, T: IrText<A>, A: AttrText<A>>(
     stream: &mut S,
     names: &mut NameTracker<V, B>,
@@ -250,6 +251,7 @@ fn piece_parse<S: OwnStream, V: Copy, B: Copy, T: IrText<A>, A: AttrText<A>>(
 /// Parses what a step of a format describes. `inside` says whether it is inside of a region; outside of every region no name can be used.
 /// An attribute may be replaced by the marker `!outlined`; reserved and repeated keys of a dictionary are accepted here. If the step
 /// describes regions, fails with `Unexpected`: an operation was expected. Every error is committed, and leaves the stream failed.
+#[inline(always)]
 pub fn step_parse<S: OwnStream, V: Copy, B: Copy, T: IrText<A>, A: AttrText<A>>(
     stream: &mut S,
     names: &mut NameTracker<V, B>,
