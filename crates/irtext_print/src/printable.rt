@@ -17,10 +17,12 @@ pub use refusal::Refusal;
 pub use state::{RegionPrintDepthLimit, State};
 
 /// As many spaces as are appended at once.
-const SPACES: &str = "                                                                ";
+const SPACES: &str =
+    "                                                                                                                                                                                                                                                                ";
 
 /// A newline, and as many spaces as are appended with it.
-const NEWLINE: &str = "\n                                                                ";
+const NEWLINE: &str =
+    "\n                                                                                                                                                                                                                                                                ";
 
 /// A space, a brace on a line of its own, and as many spaces as are appended with it.
 const OPENING: &str = " \n{\n                                                                ";
@@ -61,8 +63,8 @@ pub fn fmt_opening(joins: bool, indent: u16, inner: u16, f: &mut String) -> fmt:
 pub fn fmt_newline(indent: u16, f: &mut String) -> fmt::Result
     ensures { OnOk result (string_bytes f.new ≡ string_bytes f.old ++ newline indent) }
 {
-    f.push_str(&NEWLINE[..1 + (indent % 64) as usize])?;
-    for _block in 0..indent / 64 {
+    f.push_str(&NEWLINE[..1 + (indent % 256) as usize])?;
+    for _block in 0..indent / 256 {
         f.push_str(SPACES)?;
     }
     Ok(())

@@ -45,11 +45,11 @@ located_cause-plain {A = A} written paths cause none = elim cause as (λ z. ((e 
 ] none
 
 -- a newline and spaces, and one more block of spaces
-pub newline-more : (first blocks : ℕ) (old now new : List ℕ) → now ≡ old ++ 10 ∷ replicate (first + 64 * blocks) 32 → new ≡ now ++ replicate 64 32 → new ≡ old ++ 10 ∷ replicate (first + 64 * (blocks + 1)) 32
+pub newline-more : (first blocks : ℕ) (old now new : List ℕ) → now ≡ old ++ 10 ∷ replicate (first + 256 * blocks) 32 → new ≡ now ++ replicate 256 32 → new ≡ old ++ 10 ∷ replicate (first + 256 * (blocks + 1)) 32
 newline-more first blocks old now new p q =
-    let sizes : first + 64 * blocks + 64 ≡ first + 64 * (blocks + 1) = omega arith in
-    q ∙ ap (λ z. z ++ replicate 64 32) p ∙ append_assoc old (10 ∷ replicate (first + 64 * blocks) 32) (replicate 64 32)
-    ∙ ap (λ z. old ++ 10 ∷ z) (replicate-append-replicate (first + 64 * blocks) 64 32 ∙ ap (λ n. replicate n 32) sizes)
+    let sizes : first + 256 * blocks + 256 ≡ first + 256 * (blocks + 1) = omega arith in
+    q ∙ ap (λ z. z ++ replicate 256 32) p ∙ append_assoc old (10 ∷ replicate (first + 256 * blocks) 32) (replicate 256 32)
+    ∙ ap (λ z. old ++ 10 ∷ z) (replicate-append-replicate (first + 256 * blocks) 256 32 ∙ ap (λ n. replicate n 32) sizes)
 
 -- each of so many spaces is ASCII
 pub spaces-ascii : (n : ℕ) → IsAscii (replicate n 32)
@@ -63,10 +63,10 @@ newline-ascii n zero = omega arith
 newline-ascii n (suc i) = spaces-ascii n i
 
 -- a slice of a newline and spaces
-pub newline-slice : (n : ℕ) → n ≤ 64 → slice_range {X = ℕ} (10 ∷ replicate 64 32) 0 (1 + n) ≡ 10 ∷ replicate n 32
+pub newline-slice : (n : ℕ) → n ≤ 256 → slice_range {X = ℕ} (10 ∷ replicate 256 32) 0 (1 + n) ≡ 10 ∷ replicate n 32
 newline-slice n few =
     let size : 1 + n - 0 ≡ suc n = omega arith in
-    ap (λ k. take k (10 ∷ replicate 64 32)) size ∙ ap (λ z. 10 ∷ z) (take-replicate n 64 32 few)
+    ap (λ k. take k (10 ∷ replicate 256 32)) size ∙ ap (λ z. 10 ∷ z) (take-replicate n 256 32 few)
 
 -- a space, a brace on a line of its own, a newline and spaces are ASCII
 pub opening-ascii : (n : ℕ) → IsAscii (32 ∷ 10 ∷ 123 ∷ 10 ∷ replicate n 32)
