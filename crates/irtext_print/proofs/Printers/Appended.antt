@@ -1,5 +1,5 @@
 -- What was appended piece by piece, as one text.
-use Rattle.std.proofs.Common.{◌≡◌, ◌∷◌, ◌++◌, ◌∙◌, ℕ, List, true≢false, refl, sym, ap, Result, Ok, Err, OnOk, IsOk, IfErr, codes, ◌+◌, ◌*◌, replicate, take, ◌-◌, ◌≤◌, zero, suc, arith}
+use Rattle.std.proofs.Common.{◌≡◌, ◌∷◌, ◌++◌, ◌∙◌, ℕ, List, true≢false, refl, sym, ap, Result, Ok, Err, OnOk, IsOk, IfErr, codes, ◌+◌, ◌*◌, replicate, take, length, ◌-◌, ◌≤◌, ◌<◌, [], zero, suc, arith}
 use Rattle.std.specs.Str.{IsAscii, encode_utf8_all}
 use Rattle.std.proofs.lemmas.List.{append_assoc, replicate-append-replicate, take-replicate}
 use Rattle.std.specs.List.{slice_range}
@@ -67,6 +67,25 @@ pub newline-slice : (n : ℕ) → n ≤ 256 → slice_range {X = ℕ} (10 ∷ re
 newline-slice n few =
     let size : 1 + n - 0 ≡ suc n = omega arith in
     ap (λ k. take k (10 ∷ replicate 256 32)) size ∙ ap (λ z. 10 ∷ z) (take-replicate n 256 32 few)
+
+-- a text, a newline and spaces, of which some are taken
+pub line-slice : (front : List ℕ) (n : ℕ) → n ≤ 256 → slice_range {X = ℕ} (front ++ 10 ∷ replicate 256 32) 0 (length front + 1 + n) ≡ front ++ 10 ∷ replicate n 32
+line-slice front n few =
+    let size : length front + 1 + n - 0 ≡ length front + suc n = omega arith in
+    ap (λ k. take k (front ++ 10 ∷ replicate 256 32)) size ∙ taken front
+  where
+    taken : (front : List ℕ) → take (length front + suc n) (front ++ 10 ∷ replicate 256 32) ≡ front ++ 10 ∷ replicate n 32
+    taken [] =
+        let size : 0 + suc n ≡ suc n = omega arith in
+        ap (λ k. take k (10 ∷ replicate 256 32)) size ∙ ap (λ z. 10 ∷ z) (take-replicate n 256 32 few)
+    taken (x ∷ front) =
+        let size : suc (length front) + suc n ≡ suc (length front + suc n) = omega arith in
+        ap (λ k. take k (x ∷ (front ++ 10 ∷ replicate 256 32))) size ∙ ap (λ z. x ∷ z) (taken front)
+
+-- a character before a newline and spaces
+pub front-ascii : (c n : ℕ) → c < 128 → IsAscii (c ∷ 10 ∷ replicate n 32)
+front-ascii c n h zero = h
+front-ascii c n h (suc i) = newline-ascii n i
 
 -- a space, a brace on a line of its own, a newline and spaces are ASCII
 pub opening-ascii : (n : ℕ) → IsAscii (32 ∷ 10 ∷ 123 ∷ 10 ∷ replicate n 32)
