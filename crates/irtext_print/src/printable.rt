@@ -73,7 +73,7 @@ pub fn fmt_opening(joins: bool, indent: u16, inner: u16, f: &mut String) -> fmt:
         f.push_str(" ")?;
     }
     fmt_newline(indent, f)?;
-    fmt_brace(inner, f)
+    fmt_brace_newline(inner, f)
 }
 
 /// Appends a text, a newline and so many spaces. `line` is the same with 256 spaces, of which a slice is appended if it is long enough.
@@ -92,21 +92,21 @@ fn fmt_line(front: &str, line: &str, indent: u16, f: &mut String) -> fmt::Result
 }
 
 /// Appends a semicolon, a newline and so many spaces. Fails only if out of memory.
-pub fn fmt_semicolon(indent: u16, f: &mut String) -> fmt::Result
+pub fn fmt_semicolon_newline(indent: u16, f: &mut String) -> fmt::Result
     ensures { OnOk result (string_bytes f.new ≡ string_bytes f.old ++ (codes ";" ++ newline indent)) }
 {
     fmt_line(";", SEMICOLON, indent, f)
 }
 
 /// Appends a colon, a newline and so many spaces. Fails only if out of memory.
-pub fn fmt_colon(indent: u16, f: &mut String) -> fmt::Result
+pub fn fmt_colon_newline(indent: u16, f: &mut String) -> fmt::Result
     ensures { OnOk result (string_bytes f.new ≡ string_bytes f.old ++ (codes ":" ++ newline indent)) }
 {
     fmt_line(":", COLON, indent, f)
 }
 
 /// Appends an opening brace, a newline and so many spaces.
-fn fmt_brace(indent: u16, f: &mut String) -> fmt::Result
+fn fmt_brace_newline(indent: u16, f: &mut String) -> fmt::Result
     ensures { OnOk result (string_bytes f.new ≡ string_bytes f.old ++ (codes "{" ++ newline indent)) }
 {
     fmt_line("{", BRACE, indent, f)

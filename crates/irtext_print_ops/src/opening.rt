@@ -10,7 +10,11 @@ ghost use Rattle.irtext_print_ops.specs.Steps.{IsTooDeep, begun_frames, region_f
 use crate::frame::RegionFrame;
 use irtext_context::base::{Ptr, Region};
 use irtext_print::printable::numbers::fmt_number;
-use irtext_print::printable::{Refusal, RegionPrintDepthLimit, fmt_newline, fmt_opening};
+use irtext_print::printable::refusal::memory_alone;
+use irtext_print::printable::{
+    Refusal, RegionPrintDepthLimit, fmt_colon_newline, fmt_newline, fmt_opening,
+    fmt_semicolon_newline,
+};
 
 /// Returns the indentation one step deeper. The error is always `Depth`: the number of spaces does not fit 16 bits.
 #[inline(always)]
@@ -64,8 +68,7 @@ pub(crate) fn fmt_between_operations(
     if first {
         return Ok(());
     }
-    f.push_str(";")?;
-    fmt_line(indent, f)
+    memory_alone(fmt_semicolon_newline(indent, f))
 }
 
 /// Appends what comes before the next block of a region.
@@ -85,8 +88,7 @@ pub(crate) fn fmt_colon(indent: u16, f: &mut String) -> Result<(), Refusal>
     ensures text { OnOk result (AppendsText f.old (codes ":" ++ newline indent) f.new) }
     ensures refused { IfErr result (λ e. e ≡ refusal.Memory) }
 {
-    f.push_str(":")?;
-    fmt_line(indent, f)
+    memory_alone(fmt_colon_newline(indent, f))
 }
 
 /// Appends what comes after a region's blocks.
