@@ -1,3 +1,4 @@
+pub mod Digits
 pub mod Givens
 pub mod Lone
 pub mod Noted

@@ -1,5 +1,6 @@
 //! The printing state with its guards, the items that it gathered, why a printing fails, and the texts of attributes and of new lines.
-ghost use Rattle.std.specs.Prelude.{◌≡◌, ◌≤◌, [], OnOk, ◌++◌, codes, cond, string_bytes};
+ghost use Rattle.std.specs.Prelude.{◌≡◌, ◌≤◌, [], ◌∷◌, OnOk, ◌++◌, codes, cond, replicate, string_bytes};
+ghost use Rattle.std.specs.Str.{IsAscii};
 ghost use Rattle.irtext_print.specs.Printers.Printing.{indent_of};
 ghost use Rattle.irtext_grammar.specs.Spelling.Spell.{newline};
 
@@ -17,10 +18,29 @@ pub use refusal::Refusal;
 pub use state::{RegionPrintDepthLimit, State};
 
 /// As many spaces as are appended at once.
-const SPACES: &str = "                                                                ";
+const SPACES: &str = "\
+    \x20                                                                                                                               \
+    \x20                                                                                                                               ";
 
 /// A newline, and as many spaces as are appended with it.
-const NEWLINE: &str = "\n                                                                ";
+const NEWLINE: &str = "\n\
+    \x20                                                                                                                               \
+    \x20                                                                                                                               ";
+
+/// A semicolon, a newline, and as many spaces as are appended with them.
+const SEMICOLON: &str = ";\n\
+    \x20                                                                                                                               \
+    \x20                                                                                                                               ";
+
+/// A colon, a newline, and as many spaces as are appended with them.
+const COLON: &str = ":\n\
+    \x20                                                                                                                               \
+    \x20                                                                                                                               ";
+
+/// A brace, a newline, and as many spaces as are appended with them.
+const BRACE: &str = "{\n\
+    \x20                                                                                                                               \
+    \x20                                                                                                                               ";
 
 /// A space, a brace on a line of its own, and as many spaces as are appended with it.
 const OPENING: &str = " \n{\n                                                                ";
@@ -53,16 +73,51 @@ pub fn fmt_opening(joins: bool, indent: u16, inner: u16, f: &mut String) -> fmt:
         f.push_str(" ")?;
     }
     fmt_newline(indent, f)?;
-    f.push_str("{")?;
-    fmt_newline(inner, f)
+    fmt_brace_newline(inner, f)
+}
+
+/// Appends a text, a newline and so many spaces. `line` is the same with 256 spaces, of which a slice is appended if it is long enough.
+#[inline(always)]
+fn fmt_line(front: &str, line: &str, indent: u16, f: &mut String) -> fmt::Result
+    requires line { line.now ≡ front.now ++ 10 ∷ replicate 256 32 }
+    requires ascii { IsAscii line.now }
+    ensures { OnOk result (string_bytes f.new ≡ string_bytes f.old ++ (front.now ++ newline indent)) }
+{
+    if indent > 256 {
+        f.push_str(front)?;
+        return fmt_newline(indent, f);
+    }
+    f.push_str(&line[..front.len() + 1 + indent as usize])?;
+    Ok(())
+}
+
+/// Appends a semicolon, a newline and so many spaces. Fails only if out of memory.
+pub fn fmt_semicolon_newline(indent: u16, f: &mut String) -> fmt::Result
+    ensures { OnOk result (string_bytes f.new ≡ string_bytes f.old ++ (codes ";" ++ newline indent)) }
+{
+    fmt_line(";", SEMICOLON, indent, f)
+}
+
+/// Appends a colon, a newline and so many spaces. Fails only if out of memory.
+pub fn fmt_colon_newline(indent: u16, f: &mut String) -> fmt::Result
+    ensures { OnOk result (string_bytes f.new ≡ string_bytes f.old ++ (codes ":" ++ newline indent)) }
+{
+    fmt_line(":", COLON, indent, f)
+}
+
+/// Appends an opening brace, a newline and so many spaces.
+fn fmt_brace_newline(indent: u16, f: &mut String) -> fmt::Result
+    ensures { OnOk result (string_bytes f.new ≡ string_bytes f.old ++ (codes "{" ++ newline indent)) }
+{
+    fmt_line("{", BRACE, indent, f)
 }
 
 /// Appends a newline and so many spaces. Fails only if out of memory.
 pub fn fmt_newline(indent: u16, f: &mut String) -> fmt::Result
     ensures { OnOk result (string_bytes f.new ≡ string_bytes f.old ++ newline indent) }
 {
-    f.push_str(&NEWLINE[..1 + (indent % 64) as usize])?;
-    for _block in 0..indent / 64 {
+    f.push_str(&NEWLINE[..1 + (indent % 256) as usize])?;
+    for _block in 0..indent / 256 {
         f.push_str(SPACES)?;
     }
     Ok(())

@@ -1,10 +1,10 @@
 -- What stands round regions, blocks and operations, as it was appended.
-use Rattle.std.proofs.Common.{◌≡◌, ◌+◌, ◌++◌, ◌∙◌, [], Bool, true, false, cond, ℕ, List, Some, None, refl, sym, ap, codes}
+use Rattle.std.proofs.Common.{◌≡◌, ◌+◌, ◌<◌, ◌++◌, ◌∷◌, ◌∙◌, [], Bool, true, false, cond, ℕ, List, Some, None, refl, sym, ap, codes}
 use Rattle.std.proofs.lemmas.Str.{IsAscii-append}
 use Rattle.std.specs.Str.{IsAscii, encode_utf8_all}
 use Rattle.irtext_grammar.proofs.Lists.Ascii.{ascii-from, encodes-ascii}
 use Rattle.irtext_grammar.specs.Spelling.Spell.{newline}
-use Rattle.irtext_print.proofs.Printers.Appended.{newline-ascii}
+use Rattle.irtext_print.proofs.Printers.Appended.{newline-ascii, front-ascii}
 use Rattle.irtext_print.specs.Printers.Printing.{lowered}
 use Rattle.irtext_print.specs.declared.printable.state.RegionPrintDepthLimit.{RegionPrintDepthLimit}
 use Rattle.irtext_print_ops.specs.Opened.{opening}
@@ -13,6 +13,10 @@ use Rattle.irtext_print_ops.specs.Steps.{region_front}
 -- the bytes of a newline and spaces
 pub newline_bytes : (i : ℕ) → encode_utf8_all (newline i) ≡ newline i
 newline_bytes i = encodes-ascii (newline i) (newline-ascii i)
+
+-- the same after a character
+pub line_bytes : (c i : ℕ) → c < 128 → encode_utf8_all (c ∷ newline i) ≡ c ∷ newline i
+line_bytes c i h = encodes-ascii (c ∷ newline i) (front-ascii c i h)
 
 -- the bytes in front of a region's blocks
 pub opening_bytes : (joins : Bool) (i j : ℕ) → encode_utf8_all (cond joins [] (codes " ") ++ (newline i ++ (codes "{" ++ newline j))) ≡ cond joins [] (codes " ") ++ (newline i ++ (codes "{" ++ newline j))

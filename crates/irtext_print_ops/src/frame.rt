@@ -81,6 +81,7 @@ pub(crate) enum Turn {
 }
 
 /// Opens a frame inside the open ones.
+#[inline(always)]
 pub(crate) fn open<'c>(frames: &mut Vec<Frame<'c>>, frame: Frame<'c>) -> Result<(), Refusal>
     ensures ok { OnOk result (frames.new.items ≡ frames.old.items ++ frame.entry ∷ []) }
     ensures refused { IfErr result (λ e. e ≡ refusal.Memory) }
@@ -92,6 +93,7 @@ pub(crate) fn open<'c>(frames: &mut Vec<Frame<'c>>, frame: Frame<'c>) -> Result<
 }
 
 /// Gathers a marked item, and returns its index.
+#[inline(always)]
 pub(crate) fn gather(items: &mut Vec<Item>, item: Item) -> Result<usize, Refusal>
     ensures ok { OnOk result (items.new.items ≡ items.old.items ++ item ∷ []) }
     ensures place { IfOk result (λ index. index ≡ length items.old.items) }

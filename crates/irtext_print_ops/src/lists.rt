@@ -45,6 +45,7 @@ enum Facet {
 }
 
 /// Appends `, `, except before the first item.
+#[inline(always)]
 fn fmt_between(first: bool, f: &mut String) -> fmt::Result
     ensures { OnOk result (AppendsText f.old (cond first [] comma) f.new) }
 {
@@ -55,6 +56,7 @@ fn fmt_between(first: bool, f: &mut String) -> fmt::Result
 }
 
 /// Returns the value that an operation uses at an index; it is live.
+#[inline(always)]
 pub(crate) fn operand<T: IrText<A>, A: AttrText<A>>(
     ctx: &Context<T, A>,
     op: Ptr<Operation>,
@@ -71,6 +73,7 @@ pub(crate) fn operand<T: IrText<A>, A: AttrText<A>>(
 }
 
 /// Returns the block that an operation uses at an index; it is live.
+#[inline(always)]
 pub(crate) fn successor<T: IrText<A>, A: AttrText<A>>(
     ctx: &Context<T, A>,
     op: Ptr<Operation>,
@@ -87,6 +90,7 @@ pub(crate) fn successor<T: IrText<A>, A: AttrText<A>>(
 }
 
 /// Appends the name of a value, after `, ` if it is not the first.
+#[inline(always)]
 fn fmt_operand<T: IrText<A>, A: AttrText<A>>(
     ctx: &Context<T, A>,
     value: Value,
@@ -101,6 +105,7 @@ fn fmt_operand<T: IrText<A>, A: AttrText<A>>(
 }
 
 /// Appends the label of a block, after `, ` if it is not the first.
+#[inline(always)]
 fn fmt_successor<T: IrText<A>, A: AttrText<A>>(
     ctx: &Context<T, A>,
     p: Ptr<BasicBlock>,
@@ -115,6 +120,7 @@ fn fmt_successor<T: IrText<A>, A: AttrText<A>>(
 }
 
 /// Appends this facet of a value of this type.
+#[inline(always)]
 fn fmt_facet<T: IrText<A>, A: AttrText<A>>(
     ctx: &Context<T, A>,
     value: Value,
@@ -138,6 +144,7 @@ fn fmt_facet<T: IrText<A>, A: AttrText<A>>(
 }
 
 /// Appends this facet of a value if its type is known, after `, ` if it is not the first. Returns whether still nothing was printed.
+#[inline(always)]
 fn fmt_typed<T: IrText<A>, A: AttrText<A>>(
     ctx: &Context<T, A>,
     value: Value,
@@ -160,6 +167,7 @@ fn fmt_typed<T: IrText<A>, A: AttrText<A>>(
 }
 
 /// Appends the type of a value if it is known, after `, ` if it is not the first. Returns whether still nothing was printed.
+#[inline(always)]
 fn fmt_operand_type<T: IrText<A>, A: AttrText<A>>(
     ctx: &Context<T, A>,
     value: Value,
@@ -175,6 +183,7 @@ fn fmt_operand_type<T: IrText<A>, A: AttrText<A>>(
 }
 
 /// Returns the number of items.
+#[inline(always)]
 pub(crate) fn count<T: IrText<A>, A: AttrText<A>>(ctx: &Context<T, A>, listed: Listed) -> usize
     requires { Stands ctx.now.graph (owner listed) }
     ensures { result ≡ length (texts.texts_of T.IrText.written ctx.now listed) }
@@ -189,6 +198,7 @@ pub(crate) fn count<T: IrText<A>, A: AttrText<A>>(ctx: &Context<T, A>, listed: L
 }
 
 /// Appends the item at an index if it has a text, after `, ` if it is not the first. Returns whether still nothing was printed.
+#[inline(always)]
 fn fmt_item<T: IrText<A>, A: AttrText<A>>(
     ctx: &Context<T, A>,
     listed: Listed,
@@ -220,6 +230,7 @@ fn fmt_item<T: IrText<A>, A: AttrText<A>>(
 }
 
 /// Appends the items from an index on, with `, ` between them. Returns whether there was none.
+#[inline(always)]
 pub(crate) fn fmt_listed<T: IrText<A>, A: AttrText<A>>(
     ctx: &Context<T, A>,
     listed: Listed,

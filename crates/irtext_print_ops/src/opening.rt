@@ -10,9 +10,14 @@ ghost use Rattle.irtext_print_ops.specs.Steps.{IsTooDeep, begun_frames, region_f
 use crate::frame::RegionFrame;
 use irtext_context::base::{Ptr, Region};
 use irtext_print::printable::numbers::fmt_number;
-use irtext_print::printable::{Refusal, RegionPrintDepthLimit, fmt_newline, fmt_opening};
+use irtext_print::printable::refusal::memory_alone;
+use irtext_print::printable::{
+    Refusal, RegionPrintDepthLimit, fmt_colon_newline, fmt_newline, fmt_opening,
+    fmt_semicolon_newline,
+};
 
 /// Returns the indentation one step deeper. The error is always `Depth`: the number of spaces does not fit 16 bits.
+#[inline(always)]
 pub(crate) fn deeper(indent: u16, width: u16) -> Result<u16, Refusal>
     ensures ok { IfOk result (λ inner. inner ≡ indent + width) }
     ensures refused { IfErr result (λ e. (e ≡ refusal.Depth) × (2 ^ 16 ≤ indent + width)) }
@@ -24,6 +29,7 @@ pub(crate) fn deeper(indent: u16, width: u16) -> Result<u16, Refusal>
 }
 
 /// Returns the limit inside a region; `None` if the region is elided.
+#[inline(always)]
 pub(crate) fn inside(limit: RegionPrintDepthLimit) -> Option<RegionPrintDepthLimit>
     ensures { result ≡ lowered limit }
 {
@@ -39,6 +45,7 @@ pub(crate) fn inside(limit: RegionPrintDepthLimit) -> Option<RegionPrintDepthLim
 }
 
 /// Appends a newline and so many spaces.
+#[inline(always)]
 fn fmt_line(indent: u16, f: &mut String) -> Result<(), Refusal>
     ensures text { OnOk result (AppendsText f.old (newline indent) f.new) }
     ensures refused { IfErr result (λ e. e ≡ refusal.Memory) }
@@ -61,8 +68,7 @@ pub(crate) fn fmt_between_operations(
     if first {
         return Ok(());
     }
-    f.push_str(";")?;
-    fmt_line(indent, f)
+    memory_alone(fmt_semicolon_newline(indent, f))
 }
 
 /// Appends what comes before the next block of a region.
@@ -82,8 +88,7 @@ pub(crate) fn fmt_colon(indent: u16, f: &mut String) -> Result<(), Refusal>
     ensures text { OnOk result (AppendsText f.old (codes ":" ++ newline indent) f.new) }
     ensures refused { IfErr result (λ e. e ≡ refusal.Memory) }
 {
-    f.push_str(":")?;
-    fmt_line(indent, f)
+    memory_alone(fmt_colon_newline(indent, f))
 }
 
 /// Appends what comes after a region's blocks.
@@ -101,6 +106,7 @@ pub(crate) fn fmt_closing(indent: u16, f: &mut String) -> Result<(), Refusal>
 }
 
 /// Appends a mark with this index.
+#[inline(always)]
 pub(crate) fn fmt_index(index: usize, f: &mut String) -> Result<(), Refusal>
     ensures text { OnOk result (AppendsText f.old (codes " !" ++ decimal index) f.new) }
     ensures refused { IfErr result (λ e. e ≡ refusal.Memory) }
@@ -138,6 +144,7 @@ fn fmt_begun(joins: bool, indent: u16, inner: u16, f: &mut String) -> Result<(),
 
 /// Begins a region: appends what comes before its blocks, or `{..}` if it is elided, after a space unless `joins`. Returns the frame of
 /// the region, if it is not elided. The error is `Depth` if the indentation inside does not fit 16 bits, otherwise `Memory`.
+#[inline(always)]
 pub(crate) fn begin_region(
     region: Ptr<Region>,
     joins: bool,

@@ -34,6 +34,7 @@ pub(crate) enum Stop {
 }
 
 /// Appends what the directives that were found for an operation print from this one on, before the first that prints a region.
+#[inline(always)]
 fn fmt_pieces<H: WritesHeads<T, A>, T: IrText<A>, A: AttrText<A>>(
     ctx: &Context<T, A>,
     op: Ptr<Operation>,
@@ -96,6 +97,7 @@ pub(crate) fn begin_operation<'c, H: WritesHeads<T, A>, T: IrText<A>, A: AttrTex
 }
 
 /// Begins the next region of an operation, if one is left: appends what comes before its blocks, or `{..}` if it is elided.
+#[inline(always)]
 fn region_turn<'c, T: IrText<A>, A: AttrText<A>>(
     ctx: &'c Context<T, A>,
     width: u16,
@@ -119,6 +121,7 @@ fn region_turn<'c, T: IrText<A>, A: AttrText<A>>(
 }
 
 /// Ends a region that was begun if it has no block, and returns what is open after that.
+#[inline(always)]
 fn entered<T: IrText<A>, A: AttrText<A>>(
     ctx: &Context<T, A>,
     begun: Option<RegionFrame>,
@@ -140,6 +143,7 @@ fn entered<T: IrText<A>, A: AttrText<A>>(
 }
 
 /// Appends the mark of an operation after its text, if it has one and it is to be printed.
+#[inline(always)]
 pub(crate) fn end_operation<H: WritesHeads<T, A>, T: IrText<A>, A: AttrText<A>>(
     ctx: &Context<T, A>,
     op: Ptr<Operation>,
@@ -165,6 +169,7 @@ pub(crate) fn end_operation<H: WritesHeads<T, A>, T: IrText<A>, A: AttrText<A>>(
 }
 
 /// Appends the mark of a block, if it has one.
+#[inline(always)]
 pub(crate) fn fmt_block_mark<H: WritesHeads<T, A>, T: IrText<A>, A: AttrText<A>>(
     ctx: &Context<T, A>,
     block: Ptr<BasicBlock>,
@@ -186,6 +191,7 @@ pub(crate) fn fmt_block_mark<H: WritesHeads<T, A>, T: IrText<A>, A: AttrText<A>>
 }
 
 /// Prints what comes next of an operation: its pieces up to a region, and the beginning of that; or its mark after the last piece.
+#[inline(always)]
 fn operation_turn<'c, H: WritesHeads<T, A>, T: IrText<A>, A: AttrText<A>>(
     ctx: &'c Context<T, A>,
     width: u16,
@@ -225,6 +231,7 @@ fn operation_turn<'c, H: WritesHeads<T, A>, T: IrText<A>, A: AttrText<A>>(
 }
 
 /// Prints the rest of an operation, up to the first of its regions that has blocks. That region is begun, and its frame returned.
+#[inline(always)]
 pub(crate) fn operation_turns<'c, H: WritesHeads<T, A>, T: IrText<A>, A: AttrText<A>>(
     ctx: &'c Context<T, A>,
     width: u16,

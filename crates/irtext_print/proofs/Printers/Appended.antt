@@ -1,5 +1,5 @@
 -- What was appended piece by piece, as one text.
-use Rattle.std.proofs.Common.{◌≡◌, ◌∷◌, ◌++◌, ◌∙◌, ℕ, List, true≢false, refl, sym, ap, Result, Ok, Err, OnOk, IsOk, IfErr, codes, ◌+◌, ◌*◌, replicate, take, ◌-◌, ◌≤◌, zero, suc, arith}
+use Rattle.std.proofs.Common.{◌≡◌, ◌∷◌, ◌++◌, ◌∙◌, ℕ, List, true≢false, refl, sym, ap, Result, Ok, Err, OnOk, IsOk, IfErr, codes, ◌+◌, ◌*◌, replicate, take, length, ◌-◌, ◌≤◌, ◌<◌, [], zero, suc, arith}
 use Rattle.std.specs.Str.{IsAscii, encode_utf8_all}
 use Rattle.std.proofs.lemmas.List.{append_assoc, replicate-append-replicate, take-replicate}
 use Rattle.std.specs.List.{slice_range}
@@ -45,11 +45,11 @@ located_cause-plain {A = A} written paths cause none = elim cause as (λ z. ((e 
 ] none
 
 -- a newline and spaces, and one more block of spaces
-pub newline-more : (first blocks : ℕ) (old now new : List ℕ) → now ≡ old ++ 10 ∷ replicate (first + 64 * blocks) 32 → new ≡ now ++ replicate 64 32 → new ≡ old ++ 10 ∷ replicate (first + 64 * (blocks + 1)) 32
+pub newline-more : (first blocks : ℕ) (old now new : List ℕ) → now ≡ old ++ 10 ∷ replicate (first + 256 * blocks) 32 → new ≡ now ++ replicate 256 32 → new ≡ old ++ 10 ∷ replicate (first + 256 * (blocks + 1)) 32
 newline-more first blocks old now new p q =
-    let sizes : first + 64 * blocks + 64 ≡ first + 64 * (blocks + 1) = omega arith in
-    q ∙ ap (λ z. z ++ replicate 64 32) p ∙ append_assoc old (10 ∷ replicate (first + 64 * blocks) 32) (replicate 64 32)
-    ∙ ap (λ z. old ++ 10 ∷ z) (replicate-append-replicate (first + 64 * blocks) 64 32 ∙ ap (λ n. replicate n 32) sizes)
+    let sizes : first + 256 * blocks + 256 ≡ first + 256 * (blocks + 1) = omega arith in
+    q ∙ ap (λ z. z ++ replicate 256 32) p ∙ append_assoc old (10 ∷ replicate (first + 256 * blocks) 32) (replicate 256 32)
+    ∙ ap (λ z. old ++ 10 ∷ z) (replicate-append-replicate (first + 256 * blocks) 256 32 ∙ ap (λ n. replicate n 32) sizes)
 
 -- each of so many spaces is ASCII
 pub spaces-ascii : (n : ℕ) → IsAscii (replicate n 32)
@@ -63,10 +63,29 @@ newline-ascii n zero = omega arith
 newline-ascii n (suc i) = spaces-ascii n i
 
 -- a slice of a newline and spaces
-pub newline-slice : (n : ℕ) → n ≤ 64 → slice_range {X = ℕ} (10 ∷ replicate 64 32) 0 (1 + n) ≡ 10 ∷ replicate n 32
+pub newline-slice : (n : ℕ) → n ≤ 256 → slice_range {X = ℕ} (10 ∷ replicate 256 32) 0 (1 + n) ≡ 10 ∷ replicate n 32
 newline-slice n few =
     let size : 1 + n - 0 ≡ suc n = omega arith in
-    ap (λ k. take k (10 ∷ replicate 64 32)) size ∙ ap (λ z. 10 ∷ z) (take-replicate n 64 32 few)
+    ap (λ k. take k (10 ∷ replicate 256 32)) size ∙ ap (λ z. 10 ∷ z) (take-replicate n 256 32 few)
+
+-- a text, a newline and spaces, of which some are taken
+pub line-slice : (front : List ℕ) (n : ℕ) → n ≤ 256 → slice_range {X = ℕ} (front ++ 10 ∷ replicate 256 32) 0 (length front + 1 + n) ≡ front ++ 10 ∷ replicate n 32
+line-slice front n few =
+    let size : length front + 1 + n - 0 ≡ length front + suc n = omega arith in
+    ap (λ k. take k (front ++ 10 ∷ replicate 256 32)) size ∙ taken front
+  where
+    taken : (front : List ℕ) → take (length front + suc n) (front ++ 10 ∷ replicate 256 32) ≡ front ++ 10 ∷ replicate n 32
+    taken [] =
+        let size : 0 + suc n ≡ suc n = omega arith in
+        ap (λ k. take k (10 ∷ replicate 256 32)) size ∙ ap (λ z. 10 ∷ z) (take-replicate n 256 32 few)
+    taken (x ∷ front) =
+        let size : suc (length front) + suc n ≡ suc (length front + suc n) = omega arith in
+        ap (λ k. take k (x ∷ (front ++ 10 ∷ replicate 256 32))) size ∙ ap (λ z. x ∷ z) (taken front)
+
+-- a character before a newline and spaces
+pub front-ascii : (c n : ℕ) → c < 128 → IsAscii (c ∷ 10 ∷ replicate n 32)
+front-ascii c n h zero = h
+front-ascii c n h (suc i) = newline-ascii n i
 
 -- a space, a brace on a line of its own, a newline and spaces are ASCII
 pub opening-ascii : (n : ℕ) → IsAscii (32 ∷ 10 ∷ 123 ∷ 10 ∷ replicate n 32)

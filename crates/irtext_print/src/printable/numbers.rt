@@ -1,14 +1,78 @@
 //! Numbers in decimal digits. These calls fail only if out of memory; what was appended up to the error remains.
-ghost use Rattle.std.specs.Prelude.{OnOk, decimal};
+ghost use Rattle.std.specs.Prelude.{◌≡◌, ◌+◌, ◌/◌, ◌%◌, ◌<◌, ◌∷◌, ◌++◌, [], OnOk, decimal, string_bytes};
 ghost use Rattle.std.specs.Fmt.{signed_decimal};
 ghost use Rattle.irtext_print.specs.Printers.Appended.{AppendsText};
 
 use itoa::Buffer;
 use std::fmt;
 
-/// Appends a number.
+/// The numbers below 100, two digits each.
+const PAIRS: &str = "\
+    0001020304050607080910111213141516171819202122232425262728293031323334353637383940414243444546474849\
+    5051525354555657585960616263646566676869707172737475767778798081828384858687888990919293949596979899";
+
+/// Appends a number below 100 as two digits.
+#[inline(always)]
+fn fmt_pair(number: usize, f: &mut String) -> fmt::Result
+    requires { number < 100 }
+    ensures { OnOk result (string_bytes f.new ≡ string_bytes f.old ++ (48 + number / 10) ∷ (48 + number % 10) ∷ []) }
+{
+    let from = 2 * number;
+    f.push_str(&PAIRS[from..from + 2])?;
+    Ok(())
+}
+
+/// Appends a number below 100.
+#[inline(always)]
+fn fmt_short(number: usize, f: &mut String) -> fmt::Result
+    requires { number < 100 }
+    ensures { OnOk result (string_bytes f.new ≡ string_bytes f.old ++ decimal number) }
+{
+    if number >= 10 {
+        return fmt_pair(number, f);
+    }
+    let from = 2 * number + 1;
+    f.push_str(&PAIRS[from..from + 1])?;
+    Ok(())
+}
+
+/// Appends a number below 10,000.
+#[inline(always)]
+fn fmt_small(number: usize, f: &mut String) -> fmt::Result
+    requires { number < 10000 }
+    ensures { OnOk result (string_bytes f.new ≡ string_bytes f.old ++ decimal number) }
+{
+    if number < 100 {
+        return fmt_short(number, f);
+    }
+    fmt_short(number / 100, f)?;
+    fmt_pair(number % 100, f)
+}
+
+/// Appends a number of any size.
+#[inline(never)]
+fn fmt_any(number: u64, f: &mut String) -> fmt::Result
+    ensures { OnOk result (AppendsText f.old (decimal number) f.new) }
+{
+    let mut digits = Buffer::new();
+    f.push_str(digits.format(number))?;
+    Ok(())
+}
+
+/// Appends a number. Numbers below 10,000 are appended by slices of a fixed text.
 pub fn fmt_number(number: u64, f: &mut String) -> fmt::Result
     ensures { OnOk result (AppendsText f.old (decimal number) f.new) }
+{
+    if number < 10_000 {
+        return fmt_small(number as usize, f);
+    }
+    fmt_any(number, f)
+}
+
+/// Appends a negative number, with its sign.
+#[inline(never)]
+fn fmt_negative(number: i32, f: &mut String) -> fmt::Result
+    ensures { OnOk result (AppendsText f.old (signed_decimal number) f.new) }
 {
     let mut digits = Buffer::new();
     f.push_str(digits.format(number))?;
@@ -19,7 +83,8 @@ pub fn fmt_number(number: u64, f: &mut String) -> fmt::Result
 pub fn fmt_signed(number: i32, f: &mut String) -> fmt::Result
     ensures { OnOk result (AppendsText f.old (signed_decimal number) f.new) }
 {
-    let mut digits = Buffer::new();
-    f.push_str(digits.format(number))?;
-    Ok(())
+    if number >= 0 {
+        return fmt_number(number as u64, f);
+    }
+    fmt_negative(number, f)
 }

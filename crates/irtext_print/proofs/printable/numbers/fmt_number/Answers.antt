@@ -1,7 +1,10 @@
-use Rattle.std.proofs.Common.{string_bytes}
+use Rattle.std.proofs.Common.{◌<◌, ◌^◌, arith, refl, string_bytes}
 use Rattle.std.specs.Fmt.{decimal}
-use Rattle.irtext_print.proofs.Printers.Appended.{number_appended}
+use Rattle.std.proofs.lemmas.Fmt.{IsAscii-decimal}
+use Rattle.irtext_print.proofs.Printers.Appended.{then, number_appended}
 use Rattle.irtext_print.proofs.printable.numbers.fmt_number.Goals as goal
 
-pub returns : goal.returns
-returns c = number_appended (decimal c.args.number) c.format.result.now (string_bytes c.args.f.now) (string_bytes c.push_str.new.self) c.format.ensures.text c.format.ensures.ascii c.in_ok-push_str.ensures.bytes
+pub returns-then-number-lt10000 : goal.returns-then-number-lt10000
+returns-then-number-lt10000 c =
+    let few : c.args.number < 2 ^ 64 = omega (arith, c.if-number-lt10000.true) in
+    then c.fmt_small.result (λ w. number_appended (decimal c.args.number) (decimal c.args.number) (string_bytes c.args.f.now) (string_bytes c.fmt_small.new.f) refl (IsAscii-decimal c.args.number few) w) c.fmt_small.ensures

@@ -3,7 +3,7 @@ use Rattle.std.proofs.lemmas.Int.{to_z-of_z}
 use Rattle.std.specs.Fmt.{signed_decimal}
 use Rattle.std.specs.Int.{w32}
 use Rattle.irtext_print.proofs.Printers.Appended.{number_appended}
-use Rattle.irtext_print.proofs.printable.numbers.fmt_signed.Goals as goal
+use Rattle.irtext_print.proofs.printable.numbers.fmt_negative.Goals as goal
 
 pub returns : goal.returns
 returns c =
