@@ -1,4 +1,1 @@
-pub mod IntegersFit
-pub mod Quoted
-pub mod ItemRules
 pub mod DemoFormats

@@ -1,6 +1,6 @@
--- For callers: demo types compare equal exactly if they are the same values.
-use Rattle.std.proofs.Common.{◌≡◌, true, false, Some, refl, sym, ◌∙◌, ap, ap₂, true≢false}
-use Rattle.std.specs.Prelude.{◌↔◌, IsTrue, unwrap_or}
+-- Integer types compare equal exactly if they are the same values.
+use Rattle.std.proofs.Common.{◌≡◌, true, Some, refl, sym, ◌∙◌, ap, ap₂, true≢false}
+use Rattle.std.specs.Prelude.{unwrap_or}
 use Rattle.std.proofs.lemmas.Bool.{eqb-true}
 use Rattle.irtext_base.proofs.Characters.{and_left, and_right}
 use Rattle.irtext_types.specs.IntegerTypes.{integer_type_with}
@@ -10,13 +10,9 @@ use Rattle.irtext_types.specs.declared.width.Width.{Width}
 use Rattle.irtext_types.specs.declared.integer_type.Signedness.{Signedness}
 use Rattle.irtext_types.specs.declared.integer_type.Signedness.TheVariants.{Signed, Unsigned, Signless}
 use Rattle.irtext_types.specs.declared.integer_type.IntegerType.{IntegerType}
-use Rattle.irtext_types.specs.declared.types.DemoType.{DemoType}
-use Rattle.irtext_types.specs.declared.types.DemoType.TheVariants.{Integer, Pointer}
 use Rattle.irtext_types.specs.contracts.width.WidthPartialEq.TheImpl as width_test
 use Rattle.irtext_types.specs.contracts.integer_type.SignednessPartialEq.TheImpl as signedness_test
 use Rattle.irtext_types.specs.contracts.integer_type.IntegerTypePartialEq.TheImpl as integer_test
-use Rattle.irtext_types.specs.contracts.types.DemoTypePartialEq.TheImpl as type_test
-use Rattle.irtext_types.specs.contracts.types.DemoTypeEq.TheImpl.Laws as type_laws
 
 width_same : (v w : Width) → width_test.ghosts.eq v w ≡ true → v ≡ w
 width_same v w e =
@@ -36,12 +32,3 @@ signedness_same Signless Signless e = refl
 
 pub integer_same : (s t : IntegerType) → integer_test.ghosts.eq s t ≡ true → s ≡ t
 integer_same s t e = ap₂ integer_type_with (signedness_same s.kind t.kind (and_left _ _ e)) (width_same s.width t.width (and_right _ _ e))
-
-type_same : (x y : DemoType) → type_test.ghosts.eq x y ≡ true → x ≡ y
-type_same (Integer s) (Integer t) e = ap Integer (integer_same s t e)
-type_same (Integer s) Pointer e = absurd (true≢false (sym e))
-type_same Pointer (Integer t) e = absurd (true≢false (sym e))
-type_same Pointer Pointer e = refl
-
-pub type_decides : (x y : DemoType) → IsTrue (type_test.ghosts.eq x y) ↔ (x ≡ y)
-type_decides x y = (type_same x y, λ e. ap (type_test.ghosts.eq x) (sym e) ∙ type_laws.laws-law.refl x)

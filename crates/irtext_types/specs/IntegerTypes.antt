@@ -1,5 +1,5 @@
 -- For callers: the texts of integer types.
-use Rattle.std.specs.Prelude.{ℕ, cond, Option, Some, None, ◌++◌, codes, decimal}
+use Rattle.std.specs.Prelude.{ℕ, Bool, not, cond, Option, Some, None, ◌++◌, codes, decimal}
 use Rattle.std.specs.Char.{is_ascii_digit}
 use Rattle.irtext_base.specs.Text.{Text, begins, front, after}
 use Rattle.irtext_base.specs.Reading.{the}
@@ -9,11 +9,13 @@ use Rattle.irtext_base.specs.Answers.{Outcome, Missing}
 use Rattle.irtext_read.specs.Tokens.{word, value_of}
 use Rattle.irtext_read.specs.Integers.{ranged}
 use Rattle.irtext_read.specs.Infix.{either, ◌▶◌, ◌⇒◌}
+use Rattle.irtext_syntax.specs.Shapes.{Shape}
 use Rattle.irtext_types.specs.WidthOf.{width_of}
 use Rattle.irtext_types.specs.declared.width.Width.{Width}
 use Rattle.irtext_types.specs.declared.integer_type.Signedness.{Signedness}
 use Rattle.irtext_types.specs.declared.integer_type.Signedness.TheVariants.{Signed, Unsigned, Signless}
 use Rattle.irtext_types.specs.declared.integer_type.IntegerType.{IntegerType}
+use Rattle.irtext_types.specs.contracts.integer_type.IntegerTypePartialEq.TheImpl as test
 
 -- the text of a sign
 abbrev pub signedness_text : Signedness → Text
@@ -49,3 +51,11 @@ integer_type_with kind width = record { kind = kind; width = width }
 -- a sign and a width, without white space between them
 abbrev pub integer_type_at : Text → Outcome IntegerType
 integer_type_at = signedness_at ▶ λ kind. width_at ⇒ integer_type_with kind
+
+-- no digit comes next
+abbrev pub integer_type_ends : Text → Bool
+integer_type_ends rest = not (begins is_ascii_digit rest)
+
+-- as a part of other texts
+abbrev pub integer_type : Shape IntegerType
+integer_type = record { reading = integer_type_at; written = integer_type_text; ends = integer_type_ends; test = test.ghosts.eq }

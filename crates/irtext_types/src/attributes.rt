@@ -1,30 +1,17 @@
 //! The demo attributes: integers with their type, strings, function types, and debug notes, which are printed in the section after a
 //! root.
-ghost use Rattle.std.specs.Prelude.{◌≡◌, ◌++◌, OnOk, codes, string_bytes};
-ghost use Rattle.std.specs.Str.{encode_utf8_all};
-ghost use Rattle.irtext_base.specs.Answers.{Answers, unless_failed};
-ghost use Rattle.irtext_base.specs.Quoted.{quoted};
-ghost use Rattle.irtext_read.specs.Infix.{◌▷◌};
-ghost use Rattle.irtext_read.specs.MustRead.{MustRead};
-ghost use Rattle.irtext_read.specs.Tokens.{space_at};
-ghost use Rattle.irtext_types.specs.Attributes.{attr_behind, characters_at};
-ghost use Rattle.irtext_types.specs.IntegerAttributes.{integer_attr_text};
-
 pub mod function;
 pub mod integer;
-pub mod integer_text;
 
-use crate::attributes::function::{FunctionAttr, function_parse, write_function};
+use crate::attributes::function::FunctionAttr;
 use crate::attributes::integer::IntegerAttr;
-use crate::attributes::integer_text::integer_attr_parse;
-use crate::words::{DottedWord, dotted_parse};
 use irtext_base::parsable::{ParseResult, TextStream};
-use irtext_base::result::{Cause, Expected};
-use irtext_base::text::{AttrText, IrText};
-use irtext_read::irfmt::faults::{committed, refuse};
-use irtext_read::irfmt::parsers::{quoted_string_parse, skip_white_space};
-use irtext_read::printable::fmt_quoted;
+use irtext_base::result::Expected;
+use irtext_base::text::{AttrText, Family, IrText, Worded};
 use irtext_syntax::characters::Characters;
+use irtext_syntax::part::TryClone;
+use irtext_syntax::table::{Table, behind_word, table_parse, write_row};
+use irtext_syntax::words::DottedWord;
 use std::alloc::AllocError;
 use std::fmt;
 
@@ -76,63 +63,24 @@ impl DottedWord for AttrWord {
     }
 }
 
-/// Parses a quoted string.
-fn characters_parse<A>(stream: &mut TextStream) -> ParseResult<Characters, A>
-    ensures { Answers (λ s. s) (λ s v. v) (λ c. c)
-        (unless_failed stream.old.failed (characters_at stream.old.rest)) stream.old result stream.new }
-{
-    match quoted_string_parse(stream) {
-        Ok(text) => Ok(Characters::new(text)),
-        Err(fault) => Err(fault),
+impl<B: Drop> Table<DemoAttr, B> for AttrWord {
+    ghost use Rattle.irtext_types.specs.Attributes.{attr_behind};
+
+    ghost behind = { attr_behind };
+
+    fn parse(self, stream: &mut TextStream) -> ParseResult<DemoAttr, B> {
+        match self {
+            AttrWord::Integer => Ok(DemoAttr::Integer(behind_word(stream)?)),
+            AttrWord::String => Ok(DemoAttr::String(behind_word(stream)?)),
+            AttrWord::Function => Ok(DemoAttr::Function(behind_word(stream)?)),
+            AttrWord::Debug => Ok(DemoAttr::Debug(behind_word(stream)?)),
+        }
     }
-}
-
-/// Parses a required quoted string after optional white space.
-fn characters_behind<A>(stream: &mut TextStream) -> ParseResult<Characters, A>
-    ensures { MustRead (λ s. s) (λ s v. v) (λ c. c) (space_at ▷ characters_at) stream.old result stream.new }
-{
-    if stream.has_failed() {
-        return Err(refuse(stream, Cause::StreamFailed));
-    }
-    skip_white_space(stream);
-    let found = characters_parse(stream);
-    committed(stream, found)
-}
-
-/// Parses the rest of an attribute, after its word.
-fn attr_parse<A: Drop>(stream: &mut TextStream, word: AttrWord) -> ParseResult<DemoAttr, A>
-    ensures { MustRead (λ s. s) (λ s v. v) (λ a. a) (attr_behind word) stream.old result stream.new }
-{
-    match word {
-        AttrWord::Integer => Ok(DemoAttr::Integer(integer_attr_parse(stream)?)),
-        AttrWord::String => Ok(DemoAttr::String(characters_behind(stream)?)),
-        AttrWord::Function => Ok(DemoAttr::Function(function_parse(stream)?)),
-        AttrWord::Debug => Ok(DemoAttr::Debug(characters_behind(stream)?)),
-    }
-}
-
-/// Appends a word and a quoted string.
-fn write_quoted(word: &str, text: &Characters, f: &mut String) -> fmt::Result
-    ensures { OnOk result (string_bytes f.new ≡ string_bytes f.old ++ (word.now ++ encode_utf8_all (quoted text.now.characters))) }
-{
-    f.push_str(word)?;
-    fmt_quoted(text.as_str(), f)?;
-    Ok(())
-}
-
-/// Appends an integer with its type, after their word.
-fn write_integer(attr: &IntegerAttr, f: &mut String) -> fmt::Result
-    ensures { OnOk result (string_bytes f.new ≡ string_bytes f.old ++ (codes "builtin.integer " ++ integer_attr_text attr.now)) }
-{
-    write!(f, "builtin.integer {attr}")?;
-    Ok(())
 }
 
 impl<B: Drop> IrText<B> for DemoAttr {
     ghost use Rattle.irtext_types.specs.Attributes.{attr_at, attr_text};
-    ghost use Rattle.irtext_types.specs.AttributeLaws.{attr_lawful};
-    ghost use Rattle.irtext_types.specs.EqualAttributes.{attr_decides};
-    ghost use Rattle.irtext_types.specs.SincereAttributes.{attr_sincere};
+    ghost use Rattle.irtext_types.specs.AttributeLaws.{attr_lawful, attr_sincere, attr_decides};
 
     ghost reading = { attr_at };
 
@@ -145,18 +93,15 @@ impl<B: Drop> IrText<B> for DemoAttr {
     ghost decides = { attr_decides };
 
     fn read(stream: &mut TextStream) -> ParseResult<DemoAttr, B> {
-        match dotted_parse(stream, "Unregistered attribute ", Expected::Attribute) {
-            Ok(word) => attr_parse(stream, word),
-            Err(fault) => Err(fault),
-        }
+        table_parse::<AttrWord, DemoAttr, B>(stream, "Unregistered attribute ", Expected::Attribute)
     }
 
     fn write_text(&self, f: &mut String) -> fmt::Result {
         match self {
-            DemoAttr::Integer(attr) => write_integer(attr, f),
-            DemoAttr::String(text) => write_quoted("builtin.string ", text, f),
-            DemoAttr::Function(attr) => write_function(attr, f),
-            DemoAttr::Debug(text) => write_quoted("test.dbg ", text, f),
+            DemoAttr::Integer(attr) => write_row::<IntegerAttr, B>("builtin.integer", attr, f),
+            DemoAttr::String(text) => write_row::<Characters, B>("builtin.string", text, f),
+            DemoAttr::Function(attr) => write_row::<FunctionAttr, B>("builtin.function", attr, f),
+            DemoAttr::Debug(text) => write_row::<Characters, B>("test.dbg", text, f),
         }
     }
 }
@@ -181,10 +126,29 @@ impl<B: Drop> AttrText<B> for DemoAttr {
 
     fn try_clone(&self) -> Result<DemoAttr, AllocError> {
         match self {
-            DemoAttr::Integer(attr) => Ok(DemoAttr::Integer(*attr)),
+            DemoAttr::Integer(attr) => Ok(DemoAttr::Integer(attr.try_clone()?)),
             DemoAttr::String(text) => Ok(DemoAttr::String(text.try_clone()?)),
             DemoAttr::Function(attr) => Ok(DemoAttr::Function(attr.try_clone()?)),
             DemoAttr::Debug(text) => Ok(DemoAttr::Debug(text.try_clone()?)),
         }
     }
+}
+
+impl Worded for DemoAttr {
+    ghost use Rattle.irtext_types.specs.Attributes.{attr_words};
+
+    ghost words = { attr_words };
+
+    fn has_word(word: &str) -> bool {
+        word == "builtin.integer"
+            || word == "builtin.string"
+            || word == "builtin.function"
+            || word == "test.dbg"
+    }
+}
+
+impl<B: Drop> Family<B> for DemoAttr {
+    ghost use Rattle.irtext_types.specs.AttributeLaws.{attr_led};
+
+    ghost led = { attr_led };
 }

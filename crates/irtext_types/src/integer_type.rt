@@ -1,7 +1,6 @@
 //! The integer types and their parser: a sign, and a width in decimal digits.
 ghost use Rattle.std.specs.Prelude.{◌≡◌, Some};
 ghost use Rattle.irtext_base.specs.Answers.{Answers, unless_failed};
-ghost use Rattle.irtext_read.specs.MustRead.{MustRead};
 ghost use Rattle.irtext_types.specs.IntegerTypes.{integer_type_text, signedness_text, signedness_at, width_if, width_at, integer_type_at};
 
 use crate::width::Width;
@@ -10,6 +9,8 @@ use irtext_base::result::{Cause, Expected};
 use irtext_read::irfmt::faults::{begins, committed, next_is, refuse, unexpected};
 use irtext_read::irfmt::parsers::digits::{Radix, out_of_range, take_digits};
 use irtext_read::irfmt::parsers::{Class, text_parse};
+use irtext_syntax::part::{Last, Part, TryClone};
+use std::alloc::AllocError;
 use std::fmt;
 
 /// Whether the integers of a type are signed, unsigned, or interpreted by each use.
@@ -114,10 +115,42 @@ pub fn integer_type_parse<A>(stream: &mut TextStream) -> ParseResult<IntegerType
     Ok(IntegerType { kind, width })
 }
 
-/// Parses an integer type as `integer_type_parse` does, but every error is committed.
-pub fn integer_type_demanded<A>(stream: &mut TextStream) -> ParseResult<IntegerType, A>
-    ensures { MustRead (λ s. s) (λ s v. v) (λ t. t) integer_type_at stream.old result stream.new }
-{
-    let answer = integer_type_parse(stream);
-    committed(stream, answer)
+/// An integer type as a part of other texts. A digit right after it would belong to its width.
+impl<A> Part<A> for IntegerType {
+    ghost use Rattle.irtext_types.specs.IntegerTypes.{integer_type_ends};
+    ghost use Rattle.irtext_types.specs.IntegerTypeLaws.{integer_type_law, integer_type_decides};
+
+    ghost reading = { integer_type_at };
+
+    ghost written = { integer_type_text };
+
+    ghost ends = { integer_type_ends };
+
+    ghost law = { integer_type_law };
+
+    ghost decides = { integer_type_decides };
+
+    fn read(stream: &mut TextStream) -> ParseResult<IntegerType, A> {
+        match integer_type_parse(stream) {
+            Ok(ty) => Ok(ty),
+            Err(fault) => Err(fault),
+        }
+    }
+
+    fn write_text(&self, f: &mut String) -> fmt::Result {
+        write!(f, "{self}")?;
+        Ok(())
+    }
+}
+
+impl<A> Last<A> for IntegerType {
+    ghost use Rattle.irtext_types.specs.IntegerTypeLaws.{integer_type_last};
+
+    ghost last = { integer_type_last };
+}
+
+impl TryClone for IntegerType {
+    fn try_clone(&self) -> Result<IntegerType, AllocError> {
+        Ok(*self)
+    }
 }

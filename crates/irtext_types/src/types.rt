@@ -1,14 +1,12 @@
 //! The demo types: integers and a pointer.
-ghost use Rattle.irtext_read.specs.MustRead.{MustRead};
-ghost use Rattle.irtext_types.specs.Types.{type_behind};
-
-use crate::integer_type::{IntegerType, integer_type_demanded};
-use crate::words::{DottedWord, dotted_parse};
+use crate::integer_type::IntegerType;
 use irtext_base::parsable::{ParseResult, TextStream};
-use irtext_base::result::{Cause, Expected};
-use irtext_base::text::IrText;
-use irtext_read::irfmt::faults::refuse;
-use irtext_read::irfmt::parsers::skip_white_space;
+use irtext_base::result::Expected;
+use irtext_base::text::{Family, IrText, Worded};
+use irtext_syntax::part::{Item, Part, TryClone};
+use irtext_syntax::table::{Table, behind_word, table_parse, word_alone, write_row, write_word};
+use irtext_syntax::words::DottedWord;
+use std::alloc::AllocError;
 use std::fmt;
 
 /// A demo type.
@@ -59,27 +57,22 @@ impl fmt::Display for DemoType {
     }
 }
 
-/// Parses the rest of a type, after its word.
-fn type_parse<A>(stream: &mut TextStream, word: TypeWord) -> ParseResult<DemoType, A>
-    ensures { MustRead (λ s. s) (λ s v. v) (λ t. t) (type_behind word) stream.old result stream.new }
-{
-    if stream.has_failed() {
-        return Err(refuse(stream, Cause::StreamFailed));
-    }
-    match word {
-        TypeWord::Integer => {
-            skip_white_space(stream);
-            Ok(DemoType::Integer(integer_type_demanded(stream)?))
+impl<A> Table<DemoType, A> for TypeWord {
+    ghost use Rattle.irtext_types.specs.Types.{type_behind};
+
+    ghost behind = { type_behind };
+
+    fn parse(self, stream: &mut TextStream) -> ParseResult<DemoType, A> {
+        match self {
+            TypeWord::Integer => Ok(DemoType::Integer(behind_word(stream)?)),
+            TypeWord::Pointer => word_alone(stream, DemoType::Pointer),
         }
-        TypeWord::Pointer => Ok(DemoType::Pointer),
     }
 }
 
 impl<A> IrText<A> for DemoType {
     ghost use Rattle.irtext_types.specs.Types.{type_at, type_text};
-    ghost use Rattle.irtext_types.specs.EqualTypes.{type_decides};
-    ghost use Rattle.irtext_types.specs.SincereTypes.{type_sincere};
-    ghost use Rattle.irtext_types.specs.TypeLaws.{type_lawful};
+    ghost use Rattle.irtext_types.specs.TypeLaws.{type_lawful, type_sincere, type_decides};
 
     ghost reading = { type_at };
 
@@ -92,14 +85,66 @@ impl<A> IrText<A> for DemoType {
     ghost decides = { type_decides };
 
     fn read(stream: &mut TextStream) -> ParseResult<DemoType, A> {
-        match dotted_parse(stream, "Unregistered type ", Expected::Type) {
-            Ok(word) => type_parse(stream, word),
-            Err(fault) => Err(fault),
-        }
+        table_parse::<TypeWord, DemoType, A>(stream, "Unregistered type ", Expected::Type)
     }
 
     fn write_text(&self, f: &mut String) -> fmt::Result {
-        write!(f, "{self}")?;
-        Ok(())
+        match self {
+            DemoType::Integer(ty) => write_row::<IntegerType, A>("builtin.integer", ty, f),
+            DemoType::Pointer => write_word("test.ptr ", f),
+        }
+    }
+}
+
+impl Worded for DemoType {
+    ghost use Rattle.irtext_types.specs.Types.{type_words};
+
+    ghost words = { type_words };
+
+    fn has_word(word: &str) -> bool {
+        word == "builtin.integer" || word == "test.ptr"
+    }
+}
+
+impl<A> Family<A> for DemoType {
+    ghost use Rattle.irtext_types.specs.TypeLaws.{type_led};
+
+    ghost led = { type_led };
+}
+
+/// A type as a part of other texts.
+impl<A> Part<A> for DemoType {
+    ghost use Rattle.irtext_syntax.specs.Owns.{ends_text};
+    ghost use Rattle.irtext_types.specs.Types.{type_at, type_text};
+    ghost use Rattle.irtext_types.specs.TypeLaws.{type_law, type_decides};
+
+    ghost reading = { type_at };
+
+    ghost written = { type_text };
+
+    ghost ends = { ends_text };
+
+    ghost law = { type_law };
+
+    ghost decides = { type_decides };
+
+    fn read(stream: &mut TextStream) -> ParseResult<DemoType, A> {
+        <DemoType as IrText<A>>::read(stream)
+    }
+
+    fn write_text(&self, f: &mut String) -> fmt::Result {
+        <DemoType as IrText<A>>::write_text(self, f)
+    }
+}
+
+impl<A> Item<A> for DemoType {
+    ghost use Rattle.irtext_types.specs.TypeLaws.{type_misses};
+
+    ghost misses = { type_misses };
+}
+
+impl TryClone for DemoType {
+    fn try_clone(&self) -> Result<DemoType, AllocError> {
+        Ok(*self)
     }
 }

@@ -1,13 +1,8 @@
-//! Integers with their type, as attributes.
-ghost use Rattle.std.specs.Prelude.{◌≡◌, true};
-ghost use Rattle.irtext_types.specs.Integers64.{is_i64};
-
+//! Integers with their type, as attributes: `<N: W>`.
 use crate::integer_type::IntegerType;
+use irtext_syntax::number::Number;
+use irtext_syntax::ready::{Angle, Colon};
+use irtext_syntax::sequence::{Then, Within};
 
-/// An integer and its type. The integer need not fit the type.
-#[derive(Clone, Copy, PartialEq, Eq, Hash, Debug)]
-pub struct IntegerAttr {
-    pub value: i64,
-    pub ty: IntegerType,
-    ghost in_range: { is_i64 value ≡ true },
-}
+/// An integer and its type, such as `<5: si32>`. The integer need not fit the type.
+pub type IntegerAttr = Within<Angle, Then<Number<i64>, Colon, IntegerType>>;
