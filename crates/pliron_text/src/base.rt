@@ -10,6 +10,7 @@ pub use irtext_few::Few;
 pub use irtext_grammar::UniqueName;
 pub use irtext_graph::object::{Site, Value};
 pub use irtext_parts::block::BlockParts;
+pub use irtext_parts::nested::NestedOperations;
 pub use irtext_parts::operation::OperationParts;
 pub use irtext_parts::region::RegionParts;
 pub use irtext_parts::value::{UseSite, ValueUses};
