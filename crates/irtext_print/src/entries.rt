@@ -67,6 +67,7 @@ fn fmt_own<'c, A: AttrText<A>>(
 }
 
 /// Appends an attribute, or the reference to a print-once one.
+#[inline(always)]
 fn fmt_attribute<'c, A: AttrText<A>>(
     attr: &'c AttrObj<A>,
     items: usize,
@@ -96,6 +97,7 @@ fn fmt_label(label: &Identifier, f: &mut String) -> fmt::Result
 }
 
 /// Appends what the section contains for an item under one key.
+#[inline(always)]
 fn fmt_pair<'c, A: AttrText<A>>(
     pair: GivenAttribute<'c, A>,
     items: usize,
@@ -130,6 +132,7 @@ fn fmt_comma(first: bool, f: &mut String) -> fmt::Result
 }
 
 /// Appends what the section contains for an item besides its location, with `, ` between.
+#[inline(always)]
 fn fmt_pairs<'c, A: AttrText<A>>(
     given: &Given<'c, A>,
     items: usize,
@@ -176,6 +179,7 @@ fn fmt_any_location<T: IrText<A>, A: AttrText<A>>(
 
 /// Appends what is between an entry's index and its attributes: ` = `, the location if it is known, and `[`. For a position in memory,
 /// everything before the line number is appended at once.
+#[inline(always)]
 fn fmt_entry_location<T: IrText<A>, A: AttrText<A>>(
     location: &Location<A>,
     ctx: &Context<T, A>,

@@ -1,7 +1,7 @@
 -- Turns one behind the other are one turn: what the first leaves innermost is replaced by what the next leaves of it.
 use Rattle.std.proofs.Common.{◌≡◌, ◌<◌, ◌+◌, ◌==◌, ℕ, zero, suc, List, [], ◌∷◌, ◌++◌, length, map, drop, Bool, true, false, cond, Option, Some, None, arith, refl, ap, sym, subst, ◌∙◌, append_assoc, append-nil, length-append, inl, inr, ◌⊎◌, true≢false}
 use Rattle.std.specs.Prelude.{⊤}
-use Rattle.std.proofs.lemmas.List.{map-append}
+use Rattle.std.proofs.lemmas.List.{append_cancel_left, map-append}
 use Rattle.std.specs.Str.{encode_utf8_all}
 use Rattle.irtext_base.specs.Own.{Language}
 use Rattle.irtext_context.specs.Context.{ContextView}
@@ -124,35 +124,73 @@ module _ {T A : Type 0} (C : Printing T A) (L : Language ⊤ T A) (ctx : Context
       (e : Refusal) → AnyFault C (isolated ctx.dialects) width e (map (open_of C L ctx) pushed) → OpenFault C (isolated ctx.dialects) width e (open_of C L ctx f)
   fault_left f items items' pushed old new s e x = s.faults e (subst (λ z. AnyFault C (isolated ctx.dialects) width e (map (open_of C L ctx) z)) s.stack x)
 
-  -- ---- the turns of an operation
+  -- a turn without the frames outside
+  pub alone : (f : Frame) (items items' : List Item) (gs gs' : List Frame) (old new : List ℕ) (s : Steps C L ctx width f items items' gs gs' old new) → Steps C L ctx width f items items' [] s.pushed old new
+  alone f items items' gs gs' old new s = record {
+    pushed = s.pushed;
+    text = s.text;
+    gathered = s.gathered;
+    stack = refl;
+    marks = s.marks;
+    written = s.written;
+    turned = s.turned;
+    left = s.left;
+    fit = s.fit;
+    faults = s.faults;
+    misfits = s.misfits;
+    fewer = s.fewer;
+  }
+
+  -- ---- several turns of the same thing
 
   -- nothing was done so far
-  pub record Untouched (first here : OperationFrame) (items items' : List Item) (old now : List ℕ) : Type 0 where
+  pub record Untouched (first here : Frame) (items items' : List Item) (old now : List ℕ) : Type 0 where
     pub same : here ≡ first
     pub marks : items' ≡ items
     pub bytes : now ≡ old
 
-  module _ (first : OperationFrame) (items : List Item) (old : List ℕ) where
-    -- what the turns so far have left of the operation: all of it, or less
-    abbrev pub Left : OperationFrame → List Item → List ℕ → Type 0
-    Left here items' now = Untouched first here items items' old now ⊎ Steps C L ctx width (frame.Operation first) items items' [] (frame.Operation here ∷ []) old now
+  module _ (first : Frame) (items : List Item) (old : List ℕ) where
+    -- what the turns so far have left of it: all of it, or less
+    abbrev pub Left : Frame → List Item → List ℕ → Type 0
+    Left here items' now = Untouched first here items items' old now ⊎ Steps C L ctx width first items items' [] (here ∷ []) old now
 
     -- what is left fits
-    pub left_fits : (here : OperationFrame) (items1 : List Item) (mid : List ℕ) → FrameFits C L ctx (frame.Operation first) → Left here items1 mid → FrameFits C L ctx (frame.Operation here)
-    left_fits here items1 mid h (inl u) = subst (λ z. FrameFits C L ctx (frame.Operation z)) (sym u.same) h
-    left_fits here items1 mid h (inr s) = let k = all_fit (frame.Operation first) items items1 (frame.Operation here ∷ []) old mid s in k.0
+    pub left_fits : (here : Frame) (items1 : List Item) (mid : List ℕ) → FrameFits C L ctx first → Left here items1 mid → FrameFits C L ctx here
+    left_fits here items1 mid h (inl u) = subst (λ z. FrameFits C L ctx z) (sym u.same) h
+    left_fits here items1 mid h (inr s) = let k = all_fit first items items1 (here ∷ []) old mid s in k.0
 
-    -- a reason to refuse what is left is one to refuse the operation
-    pub left_fault : (here : OperationFrame) (items1 : List Item) (mid : List ℕ) → Left here items1 mid →
-        (e : Refusal) → OpenFault C (isolated ctx.dialects) width e (open_of C L ctx (frame.Operation here)) → OpenFault C (isolated ctx.dialects) width e (open_of C L ctx (frame.Operation first))
-    left_fault here items1 mid (inl u) e x = subst (λ z. OpenFault C (isolated ctx.dialects) width e (open_of C L ctx (frame.Operation z))) u.same x
-    left_fault here items1 mid (inr s) e x = fault_left (frame.Operation first) items items1 (frame.Operation here ∷ []) old mid s e (inl x)
+    -- a reason to refuse what is left is one to refuse all of it
+    pub left_fault : (here : Frame) (items1 : List Item) (mid : List ℕ) → Left here items1 mid →
+        (e : Refusal) → OpenFault C (isolated ctx.dialects) width e (open_of C L ctx here) → OpenFault C (isolated ctx.dialects) width e (open_of C L ctx first)
+    left_fault here items1 mid (inl u) e x = subst (λ z. OpenFault C (isolated ctx.dialects) width e (open_of C L ctx z)) u.same x
+    left_fault here items1 mid (inr s) e x = fault_left first items items1 (here ∷ []) old mid s e (inl x)
 
     -- one turn more
-    pub left_more : (here : OperationFrame) (items1 items2 : List Item) (pushed : List Frame) (mid new : List ℕ) → Left here items1 mid →
-        Steps C L ctx width (frame.Operation here) items1 items2 [] pushed mid new → Steps C L ctx width (frame.Operation first) items items2 [] pushed old new
+    pub left_more : (here : Frame) (items1 items2 : List Item) (pushed : List Frame) (mid new : List ℕ) → Left here items1 mid →
+        Steps C L ctx width here items1 items2 [] pushed mid new → Steps C L ctx width first items items2 [] pushed old new
     left_more here items1 items2 pushed mid new (inl u) t =
-        subst (λ z. Steps C L ctx width (frame.Operation z) items items2 [] pushed old new) u.same
-        (subst (λ z. Steps C L ctx width (frame.Operation here) z items2 [] pushed old new) u.marks
-        (subst (λ z. Steps C L ctx width (frame.Operation here) items1 items2 [] pushed z new) u.bytes t))
-    left_more here items1 items2 pushed mid new (inr s) t = chained (frame.Operation first) (frame.Operation here) items items1 items2 [] pushed old mid new s t
+        subst (λ z. Steps C L ctx width z items items2 [] pushed old new) u.same
+        (subst (λ z. Steps C L ctx width here z items2 [] pushed old new) u.marks
+        (subst (λ z. Steps C L ctx width here items1 items2 [] pushed z new) u.bytes t))
+    left_more here items1 items2 pushed mid new (inr s) t = chained first here items items1 items2 [] pushed old mid new s t
+
+    -- one turn more, inside of other frames
+    pub left_inside : (here : Frame) (items1 items2 : List Item) (gs gs' : List Frame) (mid new : List ℕ) → Left here items1 mid →
+        Steps C L ctx width here items1 items2 gs gs' mid new → Steps C L ctx width first items items2 gs gs' old new
+    left_inside here items1 items2 gs gs' mid new l t =
+        subst (λ z. Steps C L ctx width first items items2 gs z old new) (sym t.stack)
+        (inside_others first items items2 gs t.pushed old new (left_more here items1 items2 t.pushed mid new l (alone here items1 items2 gs gs' mid new t)))
+
+    -- one turn more, which leaves the same thing alone, and what is outside as it was
+    pub left_on : (here next : Frame) (items1 items2 : List Item) (gs gs' : List Frame) (mid new : List ℕ) → Left here items1 mid →
+        Steps C L ctx width here items1 items2 gs (gs' ++ next ∷ []) mid new → gs' ≡ gs → Steps C L ctx width first items items2 [] (next ∷ []) old new
+    left_on here next items1 items2 gs gs' mid new l t k =
+        let one : next ∷ [] ≡ t.pushed = append_cancel_left gs (next ∷ []) t.pushed (ap (λ z. z ++ next ∷ []) (sym k) ∙ t.stack) in
+        subst (λ z. Steps C L ctx width first items items2 [] z old new) (sym one) (left_more here items1 items2 t.pushed mid new l (alone here items1 items2 gs (gs' ++ next ∷ []) mid new t))
+
+    -- that leaves fewer turns
+    pub fewer_on : (here next : Frame) (items1 items2 : List Item) (gs gs' : List Frame) (mid new : List ℕ) →
+        Steps C L ctx width here items1 items2 gs (gs' ++ next ∷ []) mid new → gs' ≡ gs → turns_left C L ctx (next ∷ []) < turns_left C L ctx (here ∷ [])
+    fewer_on here next items1 items2 gs gs' mid new t k =
+        let one : next ∷ [] ≡ t.pushed = append_cancel_left gs (next ∷ []) t.pushed (ap (λ z. z ++ next ∷ []) (sym k) ∙ t.stack) in
+        let a = t.fewer in let e = ap (turns_left C L ctx) one in omega (arith, a, e)

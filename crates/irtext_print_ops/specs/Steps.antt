@@ -1,5 +1,5 @@
 -- What single steps of the walk print, and which frames they leave.
-use Rattle.std.specs.Prelude.{◌+◌, ◌≤◌, ◌^◌, ◌==◌, ℕ, IsSome, true, false, cond, List, [], ◌∷◌, ◌++◌, length, slice_get, Option, Some, None, codes}
+use Rattle.std.specs.Prelude.{◌+◌, ◌≤◌, ◌^◌, ◌==◌, ℕ, Bool, IsSome, true, false, cond, List, [], ◌∷◌, ◌++◌, length, slice_get, Option, Some, None, codes}
 use Rattle.irtext_base.specs.Format as format
 use Rattle.irtext_base.specs.Format.{Format, Directive}
 use Rattle.irtext_base.specs.Text.{Text}
@@ -35,6 +35,11 @@ begun_frames (Some g) = frame.Region g ∷ []
 abbrev pub listed : Option Frame → List Frame
 listed None = []
 listed (Some f) = f ∷ []
+
+-- the innermost open frame is that of a block
+abbrev pub is_in_block : Option Frame → Bool
+is_in_block (Some (frame.Block f)) = true
+is_in_block _ = false
 
 -- the frames that a step of an operation leaves
 abbrev pub turn_frames : OperationFrame → Turn → List Frame

@@ -108,6 +108,7 @@ struct Places {
 }
 
 /// Counts one more directive.
+#[inline(always)]
 fn count_directive(places: &mut Places, directive: &Directive)
     requires few { fits.AreFew places.old }
     ensures { places.new ≡ fits.counted places.old (directive_of directive.now) }
@@ -128,6 +129,7 @@ fn count_directive(places: &mut Places, directive: &Directive)
 }
 
 /// Counts what directives print, in one pass over them.
+#[inline(always)]
 fn places_of(directives: &[Directive]) -> Places
     ensures { result ≡ fits.places_of (directives_of directives.now) }
 {
@@ -150,6 +152,7 @@ fn places_of(directives: &[Directive]) -> Places
 }
 
 /// Whether directives with so many places print so many parts. If `all`, one of them prints the parts that have no place.
+#[inline(always)]
 fn counts_fit(places: usize, all: bool, parts: usize) -> bool
     ensures { result ≡ cond all (not (nat_lt parts places)) (parts == places) }
 {
@@ -161,6 +164,7 @@ fn counts_fit(places: usize, all: bool, parts: usize) -> bool
 }
 
 /// Returns the first key that directives name and no attribute has. Looks only if they name a key at all.
+#[inline(always)]
 fn missing_named<'d, A: AttrText<A>>(
     names_keys: bool,
     attributes: &AttributeDict<A>,
@@ -176,6 +180,7 @@ fn missing_named<'d, A: AttrText<A>>(
 }
 
 /// Whether the symbol's name exists, if a directive prints it.
+#[inline(always)]
 fn symbol_fits<A: AttrText<A>>(header: bool, attributes: &AttributeDict<A>) -> bool
     ensures { result ≡ (not header || has_symbol (entries_of attributes.now)) }
 {
@@ -190,6 +195,7 @@ fn is_covered<A: AttrText<A>>(directives: &[Directive], key: &Identifier, attr: 
 }
 
 /// Returns the key of the first attribute that neither a directive that names its key nor the section prints.
+#[inline(always)]
 fn first_uncovered<'c, A: AttrText<A>>(
     attributes: &'c AttributeDict<A>,
     directives: &[Directive],
@@ -205,6 +211,7 @@ fn first_uncovered<'c, A: AttrText<A>>(
 }
 
 /// Returns the key of the first attribute that is not printed at all.
+#[inline(always)]
 fn uncovered_key<'c, A: AttrText<A>>(
     dictionary: bool,
     attributes: &'c AttributeDict<A>,
@@ -221,6 +228,7 @@ fn uncovered_key<'c, A: AttrText<A>>(
 
 /// Whether directives print so many parts and all these attributes, and name nothing that is absent; otherwise the first reason why
 /// not.
+#[inline(always)]
 fn check_parts<'c, A: AttrText<A>>(
     directives: &'c [Directive],
     counts: Counts,

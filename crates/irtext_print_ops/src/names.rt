@@ -26,6 +26,7 @@ pub(crate) fn keeps_values<T: IrText<A>, A: AttrText<A>>(ctx: &Context<T, A>, va
 }
 
 /// Appends the name of a value with this given name or none, and this number: `x_v1` or `v1`.
+#[inline(always)]
 fn fmt_numbered(given: Option<&Identifier>, number: u64, f: &mut String) -> fmt::Result
     ensures { OnOk result (AppendsText f.old (printed.value_name (option_copied given.entry) number) f.new) }
 {
@@ -43,6 +44,7 @@ fn fmt_numbered(given: Option<&Identifier>, number: u64, f: &mut String) -> fmt:
 }
 
 /// Appends `^` and what comes before the place in the name of a block with this label or none: `^a_block` or `^block`.
+#[inline(always)]
 fn fmt_block_front(label: Option<&Identifier>, f: &mut String) -> fmt::Result
     ensures { OnOk result (AppendsText f.old (codes "^" ++ printed.prefixed (option_copied label.entry) (codes "block")) f.new) }
 {
@@ -61,6 +63,7 @@ fn fmt_block_front(label: Option<&Identifier>, f: &mut String) -> fmt::Result
 }
 
 /// Appends `^` and the name of a block with this label or none, and this place and generation: `^a_block1v1` or `^block1v1`.
+#[inline(always)]
 fn fmt_placed(
     label: Option<&Identifier>,
     place: u64,

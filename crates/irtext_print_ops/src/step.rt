@@ -1,5 +1,5 @@
 //! The steps of the walk: what is printed next of the innermost open frame, and what is open after that.
-ghost use Rattle.std.specs.Prelude.{◌≡◌, ◌≢◌, ◌++◌, ◌∷◌, [], OnOk, IfOk, IfErr, IsSome, length};
+ghost use Rattle.std.specs.Prelude.{◌≡◌, ◌≢◌, ◌++◌, ◌∷◌, [], OnOk, IfOk, IfErr, IsSome, length, true};
 ghost use Rattle.irtext_context.specs.Context.{operation};
 ghost use Rattle.irtext_context.specs.Context as context;
 ghost use Rattle.irtext_graph.specs.Graph.{Stands};
@@ -325,7 +325,8 @@ fn region_step<'c, H: WritesHeads<T, A>, T: IrText<A>, A: AttrText<A>>(
 
 /// Prints what comes next of a block: its next operation, up to the first region of that one that has blocks, or nothing after the
 /// last. A placeholder is skipped.
-fn block_step<'c, H: WritesHeads<T, A>, T: IrText<A>, A: AttrText<A>>(
+#[inline(always)]
+fn block_turn<'c, H: WritesHeads<T, A>, T: IrText<A>, A: AttrText<A>>(
     ctx: &'c Context<T, A>,
     width: u16,
     frame: BlockFrame,
@@ -337,6 +338,7 @@ fn block_step<'c, H: WritesHeads<T, A>, T: IrText<A>, A: AttrText<A>>(
     ensures steps { IfOk result (λ inner.
         heads.StepsAt T.IrText.own A.IrText.own A.AttrText.own A.eq ctx.now width (framed.Block frame)
         items.old.items items.new.items frames.old.items (frames.new.items ++ steps.listed inner) f.old f.new) }
+    ensures kept { IfOk result (λ inner. steps.is_in_block inner ≡ true → frames.new.items ≡ frames.old.items) }
     ensures refused { IfErr result (heads.RefusesFrame T.IrText.own A.IrText.own A.AttrText.own A.eq ctx.now width (framed.Block frame)) }
 {
     ctx.graph().keeps_nesting();
@@ -364,6 +366,34 @@ fn block_step<'c, H: WritesHeads<T, A>, T: IrText<A>, A: AttrText<A>>(
     open(frames, behind)?;
     open(frames, Frame::Operation(begun))?;
     Ok(Some(Frame::Region(inside)))
+}
+
+/// Prints what comes next of a block: its operations, up to the first region that has blocks, or to the last operation.
+fn block_step<'c, H: WritesHeads<T, A>, T: IrText<A>, A: AttrText<A>>(
+    ctx: &'c Context<T, A>,
+    width: u16,
+    frame: BlockFrame,
+    frames: &mut Vec<Frame<'c>>,
+    items: &mut Vec<Item>,
+    f: &mut String,
+) -> Result<Option<Frame<'c>>, Refusal>
+    requires fits { heads.FrameFitsAt T.IrText.own A.IrText.own A.AttrText.own A.eq ctx.now (framed.Block frame) }
+    ensures steps { IfOk result (λ inner.
+        heads.StepsAt T.IrText.own A.IrText.own A.AttrText.own A.eq ctx.now width (framed.Block frame)
+        items.old.items items.new.items frames.old.items (frames.new.items ++ steps.listed inner) f.old f.new) }
+    ensures refused { IfErr result (heads.RefusesFrame T.IrText.own A.IrText.own A.AttrText.own A.eq ctx.now width (framed.Block frame)) }
+{
+    let mut left = frame;
+    loop {
+        let inner = block_turn::<H, T, A>(ctx, width, left, frames, items, f)?;
+        let Some(innermost) = inner else {
+            return Ok(inner);
+        };
+        let Frame::Block(next) = innermost else {
+            return Ok(inner);
+        };
+        left = next;
+    }
 }
 
 /// Prints what comes next of the innermost open frame. Returns the frame that is innermost after that, if one was opened.

@@ -76,6 +76,7 @@ fn fmt_front<T: IrText<A>, A: AttrText<A>>(
 }
 
 /// Appends the numbers of line and column, in characters from 1: `1, column: 21`. Fails only if out of memory.
+#[inline(always)]
 pub fn fmt_numbers(pos: &SourcePosition, f: &mut String) -> fmt::Result
     ensures { OnOk result (AppendsText f.old (signed_decimal pos.now.line ++ (codes ", column: " ++ signed_decimal pos.now.column)) f.new) }
 {

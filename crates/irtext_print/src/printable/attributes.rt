@@ -10,6 +10,7 @@ use irtext_base::text::AttrText;
 use std::fmt;
 
 /// Appends a given name, or `?` if there is none.
+#[inline(always)]
 fn fmt_name(name: &Option<Identifier>, f: &mut String) -> fmt::Result
     ensures { OnOk result (AppendsText f.old (or_question name.now) f.new) }
 {
@@ -21,6 +22,7 @@ fn fmt_name(name: &Option<Identifier>, f: &mut String) -> fmt::Result
 }
 
 /// Appends given names with `, ` between them.
+#[inline(always)]
 fn fmt_names(names: &[Option<Identifier>], f: &mut String) -> fmt::Result
     ensures { OnOk result (AppendsText f.old (joined comma (map or_question names.now)) f.new) }
 {

@@ -80,6 +80,7 @@ fn fmt_negative(number: i32, f: &mut String) -> fmt::Result
 }
 
 /// Appends a number that may be negative, with its sign.
+#[inline(always)]
 pub fn fmt_signed(number: i32, f: &mut String) -> fmt::Result
     ensures { OnOk result (AppendsText f.old (signed_decimal number) f.new) }
 {

@@ -1,109 +1,51 @@
-use Rattle.std.proofs.Common.{append-nil, append_assoc, refl, inl, inr, ◌∙◌, ◌++◌, ◌∷◌, [], ◌+◌, sym, ap, subst, string_bytes, arith, false, length, ◌≤◌}
-use Rattle.std.proofs.Math.ListN.{drop_of_length-le}
-use Rattle.irtext_context.specs.Context.{operation}
-use Rattle.irtext_dict.proofs.Drops.{one_left}
-use Rattle.irtext_graph.specs.Graph.{children, parent}
-use Rattle.irtext_graph.specs.Nested.{Nested}
-use Rattle.irtext_graph.specs.Parts.{operations_in}
+use Rattle.std.proofs.Common.{◌≡◌, ◌∷◌, ◌++◌, ◌∙◌, [], refl, ap, subst, string_bytes, inl, inr}
+use Rattle.std.specs.Prelude.{Some}
 use Rattle.irtext_print_ops.specs.Heads as heads
-use Rattle.irtext_print_ops.specs.Steps.{left_frames}
+use Rattle.irtext_print_ops.specs.Steps.{is_in_block, listed}
 use Rattle.irtext_print_ops.specs.Walk.{Steps}
-use Rattle.irtext_print_ops.specs.declared.frame.Frame.{Frame}
 use Rattle.irtext_print_ops.specs.declared.frame.Frame.TheVariants as framed
-use Rattle.irtext_print_ops.proofs.Chained.{chained, inside_others, all_fit, fault_left}
-use Rattle.irtext_print_ops.proofs.Tests.{not_there, is_there}
-use Rattle.irtext_print_ops.proofs.Turned.{block_ended, block_skips, block_begins}
-use Rattle.irtext_print_ops.proofs.Refused.{handed_on, operation_refused}
+use Rattle.irtext_print_ops.proofs.Chained.{left_fits, left_fault, left_inside, left_on, fewer_on}
+use Rattle.irtext_print_ops.proofs.Refused.{handed_on}
 use Rattle.irtext_print_ops.proofs.step.block_step.Goals as goal
 
-pub returns-then-frame-num_operations-clause-steps : goal.returns-then-frame-num_operations-clause-steps
-returns-then-frame-num_operations-clause-steps g c =
-    let ctx = c.args.ctx.now in
-    let ops = operations_in ctx.graph c.args.frame.block in
-    let none : length ops ≤ c.args.frame.operation = omega (arith, c.if-frame-num_operations.true, c.num_operations.ensures) in
-    subst (λ z. Steps (heads.printing_of g.T.IrText g.A.IrText g.A.AttrText g.A.PartialEq.eq ctx) (heads.language_of g.T.IrText g.A.IrText g.A.AttrText g.A.PartialEq.eq ctx) ctx c.args.width (framed.Block c.args.frame) c.args.items.now.items c.args.items.now.items c.args.frames.now.items z (string_bytes c.args.f.now) (string_bytes c.args.f.now)) (sym (append-nil c.args.frames.now.items))
-    (block_ended (heads.printing_of g.T.IrText g.A.IrText g.A.AttrText g.A.PartialEq.eq ctx) (heads.language_of g.T.IrText g.A.IrText g.A.AttrText g.A.PartialEq.eq ctx) ctx c.args.width
-    c.args.frame c.args.items.now.items c.args.frames.now.items (string_bytes c.args.f.now) (drop_of_length-le ops none))
+pub loop-inner-init : goal.loop-inner-init
+loop-inner-init g c = record { left = inl (record { same = refl; marks = refl; bytes = refl }); outside = refl }
 
-pub returns-then-not-contains_operation-clause-steps : goal.returns-then-not-contains_operation-clause-steps
-returns-then-not-contains_operation-clause-steps g c =
+pub block_turn-requires : goal.block_turn-requires
+block_turn-requires g c =
     let ctx = c.args.ctx.now in
-    let p = c.get_operation-op.result in
-    let ops = operations_in ctx.graph c.args.frame.block in
-    block_skips (heads.printing_of g.T.IrText g.A.IrText g.A.AttrText g.A.PartialEq.eq ctx) (heads.language_of g.T.IrText g.A.IrText g.A.AttrText g.A.PartialEq.eq ctx) ctx c.args.width
-    c.args.frame c.args.items.now.items c.args.frames.now.items p (string_bytes c.args.f.now) _ (one_left ops c.args.frame.operation p (sym c.get_operation-op.ensures))
-    (not_there (operation ctx p) c.contains_operation.result c.contains_operation.ensures.stands (search)) c.requires.fits refl
+    record { fits = left_fits (heads.printing_of g.T.IrText g.A.IrText g.A.AttrText g.A.PartialEq.eq ctx) (heads.language_of g.T.IrText g.A.IrText g.A.AttrText g.A.PartialEq.eq ctx) ctx c.args.width (framed.Block c.args.frame) c.args.items.now.items (string_bytes c.args.f.now) (framed.Block c.loop-inner.left) c.loop-inner.items.items (string_bytes c.loop-inner.f) c.requires.fits c.loop-inner.invariant.left }
 
-pub operation_turns-requires : goal.operation_turns-requires
-operation_turns-requires g c =
+pub loop-inner-smaller : goal.loop-inner-smaller
+loop-inner-smaller g c =
     let ctx = c.args.ctx.now in
-    let p = c.get_operation-op.result in
-    let ops = operations_in ctx.graph c.args.frame.block in
-    let there = is_there (operation ctx p) (c.contains_operation.ensures.stands.0 (search)) in
-    let behind : Frame = framed.Block (record c.args.frame { operation = c.args.frame.operation + 1; first = false }) in
-    let begins : Steps (heads.printing_of g.T.IrText g.A.IrText g.A.AttrText g.A.PartialEq.eq ctx) (heads.language_of g.T.IrText g.A.IrText g.A.AttrText g.A.PartialEq.eq ctx) ctx c.args.width (framed.Block c.args.frame) c.args.items.now.items c.args.items.now.items [] (behind ∷ framed.Operation c.in_ok-begun.begun ∷ []) (string_bytes c.args.f.now) (string_bytes c.begin_operation.new.f) = block_begins (heads.printing_of g.T.IrText g.A.IrText g.A.AttrText g.A.PartialEq.eq ctx) (heads.language_of g.T.IrText g.A.IrText g.A.AttrText g.A.PartialEq.eq ctx) ctx c.args.width
-    c.args.frame c.args.items.now.items [] p there.0 c.in_ok-begun.begun.directives c.in_ok-indent.indent (string_bytes c.args.f.now) (string_bytes c.fmt_between_operations.new.f) (string_bytes c.begin_operation.new.f) (behind ∷ framed.Operation c.in_ok-begun.begun ∷ [])
-    (one_left ops c.args.frame.operation p (sym c.get_operation-op.ensures)) there.1 (subst (λ z. Nested (children z) (parent z)) c.graph.ensures c.keeps_nesting.ensures.forest) c.requires.fits c.in_ok-indent.ensures.ok
-    c.in_ok-begun.ensures.found c.in_ok-begun.ensures.fits c.in_ok-fmt_between_operations.ensures.text c.in_ok-begun.ensures.text
-    (ap (λ b. behind ∷ framed.Operation b ∷ []) c.in_ok-begun.ensures.begun) in
-    let fit = all_fit (heads.printing_of g.T.IrText g.A.IrText g.A.AttrText g.A.PartialEq.eq ctx) (heads.language_of g.T.IrText g.A.IrText g.A.AttrText g.A.PartialEq.eq ctx) ctx c.args.width (framed.Block c.args.frame) c.args.items.now.items c.args.items.now.items (behind ∷ framed.Operation c.in_ok-begun.begun ∷ []) (string_bytes c.args.f.now) (string_bytes c.begin_operation.new.f) begins in
-    record { fits = fit.1.0 }
+    let next : c.in_ok-inner.inner ≡ Some (framed.Block c.in-Block.next) = c.in-Some.is ∙ ap (λ z. Some z) c.in-Block.is in
+    let t = subst (λ z. Steps (heads.printing_of g.T.IrText g.A.IrText g.A.AttrText g.A.PartialEq.eq ctx) (heads.language_of g.T.IrText g.A.IrText g.A.AttrText g.A.PartialEq.eq ctx) ctx c.args.width (framed.Block c.loop-inner.left) c.loop-inner.items.items c.block_turn.new.items.items c.loop-inner.frames.items (c.block_turn.new.frames.items ++ listed z) (string_bytes c.loop-inner.f) (string_bytes c.block_turn.new.f)) next c.in_ok-inner.ensures.steps in
+    fewer_on (heads.printing_of g.T.IrText g.A.IrText g.A.AttrText g.A.PartialEq.eq ctx) (heads.language_of g.T.IrText g.A.IrText g.A.AttrText g.A.PartialEq.eq ctx) ctx c.args.width (framed.Block c.args.frame) c.args.items.now.items (string_bytes c.args.f.now) (framed.Block c.loop-inner.left) (framed.Block c.in-Block.next) c.loop-inner.items.items c.block_turn.new.items.items
+    c.loop-inner.frames.items c.block_turn.new.frames.items (string_bytes c.loop-inner.f) (string_bytes c.block_turn.new.f) t (c.in_ok-inner.ensures.kept (ap (λ z. is_in_block z) next))
+
+pub loop-inner-preserved : goal.loop-inner-preserved
+loop-inner-preserved g c =
+    let ctx = c.args.ctx.now in
+    let next : c.in_ok-inner.inner ≡ Some (framed.Block c.in-Block.next) = c.in-Some.is ∙ ap (λ z. Some z) c.in-Block.is in
+    let t = subst (λ z. Steps (heads.printing_of g.T.IrText g.A.IrText g.A.AttrText g.A.PartialEq.eq ctx) (heads.language_of g.T.IrText g.A.IrText g.A.AttrText g.A.PartialEq.eq ctx) ctx c.args.width (framed.Block c.loop-inner.left) c.loop-inner.items.items c.block_turn.new.items.items c.loop-inner.frames.items (c.block_turn.new.frames.items ++ listed z) (string_bytes c.loop-inner.f) (string_bytes c.block_turn.new.f)) next c.in_ok-inner.ensures.steps in
+    let kept = c.in_ok-inner.ensures.kept (ap (λ z. is_in_block z) next) in
+    record {
+      left = inr (left_on (heads.printing_of g.T.IrText g.A.IrText g.A.AttrText g.A.PartialEq.eq ctx) (heads.language_of g.T.IrText g.A.IrText g.A.AttrText g.A.PartialEq.eq ctx) ctx c.args.width (framed.Block c.args.frame) c.args.items.now.items (string_bytes c.args.f.now) (framed.Block c.loop-inner.left) (framed.Block c.in-Block.next) c.loop-inner.items.items c.block_turn.new.items.items
+          c.loop-inner.frames.items c.block_turn.new.frames.items (string_bytes c.loop-inner.f) (string_bytes c.block_turn.new.f) c.loop-inner.invariant.left t kept);
+      outside = kept ∙ c.loop-inner.invariant.outside;
+    }
 
 pub returns-in_default-clause-steps : goal.returns-in_default-clause-steps
 returns-in_default-clause-steps g c =
     let ctx = c.args.ctx.now in
-    let p = c.get_operation-op.result in
-    let ops = operations_in ctx.graph c.args.frame.block in
-    let there = is_there (operation ctx p) (c.contains_operation.ensures.stands.0 (search)) in
-    let behind : Frame = framed.Block (record c.args.frame { operation = c.args.frame.operation + 1; first = false }) in
-    let begins : Steps (heads.printing_of g.T.IrText g.A.IrText g.A.AttrText g.A.PartialEq.eq ctx) (heads.language_of g.T.IrText g.A.IrText g.A.AttrText g.A.PartialEq.eq ctx) ctx c.args.width (framed.Block c.args.frame) c.args.items.now.items c.args.items.now.items [] (behind ∷ framed.Operation c.in_ok-begun.begun ∷ []) (string_bytes c.args.f.now) (string_bytes c.begin_operation.new.f) = block_begins (heads.printing_of g.T.IrText g.A.IrText g.A.AttrText g.A.PartialEq.eq ctx) (heads.language_of g.T.IrText g.A.IrText g.A.AttrText g.A.PartialEq.eq ctx) ctx c.args.width
-    c.args.frame c.args.items.now.items [] p there.0 c.in_ok-begun.begun.directives c.in_ok-indent.indent (string_bytes c.args.f.now) (string_bytes c.fmt_between_operations.new.f) (string_bytes c.begin_operation.new.f) (behind ∷ framed.Operation c.in_ok-begun.begun ∷ [])
-    (one_left ops c.args.frame.operation p (sym c.get_operation-op.ensures)) there.1 (subst (λ z. Nested (children z) (parent z)) c.graph.ensures c.keeps_nesting.ensures.forest) c.requires.fits c.in_ok-indent.ensures.ok
-    c.in_ok-begun.ensures.found c.in_ok-begun.ensures.fits c.in_ok-fmt_between_operations.ensures.text c.in_ok-begun.ensures.text
-    (ap (λ b. behind ∷ framed.Operation b ∷ []) c.in_ok-begun.ensures.begun) in
-    let turns = subst (λ z. Steps (heads.printing_of g.T.IrText g.A.IrText g.A.AttrText g.A.PartialEq.eq ctx) (heads.language_of g.T.IrText g.A.IrText g.A.AttrText g.A.PartialEq.eq ctx) ctx c.args.width (framed.Operation c.in_ok-begun.begun) c.args.items.now.items c.operation_turns.new.items.items [] (left_frames c.operation_turns.new.frame z) (string_bytes c.begin_operation.new.f) (string_bytes c.operation_turns.new.f)) c.in_default.is c.in_ok-inside.ensures.steps in
-    inside_others (heads.printing_of g.T.IrText g.A.IrText g.A.AttrText g.A.PartialEq.eq ctx) (heads.language_of g.T.IrText g.A.IrText g.A.AttrText g.A.PartialEq.eq ctx) ctx c.args.width (framed.Block c.args.frame) c.args.items.now.items c.operation_turns.new.items.items c.args.frames.now.items (behind ∷ []) (string_bytes c.args.f.now) (string_bytes c.operation_turns.new.f)
-    (chained (heads.printing_of g.T.IrText g.A.IrText g.A.AttrText g.A.PartialEq.eq ctx) (heads.language_of g.T.IrText g.A.IrText g.A.AttrText g.A.PartialEq.eq ctx) ctx c.args.width (framed.Block c.args.frame) (framed.Operation c.in_ok-begun.begun) c.args.items.now.items c.args.items.now.items c.operation_turns.new.items.items (behind ∷ []) [] (string_bytes c.args.f.now) (string_bytes c.begin_operation.new.f) (string_bytes c.operation_turns.new.f) begins turns)
+    let t = subst (λ z. Steps (heads.printing_of g.T.IrText g.A.IrText g.A.AttrText g.A.PartialEq.eq ctx) (heads.language_of g.T.IrText g.A.IrText g.A.AttrText g.A.PartialEq.eq ctx) ctx c.args.width (framed.Block c.loop-inner.left) c.loop-inner.items.items c.block_turn.new.items.items z (c.block_turn.new.frames.items ++ listed c.in_ok-inner.inner) (string_bytes c.loop-inner.f) (string_bytes c.block_turn.new.f)) c.loop-inner.invariant.outside c.in_ok-inner.ensures.steps in
+    left_inside (heads.printing_of g.T.IrText g.A.IrText g.A.AttrText g.A.PartialEq.eq ctx) (heads.language_of g.T.IrText g.A.IrText g.A.AttrText g.A.PartialEq.eq ctx) ctx c.args.width (framed.Block c.args.frame) c.args.items.now.items (string_bytes c.args.f.now) (framed.Block c.loop-inner.left) c.loop-inner.items.items c.block_turn.new.items.items
+    c.args.frames.now.items (c.block_turn.new.frames.items ++ listed c.in_ok-inner.inner) (string_bytes c.loop-inner.f) (string_bytes c.block_turn.new.f) c.loop-inner.invariant.left t
 
-pub returns-clause-steps : goal.returns-clause-steps
-returns-clause-steps g c =
+pub returns-in_default-innermost-clause-steps : goal.returns-in_default-innermost-clause-steps
+returns-in_default-innermost-clause-steps g c =
     let ctx = c.args.ctx.now in
-    let p = c.get_operation-op.result in
-    let ops = operations_in ctx.graph c.args.frame.block in
-    let there = is_there (operation ctx p) (c.contains_operation.ensures.stands.0 (search)) in
-    let behind : Frame = framed.Block (record c.args.frame { operation = c.args.frame.operation + 1; first = false }) in
-    let begins : Steps (heads.printing_of g.T.IrText g.A.IrText g.A.AttrText g.A.PartialEq.eq ctx) (heads.language_of g.T.IrText g.A.IrText g.A.AttrText g.A.PartialEq.eq ctx) ctx c.args.width (framed.Block c.args.frame) c.args.items.now.items c.args.items.now.items [] (behind ∷ framed.Operation c.in_ok-begun.begun ∷ []) (string_bytes c.args.f.now) (string_bytes c.begin_operation.new.f) = block_begins (heads.printing_of g.T.IrText g.A.IrText g.A.AttrText g.A.PartialEq.eq ctx) (heads.language_of g.T.IrText g.A.IrText g.A.AttrText g.A.PartialEq.eq ctx) ctx c.args.width
-    c.args.frame c.args.items.now.items [] p there.0 c.in_ok-begun.begun.directives c.in_ok-indent.indent (string_bytes c.args.f.now) (string_bytes c.fmt_between_operations.new.f) (string_bytes c.begin_operation.new.f) (behind ∷ framed.Operation c.in_ok-begun.begun ∷ [])
-    (one_left ops c.args.frame.operation p (sym c.get_operation-op.ensures)) there.1 (subst (λ z. Nested (children z) (parent z)) c.graph.ensures c.keeps_nesting.ensures.forest) c.requires.fits c.in_ok-indent.ensures.ok
-    c.in_ok-begun.ensures.found c.in_ok-begun.ensures.fits c.in_ok-fmt_between_operations.ensures.text c.in_ok-begun.ensures.text
-    (ap (λ b. behind ∷ framed.Operation b ∷ []) c.in_ok-begun.ensures.begun) in
-    let turns = subst (λ z. Steps (heads.printing_of g.T.IrText g.A.IrText g.A.AttrText g.A.PartialEq.eq ctx) (heads.language_of g.T.IrText g.A.IrText g.A.AttrText g.A.PartialEq.eq ctx) ctx c.args.width (framed.Operation c.in_ok-begun.begun) c.args.items.now.items c.operation_turns.new.items.items [] (left_frames c.operation_turns.new.frame z) (string_bytes c.begin_operation.new.f) (string_bytes c.operation_turns.new.f)) c.in-Some.is c.in_ok-inside.ensures.steps in
-    let inner = framed.Operation c.operation_turns.new.frame ∷ framed.Region c.in-Some.inside ∷ [] in
-    subst (λ z. Steps (heads.printing_of g.T.IrText g.A.IrText g.A.AttrText g.A.PartialEq.eq ctx) (heads.language_of g.T.IrText g.A.IrText g.A.AttrText g.A.PartialEq.eq ctx) ctx c.args.width (framed.Block c.args.frame) c.args.items.now.items c.operation_turns.new.items.items c.args.frames.now.items z (string_bytes c.args.f.now) (string_bytes c.operation_turns.new.f))
-    (sym (ap (λ z. z ++ framed.Region c.in-Some.inside ∷ []) (c.in_ok-open-2.ensures.ok ∙ ap (λ z. z ++ framed.Operation c.operation_turns.new.frame ∷ []) c.in_ok-open.ensures.ok)
-    ∙ (append_assoc (c.args.frames.now.items ++ behind ∷ []) (framed.Operation c.operation_turns.new.frame ∷ []) (framed.Region c.in-Some.inside ∷ []) ∙ append_assoc c.args.frames.now.items (behind ∷ []) inner)))
-    (inside_others (heads.printing_of g.T.IrText g.A.IrText g.A.AttrText g.A.PartialEq.eq ctx) (heads.language_of g.T.IrText g.A.IrText g.A.AttrText g.A.PartialEq.eq ctx) ctx c.args.width (framed.Block c.args.frame) c.args.items.now.items c.operation_turns.new.items.items c.args.frames.now.items (behind ∷ inner) (string_bytes c.args.f.now) (string_bytes c.operation_turns.new.f)
-    (chained (heads.printing_of g.T.IrText g.A.IrText g.A.AttrText g.A.PartialEq.eq ctx) (heads.language_of g.T.IrText g.A.IrText g.A.AttrText g.A.PartialEq.eq ctx) ctx c.args.width (framed.Block c.args.frame) (framed.Operation c.in_ok-begun.begun) c.args.items.now.items c.args.items.now.items c.operation_turns.new.items.items (behind ∷ []) inner (string_bytes c.args.f.now) (string_bytes c.begin_operation.new.f) (string_bytes c.operation_turns.new.f) begins turns))
-
-pub returns-in_err-inside-clause-refused : goal.returns-in_err-inside-clause-refused
-returns-in_err-inside-clause-refused g c =
-    let ctx = c.args.ctx.now in
-    let p = c.get_operation-op.result in
-    let ops = operations_in ctx.graph c.args.frame.block in
-    let there = is_there (operation ctx p) (c.contains_operation.ensures.stands.0 (search)) in
-    let behind : Frame = framed.Block (record c.args.frame { operation = c.args.frame.operation + 1; first = false }) in
-    let begins : Steps (heads.printing_of g.T.IrText g.A.IrText g.A.AttrText g.A.PartialEq.eq ctx) (heads.language_of g.T.IrText g.A.IrText g.A.AttrText g.A.PartialEq.eq ctx) ctx c.args.width (framed.Block c.args.frame) c.args.items.now.items c.args.items.now.items [] (behind ∷ framed.Operation c.in_ok-begun.begun ∷ []) (string_bytes c.args.f.now) (string_bytes c.begin_operation.new.f) = block_begins (heads.printing_of g.T.IrText g.A.IrText g.A.AttrText g.A.PartialEq.eq ctx) (heads.language_of g.T.IrText g.A.IrText g.A.AttrText g.A.PartialEq.eq ctx) ctx c.args.width
-    c.args.frame c.args.items.now.items [] p there.0 c.in_ok-begun.begun.directives c.in_ok-indent.indent (string_bytes c.args.f.now) (string_bytes c.fmt_between_operations.new.f) (string_bytes c.begin_operation.new.f) (behind ∷ framed.Operation c.in_ok-begun.begun ∷ [])
-    (one_left ops c.args.frame.operation p (sym c.get_operation-op.ensures)) there.1 (subst (λ z. Nested (children z) (parent z)) c.graph.ensures c.keeps_nesting.ensures.forest) c.requires.fits c.in_ok-indent.ensures.ok
-    c.in_ok-begun.ensures.found c.in_ok-begun.ensures.fits c.in_ok-fmt_between_operations.ensures.text c.in_ok-begun.ensures.text
-    (ap (λ b. behind ∷ framed.Operation b ∷ []) c.in_ok-begun.ensures.begun) in
-    let e = c.in_err-inside.field-0.0 in
-    handed_on _ c.from_residual-in_err-inside.result e c.from_residual-in_err-inside.ensures.1 (λ other. fault_left (heads.printing_of g.T.IrText g.A.IrText g.A.AttrText g.A.PartialEq.eq ctx) (heads.language_of g.T.IrText g.A.IrText g.A.AttrText g.A.PartialEq.eq ctx) ctx c.args.width (framed.Block c.args.frame) c.args.items.now.items c.args.items.now.items (behind ∷ framed.Operation c.in_ok-begun.begun ∷ []) (string_bytes c.args.f.now) (string_bytes c.begin_operation.new.f) begins e (inr (inl (c.in_err-inside.ensures.refused other))))
-
-pub returns-in_err-begun-clause-refused : goal.returns-in_err-begun-clause-refused
-returns-in_err-begun-clause-refused g c =
-    let ctx = c.args.ctx.now in
-    let p = c.get_operation-op.result in
-    let there = is_there (operation ctx p) (c.contains_operation.ensures.stands.0 (search)) in
-    handed_on _ c.from_residual-in_err-begun.result c.in_err-begun.field-0.0 c.from_residual-in_err-begun.ensures.1 (operation_refused (heads.printing_of g.T.IrText g.A.IrText g.A.AttrText g.A.PartialEq.eq ctx) (heads.language_of g.T.IrText g.A.IrText g.A.AttrText g.A.PartialEq.eq ctx) ctx c.args.width c.args.frame p there.0 c.in_err-begun.field-0.0
-    (subst (λ z. Nested (children z) (parent z)) c.graph.ensures c.keeps_nesting.ensures.forest) c.get_operation-op.ensures there.1 c.in_err-begun.ensures.refused)
+    let t = subst (λ z. Steps (heads.printing_of g.T.IrText g.A.IrText g.A.AttrText g.A.PartialEq.eq ctx) (heads.language_of g.T.IrText g.A.IrText g.A.AttrText g.A.PartialEq.eq ctx) ctx c.args.width (framed.Block c.loop-inner.left) c.loop-inner.items.items c.block_turn.new.items.items z (c.block_turn.new.frames.items ++ listed c.in_ok-inner.inner) (string_bytes c.loop-inner.f) (string_bytes c.block_turn.new.f)) c.loop-inner.invariant.outside c.in_ok-inner.ensures.steps in
+    left_inside (heads.printing_of g.T.IrText g.A.IrText g.A.AttrText g.A.PartialEq.eq ctx) (heads.language_of g.T.IrText g.A.IrText g.A.AttrText g.A.PartialEq.eq ctx) ctx c.args.width (framed.Block c.args.frame) c.args.items.now.items (string_bytes c.args.f.now) (framed.Block c.loop-inner.left) c.loop-inner.items.items c.block_turn.new.items.items
+    c.args.frames.now.items (c.block_turn.new.frames.items ++ listed c.in_ok-inner.inner) (string_bytes c.loop-inner.f) (string_bytes c.block_turn.new.f) c.loop-inner.invariant.left t

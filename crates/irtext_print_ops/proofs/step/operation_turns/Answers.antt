@@ -13,7 +13,7 @@ loop-inside-init g c = inl (record { same = refl; marks = refl; bytes = refl })
 pub operation_turn-requires : goal.operation_turn-requires
 operation_turn-requires g c =
     let ctx = c.args.ctx.now in
-    record { fits = left_fits (heads.printing_of g.T.IrText g.A.IrText g.A.AttrText g.A.PartialEq.eq ctx) (heads.language_of g.T.IrText g.A.IrText g.A.AttrText g.A.PartialEq.eq ctx) ctx c.args.width c.args.frame.now c.args.items.now.items (string_bytes c.args.f.now) c.loop-inside.frame c.loop-inside.items.items (string_bytes c.loop-inside.f) c.requires.fits c.loop-inside.invariant }
+    record { fits = left_fits (heads.printing_of g.T.IrText g.A.IrText g.A.AttrText g.A.PartialEq.eq ctx) (heads.language_of g.T.IrText g.A.IrText g.A.AttrText g.A.PartialEq.eq ctx) ctx c.args.width (framed.Operation c.args.frame.now) c.args.items.now.items (string_bytes c.args.f.now) (framed.Operation c.loop-inside.frame) c.loop-inside.items.items (string_bytes c.loop-inside.f) c.requires.fits c.loop-inside.invariant }
 
 pub loop-inside-smaller : goal.loop-inside-smaller
 loop-inside-smaller g c =
@@ -25,22 +25,22 @@ pub loop-inside-preserved : goal.loop-inside-preserved
 loop-inside-preserved g c =
     let ctx = c.args.ctx.now in
     let s = subst (λ z. Steps (heads.printing_of g.T.IrText g.A.IrText g.A.AttrText g.A.PartialEq.eq ctx) (heads.language_of g.T.IrText g.A.IrText g.A.AttrText g.A.PartialEq.eq ctx) ctx c.args.width (framed.Operation c.loop-inside.frame) c.loop-inside.items.items c.operation_turn.new.items.items [] (turn_frames c.operation_turn.new.frame z) (string_bytes c.loop-inside.f) (string_bytes c.operation_turn.new.f)) c.in-Stays.is c.in_ok-operation_turn.ensures.steps in
-    inr (left_more (heads.printing_of g.T.IrText g.A.IrText g.A.AttrText g.A.PartialEq.eq ctx) (heads.language_of g.T.IrText g.A.IrText g.A.AttrText g.A.PartialEq.eq ctx) ctx c.args.width c.args.frame.now c.args.items.now.items (string_bytes c.args.f.now) c.loop-inside.frame c.loop-inside.items.items c.operation_turn.new.items.items (framed.Operation c.operation_turn.new.frame ∷ []) (string_bytes c.loop-inside.f) (string_bytes c.operation_turn.new.f) c.loop-inside.invariant s)
+    inr (left_more (heads.printing_of g.T.IrText g.A.IrText g.A.AttrText g.A.PartialEq.eq ctx) (heads.language_of g.T.IrText g.A.IrText g.A.AttrText g.A.PartialEq.eq ctx) ctx c.args.width (framed.Operation c.args.frame.now) c.args.items.now.items (string_bytes c.args.f.now) (framed.Operation c.loop-inside.frame) c.loop-inside.items.items c.operation_turn.new.items.items (framed.Operation c.operation_turn.new.frame ∷ []) (string_bytes c.loop-inside.f) (string_bytes c.operation_turn.new.f) c.loop-inside.invariant s)
 
 pub returns-in-Enters-clause-steps : goal.returns-in-Enters-clause-steps
 returns-in-Enters-clause-steps g c =
     let ctx = c.args.ctx.now in
     let s = subst (λ z. Steps (heads.printing_of g.T.IrText g.A.IrText g.A.AttrText g.A.PartialEq.eq ctx) (heads.language_of g.T.IrText g.A.IrText g.A.AttrText g.A.PartialEq.eq ctx) ctx c.args.width (framed.Operation c.loop-inside.frame) c.loop-inside.items.items c.operation_turn.new.items.items [] (turn_frames c.operation_turn.new.frame z) (string_bytes c.loop-inside.f) (string_bytes c.operation_turn.new.f)) c.in-Enters.is c.in_ok-operation_turn.ensures.steps in
-    left_more (heads.printing_of g.T.IrText g.A.IrText g.A.AttrText g.A.PartialEq.eq ctx) (heads.language_of g.T.IrText g.A.IrText g.A.AttrText g.A.PartialEq.eq ctx) ctx c.args.width c.args.frame.now c.args.items.now.items (string_bytes c.args.f.now) c.loop-inside.frame c.loop-inside.items.items c.operation_turn.new.items.items (framed.Operation c.operation_turn.new.frame ∷ framed.Region c.in-Enters.inside ∷ []) (string_bytes c.loop-inside.f) (string_bytes c.operation_turn.new.f) c.loop-inside.invariant s
+    left_more (heads.printing_of g.T.IrText g.A.IrText g.A.AttrText g.A.PartialEq.eq ctx) (heads.language_of g.T.IrText g.A.IrText g.A.AttrText g.A.PartialEq.eq ctx) ctx c.args.width (framed.Operation c.args.frame.now) c.args.items.now.items (string_bytes c.args.f.now) (framed.Operation c.loop-inside.frame) c.loop-inside.items.items c.operation_turn.new.items.items (framed.Operation c.operation_turn.new.frame ∷ framed.Region c.in-Enters.inside ∷ []) (string_bytes c.loop-inside.f) (string_bytes c.operation_turn.new.f) c.loop-inside.invariant s
 
 pub returns-in-Ends-clause-steps : goal.returns-in-Ends-clause-steps
 returns-in-Ends-clause-steps g c =
     let ctx = c.args.ctx.now in
     let s = subst (λ z. Steps (heads.printing_of g.T.IrText g.A.IrText g.A.AttrText g.A.PartialEq.eq ctx) (heads.language_of g.T.IrText g.A.IrText g.A.AttrText g.A.PartialEq.eq ctx) ctx c.args.width (framed.Operation c.loop-inside.frame) c.loop-inside.items.items c.operation_turn.new.items.items [] (turn_frames c.operation_turn.new.frame z) (string_bytes c.loop-inside.f) (string_bytes c.operation_turn.new.f)) c.in-Ends.is c.in_ok-operation_turn.ensures.steps in
-    left_more (heads.printing_of g.T.IrText g.A.IrText g.A.AttrText g.A.PartialEq.eq ctx) (heads.language_of g.T.IrText g.A.IrText g.A.AttrText g.A.PartialEq.eq ctx) ctx c.args.width c.args.frame.now c.args.items.now.items (string_bytes c.args.f.now) c.loop-inside.frame c.loop-inside.items.items c.operation_turn.new.items.items [] (string_bytes c.loop-inside.f) (string_bytes c.operation_turn.new.f) c.loop-inside.invariant s
+    left_more (heads.printing_of g.T.IrText g.A.IrText g.A.AttrText g.A.PartialEq.eq ctx) (heads.language_of g.T.IrText g.A.IrText g.A.AttrText g.A.PartialEq.eq ctx) ctx c.args.width (framed.Operation c.args.frame.now) c.args.items.now.items (string_bytes c.args.f.now) (framed.Operation c.loop-inside.frame) c.loop-inside.items.items c.operation_turn.new.items.items [] (string_bytes c.loop-inside.f) (string_bytes c.operation_turn.new.f) c.loop-inside.invariant s
 
 pub returns-in_err-operation_turn-clause-refused : goal.returns-in_err-operation_turn-clause-refused
 returns-in_err-operation_turn-clause-refused g c =
     let ctx = c.args.ctx.now in
     let e = c.in_err-operation_turn.field-0.0 in
-    handed_on _ c.from_residual.result e c.from_residual.ensures.1 (λ other. left_fault (heads.printing_of g.T.IrText g.A.IrText g.A.AttrText g.A.PartialEq.eq ctx) (heads.language_of g.T.IrText g.A.IrText g.A.AttrText g.A.PartialEq.eq ctx) ctx c.args.width c.args.frame.now c.args.items.now.items (string_bytes c.args.f.now) c.loop-inside.frame c.loop-inside.items.items (string_bytes c.loop-inside.f) c.loop-inside.invariant e (c.in_err-operation_turn.ensures.refused other))
+    handed_on _ c.from_residual.result e c.from_residual.ensures.1 (λ other. left_fault (heads.printing_of g.T.IrText g.A.IrText g.A.AttrText g.A.PartialEq.eq ctx) (heads.language_of g.T.IrText g.A.IrText g.A.AttrText g.A.PartialEq.eq ctx) ctx c.args.width (framed.Operation c.args.frame.now) c.args.items.now.items (string_bytes c.args.f.now) (framed.Operation c.loop-inside.frame) c.loop-inside.items.items (string_bytes c.loop-inside.f) c.loop-inside.invariant e (c.in_err-operation_turn.ensures.refused other))
