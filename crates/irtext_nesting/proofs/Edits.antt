@@ -40,18 +40,7 @@ use Rattle.irtext_grammar.specs.Grammar.Tree.{Head}
 use Rattle.irtext_nesting.specs.Stands.{OwnSoFar, head_entries, HasOwn, HasUses, HasHead, IsThere, IsAsItWas, UsesAsMany, Spares}
 use Rattle.irtext_nesting.specs.Grows.{with_last_block, with_last_operation, RegionCame, OperationGains, RegionGains, BlockGains, OperationCame, BlockCame, OwnBecame}
 use Rattle.irtext_nesting.proofs.Kept.{there_still, uses_kept}
-
--- a pointer of which the generation was not handed out finds nothing
-found_none : {X : Type 0} (c : Option (Cell X)) (n : ℕ) → n ≡ drawn c + 1 → object_in c n ≡ None
-found_none None n e = refl
-found_none (Some c) n e = go (c.generation == n) refl
-  where
-    go : (b : Bool) → (c.generation == n) ≡ b → cond b c.object None ≡ None
-    go false is = refl
-    go true is = let k = eqb-true c.generation n is in absurd (omega arith)
-
-came_new : {X K : Type 0} (old new : Store X) (p : Ptr K) (x : Entry X) → Inserts old new p x → get old p ≡ None
-came_new old new p x i = found_none (slice_get old.cells p.index) p.generation i.next
+use Rattle.irtext_graph.proofs.Stores.{inserted_new, same_views}
 
 -- an object is among others, or is not
 pub among_or_not : (o : Object) (os : List Object) → Among o os ⊎ (Among o os → ⊥)
@@ -85,18 +74,10 @@ module _ {O B T : Type 0} where
   successors_seen _ = []
 
   operands_are_seen : (g : GraphView O B T) (p : Ptr Operation) → operands g p ≡ operands_seen (content g (TheOperation p))
-  operands_are_seen g p = go (get g.operations p)
-    where
-      go : (e : Option (Entry (Node BasicBlock Region (OperationContent O T)))) → operands_of (option_map (λ e. e.content.content) e) ≡ operands_seen (option_map an_operation (content_of e))
-      go None = refl
-      go (Some e) = refl
+  operands_are_seen g p = same_views (λ e. operands_of (option_map (λ e. e.content.content) e)) (λ e. operands_seen (option_map an_operation (content_of e))) refl (λ e. refl) (get g.operations p)
 
   successors_are_seen : (g : GraphView O B T) (p : Ptr Operation) → successors g p ≡ successors_seen (content g (TheOperation p))
-  successors_are_seen g p = go (get g.operations p)
-    where
-      go : (e : Option (Entry (Node BasicBlock Region (OperationContent O T)))) → successors_of (option_map (λ e. e.content.content) e) ≡ successors_seen (option_map an_operation (content_of e))
-      go None = refl
-      go (Some e) = refl
+  successors_are_seen g p = same_views (λ e. successors_of (option_map (λ e. e.content.content) e)) (λ e. successors_seen (option_map an_operation (content_of e))) refl (λ e. refl) (get g.operations p)
 
   -- an operation that is the same has as many
   pub same_as_many : (g k : GraphView O B T) (p : Ptr Operation) → content k (TheOperation p) ≡ content g (TheOperation p) → UsesAsMany g k p
@@ -289,7 +270,7 @@ module _ {T A : Type 0} (old new : ContextView T A) where
   pub operation_made : (IsLocation : ℕ → Location A → Type 0) (p : Ptr Operation) (held : OperationData A) (types : List T) (own : OwnSoFar T A) {operands : List Value} {successors : List (Ptr BasicBlock)}
       → MakesOperation old new p held types operands successors → HasOwn IsLocation (made_view held types) own → length operands ≡ own.operands → length successors ≡ own.successors → OperationCame old new IsLocation p own
   operation_made IsLocation p held types own m has n k = record {
-    is_new = λ there. let e = ap (option_and_then operation_of) (came_new old.graph.operations new.graph.operations p _ m.graph.operations) in cc (subst IsSome e there);
+    is_new = λ there. let e = ap (option_and_then operation_of) (inserted_new old.graph.operations new.graph.operations p _ m.graph.operations) in cc (subst IsSome e there);
     view = made_view held types;
     is = made_seen old new p held types m;
     has = has;
@@ -308,7 +289,7 @@ module _ {T A : Type 0} (old new : ContextView T A) where
   -- a region that came to stand last in an operation
   pub region_added_came : (p : Ptr Operation) (r : Ptr Region) → AddsRegion old new p r → RegionCame old new r
   region_added_came p r a = record {
-    is_new = λ there. let e = ap (option_map region_of) (came_new old.graph.regions new.graph.regions r _ a.graph.regions) in cc (subst IsSome e there);
+    is_new = λ there. let e = ap (option_map region_of) (inserted_new old.graph.regions new.graph.regions r _ a.graph.regions) in cc (subst IsSome e there);
     view = record { parent = Some p; blocks = [] };
     is = region_seen old new p r a;
     blocks = refl;
@@ -437,7 +418,7 @@ module _ {T A : Type 0} (IsLocation : ℕ → Location A → Type 0) (old mid ne
   free_at_first = ap (λ x. option_map TheRegion (parent_of x)) m.graph.blocks.updates.changed
 
   pub block_was_new : IsThere old (TheBlock b) → ⊥
-  block_was_new there = let e = ap (option_map block_of) (came_new old.graph.blocks mid.graph.blocks b _ m.graph.blocks) in cc (subst IsSome e there.0)
+  block_was_new there = let e = ap (option_map block_of) (inserted_new old.graph.blocks mid.graph.blocks b _ m.graph.blocks) in cc (subst IsSome e there.0)
 
   -- it is new, and has its header
   pub block_came : (h : Head ℕ T A) → HasHead IsLocation (made_block held types) h → BlockCame old new IsLocation b h

@@ -39,7 +39,7 @@ use Rattle.irtext_nesting.specs.Agrees.{StopsAt, ReadOrStops}
 use Rattle.irtext_nesting.proofs.Claims.{wrong_index, wrong_pairs, wrong_entries}
 use Rattle.irtext_nesting.proofs.Given.{splits_spaced, given_read, given_found}
 use Rattle.irtext_nesting.proofs.Grows.{grows_entry, less_left}
-use Rattle.irtext_nesting.proofs.Pairs.{bracketed, attribute_begins}
+use Rattle.irtext_nesting.proofs.Pairs.{bracketed, attribute_begins, own_location}
 use Rattle.irtext_nesting.proofs.Stops.{stops_before, stops_as, stops_first, stops_second, stops_seen}
 
 -- where a word begins no item's entry goes on
@@ -79,11 +79,8 @@ module _ {T A : Type 0} (types : Texts T) (reading : Text → Outcome A) (writte
   abbrev attr : Text → Outcome (AttrView A)
   attr = attr_at reading
 
-  abbrev loc : Text → Standing (Written A)
-  loc = location_standing attr
-
   abbrev An : Entry ℕ A (Written A) → Reading
-  An e = section.entry l loc e
+  An e = section.entry l (own_location reading) e
 
   -- an index and `=`
   abbrev equals_next : Mark ℕ → Text → Outcome (Mark ℕ)
@@ -143,7 +140,7 @@ module _ {T A : Type 0} (types : Texts T) (reading : Text → Outcome A) (writte
             let k = mapped_read (λ g. of_item m g.0 g.1) (given_at attr (rules m.index) middle) e more rest is in
             let tight : after_space middle ≡ middle = subst (λ t. after_space t ≡ t) h.left (after_twice is_whitespace h.end) in
             let g = given_read types reading written formats splits words cut (rules m.index) middle k.0 more rest tight k.1 in
-            let read : An (of_item m k.0.0 k.0.1) text rest = (h.mid, h.marks, (h.end, h.equals, subst (λ t. (section.located l loc k.0.0 ▹ bracketed l loc k.0.1) t rest) (sym h.left) g.0)) in
+            let read : An (of_item m k.0.0 k.0.1) text rest = (h.mid, h.marks, (h.end, h.equals, subst (λ t. (section.located l (own_location reading) k.0.0 ▹ bracketed l (own_location reading) k.0.1) t rest) (sym h.left) g.0)) in
             let right : wrong_entry test rules (of_item m k.0.0 k.0.1) ≡ [] = rw (passes (begins_given middle) (test m.index) f t) g.2 in (
               subst (λ e. An e text rest) k.2 read,
               split_behind text front middle more rest taken h.split g.1 whole,
@@ -159,7 +156,7 @@ module _ {T A : Type 0} (types : Texts T) (reading : Text → Outcome A) (writte
             )
 
     -- a bracket or `@` stands where an item's entry goes on
-    goes_on : (x : Option (Written A)) (ps : List (Name ℕ × Item ℕ A)) (end rest : Text) → (section.located l loc x ▹ bracketed l loc ps) (after_space end) rest → begins_given (after_space end) ≡ true
+    goes_on : (x : Option (Written A)) (ps : List (Name ℕ × Item ℕ A)) (end rest : Text) → (section.located l (own_location reading) x ▹ bracketed l (own_location reading) ps) (after_space end) rest → begins_given (after_space end) ≡ true
     goes_on None ps end rest (mid, (f, same), (m, a, b)) =
         let e : after_space end ≡ 91 ∷ m = sym (after_twice is_whitespace end) ∙ (ap after_space (sym same) ∙ a) in
         ap begins_given e

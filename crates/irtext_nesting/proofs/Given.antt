@@ -30,7 +30,7 @@ use Rattle.irtext_nesting.specs.Exact.{NeedsWord}
 use Rattle.irtext_nesting.specs.Readers.{given_at, pairs_at}
 use Rattle.irtext_nesting.specs.Agrees.{ReadOrStops}
 use Rattle.irtext_nesting.proofs.Claims.{wrong_pairs}
-use Rattle.irtext_nesting.proofs.Pairs.{bracketed, pairs_read, pairs_found}
+use Rattle.irtext_nesting.proofs.Pairs.{bracketed, pairs_read, pairs_found, own_location}
 use Rattle.irtext_nesting.proofs.Stops.{stops_seen, stops_second}
 
 -- ---- what is taken of a location and what is left make up the text
@@ -165,12 +165,9 @@ module _ {T A : Type 0} (types : Texts T) (reading : Text → Outcome A) (writte
   abbrev attr : Text → Outcome (AttrView A)
   attr = attr_at reading
 
-  abbrev loc : Text → Standing (Written A)
-  loc = location_standing attr
-
   -- what an item's entry gives, as the grammar has it
   abbrev Given : Option (Written A) × List (Name ℕ × Item ℕ A) → Reading
-  Given g = section.located l loc g.0 ▹ bracketed l loc g.1
+  Given g = section.located l (own_location reading) g.0 ▹ bracketed l (own_location reading) g.1
 
   module _ (rule : Rule A) where
     abbrev pairs_next : Option (Written A) → Text → Outcome (Option (Written A) × List (Name ℕ × Item ℕ A))
@@ -182,9 +179,9 @@ module _ {T A : Type 0} (types : Texts T) (reading : Text → Outcome A) (writte
     given_read text g taken rest tight e =
         let a = followed_read (entry_location_at attr text) pairs_next g taken rest e in
         let m = mapped_read (λ ps. (a.value, ps)) (pairs_at attr rule a.middle) g a.more rest a.second in
-        let b = located_read attr cut l loc (λ t. refl) text a.value a.front a.middle tight a.first in
+        let b = located_read attr cut l (own_location reading) (λ t. refl) text a.value a.front a.middle tight a.first in
         let c = pairs_read types reading written formats splits words rule a.middle m.0 a.more rest m.1 in
-        let read : Given (a.value, m.0) text rest = (b.0, b.1, subst (λ t. bracketed l loc m.0 t rest) (sym b.2) c.0) in (
+        let read : Given (a.value, m.0) text rest = (b.0, b.1, subst (λ t. bracketed l (own_location reading) m.0 t rest) (sym b.2) c.0) in (
           subst (λ g. Given g text rest) m.2 read,
           ap (λ t. t ++ rest) (sym a.whole) ∙ (append_assoc a.front a.more rest ∙ (ap (λ t. a.front ++ t) c.1 ∙ splits_entry_location attr cut text a.value a.front a.middle a.first)),
           ap (wrong_pairs rule) (sym (ap (λ g. g.1) m.2)) ∙ c.2,
@@ -195,7 +192,7 @@ module _ {T A : Type 0} (types : Texts T) (reading : Text → Outcome A) (writte
     given_found text g rest tight (mid, a, b) = go (pairs_found types reading written formats splits words rule (after_space mid) g.1 rest b)
       where
         k : (taken : Text) × (entry_location_at attr text ≡ Read g.0 taken (after_space mid))
-        k = located_found attr cut l loc (λ t. refl) text g.0 mid tight a
+        k = located_found attr cut l (own_location reading) (λ t. refl) text g.0 mid tight a
 
         go : ReadOrStops (after_space mid) (pairs_at attr rule (after_space mid)) g.1 rest (wrong_pairs rule g.1) → ReadOrStops text (given_at attr rule text) g rest (wrong_pairs rule g.1)
         go (inl w) = inl (w.0, (k.0 ++ w.1.0, followed-read (entry_location_at attr text) pairs_next g.0 g k.0 (after_space mid) w.1.0 rest k.1 (ap (mapped (λ ps. (g.0, ps))) w.1.1)))

@@ -34,22 +34,14 @@ use Rattle.irtext_outcomes.proofs.Joins.Lists.{Items, list_read, list_tight, lis
 use Rattle.irtext_outcomes.proofs.Joins.Tokens.{text_read, text-literal, splits_text, splits_space}
 use Rattle.irtext_nesting.specs.Exact.{Exact, NeedsWord}
 use Rattle.irtext_nesting.specs.Heads.{mark_at}
-use Rattle.irtext_nesting.proofs.Exact.Attributes.{exact_attribute}
-use Rattle.irtext_nesting.proofs.Exact.Combined.{exact_as, exact_so, exact_seen, exact_behind}
+use Rattle.irtext_nesting.proofs.Exact.Attributes.{exact_attribute, no_word_there}
+use Rattle.irtext_nesting.proofs.Exact.Combined.{exact_keyed}
 use Rattle.irtext_nesting.proofs.Exact.Listed.{Starts, starts_so}
 use Rattle.irtext_nesting.proofs.Exact.Names.{exact_name, exact_mark, starts_name}
 use Rattle.irtext_nesting.specs.Readers.{item_at, pair_at, may_stand, kept, pairs_at}
 use Rattle.irtext_nesting.specs.Agrees.{StopsAt, ReadOrStops}
 use Rattle.irtext_nesting.proofs.Claims.{wrong, wrong_pairs}
 use Rattle.irtext_nesting.proofs.Stops.{stops_first, stops_second}
-
--- where `!` stands no word begins
-no_word_there : (text : Text) → begins (the 33) text ≡ true → begins begins_word text ≡ false
-no_word_there [] e = refl
-no_word_there (c ∷ text) e = other c e
-  where
-    other : (c : ℕ) → the 33 c ≡ true → begins_word c ≡ false
-    other c e = grind (arith, nat_tests)
 
 -- ---- a key that is kept
 module _ {A : Type 0} (rule : Rule A) where
@@ -90,6 +82,10 @@ module _ {A : Type 0} (rule : Rule A) where
       rw g (first_wrong before behind p (and_right (rule n.text a) (list_all (may_stand rule) before) h) f)
   first_wrong ((n, reference m) ∷ before) behind p h f = first_wrong before behind p h f
 
+-- a location, as the grammar parses one with attributes that are parsed so
+abbrev pub own_location : {A : Type 0} → (Text → Outcome A) → Text → Standing (Written A)
+own_location reading = location_standing (attr_at reading)
+
 -- pairs between brackets
 abbrev pub bracketed : {T A : Type 0} → Language ℕ T A → (Text → Standing (Written A)) → List (Name ℕ × Item ℕ A) → Reading
 bracketed L loc ps = literal (codes "[") ▹ separated 44 reads.no_word (map (section.pair L loc) ps) ▹ literal (codes "]")
@@ -102,7 +98,7 @@ module _ {T A : Type 0} (types : Texts T) (reading : Text → Outcome A) (writte
   attr = attr_at reading
 
   abbrev loc : Text → Standing (Written A)
-  loc = location_standing attr
+  loc = own_location reading
 
   -- an attribute begins as a word does
   pub attribute_begins : (a : Attribute A) (text rest : Text) → reads.attribute l a text rest → begins begins_word text ≡ true
@@ -149,11 +145,7 @@ module _ {T A : Type 0} (types : Texts T) (reading : Text → Outcome A) (writte
 
   -- a key with what the entry gives under it
   pub exact_pair : Exact (pair_at attr) (section.pair l loc)
-  exact_pair = exact_as
-      (exact_so (exact_name types (texts_of reading written) formats)
-      (λ key. exact_behind (codes "=") (exact_seen exact_item (λ i. (key, i)) (λ e. e.1) (λ e. key ≡ e.0) (λ i. refl) (λ i. refl) (λ e k. ap (λ k. (k, e.1)) k)))
-      (λ e. e.0) (λ key e text rest q. q.2.0))
-      (λ e text rest (m, a, (n, b, (k, c))). (m, a, (n, b, c))) (λ e text rest (m, a, (n, b, c)). (m, a, (n, b, (refl, c))))
+  exact_pair = exact_keyed (codes "=") (exact_name types (texts_of reading written) formats) exact_item
 
   -- where one is missing no word begins
   starts_pair : Starts (pair_at attr) reads.no_word

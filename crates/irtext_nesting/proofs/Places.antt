@@ -28,7 +28,7 @@ use Rattle.irtext_nesting.proofs.Exact.Attributes.{exact_attribute}
 use Rattle.irtext_nesting.proofs.Exact.Names.{exact_mark}
 use Rattle.irtext_nesting.proofs.Claims.{wrong, wrongs}
 use Rattle.irtext_nesting.proofs.Given.{splits_entry_location, located_found}
-use Rattle.irtext_nesting.proofs.Pairs.{exact_pair}
+use Rattle.irtext_nesting.proofs.Pairs.{exact_pair, own_location}
 
 -- ---- what is wrong with references stands where they stand
 -- a reference stands no farther from the end than this
@@ -88,38 +88,35 @@ module _ {T A : Type 0} (types : Texts T) (reading : Text → Outcome A) (writte
   abbrev attr : Text → Outcome (AttrView A)
   attr = attr_at reading
 
-  abbrev loc : Text → Standing (Written A)
-  loc = location_standing attr
-
-  pair_left : (b : ℕ) (p : Name ℕ × Item ℕ A) (text rest : Text) → length text ≤ b → section.pair l loc p text rest → length rest ≤ b
+  pair_left : (b : ℕ) (p : Name ℕ × Item ℕ A) (text rest : Text) → length text ≤ b → section.pair l (own_location reading) p text rest → length rest ≤ b
   pair_left b p text rest h r =
       let k = (exact_pair types reading written formats splits words).found text p rest r in
       let s = ((exact_pair types reading written formats splits words).read text p k.0 rest k.1).1 in
       omega (arith, h, split_near k.0 rest text s)
 
-  pair_places : (b : ℕ) (p : Name ℕ × Item ℕ A) (text rest : Text) → length text ≤ b → section.pair l loc p text rest → (p.0.place ≤ b) × IsNear b p.1
+  pair_places : (b : ℕ) (p : Name ℕ × Item ℕ A) (text rest : Text) → length text ≤ b → section.pair l (own_location reading) p text rest → (p.0.place ≤ b) × IsNear b p.1
   pair_places b (n, direct a) text rest h (m, (at, w), s) = (omega (arith, h, at), tt)
   pair_places b (n, reference k) text rest h (m, (at, w), (e, q, s)) =
       (omega (arith, h, at), omega (arith, h, s.0, ap length w.2, word_near text, space_near m, ap length q, space_near e))
 
-  pair_near : (b : ℕ) (p : Name ℕ × Item ℕ A) (text rest : Text) → length text ≤ b → section.pair l loc p text rest → ((p.0.place ≤ b) × IsNear b p.1) × (length rest ≤ b)
+  pair_near : (b : ℕ) (p : Name ℕ × Item ℕ A) (text rest : Text) → length text ≤ b → section.pair l (own_location reading) p text rest → ((p.0.place ≤ b) × IsNear b p.1) × (length rest ≤ b)
   pair_near b p text rest h r = (pair_places b p text rest h r, pair_left b p text rest h r)
 
-  pairs_near : (b : ℕ) (ps : List (Name ℕ × Item ℕ A)) (text rest : Text) → length text ≤ b → separated 44 reads.no_word (map (section.pair l loc) ps) text rest → AreNear b ps × (length rest ≤ b)
+  pairs_near : (b : ℕ) (ps : List (Name ℕ × Item ℕ A)) (text rest : Text) → length text ≤ b → separated 44 reads.no_word (map (section.pair l (own_location reading)) ps) text rest → AreNear b ps × (length rest ≤ b)
   pairs_near b [] text rest h r = (tt, omega (arith, h, ap length r.1))
   pairs_near b (p ∷ ps) text rest h (mid, r, s) =
       let k = pair_near b p text mid h r in
       let n = more_near ps (after_space mid) rest (omega (arith, k.1, space_near mid)) s in
       ((k.0, n.0), n.1)
     where
-      more_near : (ps : List (Name ℕ × Item ℕ A)) (text rest : Text) → length text ≤ b → more 44 (map (section.pair l loc) ps) text rest → AreNear b ps × (length rest ≤ b)
+      more_near : (ps : List (Name ℕ × Item ℕ A)) (text rest : Text) → length text ≤ b → more 44 (map (section.pair l (own_location reading)) ps) text rest → AreNear b ps × (length rest ≤ b)
       more_near [] text rest h r = (tt, omega (arith, h, ap length r.1))
       more_near (p ∷ ps) text rest h (m, c, (mid, r, s)) =
           let k = pair_near b p (after_space m) mid (omega (arith, h, ap length c, space_near m)) r in
           let n = more_near ps (after_space mid) rest (omega (arith, k.1, space_near mid)) s in
           ((k.0, n.0), n.1)
 
-  entry_near : (b : ℕ) (e : Entry ℕ A (Written A)) (text rest : Text) → length text ≤ b → section.entry l loc e text rest → EntryNear b e × (length rest ≤ b)
+  entry_near : (b : ℕ) (e : Entry ℕ A (Written A)) (text rest : Text) → length text ≤ b → section.entry l (own_location reading) e text rest → EntryNear b e × (length rest ≤ b)
   entry_near b (of_once m a) text rest h (mid, r, (end, q, s)) =
       let k = (exact_mark types (texts_of reading written) formats).found text m mid r in
       let i = split_near k.0 mid text ((exact_mark types (texts_of reading written) formats).read text m k.0 mid k.1).1 in
@@ -129,14 +126,14 @@ module _ {T A : Type 0} (types : Texts T) (reading : Text → Outcome A) (writte
   entry_near b (of_item m x ps) text rest h (mid, r, (end, q, (c, d, (f, g, (j, s, w))))) =
       let k = (exact_mark types (texts_of reading written) formats).found text m mid r in
       let i = split_near k.0 mid text ((exact_mark types (texts_of reading written) formats).read text m k.0 mid k.1).1 in
-      let n = located_found attr cut l loc (λ t. refl) (after_space end) x c (after_twice is_whitespace end) d in
+      let n = located_found attr cut l (own_location reading) (λ t. refl) (after_space end) x c (after_twice is_whitespace end) d in
       let o = split_near n.0 (after_space c) (after_space end) (splits_entry_location attr cut (after_space end) x n.0 (after_space c) n.1) in
       let inside : length (after_space f) ≤ b = omega (arith, h, i, space_near mid, ap length q, space_near end, o, ap length g, space_near f) in
       let v = pairs_near b ps (after_space f) j inside s in
       (v.0, omega (arith, v.1, space_near j, ap length w))
 
   -- entries that the grammar reads of a text stand in it
-  pub entries_near : (b : ℕ) (es : List (Entry ℕ A (Written A))) (text rest : Text) → length text ≤ b → repeated (the 33) (map (section.entry l loc) es) text rest → Each (EntryNear b) es
+  pub entries_near : (b : ℕ) (es : List (Entry ℕ A (Written A))) (text rest : Text) → length text ≤ b → repeated (the 33) (map (section.entry l (own_location reading)) es) text rest → Each (EntryNear b) es
   entries_near b [] text rest h r = tt
   entries_near b (e ∷ es) text rest h (mid, r, s) =
       let k = entry_near b e text mid h r in

@@ -28,6 +28,7 @@ use Rattle.irtext_nesting.proofs.Entries.{entries_read, entries_found}
 use Rattle.irtext_nesting.proofs.Given.{splits_spaced}
 use Rattle.irtext_nesting.proofs.Places.{EntryNear, StandsNear, late_near, entries_near}
 use Rattle.irtext_nesting.proofs.Stops.{stops_before, stops_as, stops_behind, stops_second}
+use Rattle.irtext_nesting.proofs.Pairs.{own_location}
 
 -- ---- references
 module _ {A X : Type 0} (rules : ℕ → Rule A) where
@@ -67,28 +68,25 @@ module _ {T A : Type 0} (types : Texts T) (reading : Text → Outcome A) (writte
   abbrev attr : Text → Outcome (AttrView A)
   attr = attr_at reading
 
-  abbrev loc : Text → Standing (Written A)
-  loc = location_standing attr
-
   module _ (marks : List ℕ) (rules : ℕ → Rule A) where
     abbrev all_next : Unit {0} → Text → Outcome (List (Entry ℕ A (Written A)))
     all_next _ t = entries_after attr marks rules (length t) [] t
 
     -- a section that is answered the grammar reads, and nothing is refused of it
     pub section_read : (text : Text) (es : List (Entry ℕ A (Written A))) (taken rest : Text) → section_at attr marks rules text ≡ Read es taken rest
-        → section.section l loc es text rest × (taken ++ rest ≡ text) × (refused marks rules es ≡ [])
+        → section.section l (own_location reading) es text rest × (taken ++ rest ≡ text) × (refused marks rules es ≡ [])
     section_read text es taken rest e =
         let r = referred_read rules text (entries_at attr marks rules text) es taken rest e in
         let a = followed_read (spaced_at (codes "outlined_attributes:") text) all_next es taken rest r.0 in
         let s = spaced_read (codes "outlined_attributes:") text a.front a.middle a.first in
         let k = entries_read types reading written formats splits words cut marks rules (length a.middle) [] es a.middle a.more rest (omega arith) a.second in (
-          (s.0, s.1, subst (λ t. repeated (the 33) (map (section.entry l loc) es) t rest) (sym s.2) (subst (λ fs. repeated (the 33) (map (section.entry l loc) fs) a.middle rest) (sym k.whole) k.reads)),
+          (s.0, s.1, subst (λ t. repeated (the 33) (map (section.entry l (own_location reading)) es) t rest) (sym s.2) (subst (λ fs. repeated (the 33) (map (section.entry l (own_location reading)) fs) a.middle rest) (sym k.whole) k.reads)),
           split_behind text a.front a.middle a.more rest taken (splits_spaced attr cut (codes "outlined_attributes:") text a.value a.front a.middle a.first) k.split a.whole,
           refused_parts marks rules es ∙ ap₂ ◌++◌ (ap (wrong_entries marks rules []) k.whole ∙ k.fine) r.1,
         )
 
     -- a section that the grammar reads is answered, or refused at the first thing that is refused of it
-    pub section_found : (text : Text) (es : List (Entry ℕ A (Written A))) (rest : Text) → section.section l loc es text rest → ReadOrStops text (section_at attr marks rules text) es rest (refused marks rules es)
+    pub section_found : (text : Text) (es : List (Entry ℕ A (Written A))) (rest : Text) → section.section l (own_location reading) es text rest → ReadOrStops text (section_at attr marks rules text) es rest (refused marks rules es)
     section_found text es rest (m, e, r) = go (entries_found types reading written formats splits words cut marks rules (length (after_space m)) [] es (after_space m) rest (omega arith) r)
       where
         h : (taken : Text) × (spaced_at (codes "outlined_attributes:") text ≡ Read tt taken (after_space m))

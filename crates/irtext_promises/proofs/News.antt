@@ -34,6 +34,7 @@ use Rattle.irtext_graph.specs.Used.{IsDefined, IsUse, used_at, user}
 use Rattle.irtext_graph.proofs.Frames.{operation_content_same}
 use Rattle.irtext_graph.proofs.Nests.{some_eq, told}
 use Rattle.irtext_graph.proofs.Same.{object_tells}
+use Rattle.irtext_graph.proofs.PartsSeen.{some_of, of_some}
 use Rattle.irtext_grammar.specs.Contexts.Nested.{pointers}
 use Rattle.irtext_grammar.specs.Grammar.Forest as forest
 use Rattle.irtext_grammar.specs.Grammar.Forest.{Regions, no_regions, Blocks, no_blocks, Operations, no_operations, AllRegions, AllBlocks, AllOperations}
@@ -54,19 +55,11 @@ use Rattle.irtext_promises.specs.OnlyNew.{OnlyNew, BlanksDefine}
 use Rattle.irtext_promises.specs.Placed.{RegionsAre, BlocksAre, OperationsAre, RootIs}
 use Rattle.irtext_promises.proofs.Ages.{IsHere, here_stands, stands_here, stood_or_new, same_parent, operation_stays, block_stays, region_stays}
 use Rattle.irtext_promises.proofs.Located.{IsPlaced, located}
+use Rattle.irtext_promises.proofs.OnePlace.{path_there}
 use Rattle.irtext_promises.proofs.Occurs.{child_parent, whole_occurs}
 
 operation_inj : (p q : Ptr Operation) → TheOperation p ≡ TheOperation q → p ≡ q
 operation_inj p q e = cc
-
--- a path that is found is that of an object that stands there
-path_there : (all : List (Object × Path)) (o : Object) (q : Path) → path_of all o ≡ Some q → Among (o, q) all
-path_there [] o q e = absurd (cc)
-path_there (x ∷ xs) o q e = go (path_there xs o q) (eq_object x.0 o) refl e
-  where
-    go : (path_of xs o ≡ Some q → Among (o, q) xs) → (b : Bool) → eq_object x.0 o ≡ b → cond b (Some x.1) (path_of xs o) ≡ Some q → Among (o, q) (x ∷ xs)
-    go later true s f = subst (λ z. Among z (x ∷ xs)) (λ i. (object_tells.sound x.0 o s i, some_eq f i)) (inl refl)
-    go later false s f = inr (later f)
 
 all_at : {X Y : Type 0} (f : X → Option Y) (xs : List X) (i : ℕ) (x : X) → list_all is_some (map f xs) ≡ true → slice_get xs i ≡ Some x → IsSome (f x)
 all_at f [] i x a e = absurd (cc)
@@ -119,6 +112,130 @@ module _ {T A : Type 0} (L : ℕ → Location A → Type 0) (c : ContextView T A
         let m = subst (λ z. AllOperations OpLinked (λ b. ⊤) (λ r. ⊤) (elim z [ Some view ↦ forest.operation (held_op c all p view) (held_regions c all rs) (held_operations c all ps) | None ↦ held_operations c all ps ])) at.is l in
         named_node (TheOperation p) (j ∷ q) (placed_regions (j ∷ q) 0 rs) (placed_operations q (suc j) ps) (λ r e. subst AreNamed (operation_inj p r e) m.0) (regions_named (j ∷ q) 0 rs hs k m.1) (operations_named q (suc j) ps os h m.2)
 
+-- ---- what was there, what is there now and is new, and what uses what
+owner_kind : (d : Defined) (r : Ptr Region) → owner d ≡ TheRegion r → ⊥
+owner_kind (OfValue (Result o i)) r e = cc
+owner_kind (OfValue (Argument k i)) r e = cc
+owner_kind (OfBlock k) r e = cc
+
+module _ {T A : Type 0} (c : ContextView T A) where
+  -- what is there stands
+  there_stands : (q : Object) → IsThere c q → Stands c.graph q
+  there_stands (TheOperation o) t = here_stands c.graph (TheOperation o) (operation_here (get c.graph.operations o) t)
+    where
+      operation_here : (y : Option (OperationEntry T A)) → IsSome (option_and_then operation_of y) → IsSome y
+      operation_here None h = absurd (cc)
+      operation_here (Some e) h = refl
+  there_stands (TheBlock d) t = here_stands c.graph (TheBlock d) (some_of block_of (get c.graph.blocks d) t.0)
+  there_stands (TheRegion r) t = here_stands c.graph (TheRegion r) (some_of region_of (get c.graph.regions r) t)
+
+  -- what defines something stands
+  result_stands : (o : Ptr Operation) (i : ℕ) → IsSome (slice_get (results_of (operation_at c.graph o)) i) → IsSome (get c.graph.operations o)
+  result_stands o i h = go (get c.graph.operations o) h
+    where
+      go : (y : Option (OperationEntry T A)) → IsSome (slice_get (results_of (option_map (λ e. e.content.content) y)) i) → IsSome y
+      go None h = absurd (cc)
+      go (Some e) h = refl
+
+  argument_stands : (k : Ptr BasicBlock) (i : ℕ) → IsSome (slice_get (arguments_of (block_at c.graph k)) i) → IsSome (get c.graph.blocks k)
+  argument_stands k i h = go (get c.graph.blocks k) h
+    where
+      go : (y : Option (BlockEntry T A)) → IsSome (slice_get (arguments_of (option_map (λ e. e.content.content) y)) i) → IsSome y
+      go None h = absurd (cc)
+      go (Some e) h = refl
+
+  owner_stands : (d : Defined) → IsDefined c.graph d → Stands c.graph (owner d)
+  owner_stands (OfValue (Result o i)) h = here_stands c.graph (TheOperation o) (result_stands o i h)
+  owner_stands (OfValue (Argument k i)) h = here_stands c.graph (TheBlock k) (argument_stands k i h)
+  owner_stands (OfBlock k) h = h
+
+  -- an operation that uses something stands
+  user_stands : (s : Site) (d : Defined) → IsUse c.graph d s → IsSome (get c.graph.operations (user s))
+  user_stands (AtOperand o i) d e = go (get c.graph.operations o) e
+    where
+      go : (y : Option (OperationEntry T A)) → option_map OfValue (slice_get (operands_of (option_map (λ e. e.content.content) y)) i) ≡ Some d → IsSome y
+      go None e = absurd (cc)
+      go (Some z) e = refl
+  user_stands (AtSuccessor o i) d e = go (get c.graph.operations o) e
+    where
+      go : (y : Option (OperationEntry T A)) → option_map OfBlock (slice_get (successors_of (option_map (λ e. e.content.content) y)) i) ≡ Some d → IsSome y
+      go None e = absurd (cc)
+      go (Some z) e = refl
+
+module _ {T A : Type 0} (m : ℕ) (start c : ContextView T A) (older : AllOlder m start.graph) (kept : KeepsOlder m start c) where
+  -- what was stored before and is there now was there
+  there_then : (q : Object) → IsHere start.graph q → IsThere c q → IsThere start q
+  there_then (TheOperation o) h t = subst (λ z. IsSome (option_and_then operation_of z)) (operation_stays m start.graph c.graph older kept.graph o h) t
+  there_then (TheBlock d) h t =
+      let e = block_stays m start.graph c.graph older kept.graph d h in
+      (subst (λ z. IsSome (option_map block_of z)) e t.0, subst (λ z. IsSome (option_map TheRegion (parent_of z))) e t.1)
+  there_then (TheRegion r) h t = subst (λ z. IsSome (option_map region_of z)) (region_stays m start.graph c.graph older kept.graph r h) t
+
+  -- one that stood uses what it used
+  used_then : (s : Site) (d : Defined) → IsSome (get start.graph.operations (user s)) → IsUse c.graph d s → IsUse start.graph d s
+  used_then (AtOperand o i) d h e = sym (ap (λ y. option_map OfValue (slice_get (operands_of (option_map (λ e. e.content.content) y)) i)) (operation_stays m start.graph c.graph older kept.graph o h)) ∙ e
+  used_then (AtSuccessor o i) d h e = sym (ap (λ y. option_map OfBlock (slice_get (successors_of (option_map (λ e. e.content.content) y)) i)) (operation_stays m start.graph c.graph older kept.graph o h)) ∙ e
+
+module _ {T A : Type 0} (m : ℕ) (c : ContextView T A) (none : NoneIsLeft m [] c.graph) (blanks : BlanksDefine m c) where
+  -- what stands and is new is there
+  new_there : (q : Object) → Stands c.graph q → IsNew m c.graph q → IsThere c q
+  new_there (TheOperation o) s n = go (operation c o) refl
+    where
+      blank : (e : Option (Entry (Node BasicBlock Region (OperationContent (Option (OperationData A)) (Option T))))) → IsSome e → option_and_then operation_of e ≡ None → option_map (λ c. c.data_of) (option_map (λ e. e.content.content) e) ≡ Some None
+      blank None h f = absurd (cc)
+      blank (Some e) h f = by e.content.content.data_of f
+        where
+          by : (d : Option (OperationData A)) → option_map (view_of e.content.content.results e.content.children) d ≡ None → Some d ≡ Some None
+          by None f = refl
+          by (Some w) f = absurd (cc)
+
+      go : (v : Option (OperationView T A)) → operation c o ≡ v → IsSome (operation c o)
+      go (Some view) e = subst IsSome (sym e) refl
+      go None e =
+          let here = stands_here c.graph (TheOperation o) s in
+          let r = blanks o here e n in
+          absurd (none.values (Result o r.0) r.1 (blank (get c.graph.operations o) here e) n)
+  new_there (TheBlock d) s n = (of_some block_of (get c.graph.blocks d) (stands_here c.graph (TheBlock d) s), go (parent c.graph (TheBlock d)) refl)
+    where
+      go : (k : Option Object) → parent c.graph (TheBlock d) ≡ k → IsSome (parent c.graph (TheBlock d))
+      go (Some k) e = subst IsSome (sym e) refl
+      go None e = absurd (none.labels d s e n (λ i. i))
+  new_there (TheRegion r) s n = of_some region_of (get c.graph.regions r) (stands_here c.graph (TheRegion r) s)
+
+-- ---- what stands under a path and was not there uses nothing that was there
+module _ {T A : Type 0} (L : ℕ → Location A → Type 0) (start c : ContextView T A) (items : Made) (all : List (Object × Path)) (named : AllNamed L c items all all)
+    (placed_new : (d : Defined) (q : Path) → Among (owner d, q) all → IsDefined start.graph d → ⊥) where
+  value_new : (v : Value) → IsSome (value_place all v) → IsDefined start.graph (OfValue v) → ⊥
+  value_new (Result o i) h s = go (path_of all (TheOperation o)) refl h
+    where
+      go : (y : Option Path) → path_of all (TheOperation o) ≡ y → IsSome (option_map (λ q. result q i) y) → ⊥
+      go None e h = cc
+      go (Some q) e h = placed_new (OfValue (Result o i)) q (path_there all (TheOperation o) q e) s
+  value_new (Argument k i) h s = go (path_of all (TheBlock k)) refl h
+    where
+      go : (y : Option Path) → path_of all (TheBlock k) ≡ y → IsSome (option_map (λ q. argument q i) y) → ⊥
+      go None e h = cc
+      go (Some q) e h = placed_new (OfValue (Argument k i)) q (path_there all (TheBlock k) q e) s
+
+  label_new : (k : Ptr BasicBlock) → IsSome (block_place all k) → IsDefined start.graph (OfBlock k) → ⊥
+  label_new k h s = go (path_of all (TheBlock k)) refl h
+    where
+      go : (y : Option Path) → path_of all (TheBlock k) ≡ y → IsSome (option_map block_at_path y) → ⊥
+      go None e h = cc
+      go (Some q) e h = placed_new (OfBlock k) q (path_there all (TheBlock k) q e) s
+
+  uses_placed : (s : Site) (d : Defined) (q : Path) → Among (TheOperation (user s), q) all → IsUse c.graph d s → IsDefined start.graph d → ⊥
+  uses_placed (AtOperand o i) d q at e s = go (slice_get (operands c.graph o) i) refl (named.each o q at).0 e
+    where
+      go : (y : Option Value) → slice_get (operands c.graph o) i ≡ y → list_all is_some (map (value_place all) (operands c.graph o)) ≡ true → option_map OfValue y ≡ Some d → ⊥
+      go None f a e = cc
+      go (Some v) f a e = let same : OfValue v ≡ d = cc in value_new v (all_at (value_place all) (operands c.graph o) i v a f) (subst (IsDefined start.graph) (sym same) s)
+  uses_placed (AtSuccessor o i) d q at e s = go (slice_get (successors c.graph o) i) refl (named.each o q at).1 e
+    where
+      go : (y : Option (Ptr BasicBlock)) → slice_get (successors c.graph o) i ≡ y → list_all is_some (map (block_place all) (successors c.graph o)) ≡ true → option_map OfBlock y ≡ Some d → ⊥
+      go None f a e = cc
+      go (Some k) f a e = let same : OfBlock k ≡ d = cc in label_new k (all_at (block_place all) (successors c.graph o) i k a f) (subst (IsDefined start.graph) (sym same) s)
+
 module _ {T A : Type 0} (L : ℕ → Location A → Type 0) (start c : ContextView T A) (items : Made) (whole : List Object) (p : Ptr Operation) (x : Tree ℕ T A) (held : HoldsMade L start c items whole [] (Some p) (finished x))
     (nest : Nested (children c.graph) (parent c.graph)) (is : RootIs L c items (pointers c.graph p) x) (b : Built T A (Written A)) (stands : held_root c p ≡ Some b) (linked : Linked b)
     (m : ℕ) (older : AllOlder m start.graph) (kept : KeepsOlder m start c) (none : NoneIsLeft m [] c.graph) (blanks : BlanksDefine m c) (holders : (o k : Object) → parent start.graph o ≡ Some k → Stands start.graph k)
@@ -127,15 +244,8 @@ module _ {T A : Type 0} (L : ℕ → Location A → Type 0) (start c : ContextVi
   all = placed_under (pointers c.graph p)
 
   -- ---- what is whole was not there
-  there_then : (q : Object) → IsHere start.graph q → IsThere c q → IsThere start q
-  there_then (TheOperation o) h t = subst (λ z. IsSome (option_and_then operation_of z)) (operation_stays m start.graph c.graph older kept.graph o h) t
-  there_then (TheBlock d) h t =
-      let e = block_stays m start.graph c.graph older kept.graph d h in
-      (subst (λ z. IsSome (option_map block_of z)) e t.0, subst (λ z. IsSome (option_map TheRegion (parent_of z))) e t.1)
-  there_then (TheRegion r) h t = subst (λ z. IsSome (option_map region_of z)) (region_stays m start.graph c.graph older kept.graph r h) t
-
   whole_new : (q : Object) → Among q whole → Stands start.graph q → ⊥
-  whole_new q i s = held.tracks.came q (inl i) (there_then q (stands_here start.graph q s) (held.so_far.whole_there q i))
+  whole_new q i s = held.tracks.came q (inl i) (there_then m start c older kept q (stands_here start.graph q s) (held.so_far.whole_there q i))
 
   root_whole : Among (TheOperation p) whole
   root_whole = held.so_far.tree.0
@@ -167,64 +277,11 @@ module _ {T A : Type 0} (L : ℕ → Location A → Type 0) (start c : ContextVi
     ]
   ]
 
-  -- ---- what stands and is new is there
-  new_there : (q : Object) → Stands c.graph q → IsNew m c.graph q → IsThere c q
-  new_there (TheOperation o) s n = go (operation c o) refl
-    where
-      blank : (e : Option (Entry (Node BasicBlock Region (OperationContent (Option (OperationData A)) (Option T))))) → IsSome e → option_and_then operation_of e ≡ None → option_map (λ c. c.data_of) (option_map (λ e. e.content.content) e) ≡ Some None
-      blank None h f = absurd (cc)
-      blank (Some e) h f = by e.content.content.data_of f
-        where
-          by : (d : Option (OperationData A)) → option_map (view_of e.content.content.results e.content.children) d ≡ None → Some d ≡ Some None
-          by None f = refl
-          by (Some w) f = absurd (cc)
-
-      go : (v : Option (OperationView T A)) → operation c o ≡ v → IsSome (operation c o)
-      go (Some view) e = subst IsSome (sym e) refl
-      go None e =
-          let here = stands_here c.graph (TheOperation o) s in
-          let r = blanks o here e n in
-          absurd (none.values (Result o r.0) r.1 (blank (get c.graph.operations o) here e) n)
-  new_there (TheBlock d) s n = (seen (stands_here c.graph (TheBlock d) s), go (parent c.graph (TheBlock d)) refl)
-    where
-      seen : IsSome (get c.graph.blocks d) → IsSome (block c d)
-      seen h = some_map (get c.graph.blocks d) h
-        where
-          some_map : (y : Option (BlockEntry T A)) → IsSome y → IsSome (option_map block_of y)
-          some_map None h = absurd (cc)
-          some_map (Some e) h = refl
-
-      go : (k : Option Object) → parent c.graph (TheBlock d) ≡ k → IsSome (parent c.graph (TheBlock d))
-      go (Some k) e = subst IsSome (sym e) refl
-      go None e = absurd (none.labels d s e n (λ i. i))
-  new_there (TheRegion r) s n = some_map (get c.graph.regions r) (stands_here c.graph (TheRegion r) s)
-    where
-      some_map : (y : Option (Entry (Node Operation BasicBlock RegionContent))) → IsSome y → IsSome (option_map region_of y)
-      some_map None h = absurd (cc)
-      some_map (Some e) h = refl
-
   new_whole : (q : Object) → Stands c.graph q → IsNew m c.graph q → Stands start.graph q ⊎ Among q whole
-  new_whole q s n = elim (held.tracks.all q (new_there q s n)) [
-    | inl first ↦ inl (stood q first)
+  new_whole q s n = elim (held.tracks.all q (new_there m c none blanks q s n)) [
+    | inl first ↦ inl (there_stands start q first)
     | inr h ↦ elim h [ inl i ↦ inr i | inr never ↦ absurd never ]
   ]
-    where
-      stood : (q : Object) → IsThere start q → Stands start.graph q
-      stood (TheOperation o) t = here_stands start.graph (TheOperation o) (operation_here (get start.graph.operations o) t)
-        where
-          operation_here : (y : Option (OperationEntry T A)) → IsSome (option_and_then operation_of y) → IsSome y
-          operation_here None h = absurd (cc)
-          operation_here (Some e) h = refl
-      stood (TheBlock d) t = here_stands start.graph (TheBlock d) (block_here (get start.graph.blocks d) t.0)
-        where
-          block_here : (y : Option (BlockEntry T A)) → IsSome (option_map block_of y) → IsSome y
-          block_here None h = absurd (cc)
-          block_here (Some e) h = refl
-      stood (TheRegion r) t = here_stands start.graph (TheRegion r) (region_here (get start.graph.regions r) t)
-        where
-          region_here : (y : Option (Entry (Node Operation BasicBlock RegionContent))) → IsSome (option_map region_of y) → IsSome y
-          region_here None h = absurd (cc)
-          region_here (Some e) h = refl
 
   live : (q : Object) → Stands c.graph q → Stands start.graph q ⊎ IsInside c.graph (TheOperation p) q
   live q s = elim (stood_or_new m start.graph c.graph kept.graph q s) [
@@ -253,97 +310,25 @@ module _ {T A : Type 0} (L : ℕ → Location A → Type 0) (start c : ContextVi
   placed_whole (TheBlock d) q (n, i, e) apart = elim (held.tracks.known n (TheBlock d) i) [ inl w ↦ w | inr never ↦ absurd never ]
   placed_whole (TheRegion r) q h apart = absurd (apart r refl)
 
-  owner_kind : (d : Defined) (r : Ptr Region) → owner d ≡ TheRegion r → ⊥
-  owner_kind (OfValue (Result o i)) r e = cc
-  owner_kind (OfValue (Argument k i)) r e = cc
-  owner_kind (OfBlock k) r e = cc
-
-  result_stands : (o : Ptr Operation) (i : ℕ) → IsSome (slice_get (results_of (operation_at start.graph o)) i) → IsSome (get start.graph.operations o)
-  result_stands o i h = go (get start.graph.operations o) h
-    where
-      go : (y : Option (OperationEntry T A)) → IsSome (slice_get (results_of (option_map (λ e. e.content.content) y)) i) → IsSome y
-      go None h = absurd (cc)
-      go (Some e) h = refl
-
-  argument_stands : (k : Ptr BasicBlock) (i : ℕ) → IsSome (slice_get (arguments_of (block_at start.graph k)) i) → IsSome (get start.graph.blocks k)
-  argument_stands k i h = go (get start.graph.blocks k) h
-    where
-      go : (y : Option (BlockEntry T A)) → IsSome (slice_get (arguments_of (option_map (λ e. e.content.content) y)) i) → IsSome y
-      go None h = absurd (cc)
-      go (Some e) h = refl
-
-  owner_stands : (d : Defined) → IsDefined start.graph d → Stands start.graph (owner d)
-  owner_stands (OfValue (Result o i)) h = here_stands start.graph (TheOperation o) (result_stands o i h)
-  owner_stands (OfValue (Argument k i)) h = here_stands start.graph (TheBlock k) (argument_stands k i h)
-  owner_stands (OfBlock k) h = h
-
   -- a value or a block that has a place there was not there
   placed_new : (d : Defined) (q : Path) → Among (owner d, q) all → IsDefined start.graph d → ⊥
   placed_new d q at s =
       let l = located L c items path (pointers c.graph p) x names is (owner d) q at in
-      whole_new (owner d) (placed_whole (owner d) q l (owner_kind d)) (owner_stands d s)
-
-  value_new : (v : Value) → IsSome (value_place all v) → IsDefined start.graph (OfValue v) → ⊥
-  value_new (Result o i) h s = go (path_of all (TheOperation o)) refl h
-    where
-      go : (y : Option Path) → path_of all (TheOperation o) ≡ y → IsSome (option_map (λ q. result q i) y) → ⊥
-      go None e h = cc
-      go (Some q) e h = placed_new (OfValue (Result o i)) q (path_there all (TheOperation o) q e) s
-  value_new (Argument k i) h s = go (path_of all (TheBlock k)) refl h
-    where
-      go : (y : Option Path) → path_of all (TheBlock k) ≡ y → IsSome (option_map (λ q. argument q i) y) → ⊥
-      go None e h = cc
-      go (Some q) e h = placed_new (OfValue (Argument k i)) q (path_there all (TheBlock k) q e) s
-
-  label_new : (k : Ptr BasicBlock) → IsSome (block_place all k) → IsDefined start.graph (OfBlock k) → ⊥
-  label_new k h s = go (path_of all (TheBlock k)) refl h
-    where
-      go : (y : Option Path) → path_of all (TheBlock k) ≡ y → IsSome (option_map block_at_path y) → ⊥
-      go None e h = cc
-      go (Some q) e h = placed_new (OfBlock k) q (path_there all (TheBlock k) q e) s
-
-  -- an operation that uses something stands
-  user_stands : (s : Site) (d : Defined) → IsUse c.graph d s → IsSome (get c.graph.operations (user s))
-  user_stands (AtOperand o i) d e = go (get c.graph.operations o) e
-    where
-      go : (y : Option (OperationEntry T A)) → option_map OfValue (slice_get (operands_of (option_map (λ e. e.content.content) y)) i) ≡ Some d → IsSome y
-      go None e = absurd (cc)
-      go (Some z) e = refl
-  user_stands (AtSuccessor o i) d e = go (get c.graph.operations o) e
-    where
-      go : (y : Option (OperationEntry T A)) → option_map OfBlock (slice_get (successors_of (option_map (λ e. e.content.content) y)) i) ≡ Some d → IsSome y
-      go None e = absurd (cc)
-      go (Some z) e = refl
-
-  -- one that stood uses what it used
-  used_then : (s : Site) (d : Defined) → IsSome (get start.graph.operations (user s)) → IsUse c.graph d s → IsUse start.graph d s
-  used_then (AtOperand o i) d h e = sym (ap (λ y. option_map OfValue (slice_get (operands_of (option_map (λ e. e.content.content) y)) i)) (operation_stays m start.graph c.graph older kept.graph o h)) ∙ e
-  used_then (AtSuccessor o i) d h e = sym (ap (λ y. option_map OfBlock (slice_get (successors_of (option_map (λ e. e.content.content) y)) i)) (operation_stays m start.graph c.graph older kept.graph o h)) ∙ e
+      whole_new (owner d) (placed_whole (owner d) q l (owner_kind d)) (owner_stands start d s)
 
   -- one that is whole uses nothing that was there
   whole_uses : (s : Site) (d : Defined) → Among (TheOperation (user s)) whole → IsUse c.graph d s → IsDefined start.graph d → ⊥
-  whole_uses (AtOperand o i) d w e s =
-      let at = whole_occurs L c items start whole p x is nest held.tracks (TheOperation o) w in
-      go (slice_get (operands c.graph o) i) refl (all_named.each o at.0 at.1).0 e
-    where
-      go : (y : Option Value) → slice_get (operands c.graph o) i ≡ y → list_all is_some (map (value_place all) (operands c.graph o)) ≡ true → option_map OfValue y ≡ Some d → ⊥
-      go None f a e = cc
-      go (Some v) f a e = let same : OfValue v ≡ d = cc in value_new v (all_at (value_place all) (operands c.graph o) i v a f) (subst (IsDefined start.graph) (sym same) s)
-  whole_uses (AtSuccessor o i) d w e s =
-      let at = whole_occurs L c items start whole p x is nest held.tracks (TheOperation o) w in
-      go (slice_get (successors c.graph o) i) refl (all_named.each o at.0 at.1).1 e
-    where
-      go : (y : Option (Ptr BasicBlock)) → slice_get (successors c.graph o) i ≡ y → list_all is_some (map (block_place all) (successors c.graph o)) ≡ true → option_map OfBlock y ≡ Some d → ⊥
-      go None f a e = cc
-      go (Some k) f a e = let same : OfBlock k ≡ d = cc in label_new k (all_at (block_place all) (successors c.graph o) i k a f) (subst (IsDefined start.graph) (sym same) s)
+  whole_uses s d w =
+      let at = whole_occurs L c items start whole p x is nest held.tracks (TheOperation (user s)) w in
+      uses_placed L start c items all all_named placed_new s d at.0 at.1
 
   uses : (d : Defined) (s : Site) → IsDefined start.graph d → IsUse c.graph d s → IsUse start.graph d s
   uses d s there e =
       let o = TheOperation (user s) in
-      let stands = here_stands c.graph o (user_stands s d e) in
+      let stands = here_stands c.graph o (user_stands c s d e) in
       elim (stood_or_new m start.graph c.graph kept.graph o stands) [
-        | inl was ↦ used_then s d (stands_here start.graph o was) e
-        | inr n ↦ elim (new_whole o stands n) [ inl was ↦ used_then s d (stands_here start.graph o was) e | inr w ↦ absurd (whole_uses s d w e there) ]
+        | inl was ↦ used_then m start c older kept s d (stands_here start.graph o was) e
+        | inr n ↦ elim (new_whole o stands n) [ inl was ↦ used_then m start c older kept s d (stands_here start.graph o was) e | inr w ↦ absurd (whole_uses s d w e there) ]
       ]
 
   -- only the operation and what stands in it came to the context
@@ -381,15 +366,8 @@ module _ {T A : Type 0} (L : ℕ → Location A → Type 0) (start mid c : Conte
   stood_before q s = subst IsSome (a.objects.contents q) s
 
   -- ---- what is whole was not there
-  mid_then : (q : Object) → IsHere start.graph q → IsThere mid q → IsThere start q
-  mid_then (TheOperation o) h t = subst (λ z. IsSome (option_and_then operation_of z)) (operation_stays m start.graph mid.graph older kept.graph o h) t
-  mid_then (TheBlock d) h t =
-      let e = block_stays m start.graph mid.graph older kept.graph d h in
-      (subst (λ z. IsSome (option_map block_of z)) e t.0, subst (λ z. IsSome (option_map TheRegion (parent_of z))) e t.1)
-  mid_then (TheRegion q) h t = subst (λ z. IsSome (option_map region_of z)) (region_stays m start.graph mid.graph older kept.graph q h) t
-
   pub whole_is_new : (q : Object) → Among q whole → Stands start.graph q → ⊥
-  whole_is_new q i s = came q i (mid_then q (stands_here start.graph q s) (there q i))
+  whole_is_new q i s = came q i (there_then m start mid older kept q (stands_here start.graph q s) (there q i))
 
   -- ---- nothing inside was there
   inside_is_new : (n : ℕ) (q : Object) → climb (parent c.graph) n (Some q) ≡ Some (TheRegion r) → Stands start.graph q → ⊥
@@ -418,58 +396,8 @@ module _ {T A : Type 0} (L : ℕ → Location A → Type 0) (start mid c : Conte
         (suc z.0, ap (climb (parent c.graph) z.0) up ∙ z.1)
   ]
 
-  -- ---- what stands and is new is there
-  new_is_there : (q : Object) → Stands mid.graph q → IsNew m mid.graph q → IsThere mid q
-  new_is_there (TheOperation o) s n = go (operation mid o) refl
-    where
-      blank : (e : Option (Entry (Node BasicBlock Region (OperationContent (Option (OperationData A)) (Option T))))) → IsSome e → option_and_then operation_of e ≡ None → option_map (λ c. c.data_of) (option_map (λ e. e.content.content) e) ≡ Some None
-      blank None h f = absurd (cc)
-      blank (Some e) h f = by e.content.content.data_of f
-        where
-          by : (d : Option (OperationData A)) → option_map (view_of e.content.content.results e.content.children) d ≡ None → Some d ≡ Some None
-          by None f = refl
-          by (Some w) f = absurd (cc)
-
-      go : (v : Option (OperationView T A)) → operation mid o ≡ v → IsSome (operation mid o)
-      go (Some view) e = subst IsSome (sym e) refl
-      go None e =
-          let here = stands_here mid.graph (TheOperation o) s in
-          let w = blanks o here e n in
-          absurd (none.values (Result o w.0) w.1 (blank (get mid.graph.operations o) here e) n)
-  new_is_there (TheBlock d) s n = (some_map (get mid.graph.blocks d) (stands_here mid.graph (TheBlock d) s), go (parent mid.graph (TheBlock d)) refl)
-    where
-      some_map : (y : Option (BlockEntry T A)) → IsSome y → IsSome (option_map block_of y)
-      some_map None h = absurd (cc)
-      some_map (Some e) h = refl
-
-      go : (k : Option Object) → parent mid.graph (TheBlock d) ≡ k → IsSome (parent mid.graph (TheBlock d))
-      go (Some k) e = subst IsSome (sym e) refl
-      go None e = absurd (none.labels d s e n (λ i. i))
-  new_is_there (TheRegion q) s n = some_map (get mid.graph.regions q) (stands_here mid.graph (TheRegion q) s)
-    where
-      some_map : (y : Option (Entry (Node Operation BasicBlock RegionContent))) → IsSome y → IsSome (option_map region_of y)
-      some_map None h = absurd (cc)
-      some_map (Some e) h = refl
-
-  there_stands : (q : Object) → IsThere start q → Stands start.graph q
-  there_stands (TheOperation o) t = here_stands start.graph (TheOperation o) (go (get start.graph.operations o) t)
-    where
-      go : (y : Option (OperationEntry T A)) → IsSome (option_and_then operation_of y) → IsSome y
-      go None h = absurd (cc)
-      go (Some e) h = refl
-  there_stands (TheBlock d) t = here_stands start.graph (TheBlock d) (go (get start.graph.blocks d) t.0)
-    where
-      go : (y : Option (BlockEntry T A)) → IsSome (option_map block_of y) → IsSome y
-      go None h = absurd (cc)
-      go (Some e) h = refl
-  there_stands (TheRegion q) t = here_stands start.graph (TheRegion q) (go (get start.graph.regions q) t)
-    where
-      go : (y : Option (Entry (Node Operation BasicBlock RegionContent))) → IsSome (option_map region_of y) → IsSome y
-      go None h = absurd (cc)
-      go (Some e) h = refl
-
   new_is_whole : (q : Object) → Stands mid.graph q → IsNew m mid.graph q → Stands start.graph q ⊎ Among q whole
-  new_is_whole q s n = elim (all_that q (new_is_there q s n)) [ inl first ↦ inl (there_stands q first) | inr i ↦ inr i ]
+  new_is_whole q s n = elim (all_that q (new_there m mid none blanks q s n)) [ inl first ↦ inl (there_stands start q first) | inr i ↦ inr i ]
 
   -- whatever stands stood, or is inside the region, and none of that stood
   pub region_live : (q : Object) → Stands c.graph q → Stands start.graph q ⊎ IsInside c.graph (TheRegion r) q
@@ -482,39 +410,8 @@ module _ {T A : Type 0} (L : ℕ → Location A → Type 0) (start mid c : Conte
   region_is_new q i s = inside_is_new i.0 q i.1 s
 
   -- ---- what is new uses what is new
-  kind_of_owner : (d : Defined) (q : Ptr Region) → owner d ≡ TheRegion q → ⊥
-  kind_of_owner (OfValue (Result o i)) q e = cc
-  kind_of_owner (OfValue (Argument k i)) q e = cc
-  kind_of_owner (OfBlock k) q e = cc
-
-  owner_stood : (d : Defined) → IsDefined start.graph d → Stands start.graph (owner d)
-  owner_stood (OfValue (Result o i)) h = here_stands start.graph (TheOperation o) (go (get start.graph.operations o) h)
-    where
-      go : (y : Option (OperationEntry T A)) → IsSome (slice_get (results_of (option_map (λ e. e.content.content) y)) i) → IsSome y
-      go None h = absurd (cc)
-      go (Some e) h = refl
-  owner_stood (OfValue (Argument k i)) h = here_stands start.graph (TheBlock k) (go (get start.graph.blocks k) h)
-    where
-      go : (y : Option (BlockEntry T A)) → IsSome (slice_get (arguments_of (option_map (λ e. e.content.content) y)) i) → IsSome y
-      go None h = absurd (cc)
-      go (Some e) h = refl
-  owner_stood (OfBlock k) h = h
-
-  user_there : (s : Site) (d : Defined) → IsUse c.graph d s → IsSome (get c.graph.operations (user s))
-  user_there (AtOperand o i) d e = go (get c.graph.operations o) e
-    where
-      go : (y : Option (OperationEntry T A)) → option_map OfValue (slice_get (operands_of (option_map (λ e. e.content.content) y)) i) ≡ Some d → IsSome y
-      go None e = absurd (cc)
-      go (Some z) e = refl
-  user_there (AtSuccessor o i) d e = go (get c.graph.operations o) e
-    where
-      go : (y : Option (OperationEntry T A)) → option_map OfBlock (slice_get (successors_of (option_map (λ e. e.content.content) y)) i) ≡ Some d → IsSome y
-      go None e = absurd (cc)
-      go (Some z) e = refl
-
-  used_first : (s : Site) (d : Defined) → IsSome (get start.graph.operations (user s)) → IsUse c.graph d s → IsUse start.graph d s
-  used_first (AtOperand o i) d h e = sym (ap (λ y. option_map OfValue (slice_get (operands_of (option_map (λ e. e.content.content) y)) i)) (operation_stays m start.graph mid.graph older kept.graph o h)) ∙ (sym (used_same (AtOperand o i)) ∙ e)
-  used_first (AtSuccessor o i) d h e = sym (ap (λ y. option_map OfBlock (slice_get (successors_of (option_map (λ e. e.content.content) y)) i)) (operation_stays m start.graph mid.graph older kept.graph o h)) ∙ (sym (used_same (AtSuccessor o i)) ∙ e)
+  used_before : (d : Defined) (s : Site) → IsSome (get start.graph.operations (user s)) → IsUse c.graph d s → IsUse start.graph d s
+  used_before d s h e = used_then m start mid older kept s d h (sym (used_same s) ∙ e)
 
   module _ (rs : Regions (Op ℕ T A) (Head ℕ T A) (Brace ℕ)) (is : RegionsAre L c items (pointers_in c r) rs) (linked : AllRegions OpLinked (λ b. ⊤) (λ q. ⊤) (held_region c r)) (path : ℕ → Path)
       (placed : (o : Object) (q : Path) → Among (o, q) (placed_regions [] 0 (pointers_in c r)) → IsPlaced L c items path o q) (occurs : (o : Object) → Among o whole → (q : Path) × Among (o, q) (placed_regions [] 0 (pointers_in c r))) where
@@ -530,49 +427,17 @@ module _ {T A : Type 0} (L : ℕ → Location A → Type 0) (start mid c : Conte
     placed_is_whole (TheRegion k) q h apart = absurd (apart k refl)
 
     placed_is_new : (d : Defined) (q : Path) → Among (owner d, q) here_all → IsDefined start.graph d → ⊥
-    placed_is_new d q at s = whole_is_new (owner d) (placed_is_whole (owner d) q (placed (owner d) q at) (kind_of_owner d)) (owner_stood d s)
-
-    value_is_new : (v : Value) → IsSome (value_place here_all v) → IsDefined start.graph (OfValue v) → ⊥
-    value_is_new (Result o i) h s = go (path_of here_all (TheOperation o)) refl h
-      where
-        go : (y : Option Path) → path_of here_all (TheOperation o) ≡ y → IsSome (option_map (λ q. result q i) y) → ⊥
-        go None e h = cc
-        go (Some q) e h = placed_is_new (OfValue (Result o i)) q (path_there here_all (TheOperation o) q e) s
-    value_is_new (Argument k i) h s = go (path_of here_all (TheBlock k)) refl h
-      where
-        go : (y : Option Path) → path_of here_all (TheBlock k) ≡ y → IsSome (option_map (λ q. argument q i) y) → ⊥
-        go None e h = cc
-        go (Some q) e h = placed_is_new (OfValue (Argument k i)) q (path_there here_all (TheBlock k) q e) s
-
-    label_is_new : (k : Ptr BasicBlock) → IsSome (block_place here_all k) → IsDefined start.graph (OfBlock k) → ⊥
-    label_is_new k h s = go (path_of here_all (TheBlock k)) refl h
-      where
-        go : (y : Option Path) → path_of here_all (TheBlock k) ≡ y → IsSome (option_map block_at_path y) → ⊥
-        go None e h = cc
-        go (Some q) e h = placed_is_new (OfBlock k) q (path_there here_all (TheBlock k) q e) s
+    placed_is_new d q at s = whole_is_new (owner d) (placed_is_whole (owner d) q (placed (owner d) q at) (owner_kind d)) (owner_stands start d s)
 
     whole_uses_new : (s : Site) (d : Defined) → Among (TheOperation (user s)) whole → IsUse c.graph d s → IsDefined start.graph d → ⊥
-    whole_uses_new (AtOperand o i) d w e s =
-        let at = occurs (TheOperation o) w in
-        go (slice_get (operands c.graph o) i) refl (here_named.each o at.0 at.1).0 e
-      where
-        go : (y : Option Value) → slice_get (operands c.graph o) i ≡ y → list_all is_some (map (value_place here_all) (operands c.graph o)) ≡ true → option_map OfValue y ≡ Some d → ⊥
-        go None f n e = cc
-        go (Some v) f n e = let same : OfValue v ≡ d = cc in value_is_new v (all_at (value_place here_all) (operands c.graph o) i v n f) (subst (IsDefined start.graph) (sym same) s)
-    whole_uses_new (AtSuccessor o i) d w e s =
-        let at = occurs (TheOperation o) w in
-        go (slice_get (successors c.graph o) i) refl (here_named.each o at.0 at.1).1 e
-      where
-        go : (y : Option (Ptr BasicBlock)) → slice_get (successors c.graph o) i ≡ y → list_all is_some (map (block_place here_all) (successors c.graph o)) ≡ true → option_map OfBlock y ≡ Some d → ⊥
-        go None f n e = cc
-        go (Some k) f n e = let same : OfBlock k ≡ d = cc in label_is_new k (all_at (block_place here_all) (successors c.graph o) i k n f) (subst (IsDefined start.graph) (sym same) s)
+    whole_uses_new s d w = let at = occurs (TheOperation (user s)) w in uses_placed L start c items here_all here_named placed_is_new s d at.0 at.1
 
     -- nothing else uses what stood than before
     pub region_uses : (d : Defined) (s : Site) → IsDefined start.graph d → IsUse c.graph d s → IsUse start.graph d s
     region_uses d s stood e =
         let o = TheOperation (user s) in
-        let stands = stood_before o (here_stands c.graph o (user_there s d e)) in
+        let stands = stood_before o (here_stands c.graph o (user_stands c s d e)) in
         elim (stood_or_new m start.graph mid.graph kept.graph o stands) [
-          | inl was ↦ used_first s d (stands_here start.graph o was) e
-          | inr n ↦ elim (new_is_whole o stands n) [ inl was ↦ used_first s d (stands_here start.graph o was) e | inr w ↦ absurd (whole_uses_new s d w e stood) ]
+          | inl was ↦ used_before d s (stands_here start.graph o was) e
+          | inr n ↦ elim (new_is_whole o stands n) [ inl was ↦ used_before d s (stands_here start.graph o was) e | inr w ↦ absurd (whole_uses_new s d w e stood) ]
         ]

@@ -34,7 +34,7 @@ not_nothing : (k : ℕ) (p : Path) → ◌≡◌ {A = Path} (k ∷ p) [] → ⊥
 not_nothing k p e = cc
 
 -- a path that is found is that of an object that stands there
-path_there : (all : List (Object × Path)) (o : Object) (q : Path) → path_of all o ≡ Some q → Among (o, q) all
+pub path_there : (all : List (Object × Path)) (o : Object) (q : Path) → path_of all o ≡ Some q → Among (o, q) all
 path_there [] o q e = absurd (cc)
 path_there (x ∷ xs) o q e = go (path_there xs o q) (eq_object x.0 o) refl e
   where

@@ -16,10 +16,9 @@ use Rattle.irtext_graph.specs.Graph.{GraphView, parent, parent_of, children_of}
 use Rattle.irtext_graph.specs.Parts.{regions, blocks, operands_of, successors_of}
 use Rattle.irtext_graph.specs.Store.{get, object_of}
 use Rattle.irtext_graph.specs.Used.{used_at}
-use Rattle.irtext_graph.proofs.Nests.{told}
-use Rattle.irtext_graph.proofs.Same.{ptr_tells}
 use Rattle.irtext_promises.specs.WithSection.{SameShape}
 use Rattle.irtext_promises.proofs.Ages.{IsHere, here_stands, stands_here}
+use Rattle.irtext_graph.proofs.Stores.{edited_same}
 
 abbrev OpEntry : Type 0 → Type 0 → Type 0
 OpEntry O T = Option (Entry (Node BasicBlock Region (OperationContent O T)))
@@ -46,36 +45,13 @@ module _ {O B T : Type 0} where
   -- ---- the data of an operation
   module _ (g k : GraphView O B T) (p : Ptr Operation) (change : O → O) (e : EditsOperation g k p change) where
     -- what does not look at the data sees the same of each operation
-    operation_alike : {Y : Type 0} (see : OpEntry O T → Y) → ((x : OpEntry O T) → see (option_map (object_of (with_data change)) x) ≡ see x) → (q : Ptr Operation) → see (get k.operations q) ≡ see (get g.operations q)
-    operation_alike see same q = elim (told ptr_tells q p) [
-      | inl is ↦ subst (λ z. see (get k.operations z) ≡ see (get g.operations z)) (sym is) (ap see e.operations.updates.changed ∙ same (get g.operations p))
-      | inr other ↦ ap see (e.operations.updates.others q other)
-    ]
-
-    children_kept : (x : OpEntry O T) → children_of (option_map (object_of (with_data change)) x) ≡ children_of x
-    children_kept None = refl
-    children_kept (Some x) = refl
-
-    parent_kept : (x : OpEntry O T) → option_map TheBlock (parent_of (option_map (object_of (with_data change)) x)) ≡ option_map TheBlock (parent_of x)
-    parent_kept None = refl
-    parent_kept (Some x) = refl
-
-    operands_kept : (i : ℕ) (x : OpEntry O T) → option_map OfValue (slice_get (operands_of (option_map (λ e. e.content.content) (option_map (object_of (with_data change)) x))) i) ≡ option_map OfValue (slice_get (operands_of (option_map (λ e. e.content.content) x)) i)
-    operands_kept i None = refl
-    operands_kept i (Some x) = refl
-
-    successors_kept : (i : ℕ) (x : OpEntry O T) → option_map OfBlock (slice_get (successors_of (option_map (λ e. e.content.content) (option_map (object_of (with_data change)) x))) i) ≡ option_map OfBlock (slice_get (successors_of (option_map (λ e. e.content.content) x)) i)
-    successors_kept i None = refl
-    successors_kept i (Some x) = refl
-
-    here_kept : (x : OpEntry O T) → is_some (option_map (object_of (with_data change)) x) ≡ is_some x
-    here_kept None = refl
-    here_kept (Some x) = refl
+    operation_alike : {Y : Type 0} (see : OpEntry O T → Y) → ((x : Entry (Node BasicBlock Region (OperationContent O T))) → see (Some (object_of (with_data change) x)) ≡ see (Some x)) → (q : Ptr Operation) → see (get k.operations q) ≡ see (get g.operations q)
+    operation_alike see same q = edited_same g.operations k.operations p (with_data change) see same e.operations q
 
     pub operation_shape : SameShape g k
     operation_shape = record {
       places = e.operations.len;
-      same_regions = operation_alike children_of children_kept;
+      same_regions = operation_alike children_of (λ x. refl);
       same_blocks = λ r. ap (λ s. children_of (get s r)) e.regions;
       same_operations = λ b. ap (λ s. children_of (get s b)) e.blocks;
       same_parents = parents;
@@ -84,45 +60,30 @@ module _ {O B T : Type 0} where
     }
       where
         parents : (q : Object) → parent k q ≡ parent g q
-        parents (TheOperation q) = operation_alike (λ x. option_map TheBlock (parent_of x)) parent_kept q
+        parents (TheOperation q) = operation_alike (λ x. option_map TheBlock (parent_of x)) (λ x. refl) q
         parents (TheBlock b) = ap (λ s. option_map TheRegion (parent_of (get s b))) e.blocks
         parents (TheRegion r) = ap (λ s. option_map TheOperation (parent_of (get s r))) e.regions
 
         uses : (s : Site) → used_at k s ≡ used_at g s
-        uses (AtOperand q i) = operation_alike (λ x. option_map OfValue (slice_get (operands_of (option_map (λ e. e.content.content) x)) i)) (operands_kept i) q
-        uses (AtSuccessor q i) = operation_alike (λ x. option_map OfBlock (slice_get (successors_of (option_map (λ e. e.content.content) x)) i)) (successors_kept i) q
+        uses (AtOperand q i) = operation_alike (λ x. option_map OfValue (slice_get (operands_of (option_map (λ e. e.content.content) x)) i)) (λ x. refl) q
+        uses (AtSuccessor q i) = operation_alike (λ x. option_map OfBlock (slice_get (successors_of (option_map (λ e. e.content.content) x)) i)) (λ x. refl) q
 
         here : (q : Object) → IsHere k q → IsHere g q
-        here (TheOperation q) h = sym (operation_alike (λ x. is_some x) here_kept q) ∙ h
+        here (TheOperation q) h = sym (operation_alike (λ x. is_some x) (λ x. refl) q) ∙ h
         here (TheBlock b) h = subst (λ s. IsSome (get s b)) e.blocks h
         here (TheRegion r) h = subst (λ s. IsSome (get s r)) e.regions h
 
   -- ---- the data of a block
   module _ (g k : GraphView O B T) (p : Ptr BasicBlock) (change : B → B) (e : EditsBlock g k p change) where
-    block_alike : {Y : Type 0} (see : BlEntry B T → Y) → ((x : BlEntry B T) → see (option_map (object_of (with_block change)) x) ≡ see x) → (q : Ptr BasicBlock) → see (get k.blocks q) ≡ see (get g.blocks q)
-    block_alike see same q = elim (told ptr_tells q p) [
-      | inl is ↦ subst (λ z. see (get k.blocks z) ≡ see (get g.blocks z)) (sym is) (ap see e.blocks.updates.changed ∙ same (get g.blocks p))
-      | inr other ↦ ap see (e.blocks.updates.others q other)
-    ]
-
-    inside_kept : (x : BlEntry B T) → children_of (option_map (object_of (with_block change)) x) ≡ children_of x
-    inside_kept None = refl
-    inside_kept (Some x) = refl
-
-    above_kept : (x : BlEntry B T) → option_map TheRegion (parent_of (option_map (object_of (with_block change)) x)) ≡ option_map TheRegion (parent_of x)
-    above_kept None = refl
-    above_kept (Some x) = refl
-
-    block_here_kept : (x : BlEntry B T) → is_some (option_map (object_of (with_block change)) x) ≡ is_some x
-    block_here_kept None = refl
-    block_here_kept (Some x) = refl
+    block_alike : {Y : Type 0} (see : BlEntry B T → Y) → ((x : Entry (Node Region Operation (BlockContent B T))) → see (Some (object_of (with_block change) x)) ≡ see (Some x)) → (q : Ptr BasicBlock) → see (get k.blocks q) ≡ see (get g.blocks q)
+    block_alike see same q = edited_same g.blocks k.blocks p (with_block change) see same e.blocks q
 
     pub block_shape : SameShape g k
     block_shape = record {
       places = ap (λ s. length s.cells) e.operations;
       same_regions = λ q. ap (λ s. children_of (get s q)) e.operations;
       same_blocks = λ r. ap (λ s. children_of (get s r)) e.regions;
-      same_operations = block_alike children_of inside_kept;
+      same_operations = block_alike children_of (λ x. refl);
       same_parents = parents;
       same_uses = uses;
       stood = λ q s. here_stands g q (here q (stands_here k q s));
@@ -130,7 +91,7 @@ module _ {O B T : Type 0} where
       where
         parents : (q : Object) → parent k q ≡ parent g q
         parents (TheOperation q) = ap (λ s. option_map TheBlock (parent_of (get s q))) e.operations
-        parents (TheBlock b) = block_alike (λ x. option_map TheRegion (parent_of x)) above_kept b
+        parents (TheBlock b) = block_alike (λ x. option_map TheRegion (parent_of x)) (λ x. refl) b
         parents (TheRegion r) = ap (λ s. option_map TheOperation (parent_of (get s r))) e.regions
 
         uses : (s : Site) → used_at k s ≡ used_at g s
@@ -139,5 +100,5 @@ module _ {O B T : Type 0} where
 
         here : (q : Object) → IsHere k q → IsHere g q
         here (TheOperation q) h = subst (λ s. IsSome (get s q)) e.operations h
-        here (TheBlock b) h = sym (block_alike (λ x. is_some x) block_here_kept b) ∙ h
+        here (TheBlock b) h = sym (block_alike (λ x. is_some x) (λ x. refl) b) ∙ h
         here (TheRegion r) h = subst (λ s. IsSome (get s r)) e.regions h

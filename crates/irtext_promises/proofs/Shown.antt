@@ -26,13 +26,13 @@ use Rattle.irtext_base.specs.Text.{Text}
 use Rattle.irtext_promises.specs.Held.{PtrRegions, PtrBlocks, PtrOperations, held_op, held_head, held_regions, held_blocks, held_operations, OperationWhole, BlockWhole}
 
 -- ---- types of values
-unlike : {X : Type 0} (x : X) (xs : List X) → x ∷ xs ≡ [] → ⊥
+pub unlike : {X : Type 0} (x : X) (xs : List X) → x ∷ xs ≡ [] → ⊥
 unlike x xs e = cc
 
-first_is : {X : Type 0} (x y : X) (xs ys : List X) → x ∷ xs ≡ y ∷ ys → x ≡ y
+pub first_is : {X : Type 0} (x y : X) (xs ys : List X) → x ∷ xs ≡ y ∷ ys → x ≡ y
 first_is x y xs ys e = cc
 
-rest_is : {X : Type 0} (x y : X) (xs ys : List X) → x ∷ xs ≡ y ∷ ys → xs ≡ ys
+pub rest_is : {X : Type 0} (x y : X) (xs ys : List X) → x ∷ xs ≡ y ∷ ys → xs ≡ ys
 rest_is x y xs ys e = cc
 
 -- values whose types are known are seen with these

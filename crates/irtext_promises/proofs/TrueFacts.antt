@@ -28,16 +28,7 @@ use Rattle.irtext_grammar.specs.Names.Script.{Path, result, argument, block_at, 
 use Rattle.irtext_grammar.specs.Spelling.Spellable.{Each}
 use Rattle.irtext_grammar.proofs.Lists.Each.{each_both}
 use Rattle.irtext_promises.specs.Held.{PtrRegions, PtrBlocks, PtrOperations, placed_regions, placed_blocks, placed_operations, path_of, value_place, block_place}
-use Rattle.irtext_promises.proofs.Shown.{SeenRegions, SeenBlocks, SeenOperations, results_seen, arguments_seen}
-
-unlike : {X : Type 0} (x : X) (xs : List X) → x ∷ xs ≡ [] → ⊥
-unlike x xs e = cc
-
-first_is : {X : Type 0} (x y : X) (xs ys : List X) → x ∷ xs ≡ y ∷ ys → x ≡ y
-first_is x y xs ys e = cc
-
-rest_is : {X : Type 0} (x y : X) (xs ys : List X) → x ∷ xs ≡ y ∷ ys → xs ≡ ys
-rest_is x y xs ys e = cc
+use Rattle.irtext_promises.proofs.Shown.{SeenRegions, SeenBlocks, SeenOperations, results_seen, arguments_seen, unlike, first_is, rest_is}
 
 module _ {T A : Type 0} (c : ContextView T A) (all : List (Object × Path)) where
   -- a value of this number stands at the place that is said

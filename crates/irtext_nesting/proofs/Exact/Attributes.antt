@@ -20,7 +20,7 @@ use Rattle.irtext_outcomes.proofs.Joins.Dictionary.{tree_read, tree_found, split
 use Rattle.irtext_outcomes.proofs.Joins.Tokens.{text_read, text-literal, splits_text}
 use Rattle.irtext_nesting.specs.Exact.{Exact, NeedsWord}
 use Rattle.irtext_nesting.specs.Heads.{pair_at, dictionary_at, dictionary_if_at, outlined_or_at}
-use Rattle.irtext_nesting.proofs.Exact.Combined.{exact_as, exact_word, exact_then, exact_spaced, exact_behind, exact_before, exact_so, exact_seen, exact_if}
+use Rattle.irtext_nesting.proofs.Exact.Combined.{exact_as, exact_word, exact_then, exact_spaced, exact_behind, exact_before, exact_so, exact_seen, exact_if, exact_keyed}
 use Rattle.irtext_nesting.proofs.Exact.Listed.{Starts, starts_so, exact_list, loosened, tightened}
 use Rattle.irtext_nesting.proofs.Exact.Names.{exact_name, starts_name}
 
@@ -40,7 +40,7 @@ starts_first c w (d ∷ text) e = go (the c d) refl e
     go false f e = absurd (true≢false (sym e))
 
 -- where `!` stands no word begins
-no_word_there : (text : Text) → begins (the 33) text ≡ true → begins begins_word text ≡ false
+pub no_word_there : (text : Text) → begins (the 33) text ≡ true → begins begins_word text ≡ false
 no_word_there [] e = refl
 no_word_there (c ∷ text) e = other c e
   where
@@ -71,11 +71,7 @@ module _ {T A : Type 0} (types : Texts T) (reading : Text → Outcome A) (writte
 
   -- an entry
   pub exact_pair : Exact (pair_at attr) (reads.entry l)
-  exact_pair = exact_as
-      (exact_so (exact_name types (texts_of reading written) formats)
-      (λ key. exact_behind (codes ":") (exact_seen exact_attribute (λ a. (key, a)) (λ e. e.1) (λ e. key ≡ e.0) (λ a. refl) (λ a. refl) (λ e k. ap (λ k. (k, e.1)) k)))
-      (λ e. e.0) (λ key e text rest q. q.2.0))
-      (λ e text rest (m, a, (n, b, (k, c))). (m, a, (n, b, c))) (λ e text rest (m, a, (n, b, c)). (m, a, (n, b, (refl, c))))
+  exact_pair = exact_keyed (codes ":") (exact_name types (texts_of reading written) formats) exact_attribute
 
   -- where an entry is missing no word begins
   starts_pair : Starts (pair_at attr) reads.no_word

@@ -111,6 +111,12 @@ module _ {X : Type 0} where
   exact_before h j = exact_as (exact_so h (λ x. exact_seen j (λ _. x) (λ _. tt) (λ y. x ≡ y) (λ _. refl) (λ _. refl) (λ y k. k)) (λ x. x) (λ x y text rest q. q.0))
       (λ x text rest (mid, a, (k, b)). (mid, a, b)) (λ x text rest (mid, a, b). (mid, a, (refl, b)))
 
+-- a key, a fixed text and what is under the key
+pub exact_keyed : {K X : Type 0} {f : Reader K} {r : K → Reading} {g : Reader X} {s : X → Reading} (w : Text) → Exact f r → Exact g s → Exact {X = K × X} (f ▶ λ key. spaced_at w ▷ g ⇒ λ x. (key, x)) (λ e. r e.0 ▹ literal w ▹ s e.1)
+exact_keyed w h j = exact_as
+    (exact_so h (λ key. exact_behind w (exact_seen j (λ x. (key, x)) (λ e. e.1) (λ e. key ≡ e.0) (λ x. refl) (λ x. refl) (λ e k. ap (λ k. (k, e.1)) k))) (λ e. e.0) (λ key e text rest q. q.2.0))
+    (λ e text rest (m, a, (n, b, (k, c))). (m, a, (n, b, c))) (λ e text rest (m, a, (n, b, c)). (m, a, (n, b, (refl, c))))
+
 -- ---- one or the other
 module _ {X : Type 0} {f : Reader X} {r : X → Reading} where
   -- a thing where its beginning stands, and else none
