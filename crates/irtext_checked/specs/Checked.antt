@@ -1,0 +1,31 @@
+-- Why a call that tests its arguments fails.
+use Rattle.std.specs.Prelude.{List}
+use Rattle.irtext_base.specs.declared.base.identifier.OpId.{OpId}
+use Rattle.irtext_base.specs.declared.result.Cause.{Cause, Memory, Text as IsText}
+use Rattle.irtext_context.specs.Context.{ContextView}
+use Rattle.irtext_context.specs.Made.{BlocksStand, IsUnregistered, ValuesStand}
+use Rattle.irtext_graph.specs.Graph.{GraphView, CanInsert, Stands}
+use Rattle.irtext_graph.specs.declared.arena.Ptr.{Ptr}
+use Rattle.irtext_graph.specs.declared.object.BasicBlock.{BasicBlock}
+use Rattle.irtext_graph.specs.declared.object.Object.{Object}
+use Rattle.irtext_graph.specs.declared.object.Value.{Value}
+
+-- a cause that is a text, or out of memory
+abbrev pub IsMessage : {A : Type 0} → Cause A → Type 0
+IsMessage (IsText text) = Unit {0}
+IsMessage Memory = Unit {0}
+IsMessage _ = ⊥
+
+module _ {T A : Type 0} where
+  -- why an operation is not made: it would use what is not in the context, else it is not registered; or an allocation failed
+  abbrev pub RefusesNew : ContextView T A → OpId → List Value → List (Ptr BasicBlock) → Cause A → Type 0
+  RefusesNew c id operands successors (IsText text) = ValuesStand c operands × BlocksStand c successors → ⊥
+  RefusesNew c id operands successors Memory = Unit {0}
+  RefusesNew c id operands successors cause = IsUnregistered c.dialects id cause
+
+module _ {O B T A : Type 0} where
+  -- why c is not inserted into k: one of them is not live, or c has a parent, or k is c or nested in it; or an allocation failed
+  abbrev pub RefusesInsert : GraphView O B T → Object → Object → Cause A → Type 0
+  RefusesInsert g k c (IsText text) = Stands g k × Stands g c × CanInsert g k c → ⊥
+  RefusesInsert g k c Memory = Unit {0}
+  RefusesInsert g k c cause = ⊥

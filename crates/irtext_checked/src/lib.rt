@@ -1,0 +1,34 @@
+//! Calls for front ends and passes that test what the calls below them require: an operation is made and inserted, and where the
+//! call without a test could not be made, the answer is an error.
+#![tactic(auto)]
+
+ghost use Rattle.std.specs.Prelude.{◌≡◌};
+ghost use Rattle.irtext_base.specs.declared.location.Location.{Unknown};
+ghost use Rattle.irtext_checked.specs.Checked.{IsMessage};
+
+pub mod contains;
+pub mod insert;
+pub mod make;
+
+use irtext_base::location::Location;
+use irtext_base::result::{Cause, Error, ErrorKind};
+use std::alloc::Global;
+
+/// An error of kind invalid argument without a location.
+fn invalid<A>(cause: Cause<A>) -> Error<A>
+    ensures { result ≡ record { kind = ErrorKind.InvalidArgument; err = cause; loc = Unknown } }
+{
+    Error {
+        kind: ErrorKind::InvalidArgument,
+        err: cause,
+        loc: Location::Unknown,
+    }
+}
+
+/// An error with this text as its cause, or out of memory if there is no memory for the text.
+fn unfit<A>(alloc: Global, text: &str) -> Error<A>
+    ensures cause { IsMessage result.err }
+    ensures kind { (result.kind ≡ ErrorKind.InvalidArgument) × (result.loc ≡ Unknown) }
+{
+    invalid(Cause::of_text(String::from_str(alloc, text)))
+}

@@ -1,0 +1,60 @@
+//! Making operations whose operands and successors need not be known to be in the context.
+ghost use Rattle.std.specs.Prelude.{◌≡◌, ◌≤◌, ℕ, IsSome, IfOk, IfErr, OnOk, OnErr};
+ghost use Rattle.irtext_base.specs.declared.location.Location.{Unknown};
+ghost use Rattle.irtext_context.specs.Context.{operation, KeepsOlder};
+ghost use Rattle.irtext_context.specs.DialectTable.{registered};
+ghost use Rattle.irtext_context.specs.Made.{BlocksStand, MakesWithRegions, SameObjects, ValuesStand};
+ghost use Rattle.irtext_checked.specs.Checked.{RefusesNew};
+
+use crate::contains::ContainsParts;
+use crate::unfit;
+use irtext_base::base::OpId;
+use irtext_base::result;
+use irtext_base::result::ErrorKind;
+use irtext_base::text::{AttrText, IrText};
+use irtext_context::base::{BasicBlock, Context, NewOperation, Operation, Ptr};
+use irtext_few::Few;
+use irtext_graph::object::Value;
+
+/// Makes operations: `Operation::try_new`.
+pub trait TryNewOperation {
+    /// Makes an operation without a parent, as `Operation::new` of `NewOperation` does: with results of these types, these operands and
+    /// successors, and `num_regions` empty regions. It is live afterwards. Fails with `Text` if an operand or a successor is not in the
+    /// context, else with `UnregisteredDialect` or `UnregisteredOp` if the operation is not registered. Fails with `Memory` if an
+    /// allocation fails, also that of the text. The error is of kind invalid argument and has no location, and all objects are unchanged.
+    fn try_new<T: IrText<A>, A: AttrText<A>>(
+        ctx: &mut Context<T, A>,
+        id: OpId,
+        result_types: Few<T>,
+        operands: &[Value],
+        successors: &[Ptr<BasicBlock>],
+        num_regions: usize,
+    ) -> result::Result<Ptr<Operation>, A>
+        ensures made { IfOk result (λ op. MakesWithRegions num_regions ctx.old ctx.new op id result_types operands.now successors.now) }
+        ensures live { IfOk result (λ op. IsSome (operation ctx.new op)) }
+        ensures used { OnOk result (ValuesStand ctx.old operands.now × BlocksStand ctx.old successors.now) }
+        ensures registered { OnOk result (IsSome (registered ctx.old.dialects id)) }
+        ensures kept { (mark : ℕ) → mark ≤ ctx.old.graph.made → KeepsOlder mark ctx.old ctx.new }
+        ensures objects { OnErr result (SameObjects ctx.old ctx.new) }
+        ensures refused { IfErr result (λ e. RefusesNew ctx.old id operands.now successors.now e.err) }
+        ensures kind { IfErr result (λ e. (e.kind ≡ ErrorKind.InvalidArgument) × (e.loc ≡ Unknown)) };
+}
+
+impl TryNewOperation for Operation {
+    fn try_new<T: IrText<A>, A: AttrText<A>>(
+        ctx: &mut Context<T, A>,
+        id: OpId,
+        result_types: Few<T>,
+        operands: &[Value],
+        successors: &[Ptr<BasicBlock>],
+        num_regions: usize,
+    ) -> result::Result<Ptr<Operation>, A> {
+        if !ctx.contains_values(operands) || !ctx.contains_blocks(successors) {
+            return Err(unfit(
+                ctx.allocator(),
+                "an operand or a successor is not in the context",
+            ));
+        }
+        <Operation as NewOperation>::new(ctx, id, result_types, operands, successors, num_regions)
+    }
+}
