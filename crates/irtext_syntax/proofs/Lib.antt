@@ -7,3 +7,4 @@ pub mod ListWritten
 pub mod WordRead
 pub mod MaybeRead
 pub mod Rows
+pub mod Composed
