@@ -21,6 +21,11 @@ pub seen_mapped : {A B V : Type 0} (change : A → B) (f : Option B → V) (g : 
 seen_mapped change f g none some None = none
 seen_mapped change f g none some (Some a) = some a
 
+-- two views of an option are the same where they are the same of each value and of none
+pub same_views : {A V : Type 0} (f g : Option A → V) → f None ≡ g None → ((a : A) → f (Some a) ≡ g (Some a)) → (s : Option A) → f s ≡ g s
+same_views f g none some None = none
+same_views f g none some (Some a) = some a
+
 -- what an edit leaves of each object is seen of all objects as before
 pub edited_same : {X V K : Type 0} (old new : Store X) (p : Ptr K) (change : X → X) (f : Option (Entry X) → V) → ((o : Entry X) → f (Some (object_of change o)) ≡ f (Some o)) → Edits old new p change → (q : Ptr K) → f (get new q) ≡ f (get old q)
 edited_same old new p change f same e q = elim (ptr_or q p) [
