@@ -4,5 +4,4 @@ mod directives;
 mod kept;
 mod roots;
 mod sections;
-mod syntax;
 mod whole_texts;
