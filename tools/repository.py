@@ -10,7 +10,7 @@ from dataclasses import dataclass, field
 
 TOP = os.path.dirname(os.path.dirname(os.path.realpath(__file__)))
 # crates for authors of dialects to copy from
-EXAMPLES = ("irtext_arith", "irtext_two_dialects")
+EXAMPLES = ("irtext_arith", "irtext_two")
 
 
 def text_of(path):

@@ -1,4 +1,4 @@
--- The formats of the demo operations are accepted: registering one is refused for want of memory alone, or by its dialect's name.
+-- The formats of the demo operations are accepted: registering one fails only if out of memory, or by the name of its dialect.
 use Rattle.std.proofs.Common.{◌≡◌, ◌∙◌, ℕ, refl, ap, sym, subst, false, List, Option}
 use Rattle.std.specs.Str.{bytes_eq}
 use Rattle.irtext_base.specs.Faults as faults
