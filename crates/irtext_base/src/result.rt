@@ -338,6 +338,15 @@ impl<A> From<Refusal> for Error<A> {
     }
 }
 
+/// Out of memory, as an error of kind `InvalidArgument` without a location. So `v.push(x)?` works in a function that returns `Error`.
+impl<X: Drop, A> From<AllocFailed<X>> for Error<A> {
+    ghost from_gives = { λ _ error. error ≡ out_of_memory };
+
+    fn from(_: AllocFailed<X>) -> Error<A> {
+        out_of_memory()
+    }
+}
+
 impl<A> From<fmt::Error> for Error<A> {
     ghost from_gives = { λ _ error. error ≡ record { kind = InvalidArgument; err = Fmt; loc = Unknown } };
 
