@@ -1,4 +1,6 @@
 //! Parsing of dictionaries: attributes under keys. Reserved and repeated keys are accepted here.
+ghost use Rattle.std.specs.Prelude.{◌≡◌, IfOk, IsTrue};
+ghost use Rattle.irtext_base.specs.Text.{is_identifier};
 ghost use Rattle.irtext_read.specs.AttrTexts.{attr_at};
 ghost use Rattle.irtext_read.specs.ListOutcomes.{separated_at};
 ghost use Rattle.irtext_read.specs.MustRead.{MustRead};
@@ -11,12 +13,13 @@ ghost use Rattle.irtext_parse_pieces.specs.Named.{MayMean, whole};
 use crate::lists::{NameKind, none_named};
 use irtext_base::base::{AttrObj, Identifier};
 use irtext_base::parsable::{CharStream, ParseResult, Place};
-use irtext_base::result::Cause;
+use irtext_base::result::{Cause, Expected};
 use irtext_base::text::AttrText;
 use irtext_read::irfmt::demanded::{spaced_text_demanded, text_demanded};
-use irtext_read::irfmt::faults::{committed, next_is, out_of_memory, refuse};
-use irtext_read::irfmt::parsers::{attr_parse, identifier_parse, skip_white_space};
+use irtext_read::irfmt::faults::{begins, committed, next_is, out_of_memory, refuse, unexpected};
+use irtext_read::irfmt::parsers::{Class, attr_parse, skip_class, skip_white_space};
 use irtext_read::parsable::OwnStream;
+use std::alloc::{AllocError, Global};
 
 /// A parsed key, and the position where it begins.
 #[derive(Drop)]
@@ -36,13 +39,44 @@ pub fn attr_demanded<S: OwnStream, A: AttrText<A>>(stream: &mut S) -> ParseResul
     committed(stream, answer)
 }
 
-/// Parses a key. If no name comes next, the error is uncommitted and the stream is unchanged.
-pub fn key_parse<S: CharStream, A>(stream: &mut S) -> ParseResult<Key, A>
+/// Returns the identifier with this text, which must be the text of one. It is a clone of the earlier one if that has the text, which
+/// allocates nothing. Fails only when out of memory.
+fn shared_word(
+    alloc: Global,
+    text: &str,
+    earlier: Option<&Identifier>,
+) -> Result<Identifier, AllocError>
+    requires { IsTrue (is_identifier text.now) }
+    ensures { IfOk result (λ name. name ≡ text.now) }
+{
+    if let Some(earlier) = earlier {
+        if earlier.as_str() == text {
+            return earlier.clone();
+        }
+    }
+    Identifier::from_word(alloc, text)
+}
+
+/// Parses a key. If it has the text of the earlier key, it shares that text. If no name comes next, the error is uncommitted and the
+/// stream is unchanged.
+pub fn key_parse<S: CharStream, A>(
+    stream: &mut S,
+    earlier: Option<&Identifier>,
+) -> ParseResult<Key, A>
     ensures { MayMean S.view S.at (IsKey (whole (S.view stream.old))) name_at stream.old result stream.new }
 {
+    if stream.has_failed() {
+        return Err(refuse(stream, Cause::StreamFailed));
+    }
+    if !begins(stream, Class::Beginning) {
+        return Err(unexpected(stream, Expected::Identifier));
+    }
     let at = stream.position();
-    let name = identifier_parse(stream)?;
-    Ok(Key { name, at })
+    skip_class(stream, Class::Word);
+    match shared_word(stream.allocator(), stream.text_since(at), earlier) {
+        Ok(name) => Ok(Key { name, at }),
+        Err(_) => Err(out_of_memory(stream)),
+    }
 }
 
 /// Parses an entry of a dictionary: a key, `:` and an attribute. If no name comes next, the error is uncommitted and the stream is
@@ -51,7 +85,7 @@ fn entry_parse<S: OwnStream, A: AttrText<A>>(stream: &mut S) -> ParseResult<Read
     ensures { MayMean S.CharStream.view S.CharStream.at (IsEntry (whole (S.CharStream.view stream.old)))
         (pair_at (attr_at A.IrText.reading)) stream.old result stream.new }
 {
-    let key = key_parse(stream)?;
+    let key = key_parse(stream, None)?;
     spaced_text_demanded(stream, ":")?;
     let attr = attr_demanded(stream)?;
     Ok((key, attr))

@@ -74,7 +74,7 @@ fn more_parse<T: IrText<A>, A: AttrText<A>, U>(
 {
     let mut entries = entries;
     while next_is(&s.stream, '!') {
-        let entry = entry_parse(s, Some(&entries.seen))?;
+        let entry = entry_parse(s, Some(&entries.seen), entries.items.last())?;
         if entry_noted(&mut entries, entry).is_err() {
             return Err(out_of_memory(&mut s.stream));
         }
@@ -122,7 +122,7 @@ pub(crate) fn entries_parse<T: IrText<A>, A: AttrText<A>, U>(
     if !next_is(&s.stream, '!') {
         return Ok(Entries::Nothing);
     }
-    let first = entry_parse(s, None)?;
+    let first = entry_parse(s, None, None)?;
     skip_white_space(&mut s.stream);
     if next_is(&s.stream, '!') {
         return first_and_more(s, first);

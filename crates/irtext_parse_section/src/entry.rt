@@ -187,11 +187,13 @@ fn head_parse<T: IrText<A>, A: AttrText<A>, U>(
     }
 }
 
-/// Parses an entry; `seen` has the indices of the entries before it, if there are any. Every error is committed.
+/// Parses an entry; `seen` has the indices of the entries before it, if there are any. Keys are shared with those of `before`, the item's
+/// entry before it. Every error is committed.
 #[inline(always)]
 pub(crate) fn entry_parse<T: IrText<A>, A: AttrText<A>, U>(
     s: &mut StateStream<'_, T, A, U>,
     seen: Option<&Numbered<()>>,
+    before: Option<&ItemEntry<A>>,
 ) -> ParseResult<ReadEntry<A>, A>
     ensures lent { s.new.state.ctx.ghost_name ≡ s.old.state.ctx.ghost_name }
     ensures rest { KeepsRest s.old.state s.new.state }
@@ -209,7 +211,7 @@ pub(crate) fn entry_parse<T: IrText<A>, A: AttrText<A>, U>(
         return Ok(ReadEntry::OfOnce(head.mark.index, attr));
     };
     let ctx = &mut *s.state.ctx;
-    let given = given_parse(&mut s.stream, ctx, is_block(item))?;
+    let given = given_parse(&mut s.stream, ctx, is_block(item), before)?;
     Ok(ReadEntry::OfItem(
         head.mark.index,
         ItemEntry {

@@ -12,7 +12,7 @@ ghost use Rattle.irtext_parse_section.specs.Said.{rule_for};
 ghost use Rattle.irtext_parse_section.specs.Entries.{IsGivenOver, location_end_at};
 
 use crate::pairs::pairs_parse;
-use crate::said::ReadPair;
+use crate::said::{ItemEntry, ReadPair};
 use irtext_base::location::Location;
 use irtext_base::parsable::{CharStream, ParseResult, TextStream};
 use irtext_base::result::Cause;
@@ -77,12 +77,13 @@ fn entry_location<T: IrText<A>, A: AttrText<A>>(
     Ok(Some(location))
 }
 
-/// Parses what the entry of a block or of an operation gives. Every error is committed.
+/// Parses what the entry of a block or of an operation gives. Keys are shared with those of the entry before. Every error is committed.
 #[inline(always)]
 pub(crate) fn given_parse<T: IrText<A>, A: AttrText<A>>(
     stream: &mut TextStream,
     ctx: &mut Context<T, A>,
     of_block: bool,
+    before: Option<&ItemEntry<A>>,
 ) -> ParseResult<Given<A>, A>
     ensures adds { AddsPaths ctx.old ctx.new }
     ensures read { MustMean itself replaced (IsGivenOver ctx.new.paths (whole stream.old))
@@ -90,6 +91,6 @@ pub(crate) fn given_parse<T: IrText<A>, A: AttrText<A>>(
     ensures paths { IfOk result (λ given. ctx.new.paths ≡ given_kept ctx.old.paths (given_over ctx.new.paths given.0)) }
 {
     let location = entry_location(stream, ctx)?;
-    let pairs = pairs_parse(stream, of_block)?;
+    let pairs = pairs_parse(stream, of_block, before)?;
     Ok((location, pairs))
 }

@@ -8,7 +8,8 @@ ghost use Rattle.irtext_nesting.specs.Readers.{item_at, pair_at, kept, pairs_at}
 ghost use Rattle.irtext_parse_section.specs.Said.{rule_for, IsGiven, IsPair, Allows, MustPairs, PairsBehind};
 
 use crate::rules::stands_under;
-use crate::said::{GivenAttr, ReadPair};
+use crate::said::{GivenAttr, ItemEntry, ReadPair};
+use irtext_base::base::Identifier;
 use irtext_base::parsable::{CharStream, ParseResult, Place, TextStream};
 use irtext_base::result::Cause;
 use irtext_base::text::AttrText;
@@ -35,11 +36,22 @@ fn item_parse<A: AttrText<A>>(stream: &mut TextStream) -> ParseResult<GivenAttr<
     Ok(GivenAttr::Direct(attr))
 }
 
-/// Parses a key, `=`, and what is given under the key. If no key comes next, the error is uncommitted and the stream is unchanged.
-fn pair_parse<A: AttrText<A>>(stream: &mut TextStream) -> ParseResult<ReadPair<A>, A>
+/// Returns the key at this place of an entry, if there is one.
+#[inline]
+fn key_at<A: Drop>(entry: Option<&ItemEntry<A>>, index: usize) -> Option<&Identifier> {
+    let (key, _) = entry?.pairs.get(index)?;
+    Some(&key.name)
+}
+
+/// Parses a key, `=`, and what is given under the key. If the key has the text of the earlier one, it shares that text. If no key comes
+/// next, the error is uncommitted and the stream is unchanged.
+fn pair_parse<A: AttrText<A>>(
+    stream: &mut TextStream,
+    earlier: Option<&Identifier>,
+) -> ParseResult<ReadPair<A>, A>
     ensures { MayMean itself replaced (IsPair (whole stream.old)) (pair_at (attr_at A.IrText.reading)) stream.old result stream.new }
 {
-    let key = key_parse(stream)?;
+    let key = key_parse(stream, earlier)?;
     spaced_text_demanded(stream, "=")?;
     let given = item_parse(stream)?;
     Ok((key, given))
@@ -65,16 +77,17 @@ fn allowed<A: AttrText<A>>(
     Ok((key, given))
 }
 
-/// Parses a pair whose attribute is allowed under its key.
+/// Parses a pair whose attribute is allowed under its key. The key may share the text of the earlier one.
 fn kept_parse<A: AttrText<A>>(
     stream: &mut TextStream,
     of_block: bool,
+    earlier: Option<&Identifier>,
 ) -> ParseResult<ReadPair<A>, A>
     ensures { MayMean itself replaced (IsPair (whole stream.old))
         (λ t. kept (rule_for of_block) (pair_at (attr_at A.IrText.reading) t)) stream.old result stream.new }
 {
     let at = stream.position();
-    let answer = pair_parse(stream);
+    let answer = pair_parse(stream, earlier);
     allowed(stream, of_block, at, answer)
 }
 
@@ -90,10 +103,11 @@ fn pushed<A: Drop>(
     Ok(found)
 }
 
-/// Parses the pairs after the first one, as long as `,` comes next.
+/// Parses the pairs after the first one, as long as `,` comes next. Keys are shared with those at the same places of the entry before.
 fn more_pairs<A: AttrText<A>>(
     stream: &mut TextStream,
     of_block: bool,
+    before: Option<&ItemEntry<A>>,
     first: ReadPair<A>,
 ) -> ParseResult<Vec<ReadPair<A>>, A>
     ensures { PairsBehind (λ t. kept (rule_for of_block) (pair_at (attr_at A.IrText.reading) t)) first stream.old result stream.new }
@@ -105,7 +119,7 @@ fn more_pairs<A: AttrText<A>>(
     while next_is(stream, ',') {
         let _ = stream.take();
         skip_white_space(stream);
-        let answer = kept_parse(stream, of_block);
+        let answer = kept_parse(stream, of_block, key_at(before, found.len()));
         let next = committed(stream, answer)?;
         skip_white_space(stream);
         found = match pushed(found, next) {
@@ -121,13 +135,14 @@ fn more_pairs<A: AttrText<A>>(
 fn list_parse<A: AttrText<A>>(
     stream: &mut TextStream,
     of_block: bool,
+    before: Option<&ItemEntry<A>>,
 ) -> ParseResult<Vec<ReadPair<A>>, A>
     ensures { MustPairs (separated_at 44 (λ t. kept (rule_for of_block) (pair_at (attr_at A.IrText.reading) t))) stream.old result stream.new }
 {
-    match kept_parse(stream, of_block) {
+    match kept_parse(stream, of_block, key_at(before, 0)) {
         Ok(first) => {
             skip_white_space(stream);
-            more_pairs(stream, of_block, first)
+            more_pairs(stream, of_block, before, first)
         }
         Err(fault) => {
             if fault.committed {
@@ -143,30 +158,32 @@ fn list_parse<A: AttrText<A>>(
 fn bracketed_parse<A: AttrText<A>>(
     stream: &mut TextStream,
     of_block: bool,
+    before: Option<&ItemEntry<A>>,
 ) -> ParseResult<Vec<ReadPair<A>>, A>
     ensures { MustPairs (pairs_at (attr_at A.IrText.reading) (rule_for of_block)) stream.old result stream.new }
 {
     text_demanded(stream, "[")?;
     skip_white_space(stream);
-    let pairs = list_parse(stream, of_block)?;
+    let pairs = list_parse(stream, of_block, before)?;
     text_demanded(stream, "]")?;
     Ok(pairs)
 }
 
-/// Parses the pairs of the entry of a block or of an operation: in brackets, separated by `,`, as `[key = attribute]`. Every error is
-/// committed.
+/// Parses the pairs of the entry of a block or of an operation: in brackets, separated by `,`, as `[key = attribute]`. A key that has the
+/// text of the one at the same place of the entry before shares that text. Every error is committed.
 #[inline(always)]
 pub(crate) fn pairs_parse<A: AttrText<A>>(
     stream: &mut TextStream,
     of_block: bool,
+    before: Option<&ItemEntry<A>>,
 ) -> ParseResult<Vec<ReadPair<A>>, A>
     ensures { MustPairs (pairs_at (attr_at A.IrText.reading) (rule_for of_block)) stream.old result stream.new }
 {
     if stream.has_failed() {
-        return bracketed_parse(stream, of_block);
+        return bracketed_parse(stream, of_block, before);
     }
     if stream.accept("[]") {
         return Ok(Vec::new(stream.allocator()));
     }
-    bracketed_parse(stream, of_block)
+    bracketed_parse(stream, of_block, before)
 }
