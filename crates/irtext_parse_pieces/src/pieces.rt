@@ -17,6 +17,7 @@ ghost use Rattle.irtext_parse_pieces.specs.Named.{NamesRead};
 ghost use Rattle.irtext_parse_pieces.specs.Steps.{seen_step};
 
 use crate::entries::{ReadEntry, attr_demanded, dictionary_parse};
+use crate::keys::Keys;
 use crate::lists::{NameKind, names_parse};
 use crate::names::{ReadName, Symbol, symbol_demanded, target_demanded, used_demanded};
 use crate::steps::FormatStep;
@@ -170,7 +171,8 @@ fn dictionary_piece<S: OwnStream, T: IrText<A>, A: AttrText<A>>(
     ensures { (names : List Text) → MustPiece S.CharStream.view S.CharStream.at names
         (dictionary_at (attr_at A.IrText.reading) ⇒ dictionary) stream.old result stream.new }
 {
-    let entries = dictionary_parse(stream)?;
+    let mut keys = Keys::none(stream.allocator());
+    let entries = dictionary_parse(stream, &mut keys)?;
     Ok(ReadPiece::Dictionary(entries))
 }
 

@@ -12,13 +12,14 @@ ghost use Rattle.irtext_parse_section.specs.Said.{rule_for};
 ghost use Rattle.irtext_parse_section.specs.Entries.{IsGivenOver, location_end_at};
 
 use crate::pairs::pairs_parse;
-use crate::said::{ItemEntry, ReadPair};
+use crate::said::ReadPair;
 use irtext_base::location::Location;
 use irtext_base::parsable::{CharStream, ParseResult, TextStream};
 use irtext_base::result::Cause;
 use irtext_base::text::{AttrText, IrText};
 use irtext_context::base::Context;
 use irtext_parse_locations::location::nested::location_demanded;
+use irtext_parse_pieces::keys::Keys;
 use irtext_read::irfmt::demanded::{spaced_text_demanded, text_demanded};
 use irtext_read::irfmt::faults::{next_is, refuse};
 use irtext_read::irfmt::parsers::skip_white_space;
@@ -77,13 +78,13 @@ fn entry_location<T: IrText<A>, A: AttrText<A>>(
     Ok(Some(location))
 }
 
-/// Parses what the entry of a block or of an operation gives. Keys are shared with those of the entry before. Every error is committed.
+/// Parses what the entry of a block or of an operation gives. Every error is committed.
 #[inline(always)]
 pub(crate) fn given_parse<T: IrText<A>, A: AttrText<A>>(
     stream: &mut TextStream,
     ctx: &mut Context<T, A>,
     of_block: bool,
-    before: Option<&ItemEntry<A>>,
+    keys: &mut Keys,
 ) -> ParseResult<Given<A>, A>
     ensures adds { AddsPaths ctx.old ctx.new }
     ensures read { MustMean itself replaced (IsGivenOver ctx.new.paths (whole stream.old))
@@ -91,6 +92,6 @@ pub(crate) fn given_parse<T: IrText<A>, A: AttrText<A>>(
     ensures paths { IfOk result (λ given. ctx.new.paths ≡ given_kept ctx.old.paths (given_over ctx.new.paths given.0)) }
 {
     let location = entry_location(stream, ctx)?;
-    let pairs = pairs_parse(stream, of_block, before)?;
+    let pairs = pairs_parse(stream, of_block, keys)?;
     Ok((location, pairs))
 }
