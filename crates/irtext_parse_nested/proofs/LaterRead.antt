@@ -24,7 +24,7 @@ use Rattle.irtext_read.proofs.Steps.{alone}
 use Rattle.irtext_scopes.specs.Names.{AreDistinct}
 use Rattle.irtext_state.specs.States.{marks_of}
 use Rattle.irtext_state.specs.declared.parsable.state.StateStream.{StateStream}
-use Rattle.irtext_grammar.specs.Contexts.Formats.{format_of}
+use Rattle.irtext_grammar.specs.Contexts.Formats.{format_of, isolated}
 use Rattle.irtext_grammar.specs.Contexts.Held.{whole}
 use Rattle.irtext_grammar.specs.Grammar.Tree as tree
 use Rattle.irtext_grammar.specs.Grammar.Tree.{Piece, Part}
@@ -55,6 +55,7 @@ use Rattle.irtext_parse_nested.specs.declared.operation_parts.NotGathered.{NotGa
 use Rattle.irtext_parse_nested.specs.declared.operation_parts.NotGathered.TheVariants as refusal
 use Rattle.irtext_parse_nested.specs.Beginning.{HasBegun, SaysGather}
 use Rattle.irtext_parse_nested.specs.Begun.{IsBegun, HasNoType, ReadNeither}
+use Rattle.irtext_parse_nested.specs.Coming.{IsStep}
 use Rattle.irtext_parse_nested.specs.Ends.{WritesAttributes}
 use Rattle.irtext_parse_nested.specs.Gathered.{stored_of}
 use Rattle.irtext_parse_nested.specs.Items.{Names, Pledge, Made, StandsAs, Acts, IsSound, Lasts, doing}
@@ -166,6 +167,8 @@ module _ {T A U : Type 0} (types_at : Reader T) (attr : Reader (AttrView A)) (ol
               known = subst (λ d. IsSome (format_of d o.id)) (sym lasts.dialects) is.known;
               steps = first.1 ∙ (ap (λ n. drop n (steps_in dialects o.id)) up ∙ ap (λ d. drop (b.step + 1) (steps_in d o.id)) (sym lasts.dialects));
               counted = is.counted ∙ ap (λ d. length (steps_in d o.id)) (sym lasts.dialects);
+              coming = subst (λ d. IsStep b.coming (slice_get (steps_in d o.id) b.first)) (sym lasts.dialects) is.coming;
+              is_isolated = is.is_isolated ∙ ap (λ d. isolated d o.id) (sym lasts.dialects);
               late = neither.1;
               stands = lasts.operations b.op is.stands;
               counts = lasts.results b.op is.stands ∙ is.counts;

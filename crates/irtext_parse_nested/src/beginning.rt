@@ -1,6 +1,6 @@
 //! The beginning of an operation: what precedes its first region is parsed, names are used, and the operation is created and appended to
 //! its block.
-ghost use Rattle.std.specs.Prelude.{◌≡◌, ◌++◌, ◌≤◌, ◌<◌, ◌⊎◌, ℕ, List, [], ◌∷◌, length, cond, true, false, None, IfOk, IfErr, IfSome, OnOk, OnErr, IsSome, is_some};
+ghost use Rattle.std.specs.Prelude.{◌≡◌, ◌++◌, ◌≤◌, ◌<◌, ◌⊎◌, ℕ, List, [], ◌∷◌, length, cond, true, false, None, IfOk, IfErr, IfSome, OnOk, OnErr, IsSome, is_some, slice_get};
 ghost use Rattle.irtext_base.specs.Answers.{StarvesHere, Demands};
 ghost use Rattle.irtext_base.specs.Format.{sym_name_key};
 ghost use Rattle.irtext_base.specs.Places.{StandsBehind};
@@ -12,7 +12,7 @@ ghost use Rattle.irtext_graph.specs.declared.object.Object.TheVariants.{TheBlock
 ghost use Rattle.irtext_read.specs.AttrTexts.{attr_at};
 ghost use Rattle.irtext_scopes.specs.Names.{AreDistinct, KeepsNames};
 ghost use Rattle.irtext_state.specs.States.{LocatesAt, marks_of};
-ghost use Rattle.irtext_grammar.specs.Contexts.Formats.{format_of};
+ghost use Rattle.irtext_grammar.specs.Contexts.Formats.{format_of, isolated};
 ghost use Rattle.irtext_grammar.specs.Contexts.Held.{whole};
 ghost use Rattle.irtext_grammar.specs.Grammar.Tree.{Part, in_order};
 ghost use Rattle.irtext_names.specs.Tied.{AreTied};
@@ -23,6 +23,7 @@ ghost use Rattle.irtext_nesting.specs.Stands.{OwnSoFar};
 ghost use Rattle.irtext_parse_pieces.specs.Fronts.{IsPart};
 ghost use Rattle.irtext_parse_pieces.specs.Named.{Each, NamesRead};
 ghost use Rattle.irtext_parse_nested.specs.Beginning.{FrontStands, LacksFront, IsKnownIn, SaysGather, NotGatheredAs, types_made, PlacedIn, MakesOf, HasBegun, ComesInto};
+ghost use Rattle.irtext_parse_nested.specs.Coming.{IsStep};
 ghost use Rattle.irtext_parse_nested.specs.Gathered.{AllStand, CanGather, Gathers, IsNothing, IsSteady};
 ghost use Rattle.irtext_parse_nested.specs.Items.{IsSound, Lasts};
 ghost use Rattle.irtext_base.specs.Faults.{id_of};
@@ -30,6 +31,7 @@ ghost use Rattle.irtext_nesting.specs.Reached.{steps_in};
 ghost use Rattle.irtext_parse_nested.specs.Located.{IsLocated};
 ghost use Rattle.irtext_parse_nested.specs.Read.{ReadsFront, begun_by, BeginsOperation, RefusesOperation};
 
+use crate::coming::{Coming, coming_at};
 use crate::counting::step_count;
 use crate::frame::{BegunOperation, Names};
 use crate::making::make_gathered;
@@ -64,6 +66,10 @@ pub struct ReadFront<T, A> {
     pub key: Option<Identifier>,
     /// The number of steps of its format.
     pub steps: usize,
+    /// What the step after its pieces parses.
+    pub coming: Coming,
+    /// Whether it is isolated from above.
+    pub isolated: bool,
     pub pieces: Pieces<T, A>,
 }
 
@@ -96,6 +102,8 @@ fn front_read<T: IrText<A>, A: AttrText<A>>(
     ensures lacks { IfErr result (UnlessMemory (LacksFront T.IrText.reading (attr_at A.IrText.reading) ctx.now.dialects true wanted stream.old)) }
     ensures key { IfOk result (λ front. IfSome front.key (λ key. key ≡ sym_name_key)) }
     ensures counted { IfOk result (λ front. front.steps ≡ length (steps_in ctx.now.dialects (id_of front.id))) }
+    ensures coming { IfOk result (λ front. IsStep front.coming (slice_get (steps_in ctx.now.dialects (id_of front.id)) (length front.pieces))) }
+    ensures isolated { IfOk result (λ front. front.isolated ≡ isolated ctx.now.dialects (id_of front.id)) }
     ensures unread { IfErr result (λ fault. fault.committed ≡ false → stream.new ≡ stream.old) }
     ensures names { NamesRead names.old names.new }
     ensures distinct { OnOk result (AreDistinct names.new.names) }
@@ -111,6 +119,8 @@ fn front_read<T: IrText<A>, A: AttrText<A>>(
         id,
         key: kept_key(info),
         steps: step_count(&info.format),
+        coming: coming_at(&info.format, pieces.len()),
+        isolated: info.isolated,
         pieces,
     })
 }
@@ -282,6 +292,8 @@ fn begin_read<T: IrText<A>, A: AttrText<A>, U>(
         id,
         key,
         steps,
+        coming,
+        isolated,
         pieces,
     } = front;
     let step = pieces.len();
@@ -299,6 +311,9 @@ fn begin_read<T: IrText<A>, A: AttrText<A>, U>(
         inside: true,
         step,
         steps,
+        first: step,
+        coming,
+        isolated,
     })
 }
 

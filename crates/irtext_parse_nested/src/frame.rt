@@ -1,5 +1,6 @@
 //! The frames of the parser of nested text: an operation, a region or a block that was begun.
 
+use crate::coming::Coming;
 use irtext_base::base::OpId;
 use irtext_base::parsable::Place;
 use irtext_context::base::{BasicBlock, Operation, Ptr, Region};
@@ -28,6 +29,12 @@ pub struct BegunOperation {
     pub step: usize,
     /// The number of steps of its format.
     pub steps: usize,
+    /// The index of the step at which its front ended: the first one that parses regions, or the number of steps.
+    pub first: usize,
+    /// What that step parses.
+    pub coming: Coming,
+    /// Whether it is isolated from above.
+    pub isolated: bool,
 }
 
 /// A region that was created, with its scopes opened and its `{` parsed.
