@@ -285,7 +285,7 @@ module _ {T A U : Type 0} (types_at : Text → Outcome T) (attr : Text → Outco
       known = subst (λ d. IsSome (format_of d (id_of front.id))) (sym same_dialects) (subst IsSome (sym f.known) refl);
       steps = steps_behind (steps_in dialects (id_of front.id)) ∙ (ap (λ n. drop n (steps_in dialects (id_of front.id))) (sym f.counts ∙ sym m.step_is) ∙ ap (λ d. drop b.step (steps_in d (id_of front.id))) (sym same_dialects));
       counted = m.steps_are ∙ (counted ∙ ap (λ d. length (steps_in d (id_of front.id))) (sym same_dialects));
-      coming = rw (m.coming_is, m.first_is, same_dialects) next;
+      coming = rw (m.coming_is, m.step_is, same_dialects) next;
       is_isolated = m.isolated_is ∙ (alone ∙ ap (λ d. isolated d (id_of front.id)) (sym same_dialects));
       late = neither f;
       stands = subst IsSome (sym (begun_is block front at loc middle old_ctx names new_ctx b m all_older)) refl;

@@ -131,8 +131,7 @@ module _ {T A : Type 0} where
     pub inside_is : b.inside ≡ true
     pub step_is : b.step ≡ length front.pieces
     pub steps_are : b.steps ≡ front.steps
-    pub first_is : b.first ≡ length front.pieces
-    pub coming_is : b.coming ≡ front.coming
+    pub coming_is : b.coming ≡ Some front.coming
     pub isolated_is : b.isolated ≡ front.isolated
 
 -- ---- the operation's own parts so far

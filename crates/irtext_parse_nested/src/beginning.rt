@@ -66,10 +66,10 @@ pub struct ReadFront<T, A> {
     pub key: Option<Identifier>,
     /// The number of steps of its format.
     pub steps: usize,
-    /// What the step after its pieces parses.
-    pub coming: Coming,
     /// Whether it is isolated from above.
     pub isolated: bool,
+    /// What the step after its pieces parses.
+    pub coming: Coming,
     pub pieces: Pieces<T, A>,
 }
 
@@ -119,8 +119,8 @@ fn front_read<T: IrText<A>, A: AttrText<A>>(
         id,
         key: kept_key(info),
         steps: step_count(&info.format),
-        coming: coming_at(&info.format, pieces.len()),
         isolated: info.isolated,
+        coming: coming_at(&info.format, pieces.len()),
         pieces,
     })
 }
@@ -292,8 +292,8 @@ fn begin_read<T: IrText<A>, A: AttrText<A>, U>(
         id,
         key,
         steps,
-        coming,
         isolated,
+        coming,
         pieces,
     } = front;
     let step = pieces.len();
@@ -309,11 +309,10 @@ fn begin_read<T: IrText<A>, A: AttrText<A>, U>(
         names: results,
         at,
         inside: true,
+        isolated,
+        coming: Some(coming),
         step,
         steps,
-        first: step,
-        coming,
-        isolated,
     })
 }
 

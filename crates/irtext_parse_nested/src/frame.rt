@@ -25,16 +25,14 @@ pub struct BegunOperation {
     pub at: Place,
     /// Whether it is inside of a region.
     pub inside: bool,
+    /// Whether it is isolated from above.
+    pub isolated: bool,
+    /// What the next step of its format parses, if no step was made since its front was parsed.
+    pub coming: Option<Coming>,
     /// The index of the next step of its format.
     pub step: usize,
     /// The number of steps of its format.
     pub steps: usize,
-    /// The index of the step at which its front ended: the first one that parses regions, or the number of steps.
-    pub first: usize,
-    /// What that step parses.
-    pub coming: Coming,
-    /// Whether it is isolated from above.
-    pub isolated: bool,
 }
 
 /// A region that was created, with its scopes opened and its `{` parsed.

@@ -1,5 +1,5 @@
 //! A piece of an operation after a region: it is parsed by the operation's next step, and what it gives is stored.
-ghost use Rattle.std.specs.Prelude.{◌≡◌, ◌≤◌, ◌<◌, ◌+◌, ◌∷◌, [], ℕ, List, Some, IfErr, OnOk, IsSome, length, slice_get, false, true};
+ghost use Rattle.std.specs.Prelude.{◌≡◌, ◌≤◌, ◌<◌, ◌+◌, ◌∷◌, [], ℕ, List, None, Some, IfErr, OnOk, IsSome, length, slice_get, false, true};
 ghost use Rattle.irtext_base.specs.Faults.{id_of};
 ghost use Rattle.irtext_base.specs.Format.{sym_name_key};
 ghost use Rattle.irtext_context.specs.Context.{KeepsOlder, operation};
@@ -123,7 +123,7 @@ fn piece_read<T: IrText<A>, A: AttrText<A>>(
     ensures read { (step : Step) → slice_get (steps_in ctx.now.dialects (id_of begun.old.id)) begun.old.step ≡ Some step → MustPiece itself replaced names.new.names
         (space_at ▷ piece_at T.IrText.reading (attr_at A.IrText.reading) begun.old.inside step) stream.old result stream.new }
     ensures names { NamesRead names.old names.new }
-    ensures behind { begun.new ≡ record begun.old { step = begun.old.step + 1 } }
+    ensures behind { begun.new ≡ record begun.old { coming = None; step = begun.old.step + 1 } }
 {
     skip_white_space(stream);
     let Some(info) = ctx.op_info(&begun.id) else {
@@ -132,6 +132,7 @@ fn piece_read<T: IrText<A>, A: AttrText<A>>(
     let Some(step) = step_at(&info.format, begun.step) else {
         unreachable!()
     };
+    begun.coming = None;
     begun.step = step_behind(&info.format, begun.step);
     step_parse(stream, names, step, begun.inside)
 }

@@ -94,7 +94,7 @@ step_none (y ∷ xs) (suc n) e = step_none xs n e
 
 module _ {T A : Type 0} (names : List Text) (text : Text) (ctx : ContextView T A) (b next : BegunOperation) (o : Begun T A) where
   -- a region was read: the operation goes on behind it
-  pub begun_region : (step : Step) (ss : List Step) (part : Part ℕ T A) → o.steps ≡ step ∷ ss → next ≡ record b { step = b.step + 1 } → HasNoType part → IsBegun names text ctx b o
+  pub begun_region : (step : Step) (ss : List Step) (part : Part ℕ T A) → o.steps ≡ step ∷ ss → next ≡ record b { coming = None; step = b.step + 1 } → HasNoType part → IsBegun names text ctx b o
       → IsBegun names text ctx next (with_steps o ss (o.parts ++ part ∷ []))
   begun_region step ss part e is none h = subst (λ z. IsBegun names text ctx z (with_steps o ss (o.parts ++ part ∷ []))) (sym is) (record {
     inside = h.inside;
@@ -104,7 +104,7 @@ module _ {T A : Type 0} (names : List Text) (text : Text) (ctx : ContextView T A
     known = h.known;
     steps = rest_of (steps_in ctx.dialects o.id) b.step (sym e ∙ h.steps);
     counted = h.counted;
-    coming = h.coming;
+    coming = tt;
     is_isolated = h.is_isolated;
     late = (subst ReadNeither e h.late).1;
     stands = h.stands;

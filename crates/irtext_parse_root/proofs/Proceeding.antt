@@ -253,7 +253,7 @@ module _ {T A U : Type 0} (types_at : Reader T) (reading : Reader A) (h : Splits
         fewer = let m = brace_fewer v.rest tt en.begins.taken new.stream.rest en.begins.read in let n = moves_fewer old.stream v passes.moves in omega (arith, m, n)
 
       -- ---- the one that comes next
-      module _ (is : IsNext ctx.dialects b comes.Region) (next : BegunOperation) (next_is : next ≡ record b { step = b.step + 1 }) (pushed : waits ≡ frames ++ framed.Operation next ∷ []) where
+      module _ (is : IsNext ctx.dialects b comes.Region) (next : BegunOperation) (next_is : next ≡ record b { coming = None; step = b.step + 1 }) (pushed : waits ≡ frames ++ framed.Operation next ∷ []) where
         same_op : next.op ≡ b.op
         same_op = ap (λ z. z.op) next_is
 
@@ -332,7 +332,7 @@ module _ {T A U : Type 0} (types_at : Reader T) (reading : Reader A) (h : Splits
         }
 
     -- ---- no more regions
-    module _ (b next : BegunOperation) (frames : List Frame) (is : IsNext ctx.dialects b comes.Regions) (none : begins_region (after_space old.stream.rest) ≡ false) (next_is : next ≡ record b { step = b.step + 1 }) where
+    module _ (b next : BegunOperation) (frames : List Frame) (is : IsNext ctx.dialects b comes.Regions) (none : begins_region (after_space old.stream.rest) ≡ false) (next_is : next ≡ record b { coming = None; step = b.step + 1 }) where
       over_carries : Carries before old before (with_stream old v)
       over_carries = carries_pass before old v passes.moves
 

@@ -1,5 +1,5 @@
 //! What comes next in an open operation, according to its format.
-ghost use Rattle.std.specs.Prelude.{◌≡◌, ◌≢◌, ◌+◌, ◌<◌, false, length, slice_get, IsSome};
+ghost use Rattle.std.specs.Prelude.{◌≡◌, ◌≢◌, ◌+◌, ◌<◌, false, length, slice_get, IsSome, IfSome};
 ghost use Rattle.irtext_base.specs.Faults.{id_of};
 ghost use Rattle.irtext_formats.specs.Directives.{format_of};
 ghost use Rattle.irtext_grammar.specs.Contexts.Formats.{isolated};
@@ -55,7 +55,7 @@ pub(crate) fn next_turn<T: IrText<A>, A: AttrText<A>>(
     begun: &BegunOperation,
 ) -> Next
     requires counted { begun.now.steps ≡ length (steps_in ctx.now.dialects (id_of begun.now.id)) }
-    requires coming { IsStep begun.now.coming (slice_get (steps_in ctx.now.dialects (id_of begun.now.id)) begun.now.first) }
+    requires coming { IfSome begun.now.coming (λ next. IsStep next (slice_get (steps_in ctx.now.dialects (id_of begun.now.id)) begun.now.step)) }
     requires isolated { begun.now.isolated ≡ isolated ctx.now.dialects (id_of begun.now.id) }
     ensures next { IsNext ctx.now.dialects begun.now result.coming }
     ensures isolated { result.coming ≢ comes.End → result.isolated ≡ isolated ctx.now.dialects (id_of begun.now.id) }
@@ -64,9 +64,9 @@ pub(crate) fn next_turn<T: IrText<A>, A: AttrText<A>>(
     if begun.steps <= begun.step {
         return ended(begun.step);
     }
-    if begun.step == begun.first {
+    if let Some(coming) = begun.coming {
         return Next {
-            coming: begun.coming,
+            coming,
             isolated: begun.isolated,
             behind: begun.step + 1,
         };

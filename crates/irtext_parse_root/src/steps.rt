@@ -1,5 +1,5 @@
 //! One step of the loop: for the innermost frame it begins a nested frame, continues the frame, or ends it.
-ghost use Rattle.std.specs.Prelude.{◌≡◌, ◌≢◌, ◌≤◌, ◌+◌, ◌++◌, ◌∷◌, [], ℕ, false, length, IfOk, IfErr, OnOk, OnErr, Some, slice_get};
+ghost use Rattle.std.specs.Prelude.{◌≡◌, ◌≢◌, ◌≤◌, ◌+◌, ◌++◌, ◌∷◌, [], ℕ, false, length, IfOk, IfErr, OnOk, OnErr, None, Some, IfSome, slice_get};
 ghost use Rattle.irtext_base.specs.Faults.{id_of};
 ghost use Rattle.irtext_context.specs.Context.{KeepsOlder};
 ghost use Rattle.irtext_graph.specs.Back.{IsClosedBelow};
@@ -35,7 +35,7 @@ fn coming_here<T: IrText<A>, A: AttrText<A>, U>(
     begun: &BegunOperation,
 ) -> Next
     requires counted { begun.now.steps ≡ length (steps_in state.now.ctx.now.dialects (id_of begun.now.id)) }
-    requires coming { IsStep begun.now.coming (slice_get (steps_in state.now.ctx.now.dialects (id_of begun.now.id)) begun.now.first) }
+    requires coming { IfSome begun.now.coming (λ next. IsStep next (slice_get (steps_in state.now.ctx.now.dialects (id_of begun.now.id)) begun.now.step)) }
     requires isolated { begun.now.isolated ≡ formats.isolated state.now.ctx.now.dialects (id_of begun.now.id) }
     ensures next { IsNext state.now.ctx.now.dialects begun.now result.coming }
     ensures isolated { result.coming ≢ comes.End → result.isolated ≡ formats.isolated state.now.ctx.now.dialects (id_of begun.now.id) }
@@ -46,9 +46,10 @@ fn coming_here<T: IrText<A>, A: AttrText<A>, U>(
 
 /// The same operation at another step of its format.
 fn at_step(begun: BegunOperation, step: usize) -> BegunOperation
-    ensures { result ≡ record begun { step = step } }
+    ensures { result ≡ record begun { coming = None; step = step } }
 {
     let mut begun = begun;
+    begun.coming = None;
     begun.step = step;
     begun
 }

@@ -1,4 +1,5 @@
 use Rattle.std.proofs.Common.{◌∙◌, sym, ap, subst, length, slice_get}
+use Rattle.std.specs.Prelude.{IfSome}
 use Rattle.irtext_grammar.specs.Contexts.Formats.{isolated}
 use Rattle.irtext_grammar.specs.Contexts.Held.{whole}
 use Rattle.irtext_nesting.specs.Reached.{steps_in}
@@ -12,6 +13,6 @@ coming_here-next-requires g c =
     let dialects = c.args.s.now.state.ctx.now.dialects in
     record {
       counted = there.1.counted ∙ ap (λ i. length (steps_in dialects i)) (sym there.1.id);
-      coming = subst (λ i. IsStep c.args.begun.coming (slice_get (steps_in dialects i) c.args.begun.first)) (sym there.1.id) there.1.coming;
+      coming = subst (λ i. IfSome c.args.begun.coming (λ next. IsStep next (slice_get (steps_in dialects i) c.args.begun.step))) (sym there.1.id) there.1.coming;
       isolated = there.1.is_isolated ∙ ap (isolated dialects) (sym there.1.id);
     }
