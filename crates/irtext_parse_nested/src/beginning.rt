@@ -50,6 +50,7 @@ use irtext_graph::held::HasGraph;
 use irtext_parse_pieces::found::Pieces;
 use irtext_parse_pieces::fronts::front_parse;
 use irtext_parse_pieces::ids::results_and_id_parse;
+use irtext_parse_pieces::keys::Keys;
 use irtext_parse_pieces::names::ReadName;
 use irtext_read::irfmt::faults::{commit, out_of_memory, refuse_at};
 use irtext_state::parsable::StateStream;
@@ -95,6 +96,7 @@ fn front_read<T: IrText<A>, A: AttrText<A>>(
     stream: &mut TextStream,
     ctx: &Context<T, A>,
     names: &mut Names,
+    keys: &mut Keys,
     wanted: bool,
 ) -> ParseResult<ReadFront<T, A>, A>
     requires fine { stream.old.failed ≡ false }
@@ -112,7 +114,7 @@ fn front_read<T: IrText<A>, A: AttrText<A>>(
         Ok(led) => led,
         Err(fault) => return Err(commit_if(stream, wanted, fault)),
     };
-    let pieces = front_parse(stream, names, &info.format, true)?;
+    let pieces = front_parse(stream, names, &info.format, true, keys)?;
     names.keeps_names();
     Ok(ReadFront {
         names: results,
@@ -318,11 +320,13 @@ fn begin_read<T: IrText<A>, A: AttrText<A>, U>(
 
 /// Begins an operation: parses the names of its results, its id and the pieces before its first region, uses their names, creates the
 /// operation, and appends it to the block, if one is given; without a block it is outside of every region. Fails with `NoActiveScope` at
-/// the first name for which no scope of its kind is open, or with `ReservedKey` at the first reserved key of a dictionary. An error is
-/// committed, unless no block is given and no operation comes next.
+/// the first name for which no scope of its kind is open, or with `ReservedKey` at the first reserved key of a dictionary. Keys of a
+/// dictionary may share their texts with those that are kept at their places. An error is committed, unless no block is given and no
+/// operation comes next.
 pub fn operation_begin<T: IrText<A>, A: AttrText<A>, U>(
     s: &mut StateStream<'_, T, A, U>,
     names: &mut Names,
+    keys: &mut Keys,
     block: Option<Ptr<BasicBlock>>,
 ) -> ParseResult<BegunOperation, A>
     requires fine { s.old.stream.failed ≡ false }
@@ -350,6 +354,6 @@ pub fn operation_begin<T: IrText<A>, A: AttrText<A>, U>(
     let loc = s.loc();
     let ctx = &mut *s.state.ctx;
     ctx.made();
-    let front = front_read(&mut s.stream, ctx, names, block.is_some())?;
+    let front = front_read(&mut s.stream, ctx, names, keys, block.is_some())?;
     begin_read(s, names, block, at, loc, front)
 }

@@ -41,6 +41,7 @@ use irtext_base::parsable::{CharStream, ParseResult, TextStream};
 use irtext_base::text::{AttrText, IrText};
 use irtext_context::base::{Context, Operation, Ptr};
 use irtext_dict::base::AttributeDict;
+use irtext_parse_pieces::keys::Keys;
 use irtext_parse_pieces::names::Symbol;
 use irtext_parse_pieces::pieces::{ReadPiece, step_parse};
 use irtext_parse_pieces::steps::step_at;
@@ -134,7 +135,8 @@ fn piece_read<T: IrText<A>, A: AttrText<A>>(
     };
     begun.coming = None;
     begun.step = step_behind(&info.format, begun.step);
-    step_parse(stream, names, step, begun.inside)
+    let mut keys = Keys::none(stream.allocator());
+    step_parse(stream, names, step, begun.inside, &mut keys)
 }
 
 /// Stores what a piece gives an operation. On an error, the operation's attributes may have been changed.

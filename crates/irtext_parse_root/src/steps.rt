@@ -25,6 +25,7 @@ use irtext_base::parsable::ParseResult;
 use irtext_base::text::{AttrText, IrText};
 use irtext_parse_nested::coming::Coming;
 use irtext_parse_nested::frame::{BegunBlock, BegunOperation, BegunRegion, Names};
+use irtext_parse_pieces::keys::Keys;
 use irtext_read::irfmt::faults::{next_is, out_of_memory};
 use irtext_state::parsable::StateStream;
 use irtext_state::parsable::state::State;
@@ -247,6 +248,7 @@ fn blocks_step<T: IrText<A>, A: AttrText<A>, U>(
 fn block_step<T: IrText<A>, A: AttrText<A>, U>(
     s: &mut StateStream<'_, T, A, U>,
     names: &mut Names,
+    keys: &mut Keys,
     frames: &mut Waiting,
     block: BegunBlock,
 ) -> ParseResult<Option<Frame>, A>
@@ -266,7 +268,7 @@ fn block_step<T: IrText<A>, A: AttrText<A>, U>(
     if !another_stands(&mut s.stream, block.first) {
         return Ok(frames.pop());
     }
-    let begun = begin(s, names, Some(block.block))?;
+    let begun = begin(s, names, keys, Some(block.block))?;
     let waits = BegunBlock {
         block: block.block,
         first: false,
@@ -281,6 +283,7 @@ fn block_step<T: IrText<A>, A: AttrText<A>, U>(
 pub(crate) fn step<T: IrText<A>, A: AttrText<A>, U>(
     s: &mut StateStream<'_, T, A, U>,
     names: &mut Names,
+    keys: &mut Keys,
     frames: &mut Waiting,
     frame: Frame,
 ) -> ParseResult<Option<Frame>, A>
@@ -300,6 +303,6 @@ pub(crate) fn step<T: IrText<A>, A: AttrText<A>, U>(
     match frame {
         Frame::Operation(begun) => operation_step(s, names, frames, begun),
         Frame::Region(region) => blocks_step(s, names, frames, region),
-        Frame::Block(block) => block_step(s, names, frames, block),
+        Frame::Block(block) => block_step(s, names, keys, frames, block),
     }
 }
