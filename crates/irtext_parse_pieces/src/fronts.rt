@@ -11,6 +11,7 @@ ghost use Rattle.irtext_parse_pieces.specs.Named.{NamesRead};
 ghost use Rattle.irtext_parse_pieces.specs.Steps.{seen_step};
 
 use crate::found::Pieces;
+use crate::keys::Keys;
 use crate::pieces::step_parse;
 use crate::steps::{FormatStep, reads_piece, step_there, word_of};
 use irtext_base::format::OpFormat;
@@ -73,6 +74,7 @@ fn step_found<S: OwnStream, V: Copy, B: Copy, T: IrText<A>, A: AttrText<A>>(
     names: &mut NameTracker<V, B>,
     step: FormatStep<'_>,
     inside: bool,
+    keys: &mut Keys,
     found: &mut Pieces<T, A>,
 ) -> ParseResult<(), A>
     requires { length found.old + 1 < 2 ^ 64 }
@@ -85,7 +87,7 @@ fn step_found<S: OwnStream, V: Copy, B: Copy, T: IrText<A>, A: AttrText<A>>(
         found.push_word();
         return Ok(());
     }
-    let piece = step_parse(stream, names, step, inside)?;
+    let piece = step_parse(stream, names, step, inside, keys)?;
     match found.push(piece) {
         Ok(()) => Ok(()),
         Err(AllocError) => Err(out_of_memory(stream)),
@@ -98,6 +100,7 @@ fn pieces_parse<S: OwnStream, V: Copy, B: Copy, T: IrText<A>, A: AttrText<A>>(
     names: &mut NameTracker<V, B>,
     format: &OpFormat,
     inside: bool,
+    keys: &mut Keys,
 ) -> ParseResult<Pieces<T, A>, A>
     ensures read { (S.CharStream.view stream.old).failed ≡ false → MustFront S.CharStream.view S.CharStream.at names.new.names
         T.IrText.reading (attr_at A.IrText.reading) inside (steps_of (format_of format.now)) stream.old result stream.new }
@@ -113,19 +116,21 @@ fn pieces_parse<S: OwnStream, V: Copy, B: Copy, T: IrText<A>, A: AttrText<A>>(
         if word_found(stream, step, &mut found) {
             continue;
         }
-        step_found(stream, names, step, inside, &mut found)?;
+        step_found(stream, names, step, inside, keys, &mut found)?;
     }
     Ok(found)
 }
 
 /// Parses what the steps of a format describe, up to the first step that parses regions, one piece for each step, with white space before
 /// each. `inside` says whether it is inside of a region; outside of every region no name can be used. The result has as many pieces as
-/// there are such steps. Every error is committed, and leaves the stream failed.
+/// there are such steps. Keys of a dictionary may share their texts with those that are kept at their places. Every error is committed, and
+/// leaves the stream failed.
 pub fn front_parse<S: OwnStream, V: Copy, B: Copy, T: IrText<A>, A: AttrText<A>>(
     stream: &mut S,
     names: &mut NameTracker<V, B>,
     format: &OpFormat,
     inside: bool,
+    keys: &mut Keys,
 ) -> ParseResult<Pieces<T, A>, A>
     ensures read { MustFront S.CharStream.view S.CharStream.at names.new.names
         T.IrText.reading (attr_at A.IrText.reading) inside (steps_of (format_of format.now)) stream.old result stream.new }
@@ -135,5 +140,5 @@ pub fn front_parse<S: OwnStream, V: Copy, B: Copy, T: IrText<A>, A: AttrText<A>>
     if stream.has_failed() {
         return Err(refuse(stream, Cause::StreamFailed));
     }
-    pieces_parse(stream, names, format, inside)
+    pieces_parse(stream, names, format, inside, keys)
 }
