@@ -1,5 +1,5 @@
 -- The promise of a whole text on a fresh state, from what the reading of its operation leaves and what follows it.
-use Rattle.std.proofs.Common.{◌≡◌, ◌∙◌, ℕ, true, false, true≢false, cond, List, [], ◌∷◌, refl, sym, ap, subst, inl, inr}
+use Rattle.std.proofs.Common.{◌≡◌, ◌∙◌, ℕ, true, true≢false, cond, List, [], ◌∷◌, refl, sym, ap, subst, inl, inr}
 use Rattle.irtext_base.specs.Text.{Text}
 use Rattle.irtext_base.specs.Format.{Id}
 use Rattle.irtext_base.specs.Answers.{Outcome}
@@ -30,7 +30,7 @@ use Rattle.irtext_parse_section.specs.Section.{ReadsSection}
 use Rattle.irtext_parse_root.specs.Ended.{EndsAny, MissesEnd, wrong_section, not_ended}
 use Rattle.irtext_parse_root.specs.Marked.{LeavesMarked}
 use Rattle.irtext_parse_root.specs.Whole.{ExpectsEnd, BuildsWhole, LeavesMore, RefusesWhole}
-use Rattle.irtext_parse_root.specs.WholeAny.{HasSection, IsRest}
+use Rattle.irtext_parse_root.specs.WholeAny.{HasSection}
 use Rattle.irtext_parse_root.proofs.Sectioned.{root_unmarked, root_marked, section_refused, reads_marked, resolves_marked}
 use Rattle.irtext_parse_root.proofs.WholeSteps.{whole_refused}
 

@@ -1,4 +1,4 @@
-use Rattle.std.proofs.Common.{◌≡◌, ◌∙◌, ap, sym, inl, inr, true}
+use Rattle.std.proofs.Common.{◌∙◌, ap, sym, inl, inr, true}
 use Rattle.irtext_base.specs.Own.{texts_of}
 use Rattle.irtext_context.proofs.Kept.{kept_trans}
 use Rattle.irtext_grammar.specs.Contexts.Held.{whole}

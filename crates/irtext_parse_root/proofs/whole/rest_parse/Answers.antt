@@ -14,7 +14,7 @@ use Rattle.irtext_nesting.proofs.Fine.{fine_section}
 use Rattle.irtext_parse_nested.proofs.Marking.{if_err, on_err, always_err}
 use Rattle.irtext_parse_pieces.proofs.Meanings.{takes_whole}
 use Rattle.irtext_parse_section.specs.Said.{rules_of}
-use Rattle.irtext_parse_section.proofs.SectionSteps.{either_way, starved_refusal, starved_there, given_kept, reads_section}
+use Rattle.irtext_parse_section.proofs.SectionSteps.{either_way, starved_refusal, starved_there, given_kept}
 use Rattle.irtext_parse_root.specs.Ended.{wrong_section, not_ended}
 use Rattle.irtext_parse_root.specs.Whole.{ExpectsEnd}
 use Rattle.irtext_parse_root.proofs.Outer.{none_noted, noted_there, held_under, held_beside}
