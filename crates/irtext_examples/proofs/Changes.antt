@@ -6,7 +6,7 @@ use Rattle.irtext_base.specs.Text.{Text}
 use Rattle.irtext_base.specs.declared.base.attributes.AttrObj.{AttrObj}
 use Rattle.irtext_graph.specs.Content.{Content, Content.{AnOperation, ABlock, ARegion}, OperationContent}
 use Rattle.irtext_graph.specs.Data.{with_data}
-use Rattle.irtext_graph.specs.Graph.{Appends, content, content_of}
+use Rattle.irtext_graph.specs.Graph.{Appends, content_of}
 use Rattle.irtext_graph.specs.Parts.{operands_of, successors_of}
 use Rattle.irtext_graph.specs.Store.{get, object_of}
 use Rattle.irtext_graph.specs.declared.arena.Ptr.{Ptr}
