@@ -12,3 +12,4 @@ pub mod MarkSteps
 pub mod Meanings
 pub mod NameSteps
 pub mod PieceSteps
+pub mod WordSteps
