@@ -1,5 +1,5 @@
 -- Steps of the readers of names.
-use Rattle.std.proofs.Common.{◌≡◌, ℕ, Bool, true, false, Result, Ok, Err, List, [], Some, length, codes, refl, sym, ◌∙◌, inl, inr}
+use Rattle.std.proofs.Common.{◌≡◌, ℕ, Bool, true, false, Result, Ok, Err, IsErrAnd, List, [], Some, length, codes, refl, sym, ◌∙◌, inl, inr}
 use Rattle.std.specs.List.{slice_get}
 use Rattle.irtext_base.specs.Text.{Text, begins, front, after, begins_word, in_word}
 use Rattle.irtext_base.specs.Stream.{first_of}
@@ -46,6 +46,12 @@ module _ {S A : Type 0} (l : Lens S) where
       → MayMean l.view l.at Means name_at old (Err fault) new
   name_starved {old = old} {mid = mid} {new = new} {fault = fault} f t h =
       record { meant = λ _. nobody; means = tt; read = record { answers = rw f (inl (starves_behind l.view l.at l.view_at l.at_at old mid new (front in_word (l.view old).rest) (after in_word (l.view old).rest) fault f t h)) } }
+
+  -- whatever is returned then, it is that error
+  pub unstored : {Means : ReadName → Name ℕ → Type 0} {old mid new : S} (r : Result ReadName (ParseFault A)) → (l.view old).failed ≡ false → Takes l.view l.at (front in_word (l.view old).rest) (after in_word (l.view old).rest) old mid → IsErrAnd r (λ fault. StarvesHere l.view l.at mid fault new)
+      → MayMean l.view l.at Means name_at old r new
+  unstored (Ok n) f t h = absurd h
+  unstored (Err fault) f t h = name_starved f t h
 
   -- a name was taken, and has a number
   pub name_there : {old new : S} (names : List Text) (n : ReadName) → (l.view old).failed ≡ false → begins begins_word (l.view old).rest ≡ true → Takes l.view l.at (front in_word (l.view old).rest) (after in_word (l.view old).rest) old new
