@@ -174,7 +174,8 @@ fn after(
     s.stream = TextStream::new(alloc, text)?;
     let said = last(alloc, s, 1)?;
     let marks = s.state.has_marks();
-    let located = located(alloc, s.state.ctx, earlier)?;
+    let ctx = &mut *s.state.ctx;
+    let located = located(alloc, ctx, earlier)?;
     Ok(format!(in alloc; "{said}, {marks}, {located}")?)
 }
 
