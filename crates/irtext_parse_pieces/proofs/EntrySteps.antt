@@ -6,7 +6,7 @@ use Rattle.std.specs.Str.{chars}
 use Rattle.std.specs.Global.{Global}
 use Rattle.irtext_base.specs.Text.{Text, begins, front, after, begins_word, in_word}
 use Rattle.irtext_base.specs.Reading.{the}
-use Rattle.irtext_base.specs.Answers.{Outcome, Read, Takes, Gives, Answers, demanded, mapped, followed, unless_failed}
+use Rattle.irtext_base.specs.Answers.{Outcome, Read, Takes, Gives, demanded, mapped, followed, unless_failed}
 use Rattle.irtext_base.specs.Locations.{AttrView, attr_view}
 use Rattle.irtext_base.specs.declared.base.attributes.AttrObj.{AttrObj}
 use Rattle.irtext_base.specs.declared.base.attributes.AttrObj.TheVariants.{GivenNames, Ident, Own}

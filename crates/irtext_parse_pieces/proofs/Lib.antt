@@ -13,3 +13,4 @@ pub mod Meanings
 pub mod NameSteps
 pub mod PieceSteps
 pub mod Runs
+pub mod WordSteps

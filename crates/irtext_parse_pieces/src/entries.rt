@@ -5,7 +5,7 @@ ghost use Rattle.irtext_read.specs.MustRead.{MustRead};
 ghost use Rattle.irtext_outcomes.specs.Readers.Directives.{attribute_at};
 ghost use Rattle.irtext_grammar.specs.Contexts.Held.{attribute_of};
 ghost use Rattle.irtext_nesting.specs.Heads.{name_at, pair_at, dictionary_at};
-ghost use Rattle.irtext_parse_pieces.specs.Entries.{IsKey, IsEntry, MustEntries, EntriesBehind, MustDictionaryIf};
+ghost use Rattle.irtext_parse_pieces.specs.Entries.{IsKey, IsEntry, TakesWord, MustEntries, EntriesBehind, MustDictionaryIf};
 ghost use Rattle.irtext_parse_pieces.specs.Named.{MayMean, whole};
 
 use crate::keys::Keys;
@@ -37,6 +37,34 @@ pub fn attr_demanded<S: OwnStream, A: AttrText<A>>(stream: &mut S) -> ParseResul
     committed(stream, answer)
 }
 
+/// Consumes the text of a kept key if it comes next. Returns a clone of the key, unless more characters of a word follow.
+#[inline(always)]
+fn key_taken<S: CharStream>(stream: &mut S, kept: &Identifier) -> Option<Identifier>
+    ensures { TakesWord S.view S.at stream.old result stream.new }
+{
+    if !stream.accept(kept.as_str()) {
+        return None;
+    }
+    if begins(stream, Class::Word) {
+        return None;
+    }
+    match kept.clone() {
+        Ok(key) => Some(key),
+        Err(_) => None,
+    }
+}
+
+/// The same; without a kept key nothing changes.
+#[inline(always)]
+fn key_again<S: CharStream>(stream: &mut S, kept: Option<&Identifier>) -> Option<Identifier>
+    ensures { TakesWord S.view S.at stream.old result stream.new }
+{
+    match kept {
+        Some(kept) => key_taken(stream, kept),
+        None => None,
+    }
+}
+
 /// Parses a key, the one at this place of a dictionary. It may share its text with the key that is kept at the place. If no name comes
 /// next, the error is uncommitted and the stream is unchanged.
 pub fn key_parse<S: CharStream, A>(
@@ -53,6 +81,9 @@ pub fn key_parse<S: CharStream, A>(
         return Err(unexpected(stream, Expected::Identifier));
     }
     let at = stream.position();
+    if let Some(name) = key_again(stream, keys.at(index)) {
+        return Ok(Key { name, at });
+    }
     skip_class(stream, Class::Word);
     match keys.key(stream.allocator(), index, stream.text_since(at)) {
         Ok(name) => Ok(Key { name, at }),

@@ -33,6 +33,12 @@ impl Keys {
         }
     }
 
+    /// Returns the key that is kept at this place, if there is one.
+    #[inline(always)]
+    pub(crate) fn at(&self, index: usize) -> Option<&Identifier> {
+        self.kept.get(index)
+    }
+
     /// Returns the key that is kept at this place, if it has this text. Shares its text.
     #[inline(always)]
     fn shared(&self, index: usize, text: &str) -> Option<Identifier>

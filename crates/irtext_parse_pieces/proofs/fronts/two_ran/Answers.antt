@@ -1,5 +1,3 @@
-use Rattle.std.proofs.Common.{[], ◌∷◌}
-use Rattle.irtext_base.specs.Faults.{characters}
 use Rattle.irtext_read.proofs.Steps.{Lens, lens}
 use Rattle.irtext_parse_pieces.proofs.Runs.{ran_none, ran_more, ran_one}
 use Rattle.irtext_parse_pieces.proofs.fronts.two_ran.Given as given
