@@ -3,12 +3,13 @@
 //! `copied`: the text is quoted or copied once for each further argument. `positions`: the position of its end is requested a million
 //! times for each further argument. The other words test texts from outside. `erased`: roots are erased as they are parsed, once for
 //! each further argument. `prints`: texts are parsed, and their printed texts are parsed again. `formats`: the same for texts with
-//! operations in given formats.
+//! operations in given formats. `graphs`: calls on graphs and names, without a text.
 #![tactic(auto)]
 
 mod directives;
 mod erased;
 mod formats;
+mod graphs;
 mod lists;
 mod positions;
 mod prints;
@@ -52,11 +53,14 @@ fn measured(alloc: Global, word: &str, times: usize, text: &str) -> Result<Strin
 
 /// Does what the arguments select, and writes the line.
 fn measure(rt: &HostRuntime) -> io::Result<()> {
-    let text = io::read_to_string(rt.alloc(), rt.reader())?;
     let mut words = env::args(rt)?.skip(1);
     let Some(word) = words.next() else {
         return Err(io::Error::from(io::ErrorKind::InvalidInput));
     };
+    if word.as_str() == "graphs" {
+        return graphs::measure(rt);
+    }
+    let text = io::read_to_string(rt.alloc(), rt.reader())?;
     let times = words.count();
     let told = measured(rt.alloc(), word.as_str(), times, text.as_str())?;
     println!(rt; "{told}")

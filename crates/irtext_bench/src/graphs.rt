@@ -1,14 +1,11 @@
-//! The program with which the bench script counts calls on graphs and names. Its arguments say what is done, with how many objects or
-//! names, and how often. Then come the calls that are made for each name, if names and a graph are counted together.
-#![tactic(auto)]
-
+//! Calls on graphs and names, which the bench script counts. The words say what is done, with how many objects or names, and how often.
+//! Then come the calls that are made for each name, if names and a graph are counted together.
 mod named;
 mod names;
 mod objects;
 
-use crate::named::Call;
+use crate::graphs::named::Call;
 use std::alloc::{AllocError, Global};
-use std::process::ExitCode;
 use std::{env, io};
 
 /// Does what the word selects. Returns whether each call returned what it should.
@@ -74,9 +71,9 @@ fn call_of(word: &str) -> io::Result<Call> {
     }
 }
 
-/// Does what the arguments select, and writes whether it was done.
-fn measure(rt: &HostRuntime) -> io::Result<()> {
-    let mut words = env::args(rt)?.skip(1);
+/// Does what the program's arguments after the first select, and writes whether it was done.
+pub fn measure(rt: &HostRuntime) -> io::Result<()> {
+    let mut words = env::args(rt)?.skip(2);
     let Some(word) = words.next() else {
         return Err(io::Error::from(io::ErrorKind::InvalidInput));
     };
@@ -92,11 +89,4 @@ fn measure(rt: &HostRuntime) -> io::Result<()> {
         "refused"
     };
     println!(rt; "{word} {size} {times}: {answer}")
-}
-
-fn main(rt: HostRuntime) -> ExitCode {
-    match measure(&rt) {
-        Ok(()) => ExitCode::from(0),
-        Err(_) => ExitCode::from(1),
-    }
 }

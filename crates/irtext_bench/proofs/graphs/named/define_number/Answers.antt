@@ -2,7 +2,7 @@ use Rattle.irtext_graph.specs.declared.object.Defined.TheVariants.{OfValue}
 use Rattle.irtext_graph.specs.declared.object.Value.TheVariants.{Result}
 use Rattle.irtext_names.proofs.Added.{added_ties, made_none}
 use Rattle.irtext_names.proofs.Gained.{operation_added}
-use Rattle.irtext_graph_bench.proofs.named.define_number.Goals as goal
+use Rattle.irtext_bench.proofs.graphs.named.define_number.Goals as goal
 
 pub ssa_def-requires-clause-tied : goal.ssa_def-requires-clause-tied
 ssa_def-requires-clause-tied c = added_ties (operation_added c.in-Ok.made c.in-Ok.ensures.made) c.args.names.now.values c.args.names.now.labels c.requires
