@@ -7,12 +7,14 @@ use Rattle.irtext_base.specs.Own.{texts_of, Lawful, Sincere, Unreserved}
 use Rattle.irtext_base.specs.Text.{Text}
 use Rattle.irtext_read.specs.Infix.{Reader}
 use Rattle.irtext_syntax.specs.IntegerKinds.{i64}
+use Rattle.irtext_syntax.specs.NumberLaws.{digits_last}
 use Rattle.irtext_syntax.specs.Sequences.{anything_ends}
-use Rattle.irtext_syntax.specs.ShapeLaws.{Proved, angle_encloses, colon_joins, number_proved, quoted_proved, own_proved, then_proved, within_proved}
+use Rattle.irtext_syntax.specs.ShapeLaws.{Proved, angle_encloses, colon_joins, comma_joins, number_proved, quoted_proved, flag_proved, ranged_proved, own_proved, then_proved, within_proved}
 use Rattle.irtext_syntax.specs.TableLaws.{part_row, part_sincere, table_lawful, table_led, table_sincere, table_unreserved}
 use Rattle.irtext_syntax.specs.Tables.{Row}
-use Rattle.irtext_arith.specs.Attributes.{value_shape, compares_shape, doc_shape, attr_words, attr_word, attr_text, attr_behind, attr_at, attr_eq}
+use Rattle.irtext_arith.specs.Attributes.{value_shape, compares_shape, overflow_shape, align_shape, doc_shape, attr_words, attr_word, attr_text, attr_behind, attr_at, attr_eq}
 use Rattle.irtext_arith.specs.PredicateLaws.{predicate_proved, predicate_last}
+use Rattle.irtext_arith.specs.contracts.fixed.BytesRange.TheImpl as bytes
 use Rattle.irtext_arith.specs.declared.attributes.AttrWord.{AttrWord}
 use Rattle.irtext_arith.specs.declared.attributes.AttrWord.TheVariants as word
 use Rattle.irtext_arith.specs.declared.attributes.ArithAttr.{ArithAttr}
@@ -26,6 +28,12 @@ module _ {T : Type 0} {type_at : Reader T} {type_text : T → Text} {type_eq : T
   compares_shape_proved : Proved (compares_shape type_at type_text type_eq)
   compares_shape_proved = predicate_proved
 
+  overflow_shape_proved : Proved (overflow_shape type_at type_text type_eq)
+  overflow_shape_proved = within_proved angle_encloses (then_proved (flag_proved (codes "nsw") refl) comma_joins (flag_proved (codes "nuw") refl))
+
+  align_shape_proved : Proved (align_shape type_at type_text type_eq)
+  align_shape_proved = ranged_proved bytes.ghosts refl
+
   doc_shape_proved : Proved (doc_shape type_at type_text type_eq)
   doc_shape_proved = quoted_proved
 
@@ -33,12 +41,16 @@ module _ {T : Type 0} {type_at : Reader T} {type_text : T → Text} {type_eq : T
   rows : (x : ArithAttr T) → Row attr_word (attr_behind type_at type_text type_eq) attr_words (attr_text type_at type_text type_eq) x
   rows (attr.Value x) = part_row (codes "arith.value") word.Value attr.Value x value_shape_proved.law anything_ends refl refl refl (λ text. refl)
   rows (attr.Compares x) = part_row (codes "arith.predicate") word.Compares attr.Compares x compares_shape_proved.law predicate_last refl refl refl (λ text. refl)
+  rows (attr.Overflow x) = part_row (codes "arith.overflow") word.Overflow attr.Overflow x overflow_shape_proved.law anything_ends refl refl refl (λ text. refl)
+  rows (attr.Align x) = part_row (codes "arith.align") word.Align attr.Align x align_shape_proved.law digits_last refl refl refl (λ text. refl)
   rows (attr.Doc x) = part_row (codes "arith.doc") word.Doc attr.Doc x doc_shape_proved.law anything_ends refl refl refl (λ text. refl)
 
   -- what comes after each word is about the text
   behind_sincere : (w : AttrWord) → Sincere (attr_behind type_at type_text type_eq w)
   behind_sincere word.Value = part_sincere attr.Value value_shape_proved.law
   behind_sincere word.Compares = part_sincere attr.Compares compares_shape_proved.law
+  behind_sincere word.Overflow = part_sincere attr.Overflow overflow_shape_proved.law
+  behind_sincere word.Align = part_sincere attr.Align align_shape_proved.law
   behind_sincere word.Doc = part_sincere attr.Doc doc_shape_proved.law
 
   pub attr_lawful : Lawful (ArithAttr T) (texts_of (attr_at type_at type_text type_eq) (attr_text type_at type_text type_eq))
@@ -56,12 +68,16 @@ module _ {T : Type 0} {type_at : Reader T} {type_text : T → Text} {type_eq : T
   same : (x y : ArithAttr T) → attr_eq type_at type_text type_eq x y ≡ true → x ≡ y
   same (attr.Value x) (attr.Value y) e = ap attr.Value ((value_shape_proved.decides x y).0 e)
   same (attr.Compares x) (attr.Compares y) e = ap attr.Compares ((compares_shape_proved.decides x y).0 e)
+  same (attr.Overflow x) (attr.Overflow y) e = ap attr.Overflow ((overflow_shape_proved.decides x y).0 e)
+  same (attr.Align x) (attr.Align y) e = ap attr.Align ((align_shape_proved.decides x y).0 e)
   same (attr.Doc x) (attr.Doc y) e = ap attr.Doc ((doc_shape_proved.decides x y).0 e)
   same _ _ e = absurd (true≢false (sym e))
 
   own : (x : ArithAttr T) → attr_eq type_at type_text type_eq x x ≡ true
   own (attr.Value x) = (value_shape_proved.decides x x).1 refl
   own (attr.Compares x) = (compares_shape_proved.decides x x).1 refl
+  own (attr.Overflow x) = (overflow_shape_proved.decides x x).1 refl
+  own (attr.Align x) = (align_shape_proved.decides x x).1 refl
   own (attr.Doc x) = (doc_shape_proved.decides x x).1 refl
 
   -- attributes are equal exactly if they are the same values

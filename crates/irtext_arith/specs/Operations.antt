@@ -2,21 +2,21 @@
 use Rattle.std.specs.Prelude.{Bool, true, false, List, [], ◌∷◌, codes}
 use Rattle.irtext_base.specs.Text.{Text}
 use Rattle.irtext_base.specs.Format.{Format, custom, word, operand, operands, attribute, result_type, region, header}
-use Rattle.irtext_base.specs.declared.base.identifier.OpId.{OpId}
-use Rattle.irtext_context.specs.Dialects.{Table, with_op}
-use Rattle.irtext_context.specs.DialectTable.{dialect_or_new, with_dialect}
+use Rattle.irtext_context.specs.Dialects.{Table}
+use Rattle.irtext_context.specs.DialectTable.{with_operation}
+use Rattle.irtext_context.specs.Named.{id_of_texts}
 use Rattle.irtext_arith.specs.declared.operations.ArithOp.{ArithOp}
 use Rattle.irtext_arith.specs.declared.operations.ArithOp.TheVariants as op
 
--- an operation: its id, its format, and whether it is isolated from above
+-- an operation of the dialect: its name, its format, and whether it is isolated from above
 pub record Operation : Type 0 where
-  pub id : OpId
+  pub name : Text
   pub format : Format
   pub isolated : Bool
 
--- the operation of the dialect with this name, this format and this isolation
+-- the operation with this name, this format and this isolation
 abbrev pub op_with : Text → Format → Bool → Operation
-op_with name format isolated = record { id = record { dialect = codes "arith"; name = name }; format = format; isolated = isolated }
+op_with name format isolated = record { name = name; format = format; isolated = isolated }
 
 -- the definition of each operation
 abbrev pub arith_op : ArithOp → Operation
@@ -32,7 +32,7 @@ arith_operations = arith_op op.Constant ∷ arith_op op.Add ∷ arith_op op.Comp
 
 -- the dialects with this operation registered
 abbrev pub with_one : List (Text × Table) → Operation → List (Text × Table)
-with_one dialects op = with_dialect dialects op.id.dialect (with_op (dialect_or_new dialects op.id.dialect) op.id op.format op.isolated)
+with_one dialects op = with_operation dialects (id_of_texts (codes "arith") op.name) op.format op.isolated
 
 -- the dialects with these operations registered, one after the other
 abbrev pub with_all : List (Text × Table) → List Operation → List (Text × Table)

@@ -1,11 +1,14 @@
 //! The attributes of the dialect `arith`, over the types of a context.
+use crate::fixed::{Bytes, NoSignedWrap, NoUnsignedWrap};
 use crate::predicate::Predicate;
 use irtext_base::parsable::{ParseResult, TextStream};
 use irtext_base::result::Expected;
 use irtext_base::text::{AttrText, Family, IrText, Worded};
+use irtext_syntax::keyword::Flag;
 use irtext_syntax::own::Own;
 use irtext_syntax::part::TryClone;
-use irtext_syntax::ready::{Angle, Colon};
+use irtext_syntax::range::Ranged;
+use irtext_syntax::ready::{Angle, Colon, Comma};
 use irtext_syntax::sequence::{Then, Within};
 use irtext_syntax::table::{Table, behind_word, table_parse, write_row};
 use irtext_syntax::words::DottedWord;
@@ -17,6 +20,9 @@ use std::hash::Hash;
 /// What comes after `arith.value`: `<N: T>`.
 pub type ValueText<T> = Within<Angle, Then<Number<i64>, Colon, Own<T>>>;
 
+/// What comes after `arith.overflow`: `<nsw?, nuw?>`.
+pub type OverflowText = Within<Angle, Then<Flag<NoSignedWrap>, Comma, Flag<NoUnsignedWrap>>>;
+
 /// An attribute of the dialect `arith`, over the types `T` of the context.
 #[derive(Drop)]
 #[derive_where(PartialEq, Eq, Hash, Debug; T)]
@@ -25,6 +31,10 @@ pub enum ArithAttr<T> {
     Value(ValueText<T>),
     /// Printed as `arith.predicate P`.
     Compares(Predicate),
+    /// Printed as `arith.overflow <nsw?, nuw?>`.
+    Overflow(OverflowText),
+    /// Printed as `arith.align N`.
+    Align(Ranged<Bytes>),
     /// Printed as `arith.doc "S"`, once, in the section after the root.
     Doc(Characters),
 }
@@ -36,6 +46,10 @@ pub enum AttrWord {
     Value,
     /// `arith.predicate`.
     Compares,
+    /// `arith.overflow`.
+    Overflow,
+    /// `arith.align`.
+    Align,
     /// `arith.doc`.
     Doc,
 }
@@ -51,6 +65,12 @@ impl DottedWord for AttrWord {
         }
         if text == "arith.predicate" {
             return Some(AttrWord::Compares);
+        }
+        if text == "arith.overflow" {
+            return Some(AttrWord::Overflow);
+        }
+        if text == "arith.align" {
+            return Some(AttrWord::Align);
         }
         if text == "arith.doc" {
             return Some(AttrWord::Doc);
@@ -68,6 +88,8 @@ impl<B, T: IrText<B>> Table<ArithAttr<T>, B> for AttrWord {
         match self {
             AttrWord::Value => Ok(ArithAttr::Value(behind_word(stream)?)),
             AttrWord::Compares => Ok(ArithAttr::Compares(behind_word(stream)?)),
+            AttrWord::Overflow => Ok(ArithAttr::Overflow(behind_word(stream)?)),
+            AttrWord::Align => Ok(ArithAttr::Align(behind_word(stream)?)),
             AttrWord::Doc => Ok(ArithAttr::Doc(behind_word(stream)?)),
         }
     }
@@ -75,7 +97,7 @@ impl<B, T: IrText<B>> Table<ArithAttr<T>, B> for AttrWord {
 
 impl<B, T: IrText<B>> IrText<B> for ArithAttr<T> {
     ghost use Rattle.std.specs.Prelude.{refl};
-    ghost use Rattle.irtext_arith.specs.declared.attributes.ArithAttr.TheVariants.{Value, Compares, Doc};
+    ghost use Rattle.irtext_arith.specs.declared.attributes.ArithAttr.TheVariants.{Value, Compares, Overflow, Align, Doc};
     ghost use Rattle.irtext_arith.specs.Attributes.{attr_at, attr_text};
     ghost use Rattle.irtext_arith.specs.AttributeLaws.{attr_lawful, attr_sincere, attr_decides};
 
@@ -87,7 +109,7 @@ impl<B, T: IrText<B>> IrText<B> for ArithAttr<T> {
 
     ghost sincere = { attr_sincere T.lawful T.sincere T.decides };
 
-    ghost decides = { attr_decides T.lawful T.sincere T.decides ⟦<ArithAttr<T> as PartialEq>⟧.eq (elim [ Value x ↦ elim [ Value y ↦ refl | Compares y ↦ refl | Doc y ↦ refl ] | Compares x ↦ elim [ Value y ↦ refl | Compares y ↦ refl | Doc y ↦ refl ] | Doc x ↦ elim [ Value y ↦ refl | Compares y ↦ refl | Doc y ↦ refl ] ]) };
+    ghost decides = { attr_decides T.lawful T.sincere T.decides ⟦<ArithAttr<T> as PartialEq>⟧.eq (elim [ Value x ↦ elim [ Value y ↦ refl | Compares y ↦ refl | Overflow y ↦ refl | Align y ↦ refl | Doc y ↦ refl ] | Compares x ↦ elim [ Value y ↦ refl | Compares y ↦ refl | Overflow y ↦ refl | Align y ↦ refl | Doc y ↦ refl ] | Overflow x ↦ elim [ Value y ↦ refl | Compares y ↦ refl | Overflow y ↦ refl | Align y ↦ refl | Doc y ↦ refl ] | Align x ↦ elim [ Value y ↦ refl | Compares y ↦ refl | Overflow y ↦ refl | Align y ↦ refl | Doc y ↦ refl ] | Doc x ↦ elim [ Value y ↦ refl | Compares y ↦ refl | Overflow y ↦ refl | Align y ↦ refl | Doc y ↦ refl ] ]) };
 
     fn read(stream: &mut TextStream) -> ParseResult<ArithAttr<T>, B> {
         table_parse::<AttrWord, ArithAttr<T>, B>(
@@ -101,6 +123,8 @@ impl<B, T: IrText<B>> IrText<B> for ArithAttr<T> {
         match self {
             ArithAttr::Value(part) => write_row::<ValueText<T>, B>("arith.value", part, f),
             ArithAttr::Compares(part) => write_row::<Predicate, B>("arith.predicate", part, f),
+            ArithAttr::Overflow(part) => write_row::<OverflowText, B>("arith.overflow", part, f),
+            ArithAttr::Align(part) => write_row::<Ranged<Bytes>, B>("arith.align", part, f),
             ArithAttr::Doc(part) => write_row::<Characters, B>("arith.doc", part, f),
         }
     }
@@ -128,6 +152,8 @@ impl<B, T: IrText<B> + Hash + TryClone> AttrText<B> for ArithAttr<T> {
         match self {
             ArithAttr::Value(part) => Ok(ArithAttr::Value(part.try_clone()?)),
             ArithAttr::Compares(part) => Ok(ArithAttr::Compares(part.try_clone()?)),
+            ArithAttr::Overflow(part) => Ok(ArithAttr::Overflow(part.try_clone()?)),
+            ArithAttr::Align(part) => Ok(ArithAttr::Align(part.try_clone()?)),
             ArithAttr::Doc(part) => Ok(ArithAttr::Doc(part.try_clone()?)),
         }
     }
@@ -139,7 +165,11 @@ impl<T> Worded for ArithAttr<T> {
     ghost words = { attr_words };
 
     fn has_word(word: &str) -> bool {
-        word == "arith.value" || word == "arith.predicate" || word == "arith.doc"
+        word == "arith.value"
+            || word == "arith.predicate"
+            || word == "arith.overflow"
+            || word == "arith.align"
+            || word == "arith.doc"
     }
 }
 

@@ -1,11 +1,14 @@
 //! The dialect `arith`: its types, attributes and operations.
 //!
-//! The texts of its types and attributes, where N is a number, S a string, T a type of the context, P a part of the dialect's own:
+//! The texts of its types and attributes, where N is a number, `w?` the word `w` or nothing, S a string, T a type of the context, P a part
+//! of the dialect's own:
 //!
 //! - `arith.int N`
 //! - `arith.index`
 //! - `arith.value <N: T>`
 //! - `arith.predicate P`
+//! - `arith.overflow <nsw?, nuw?>`
+//! - `arith.align N`
 //! - `arith.doc "S"`
 //!
 //! `register_arith` registers its operations, by these formats:
@@ -18,6 +21,7 @@
 #![tactic(auto)]
 
 pub mod attributes;
+pub mod fixed;
 pub mod operations;
 pub mod predicate;
 pub mod types;

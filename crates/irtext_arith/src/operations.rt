@@ -1,30 +1,16 @@
 //! The operations of the dialect `arith`, with their formats.
-ghost use Rattle.std.specs.Prelude.{◌≡◌, IfOk, IfErr, IsTrue, OnOk, codes};
+ghost use Rattle.std.specs.Prelude.{◌≡◌, IfOk, IfErr, OnOk, codes};
 ghost use Rattle.irtext_formats.specs.Directives.{directive_of, format_of};
 ghost use Rattle.irtext_base.specs.Format.{word};
-ghost use Rattle.irtext_base.specs.Text.{is_identifier};
 ghost use Rattle.irtext_base.specs.declared.location.Location.{Unknown};
 ghost use Rattle.irtext_arith.specs.Operations.{arith_op, arith_operations, with_one, with_all};
 
-use irtext_base::base::{Identifier, OpId};
+use irtext_base::base::Identifier;
 use irtext_base::format::{Directive, OpFormat};
-use irtext_base::location::Location;
-use irtext_base::result::{Cause, Error, ErrorKind, Result as Answer};
+use irtext_base::result::{ErrorKind, Result as Answer};
 use irtext_base::text::{AttrText, IrText};
 use irtext_context::base::Context;
-use irtext_context::dialect::{Dialect, DialectName};
 use std::alloc::{AllocError, Global};
-
-/// Returns the error for an allocation that failed.
-fn out_of_memory<A>() -> Error<A>
-    ensures { result ≡ record { kind = ErrorKind.InvalidArgument; err = Cause.Memory; loc = Unknown } }
-{
-    Error {
-        kind: ErrorKind::InvalidArgument,
-        err: Cause::Memory,
-        loc: Location::Unknown,
-    }
-}
 
 /// An operation of the dialect.
 #[derive(Clone, Copy)]
@@ -43,9 +29,8 @@ pub enum ArithOp {
 
 /// Returns the operation's name, and whether it is isolated from above.
 fn row(op: ArithOp) -> (&'static str, bool)
-    ensures name { result.0.now ≡ (arith_op op).id.name }
+    ensures name { result.0.now ≡ (arith_op op).name }
     ensures isolated { result.1 ≡ (arith_op op).isolated }
-    ensures is_name { IsTrue (is_identifier result.0.now) }
 {
     match op {
         ArithOp::Constant => ("constant", false),
@@ -54,16 +39,6 @@ fn row(op: ArithOp) -> (&'static str, bool)
         ArithOp::Func => ("func", true),
         ArithOp::Return => ("return", false),
     }
-}
-
-/// Returns the operation's id.
-fn id(alloc: Global, op: ArithOp) -> Result<OpId, AllocError>
-    ensures { IfOk result (λ id. id ≡ (arith_op op).id) }
-{
-    let (name, _) = row(op);
-    let dialect = Identifier::from_word(alloc, "arith")?;
-    let name = Identifier::from_word(alloc, name)?;
-    Ok(OpId { dialect, name })
 }
 
 /// Returns the literal `:`.
@@ -117,22 +92,15 @@ fn op_format(alloc: Global, op: ArithOp) -> Result<OpFormat, AllocError>
     Ok(OpFormat::Custom(directives))
 }
 
-/// Registers the operation with its dialect. On an error the dialect may stay registered, without the operation.
+/// Registers the operation, and its dialect if it is not registered yet. On an error the context is unchanged.
 fn add<T: IrText<A>, A: AttrText<A>>(ctx: &mut Context<T, A>, op: ArithOp) -> Answer<(), A>
     ensures ok { OnOk result (ctx.new.dialects ≡ with_one ctx.old.dialects (arith_op op)) }
     ensures rest { ctx.new ≡ record ctx.old { dialects = ctx.new.dialects } }
     ensures kind { IfErr result (λ e. (e.kind ≡ ErrorKind.InvalidArgument) × (e.loc ≡ Unknown)) }
 {
-    let alloc = ctx.allocator();
-    let (Ok(id), Ok(format)) = (id(alloc, op), op_format(alloc, op)) else {
-        return Err(out_of_memory());
-    };
-    let Ok(name) = id.dialect.clone() else {
-        return Err(out_of_memory());
-    };
-    let (_, isolated) = row(op);
-    let dialect = Dialect::register(ctx, &DialectName::from(name))?;
-    dialect.add_op(id, format, isolated)
+    let (name, isolated) = row(op);
+    let format = op_format(ctx.allocator(), op)?;
+    ctx.register_op("arith", name, format, isolated)
 }
 
 /// Registers the operations of the dialect with their formats: `arith.constant`, `arith.add`, `arith.compare`, `arith.func` and

@@ -1,12 +1,14 @@
 -- Examples of composed parts, each with its law.
+use Rattle.std.proofs.Common.{◌^◌, codes, nat_lt, refl, true}
 use Rattle.std.specs.Prelude.{◌≡◌, ◌↔◌, Bool, IsTrue, ⊤}
 use Rattle.irtext_base.specs.Own.{texts_of, Lawful, Sincere}
 use Rattle.irtext_base.specs.Text.{Text}
 use Rattle.irtext_read.specs.Infix.{Reader}
 use Rattle.irtext_syntax.specs.IntegerKinds.{u8}
 use Rattle.irtext_syntax.specs.OwnLaws.{own_last}
-use Rattle.irtext_syntax.specs.ShapeLaws.{Proved, comma_joins, spaced_arrow_joins, round_encloses, square_encloses, curly_encloses, number_proved, quoted_proved, name_proved, own_proved, then_proved, within_proved, list_proved, maybe_proved, number_missing, quoted_missing, name_missing, own_missing, then_missing, within_missing, list_missing}
-use Rattle.irtext_syntax.specs.Shapes.{round, square, curly, comma, spaced_arrow, number, quoted, name, own, then_of, within, list_of, maybe}
+use Rattle.irtext_syntax.specs.ShapeLaws.{Proved, comma_joins, spaced_arrow_joins, round_encloses, square_encloses, curly_encloses, number_proved, quoted_proved, name_proved, keyword_proved, flag_proved, ranged_proved, own_proved, then_proved, within_proved, list_proved, maybe_proved, number_missing, quoted_missing, name_missing, keyword_missing, ranged_missing, own_missing, then_missing, within_missing, list_missing}
+use Rattle.irtext_syntax.specs.Shapes.{round, square, curly, comma, spaced_arrow, number, quoted, name, keyword, flag, ranged, own, then_of, within, list_of, maybe}
+use Rattle.irtext_syntax.specs.declared.range.Range as range
 
 -- `{ [1, 2], a }`, and where the name is left out, `{ [1, 2],  }`
 named : Proved (within {B = ⊤} curly (then_of {W = ⊤} (list_of square (number u8)) comma (maybe name)))
@@ -15,6 +17,14 @@ named = within_proved curly_encloses (then_proved (list_proved square_encloses (
 -- `[("a", "b"), ()]`
 lists : Proved (list_of square (list_of round quoted))
 lists = list_proved square_encloses (list_proved round_encloses quoted_proved quoted_missing) (list_missing round_encloses quoted_proved)
+
+-- `(mut, to)`, and without the first word, `(, to)`
+words : Proved (within {B = ⊤} round (then_of {W = ⊤} (flag (codes "mut")) comma (maybe (keyword (codes "to")))))
+words = within_proved round_encloses (then_proved (flag_proved (codes "mut") refl) comma_joins (maybe_proved (keyword_proved (codes "to") refl) (keyword_missing (codes "to") refl)))
+
+-- `[1, 2]`, of numbers of a range
+numbers : {R : Type 0} (g : range.Ghosts R) → nat_lt g.high (2 ^ 64) ≡ true → Proved (list_of square (ranged g))
+numbers g fits = list_proved square_encloses (ranged_proved g fits) (ranged_missing g)
 
 module _ {T : Type 0} {reading : Reader T} {written : T → Text} {test : T → T → Bool}
     (lawful : Lawful T (texts_of reading written)) (sincere : Sincere reading) (decides : (x y : T) → IsTrue (test x y) ↔ (x ≡ y)) where

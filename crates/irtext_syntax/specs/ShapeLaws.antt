@@ -1,12 +1,14 @@
 -- For callers: the laws of parts, composed as the parts are.
-use Rattle.std.proofs.Common.{◌≡◌, Bool, true, ◌++◌, codes, refl}
+use Rattle.std.proofs.Common.{◌≡◌, ◌^◌, Bool, true, ◌++◌, codes, refl, nat_lt}
+use Rattle.std.specs.Cmp.{booleans_Decides}
 use Rattle.std.specs.Cmp.Lexicographic.{pointwise_decides}
 use Rattle.std.specs.Prelude.{◌↔◌, IsTrue}
 use Rattle.irtext_base.specs.Own.{texts_of, Lawful, Sincere}
-use Rattle.irtext_base.specs.Text.{Text}
+use Rattle.irtext_base.specs.Text.{Text, is_identifier}
 use Rattle.irtext_read.specs.Infix.{Reader}
 use Rattle.irtext_syntax.specs.FixedTexts.{BetweenLaw, BracketsLaw}
 use Rattle.irtext_syntax.specs.IntegerKinds.{Kind}
+use Rattle.irtext_syntax.specs.KeywordLaws.{keyword_law, keyword_misses, keyword_decides, flag_law}
 use Rattle.irtext_syntax.specs.ListLaws.{list_law, list_misses}
 use Rattle.irtext_syntax.specs.ListParts.{SeparatorLaw, comma_in_angle, comma_in_round, comma_in_square, comma_in_curly}
 use Rattle.irtext_syntax.specs.MaybeLaws.{maybe_law, maybe_decides}
@@ -15,9 +17,11 @@ use Rattle.irtext_syntax.specs.NumberLaws.{number_law, number_misses, number_dec
 use Rattle.irtext_syntax.specs.OwnLaws.{own_law, own_misses, own_decides}
 use Rattle.irtext_syntax.specs.PartLaws.{PartLaw, MissesClosers, EndsAnywhere}
 use Rattle.irtext_syntax.specs.QuotedLaws.{characters_law, characters_misses, characters_decides}
+use Rattle.irtext_syntax.specs.RangeLaws.{ranged_law, ranged_misses, ranged_decides}
 use Rattle.irtext_syntax.specs.ReadyTexts.{colon_law, comma_law, arrow_law, spaced_arrow_law, angle_law, round_law, square_law, curly_law, closing_colon, closing_comma, ends_spaced}
 use Rattle.irtext_syntax.specs.SequenceLaws.{then_law, then_misses, then_decides, within_law, within_misses, within_decides}
-use Rattle.irtext_syntax.specs.Shapes.{Shape, Fixed, Around, colon, comma, arrow, spaced_arrow, angle, round, square, curly, number, quoted, name, own, then_of, within, list_of, maybe, maybe_eq}
+use Rattle.irtext_syntax.specs.Shapes.{Shape, Fixed, Around, colon, comma, arrow, spaced_arrow, angle, round, square, curly, number, quoted, name, keyword, flag, ranged, own, then_of, within, list_of, maybe, maybe_eq}
+use Rattle.irtext_syntax.specs.declared.range.Range as range
 
 -- a part obeys the law, and equal values are the same
 pub record Proved {X : Type 0} (shape : Shape X) : Type 0 where
@@ -73,6 +77,15 @@ quoted_proved = record { law = characters_law; decides = characters_decides }
 pub name_proved : Proved name
 name_proved = record { law = name_law; decides = name_decides }
 
+pub keyword_proved : (word : Text) → is_identifier word ≡ true → Proved (keyword word)
+keyword_proved word is_word = record { law = keyword_law word is_word; decides = keyword_decides }
+
+pub flag_proved : (word : Text) → is_identifier word ≡ true → Proved (flag word)
+flag_proved word is_word = record { law = flag_law word is_word; decides = booleans_Decides }
+
+pub ranged_proved : {R : Type 0} (g : range.Ghosts R) → nat_lt g.high (2 ^ 64) ≡ true → Proved (ranged g)
+ranged_proved g fits = record { law = ranged_law g fits; decides = ranged_decides g }
+
 pub own_proved : {T : Type 0} {reading : Reader T} {written : T → Text} {test : T → T → Bool} → Lawful T (texts_of reading written) → Sincere reading → ((x y : T) → IsTrue (test x y) ↔ (x ≡ y)) → Proved (own reading written test)
 own_proved {reading = reading} {written = written} {test = test} lawful sincere decides = record { law = own_law reading written lawful sincere; decides = own_decides test _ (λ x y. refl) decides }
 
@@ -108,6 +121,12 @@ quoted_missing = record { law = characters_misses }
 
 pub name_missing : CanMiss name
 name_missing = record { law = name_misses }
+
+pub keyword_missing : (word : Text) → is_identifier word ≡ true → CanMiss (keyword word)
+keyword_missing word is_word = record { law = keyword_misses word is_word }
+
+pub ranged_missing : {R : Type 0} (g : range.Ghosts R) → CanMiss (ranged g)
+ranged_missing g = record { law = ranged_misses g }
 
 pub own_missing : {T : Type 0} {reading : Reader T} {written : T → Text} {test : T → T → Bool} → Lawful T (texts_of reading written) → Sincere reading → ((x y : T) → IsTrue (test x y) ↔ (x ≡ y)) → CanMiss (own reading written test)
 own_missing {reading = reading} {written = written} lawful sincere decides = record { law = own_misses reading written lawful }

@@ -1,11 +1,13 @@
 -- For callers: parts of texts, composed as in Rust: `Within<Angle, Number<u32>>` is `within angle (number u32)`.
-use Rattle.std.specs.Prelude.{Bool, true, false, List, Option, Some, None, ◌&&◌, codes}
+use Rattle.std.specs.Bool.{beq}
+use Rattle.std.specs.Prelude.{Bool, true, false, List, Option, Some, None, ◌&&◌, codes, decimal, nat_eq}
 use Rattle.std.specs.Cmp.Lexicographic.{pointwise}
 use Rattle.std.specs.Fmt.{signed_decimal}
 use Rattle.std.specs.Str.{bytes_eq, encode_utf8_all}
 use Rattle.irtext_base.specs.Text.{Text}
 use Rattle.irtext_read.specs.Infix.{Reader}
 use Rattle.irtext_syntax.specs.IntegerKinds.{Kind}
+use Rattle.irtext_syntax.specs.KeywordTexts.{keyword_at, flag_at, flag_text, ends_flag}
 use Rattle.irtext_syntax.specs.ListParts.{list_at, list_text}
 use Rattle.irtext_syntax.specs.Maybes.{maybe_at, maybe_text, maybe_ends}
 use Rattle.irtext_syntax.specs.NameTexts.{WordText, name_at, name_text, ends_word}
@@ -13,10 +15,13 @@ use Rattle.irtext_syntax.specs.NumberOf.{number_at}
 use Rattle.irtext_syntax.specs.Numbers.{ends_digits}
 use Rattle.irtext_syntax.specs.Owns.{own_at, own_text, ends_text}
 use Rattle.irtext_syntax.specs.QuotedParts.{characters_at, characters_text}
+use Rattle.irtext_syntax.specs.RangeOf.{ranged_at}
 use Rattle.irtext_syntax.specs.ScalarTexts.{ScalarText}
 use Rattle.irtext_syntax.specs.Sequences.{then_at, of_then, within_at, of_within, anything}
 use Rattle.irtext_syntax.specs.declared.number.Number.{Number}
 use Rattle.irtext_syntax.specs.declared.own.Own.{Own}
+use Rattle.irtext_syntax.specs.declared.range.Range as range
+use Rattle.irtext_syntax.specs.declared.range.Ranged.{Ranged}
 use Rattle.irtext_syntax.specs.declared.sequence.Then.{Then}
 use Rattle.irtext_syntax.specs.declared.sequence.Within.{Within}
 
@@ -74,6 +79,18 @@ quoted = record { reading = characters_at; written = characters_text; ends = any
 -- an identifier
 abbrev pub name : Shape WordText
 name = record { reading = name_at; written = name_text; ends = ends_word; test = λ x y. bytes_eq x.characters y.characters }
+
+-- a fixed word that is always there
+abbrev pub keyword : Text → Shape Unit
+keyword word = record { reading = keyword_at word; written = λ _. word; ends = ends_word; test = λ _ _. true }
+
+-- a fixed word that is there or not
+abbrev pub flag : Text → Shape Bool
+flag word = record { reading = flag_at word; written = flag_text word; ends = ends_flag word; test = beq }
+
+-- a number of a range
+abbrev pub ranged : {R : Type 0} (g : range.Ghosts R) → Shape (Ranged R g)
+ranged g = record { reading = ranged_at g; written = λ n. decimal n.value; ends = ends_digits; test = λ x y. nat_eq x.value y.value }
 
 -- a type or an attribute of the whole context, given what is parsed and printed for it
 abbrev pub own : {T : Type 0} → Reader T → (T → Text) → (T → T → Bool) → Shape (Own T)
