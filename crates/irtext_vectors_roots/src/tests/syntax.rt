@@ -1,5 +1,5 @@
 //! Ready parts of texts (`irtext_syntax`), each parsed and printed again.
-ghost use Rattle.std.specs.Prelude.{refl};
+ghost use Rattle.std.specs.Prelude.{codes, refl};
 
 use irtext_syntax::characters::Characters;
 use irtext_syntax::keyword::{Flag, Keyword, Word};
@@ -21,7 +21,7 @@ use std::test::Fail;
 struct To;
 
 impl Word for To {
-    ghost word = { 116 ∷ 111 ∷ [] };
+    ghost word = { codes "to" };
 
     ghost is_word = { refl };
 
