@@ -9,8 +9,8 @@ import sys
 from dataclasses import dataclass, field
 
 TOP = os.path.dirname(os.path.dirname(os.path.realpath(__file__)))
-# crates for authors of dialects to copy from
-EXAMPLES = ("irtext_arith", "irtext_two")
+# crates to copy from
+EXAMPLES = ("irtext_arith", "irtext_two", "irtext_examples")
 
 
 def text_of(path):
@@ -53,7 +53,7 @@ class Crate:
 
     @property
     def is_example(self):
-        """Whether it is an example for authors of dialects, whose definitions are no part of the product's."""
+        """Whether it is an example to copy from, whose definitions are no part of the product's."""
         return self.name in EXAMPLES
 
     @property

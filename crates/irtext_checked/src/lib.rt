@@ -1,4 +1,4 @@
-//! Calls for front ends and passes that test what the calls below them require: an operation is made and inserted, and where the
+//! Calls for front ends and passes that test what the calls below them require: an operation is made, inserted and changed, and where the
 //! call without a test could not be made, the answer is an error.
 #![tactic(auto)]
 
@@ -6,6 +6,7 @@ ghost use Rattle.std.specs.Prelude.{◌≡◌};
 ghost use Rattle.irtext_base.specs.declared.location.Location.{Unknown};
 ghost use Rattle.irtext_checked.specs.Checked.{IsMessage};
 
+pub mod access;
 pub mod contains;
 pub mod insert;
 pub mod make;

@@ -129,6 +129,9 @@ module _ {T A : Type 0} (types_at : Text → Outcome T) (reading : Text → Outc
     pub steps_are : steps_in dialects (id_of op.1) ≡ steps_of (format_of info.format)
     steps_are = ap (λ o. elim o [ Some f ↦ steps_of f | None ↦ [] ]) known_format
 
+    pub isolated_is : formats.isolated dialects (id_of op.1) ≡ info.isolated
+    isolated_is = ap (λ o. elim o [ Some k ↦ k.isolated | None ↦ false ]) known.known
+
     -- a piece is missing
     pub piece_lacks : (wanted : Bool) (more : List Text) {fault : ParseFault A} {new : StreamView} → Sincere types_at → Sincere reading → MustFront {T = T} itself replaced more types_at (attr_at reading) true (steps_of (format_of info.format)) mid (Err fault) new
         → UnlessMemory (LacksFront types_at (attr_at reading) dialects true wanted old) fault

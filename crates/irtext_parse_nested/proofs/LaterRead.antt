@@ -1,5 +1,5 @@
 -- A piece behind a region of its operation was read and stored, and the operation goes on; or how that is refused.
-use Rattle.std.proofs.Common.{◌≡◌, ◌∙◌, ◌+◌, inl, inr, ℕ, suc, false, true, List, [], ◌∷◌, ◌++◌, drop, length, map, slice_get, Some, IsSome, Result, Ok, Err, refl, sym, ap, subst, arith, append-nil, append_assoc}
+use Rattle.std.proofs.Common.{◌≡◌, ◌∙◌, ◌+◌, inl, inr, ℕ, suc, false, true, List, [], ◌∷◌, ◌++◌, drop, length, map, slice_get, None, Some, IsSome, Result, Ok, Err, refl, sym, ap, subst, arith, append-nil, append_assoc}
 use Rattle.std.specs.List.{All}
 use Rattle.irtext_base.specs.Text.{Text}
 use Rattle.irtext_base.specs.Own.{Sincere}
@@ -24,7 +24,7 @@ use Rattle.irtext_read.proofs.Steps.{alone}
 use Rattle.irtext_scopes.specs.Names.{AreDistinct}
 use Rattle.irtext_state.specs.States.{marks_of}
 use Rattle.irtext_state.specs.declared.parsable.state.StateStream.{StateStream}
-use Rattle.irtext_grammar.specs.Contexts.Formats.{format_of}
+use Rattle.irtext_grammar.specs.Contexts.Formats.{format_of, isolated}
 use Rattle.irtext_grammar.specs.Contexts.Held.{whole}
 use Rattle.irtext_grammar.specs.Grammar.Tree as tree
 use Rattle.irtext_grammar.specs.Grammar.Tree.{Piece, Part}
@@ -155,7 +155,7 @@ module _ {T A U : Type 0} (types_at : Reader T) (attr : Reader (AttrView A)) (ol
             ∙ (ap (λ ps. length (result_types (body_of (format_of dialects o.id) ps))) (append_assoc o.parts (tree.piece meant ∷ []) later)
             ∙ is.typed (tree.piece meant ∷ later) (all_more (tree.piece meant) later (later_one step (tree.piece meant) neither.0 (part_of step meant of_step)) h))
 
-        is_begun : IsBegun middle.names (whole old.stream) new.state.ctx.now (record b { step = b.step + 1 }) (with_steps o ss (o.parts ++ tree.piece meant ∷ []))
+        is_begun : IsBegun middle.names (whole old.stream) new.state.ctx.now (record b { coming = None; step = b.step + 1 }) (with_steps o ss (o.parts ++ tree.piece meant ∷ []))
         is_begun =
             let up : suc b.step ≡ b.step + 1 = omega arith in
             record {
@@ -166,6 +166,8 @@ module _ {T A U : Type 0} (types_at : Reader T) (attr : Reader (AttrView A)) (ol
               known = subst (λ d. IsSome (format_of d o.id)) (sym lasts.dialects) is.known;
               steps = first.1 ∙ (ap (λ n. drop n (steps_in dialects o.id)) up ∙ ap (λ d. drop (b.step + 1) (steps_in d o.id)) (sym lasts.dialects));
               counted = is.counted ∙ ap (λ d. length (steps_in d o.id)) (sym lasts.dialects);
+              coming = tt;
+              is_isolated = is.is_isolated ∙ ap (λ d. isolated d o.id) (sym lasts.dialects);
               late = neither.1;
               stands = lasts.operations b.op is.stands;
               counts = lasts.results b.op is.stands ∙ is.counts;
@@ -249,7 +251,7 @@ module _ {T A U : Type 0} (types_at : Reader T) (attr : Reader (AttrView A)) (ol
     next_whole flat = let m = next_answered flat in takes_whole alone old.stream mid m.taken mid.rest m.takes
 
     -- the operation goes on behind the piece
-    pub next_goes_on : (new : StateStream T A U) (next : BegunOperation) → next ≡ record b { step = b.step + 1 } → new.stream ≡ mid → marks_of new.state ≡ marks_of old.state → AreTied before.values before.labels old.state.ctx.now.graph
+    pub next_goes_on : (new : StateStream T A U) (next : BegunOperation) → next ≡ record b { coming = None; step = b.step + 1 } → new.stream ≡ mid → marks_of new.state ≡ marks_of old.state → AreTied before.values before.labels old.state.ctx.now.graph
         → StoresPiece piece old.state.ctx.now new.state.ctx.now b.op → GoesOn types_at attr before old b next middle new
     unfolding reads_piece
     next_goes_on new next e same marks tied stores = subst (λ n. GoesOn types_at attr before old b n middle new) (sym e) (record {

@@ -1,5 +1,5 @@
 -- An operation that begins: its front was read, its names were used, and it was made; or how it is refused.
-use Rattle.std.proofs.Common.{◌≡◌, ◌<◌, ◌+◌, ◌-◌, ◌∙◌, inl, inr, ℕ, zero, suc, Bool, true, List, [], ◌∷◌, ◌++◌, length, map, flat_map, drop, take, Option, Some, None, IsSome, refl, sym, ap, subst, arith, length-append}
+use Rattle.std.proofs.Common.{◌≡◌, ◌<◌, ◌+◌, ◌-◌, ◌∙◌, inl, inr, ℕ, zero, suc, Bool, true, List, [], ◌∷◌, ◌++◌, length, map, flat_map, drop, take, Option, Some, None, IsSome, refl, sym, ap, subst, arith, length-append, slice_get}
 use Rattle.std.specs.Prelude.{IfSome}
 use Rattle.std.specs.List.{All}
 use Rattle.std.proofs.Math.Seq.{take-append_seam}
@@ -25,7 +25,7 @@ use Rattle.irtext_graph.specs.declared.object.Object.TheVariants.{TheOperation, 
 use Rattle.irtext_graph.specs.declared.object.Value.{Value}
 use Rattle.irtext_graph.specs.declared.object.Value.TheVariants.{Result}
 use Rattle.irtext_graph.proofs.Preorders.{among_left, among_right}
-use Rattle.irtext_grammar.specs.Contexts.Formats.{format_of}
+use Rattle.irtext_grammar.specs.Contexts.Formats.{format_of, isolated}
 use Rattle.irtext_grammar.specs.Contexts.Held.{whole, entries_of}
 use Rattle.irtext_grammar.specs.Grammar.Tree as tree
 use Rattle.irtext_grammar.specs.Grammar.Tree.{Name, Part, views, in_order, operand_names, successor_labels}
@@ -62,6 +62,7 @@ use Rattle.irtext_parse_nested.specs.declared.operation_parts.NotGathered.{NotGa
 use Rattle.irtext_parse_nested.specs.declared.operation_parts.NotGathered.TheVariants as refusal
 use Rattle.irtext_parse_nested.specs.Beginning.{FrontStands, LacksFront, lacks_lead, lacks_piece, SaysGather, NotGatheredAs, starved, refused, types_made, PlacedIn, MakesOf, ArePartsOf, HasBegun, ComesInto}
 use Rattle.irtext_parse_nested.specs.Begun.{HasNoType, ReadNeither, IsBegun, pledge_of}
+use Rattle.irtext_parse_nested.specs.Coming.{IsStep}
 use Rattle.irtext_parse_nested.specs.Gathered.{FailsUses, operand_place, operand_list, successor_place, successor_list, placed_type, type_list, stored_of, last_list, CanGather, RefusesGathering, FailsAt}
 use Rattle.irtext_parse_nested.specs.Items.{Names, Pledge, Made, AreMadeAt, StandsAs, IsFailure, ActsWith, ActFails}
 use Rattle.irtext_parse_nested.specs.Located.{IsLocated}
@@ -274,9 +275,9 @@ module _ {T A U : Type 0} (types_at : Text → Outcome T) (attr : Text → Outco
     same_dialects = (begun_lasts block front at loc middle old_ctx names new_ctx b m all_older).dialects
 
     -- what was begun is what was read
-    pub front_is_begun : front.steps ≡ length (steps_in dialects (id_of front.id)) → (rest : Text) (e : mid.rest ≡ rest) → Leaves (whole old.stream) at (length old.stream.rest) → IsBegun names.names (whole old.stream) new_ctx b (begun_by types_at attr true old rest (front_reads f rest e))
+    pub front_is_begun : front.steps ≡ length (steps_in dialects (id_of front.id)) → IsStep front.coming (slice_get (steps_in dialects (id_of front.id)) (length front.pieces)) → front.isolated ≡ isolated dialects (id_of front.id) → (rest : Text) (e : mid.rest ≡ rest) → Leaves (whole old.stream) at (length old.stream.rest) → IsBegun names.names (whole old.stream) new_ctx b (begun_by types_at attr true old rest (front_reads f rest e))
     unfolding front_reads
-    front_is_begun counted rest e left = record {
+    front_is_begun counted comes iso rest e left = record {
       inside = m.inside_is;
       place = subst (λ p. Leaves (whole old.stream) p (length old.stream.rest)) (sym m.at_is) left;
       names_are = subst (λ ns. Each (StandsFor ns (whole old.stream)) b.names f.results) (sym m.steady.names) (subst (λ ns. Each (StandsFor middle.names (whole old.stream)) ns f.results) (sym m.names_are) f.named);
@@ -284,6 +285,10 @@ module _ {T A U : Type 0} (types_at : Text → Outcome T) (attr : Text → Outco
       known = subst (λ d. IsSome (format_of d (id_of front.id))) (sym same_dialects) (subst IsSome (sym f.known) refl);
       steps = steps_behind (steps_in dialects (id_of front.id)) ∙ (ap (λ n. drop n (steps_in dialects (id_of front.id))) (sym f.counts ∙ sym m.step_is) ∙ ap (λ d. drop b.step (steps_in d (id_of front.id))) (sym same_dialects));
       counted = m.steps_are ∙ (counted ∙ ap (λ d. length (steps_in d (id_of front.id))) (sym same_dialects));
+      coming = subst (λ k. IfSome k (λ x. IsStep x (slice_get (steps_in new_ctx.dialects (id_of front.id)) b.step))) (sym m.coming_is)
+          (subst (λ n. IsStep front.coming (slice_get (steps_in new_ctx.dialects (id_of front.id)) n)) (sym m.step_is)
+          (subst (λ d. IsStep front.coming (slice_get (steps_in d (id_of front.id)) (length front.pieces))) (sym same_dialects) comes));
+      is_isolated = m.isolated_is ∙ (iso ∙ ap (λ d. isolated d (id_of front.id)) (sym same_dialects));
       late = neither f;
       stands = subst IsSome (sym (begun_is block front at loc middle old_ctx names new_ctx b m all_older)) refl;
       counts = begun_counts block front at loc middle old_ctx names new_ctx b m all_older;
@@ -342,13 +347,13 @@ module _ {T A U : Type 0} (types_at : Text → Outcome T) (attr : Text → Outco
               }
 
       -- the operation was begun
-      pub front_begins : front.steps ≡ length (steps_in dialects (id_of front.id)) → (rest : Text) → mid.rest ≡ rest → new.stream ≡ mid → Leaves (whole old.stream) at (length old.stream.rest) → BeginsOperation types_at attr true before old b names new
-      front_begins counted rest e same left =
+      pub front_begins : front.steps ≡ length (steps_in dialects (id_of front.id)) → IsStep front.coming (slice_get (steps_in dialects (id_of front.id)) (length front.pieces)) → front.isolated ≡ isolated dialects (id_of front.id) → (rest : Text) → mid.rest ≡ rest → new.stream ≡ mid → Leaves (whole old.stream) at (length old.stream.rest) → BeginsOperation types_at attr true before old b names new
+      front_begins counted comes iso rest e same left =
           let k : mid.rest ≡ new.stream.rest = ap (λ v. v.rest) (sym same) in
           record {
             read = front_reads f new.stream.rest k;
             moves = subst (Moves old.stream) (sym same) f.moves;
-            begun = front_is_begun counted new.stream.rest k left;
+            begun = front_is_begun counted comes iso new.stream.rest k left;
             acts = front_acts new.stream.rest k;
           }
 

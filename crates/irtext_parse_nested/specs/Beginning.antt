@@ -131,6 +131,8 @@ module _ {T A : Type 0} where
     pub inside_is : b.inside ≡ true
     pub step_is : b.step ≡ length front.pieces
     pub steps_are : b.steps ≡ front.steps
+    pub coming_is : b.coming ≡ Some front.coming
+    pub isolated_is : b.isolated ≡ front.isolated
 
 -- ---- the operation's own parts so far
 -- the part is one that the step parses

@@ -1,5 +1,5 @@
 -- Between functions: the open frames while nested text is parsed, as the code has them, and what they represent.
-use Rattle.std.specs.Prelude.{◌≡◌, ℕ, Bool, List, [], ◌∷◌, ◌++◌, drop, length, IsSome, ⊤}
+use Rattle.std.specs.Prelude.{◌≡◌, ℕ, Bool, List, [], ◌∷◌, ◌++◌, drop, length, slice_get, IsSome, IfSome, ⊤}
 use Rattle.std.specs.List.{All}
 use Rattle.irtext_base.specs.Text.{Text}
 use Rattle.irtext_base.specs.Faults.{id_of}
@@ -8,7 +8,7 @@ use Rattle.irtext_context.specs.Context.{ContextView, operation, block}
 use Rattle.irtext_graph.specs.declared.object.Object.TheVariants.{TheBlock, TheRegion}
 use Rattle.irtext_graph.specs.Graph.{parent, Stands}
 use Rattle.irtext_graph.specs.Parts.{results}
-use Rattle.irtext_grammar.specs.Contexts.Formats.{format_of}
+use Rattle.irtext_grammar.specs.Contexts.Formats.{format_of, isolated}
 use Rattle.irtext_grammar.specs.Grammar.Tree as tree
 use Rattle.irtext_grammar.specs.Grammar.Tree.{Part}
 use Rattle.irtext_grammar.specs.Names.Acts.{result_types}
@@ -20,6 +20,7 @@ use Rattle.irtext_parse_pieces.specs.Named.{Leaves, StandsFor, Each}
 use Rattle.irtext_parse_nested.specs.declared.frame.BegunOperation.{BegunOperation}
 use Rattle.irtext_parse_nested.specs.declared.frame.BegunRegion.{BegunRegion}
 use Rattle.irtext_parse_nested.specs.declared.frame.BegunBlock.{BegunBlock}
+use Rattle.irtext_parse_nested.specs.Coming.{IsStep}
 use Rattle.irtext_parse_nested.specs.Items.{Pledge}
 
 -- the part gives no result its type
@@ -45,7 +46,8 @@ pledge_of b place = record { place = place; op = b.op; results = b.results }
 
 module _ {T A : Type 0} (names : List Text) (text : Text) (ctx : ContextView T A) where
   -- The begun operation of the code represents this one. They have the same names, place, id and remaining steps, which parse no names
-  -- and no types. The number of results is that of the types that its parts give, whatever parts without types follow.
+  -- and no types. Whether it is isolated, and what its next step parses where that is recorded, are as its dialect says. The number of
+  -- results is that of the types that its parts give, whatever parts without types follow.
   pub record IsBegun (b : BegunOperation) (o : Begun T A) : Type 0 where
     pub inside : b.inside ≡ o.inside
     pub place : Leaves text b.at o.place
@@ -54,6 +56,8 @@ module _ {T A : Type 0} (names : List Text) (text : Text) (ctx : ContextView T A
     pub known : IsSome (format_of ctx.dialects o.id)
     pub steps : o.steps ≡ drop b.step (steps_in ctx.dialects o.id)
     pub counted : b.steps ≡ length (steps_in ctx.dialects o.id)
+    pub coming : IfSome b.coming (λ next. IsStep next (slice_get (steps_in ctx.dialects o.id) b.step))
+    pub is_isolated : b.isolated ≡ isolated ctx.dialects o.id
     pub late : ReadNeither o.steps
     pub stands : IsSome (operation ctx b.op)
     pub counts : length (results ctx.graph b.op) ≡ b.results

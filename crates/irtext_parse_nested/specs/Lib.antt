@@ -1,5 +1,6 @@
 -- What the parsers of nested text promise each other: the names, and the open frames.
 pub mod Items
+pub mod Coming
 pub mod Begun
 pub mod Read
 pub mod Definitions

@@ -1,6 +1,6 @@
 //! The beginning of an operation: what precedes its first region is parsed, names are used, and the operation is created and appended to
 //! its block.
-ghost use Rattle.std.specs.Prelude.{◌≡◌, ◌++◌, ◌≤◌, ◌<◌, ◌⊎◌, ℕ, List, [], ◌∷◌, length, cond, true, false, None, IfOk, IfErr, IfSome, OnOk, OnErr, IsSome, is_some};
+ghost use Rattle.std.specs.Prelude.{◌≡◌, ◌++◌, ◌≤◌, ◌<◌, ◌⊎◌, ℕ, List, [], ◌∷◌, length, cond, true, false, None, IfOk, IfErr, IfSome, OnOk, OnErr, IsSome, is_some, slice_get};
 ghost use Rattle.irtext_base.specs.Answers.{StarvesHere, Demands};
 ghost use Rattle.irtext_base.specs.Format.{sym_name_key};
 ghost use Rattle.irtext_base.specs.Places.{StandsBehind};
@@ -12,7 +12,7 @@ ghost use Rattle.irtext_graph.specs.declared.object.Object.TheVariants.{TheBlock
 ghost use Rattle.irtext_read.specs.AttrTexts.{attr_at};
 ghost use Rattle.irtext_scopes.specs.Names.{AreDistinct, KeepsNames};
 ghost use Rattle.irtext_state.specs.States.{LocatesAt, marks_of};
-ghost use Rattle.irtext_grammar.specs.Contexts.Formats.{format_of};
+ghost use Rattle.irtext_grammar.specs.Contexts.Formats.{format_of, isolated};
 ghost use Rattle.irtext_grammar.specs.Contexts.Held.{whole};
 ghost use Rattle.irtext_grammar.specs.Grammar.Tree.{Part, in_order};
 ghost use Rattle.irtext_names.specs.Tied.{AreTied};
@@ -23,6 +23,7 @@ ghost use Rattle.irtext_nesting.specs.Stands.{OwnSoFar};
 ghost use Rattle.irtext_parse_pieces.specs.Fronts.{IsPart};
 ghost use Rattle.irtext_parse_pieces.specs.Named.{Each, NamesRead};
 ghost use Rattle.irtext_parse_nested.specs.Beginning.{FrontStands, LacksFront, IsKnownIn, SaysGather, NotGatheredAs, types_made, PlacedIn, MakesOf, HasBegun, ComesInto};
+ghost use Rattle.irtext_parse_nested.specs.Coming.{IsStep};
 ghost use Rattle.irtext_parse_nested.specs.Gathered.{AllStand, CanGather, Gathers, IsNothing, IsSteady};
 ghost use Rattle.irtext_parse_nested.specs.Items.{IsSound, Lasts};
 ghost use Rattle.irtext_base.specs.Faults.{id_of};
@@ -30,6 +31,7 @@ ghost use Rattle.irtext_nesting.specs.Reached.{steps_in};
 ghost use Rattle.irtext_parse_nested.specs.Located.{IsLocated};
 ghost use Rattle.irtext_parse_nested.specs.Read.{ReadsFront, begun_by, BeginsOperation, RefusesOperation};
 
+use crate::coming::{Coming, coming_at};
 use crate::counting::step_count;
 use crate::frame::{BegunOperation, Names};
 use crate::making::make_gathered;
@@ -48,6 +50,7 @@ use irtext_graph::held::HasGraph;
 use irtext_parse_pieces::found::Pieces;
 use irtext_parse_pieces::fronts::front_parse;
 use irtext_parse_pieces::ids::results_and_id_parse;
+use irtext_parse_pieces::keys::Keys;
 use irtext_parse_pieces::names::ReadName;
 use irtext_read::irfmt::faults::{commit, out_of_memory, refuse_at};
 use irtext_state::parsable::StateStream;
@@ -64,6 +67,10 @@ pub struct ReadFront<T, A> {
     pub key: Option<Identifier>,
     /// The number of steps of its format.
     pub steps: usize,
+    /// Whether it is isolated from above.
+    pub isolated: bool,
+    /// What the step after its pieces parses.
+    pub coming: Coming,
     pub pieces: Pieces<T, A>,
 }
 
@@ -89,6 +96,7 @@ fn front_read<T: IrText<A>, A: AttrText<A>>(
     stream: &mut TextStream,
     ctx: &Context<T, A>,
     names: &mut Names,
+    keys: &mut Keys,
     wanted: bool,
 ) -> ParseResult<ReadFront<T, A>, A>
     requires fine { stream.old.failed ≡ false }
@@ -96,6 +104,8 @@ fn front_read<T: IrText<A>, A: AttrText<A>>(
     ensures lacks { IfErr result (UnlessMemory (LacksFront T.IrText.reading (attr_at A.IrText.reading) ctx.now.dialects true wanted stream.old)) }
     ensures key { IfOk result (λ front. IfSome front.key (λ key. key ≡ sym_name_key)) }
     ensures counted { IfOk result (λ front. front.steps ≡ length (steps_in ctx.now.dialects (id_of front.id))) }
+    ensures coming { IfOk result (λ front. IsStep front.coming (slice_get (steps_in ctx.now.dialects (id_of front.id)) (length front.pieces))) }
+    ensures isolated { IfOk result (λ front. front.isolated ≡ isolated ctx.now.dialects (id_of front.id)) }
     ensures unread { IfErr result (λ fault. fault.committed ≡ false → stream.new ≡ stream.old) }
     ensures names { NamesRead names.old names.new }
     ensures distinct { OnOk result (AreDistinct names.new.names) }
@@ -104,13 +114,15 @@ fn front_read<T: IrText<A>, A: AttrText<A>>(
         Ok(led) => led,
         Err(fault) => return Err(commit_if(stream, wanted, fault)),
     };
-    let pieces = front_parse(stream, names, &info.format, true)?;
+    let pieces = front_parse(stream, names, &info.format, true, keys)?;
     names.keeps_names();
     Ok(ReadFront {
         names: results,
         id,
         key: kept_key(info),
         steps: step_count(&info.format),
+        isolated: info.isolated,
+        coming: coming_at(&info.format, pieces.len()),
         pieces,
     })
 }
@@ -282,6 +294,8 @@ fn begin_read<T: IrText<A>, A: AttrText<A>, U>(
         id,
         key,
         steps,
+        isolated,
+        coming,
         pieces,
     } = front;
     let step = pieces.len();
@@ -297,6 +311,8 @@ fn begin_read<T: IrText<A>, A: AttrText<A>, U>(
         names: results,
         at,
         inside: true,
+        isolated,
+        coming: Some(coming),
         step,
         steps,
     })
@@ -304,11 +320,13 @@ fn begin_read<T: IrText<A>, A: AttrText<A>, U>(
 
 /// Begins an operation: parses the names of its results, its id and the pieces before its first region, uses their names, creates the
 /// operation, and appends it to the block, if one is given; without a block it is outside of every region. Fails with `NoActiveScope` at
-/// the first name for which no scope of its kind is open, or with `ReservedKey` at the first reserved key of a dictionary. An error is
-/// committed, unless no block is given and no operation comes next.
+/// the first name for which no scope of its kind is open, or with `ReservedKey` at the first reserved key of a dictionary. Keys of a
+/// dictionary may share their texts with those that are kept at their places. An error is committed, unless no block is given and no
+/// operation comes next.
 pub fn operation_begin<T: IrText<A>, A: AttrText<A>, U>(
     s: &mut StateStream<'_, T, A, U>,
     names: &mut Names,
+    keys: &mut Keys,
     block: Option<Ptr<BasicBlock>>,
 ) -> ParseResult<BegunOperation, A>
     requires fine { s.old.stream.failed ≡ false }
@@ -336,6 +354,6 @@ pub fn operation_begin<T: IrText<A>, A: AttrText<A>, U>(
     let loc = s.loc();
     let ctx = &mut *s.state.ctx;
     ctx.made();
-    let front = front_read(&mut s.stream, ctx, names, block.is_some())?;
+    let front = front_read(&mut s.stream, ctx, names, keys, block.is_some())?;
     begin_read(s, names, block, at, loc, front)
 }

@@ -1,5 +1,6 @@
 //! The frames of the parser of nested text: an operation, a region or a block that was begun.
 
+use crate::coming::Coming;
 use irtext_base::base::OpId;
 use irtext_base::parsable::Place;
 use irtext_context::base::{BasicBlock, Operation, Ptr, Region};
@@ -24,6 +25,10 @@ pub struct BegunOperation {
     pub at: Place,
     /// Whether it is inside of a region.
     pub inside: bool,
+    /// Whether it is isolated from above.
+    pub isolated: bool,
+    /// What the next step of its format parses, if no step was made since its front was parsed.
+    pub coming: Option<Coming>,
     /// The index of the next step of its format.
     pub step: usize,
     /// The number of steps of its format.

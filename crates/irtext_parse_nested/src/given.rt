@@ -29,7 +29,7 @@ fn given_names(
     requires { AreKnown (length names.now.names) (numbers_of read.now) }
     ensures { IfOk result (λ given. given.items ≡ map (slice_get names.now.names) (numbers_of read.now)) }
 {
-    let mut given = Vec::new(alloc);
+    let mut given = Vec::with_capacity(alloc, read.len())?;
     for index in 0..read.len() {
         let number = number_at(read, index);
         let Some(name) = identifier_of(alloc, names.name(number)) else {

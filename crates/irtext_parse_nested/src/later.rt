@@ -1,5 +1,5 @@
 //! A piece of an operation after a region: it is parsed by the operation's next step, and what it gives is stored.
-ghost use Rattle.std.specs.Prelude.{◌≡◌, ◌≤◌, ◌<◌, ◌+◌, ◌∷◌, [], ℕ, List, Some, IfErr, OnOk, IsSome, length, slice_get, false, true};
+ghost use Rattle.std.specs.Prelude.{◌≡◌, ◌≤◌, ◌<◌, ◌+◌, ◌∷◌, [], ℕ, List, None, Some, IfErr, OnOk, IsSome, length, slice_get, false, true};
 ghost use Rattle.irtext_base.specs.Faults.{id_of};
 ghost use Rattle.irtext_base.specs.Format.{sym_name_key};
 ghost use Rattle.irtext_context.specs.Context.{KeepsOlder, operation};
@@ -41,6 +41,7 @@ use irtext_base::parsable::{CharStream, ParseResult, TextStream};
 use irtext_base::text::{AttrText, IrText};
 use irtext_context::base::{Context, Operation, Ptr};
 use irtext_dict::base::AttributeDict;
+use irtext_parse_pieces::keys::Keys;
 use irtext_parse_pieces::names::Symbol;
 use irtext_parse_pieces::pieces::{ReadPiece, step_parse};
 use irtext_parse_pieces::steps::step_at;
@@ -123,7 +124,7 @@ fn piece_read<T: IrText<A>, A: AttrText<A>>(
     ensures read { (step : Step) → slice_get (steps_in ctx.now.dialects (id_of begun.old.id)) begun.old.step ≡ Some step → MustPiece itself replaced names.new.names
         (space_at ▷ piece_at T.IrText.reading (attr_at A.IrText.reading) begun.old.inside step) stream.old result stream.new }
     ensures names { NamesRead names.old names.new }
-    ensures behind { begun.new ≡ record begun.old { step = begun.old.step + 1 } }
+    ensures behind { begun.new ≡ record begun.old { coming = None; step = begun.old.step + 1 } }
 {
     skip_white_space(stream);
     let Some(info) = ctx.op_info(&begun.id) else {
@@ -132,8 +133,10 @@ fn piece_read<T: IrText<A>, A: AttrText<A>>(
     let Some(step) = step_at(&info.format, begun.step) else {
         unreachable!()
     };
+    begun.coming = None;
     begun.step = step_behind(&info.format, begun.step);
-    step_parse(stream, names, step, begun.inside)
+    let mut keys = Keys::none(stream.allocator());
+    step_parse(stream, names, step, begun.inside, &mut keys)
 }
 
 /// Stores what a piece gives an operation. On an error, the operation's attributes may have been changed.

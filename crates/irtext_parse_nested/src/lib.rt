@@ -6,6 +6,7 @@
 pub mod beginning;
 pub mod block_labels;
 pub mod blocks;
+pub mod coming;
 mod counting;
 pub mod definitions;
 mod dictionary;

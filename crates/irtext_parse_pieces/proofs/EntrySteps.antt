@@ -4,19 +4,19 @@ use Rattle.std.specs.Char.{is_whitespace}
 use Rattle.std.specs.Prelude.{Vec}
 use Rattle.std.specs.Str.{chars}
 use Rattle.std.specs.Global.{Global}
-use Rattle.irtext_base.specs.Text.{Text, begins, front, after}
+use Rattle.irtext_base.specs.Text.{Text, begins, front, after, begins_word, in_word}
 use Rattle.irtext_base.specs.Reading.{the}
-use Rattle.irtext_base.specs.Answers.{Outcome, Read, Takes, Gives, Answers, demanded, mapped, followed, unless_failed}
+use Rattle.irtext_base.specs.Answers.{Outcome, Read, Takes, Gives, demanded, mapped, followed, unless_failed}
 use Rattle.irtext_base.specs.Locations.{AttrView, attr_view}
 use Rattle.irtext_base.specs.declared.base.attributes.AttrObj.{AttrObj}
 use Rattle.irtext_base.specs.declared.base.attributes.AttrObj.TheVariants.{GivenNames, Ident, Own}
 use Rattle.irtext_base.specs.declared.parsable.fault.ParseFault.{ParseFault}
-use Rattle.irtext_base.proofs.Compose.{takes_none, gives_mapped, refuses_mapped, refuses_first_demanded, refuses_mapped_demanded}
+use Rattle.irtext_base.proofs.Compose.{takes_none, refuses_first_demanded, refuses_mapped_demanded}
 use Rattle.irtext_stream.specs.Places.{StandsBehind}
 use Rattle.irtext_stream.specs.Stream.{Comes}
 use Rattle.irtext_read.specs.ListOutcomes.{items_after, separated_at}
 use Rattle.irtext_read.specs.MustRead.{MustRead}
-use Rattle.irtext_read.specs.Tokens.{identifier_at, word_at}
+use Rattle.irtext_read.specs.Tokens.{word_at}
 use Rattle.irtext_read.proofs.Steps.{Lens, seen_alone}
 use Rattle.irtext_grammar.specs.Contexts.Held.{attribute_of}
 use Rattle.irtext_grammar.specs.Grammar.Tree.{Name, Attribute}
@@ -27,7 +27,6 @@ use Rattle.irtext_parse_pieces.specs.Entries.{IsKey, IsEntry, AreEntries, MustEn
 use Rattle.irtext_parse_pieces.specs.Named.{whole, Optional, MayMean, MustMean}
 use Rattle.irtext_parse_pieces.proofs.Listings.{list_some}
 use Rattle.irtext_parse_pieces.proofs.Meanings.{takes_whole, may_whole}
-use Rattle.irtext_parse_pieces.proofs.NameSteps.{nobody}
 
 -- an attribute that was read, as trees hold it
 tree_of_view : {A : Type 0} (a : AttrObj A) → attr_tree (attr_view a) ≡ attribute_of a
@@ -50,16 +49,15 @@ module _ {S A : Type 0} (l : Lens S) where
   as_tree (Ok a) h = seen_alone l attribute_of attr_tree a (sym (tree_of_view a)) h
   as_tree {f = f} {old = old} {new = new} (Err fault) h = record { answers = refuses_mapped_demanded l.view l.at l.view_at l.at_at attr_tree (l.view old).failed (f (l.view old).rest) old new fault h.answers }
 
-  -- a key was read
-  pub key_read : {old new : S} (key : Key) → Answers l.view l.at {A = A} (λ (name : Text). name) (unless_failed (l.view old).failed (identifier_at (l.view old).rest)) old (Ok key.name) new → StandsBehind key.at (l.view old).passed
-      → MayMean {A = A} l.view l.at (IsKey (whole (l.view old))) name_at old (Ok key) new
-  key_read {old = old} {new = new} key h p =
-      let place = length (l.view old).rest in
-      record {
-        meant = λ _. name_of place key.name;
-        means = record { named = refl; place = record { passed = (l.view old).passed; rest = (l.view old).rest; same = refl; stands = p; counts = refl } };
-        read = record { answers = gives_mapped l.view l.at l.view_at l.at_at (name_of place) (l.view old).failed (identifier_at (l.view old).rest) old new key.name (name_of place key.name) refl h };
-      }
+  -- a key was taken
+  pub key_there : {old new : S} (key : Key) → (l.view old).failed ≡ false → begins begins_word (l.view old).rest ≡ true → Takes l.view l.at (front in_word (l.view old).rest) (after in_word (l.view old).rest) old new
+      → StandsBehind key.at (l.view old).passed → key.name ≡ front in_word (l.view old).rest → MayMean {A = A} l.view l.at (IsKey (whole (l.view old))) name_at old (Ok key) new
+  unfolding word_at
+  key_there {old = old} {new = new} key f b t p e = record {
+    meant = λ _. name_of (length (l.view old).rest) (front in_word (l.view old).rest);
+    means = record { named = e; place = record { passed = (l.view old).passed; rest = (l.view old).rest; same = refl; stands = p; counts = refl } };
+    read = record { answers = rw (f, b) (refl, t) };
+  }
 
   -- brackets with nothing between them were consumed
   pub no_entries : (attr : Text → Outcome (AttrView A)) {old new : S} → (l.view old).failed ≡ false → (none : Vec (Key × AttrObj A) Global) → none.items ≡ [] → Comes (chars (codes "[]")) (l.view old) (λ v. new ≡ l.at old v)
@@ -70,12 +68,6 @@ module _ {S A : Type 0} (l : Lens S) where
       subst (λ t. Gives l.view l.at (demanded (unless_failed false (dictionary_at attr t))) old [] new) (sym k.1)
       (subst (λ o. Gives l.view l.at (demanded (unless_failed false o)) old [] new) (sym (no_entry attr k.0)) (refl, record { is = k.2; same = sym k.1 })) in
       record { meant = λ _. []; means = rw e tt; read = record { answers = rw fine g } }
-
-  -- it is refused
-  pub key_refused : {Means : Key → Name ℕ → Type 0} {old new : S} {fault : ParseFault A} → Answers l.view l.at (λ (name : Text). name) (unless_failed (l.view old).failed (identifier_at (l.view old).rest)) old (Err fault) new → MayMean l.view l.at Means name_at old (Err fault) new
-  key_refused {old = old} {new = new} {fault = fault} h =
-      let place = length (l.view old).rest in
-      record { meant = λ _. nobody; means = tt; read = record { answers = refuses_mapped l.view l.at l.view_at l.at_at (name_of place) (l.view old).failed (identifier_at (l.view old).rest) old new fault h } }
 
   -- there is a first entry, and what stands behind it
   pub list_entries : (item : Text → Outcome (Name ℕ × Attribute A)) {old mid new last : S} {first : Key × AttrObj A} {r : Result (Vec (Key × AttrObj A) Global) (ParseFault A)} → MayMean {A = A} l.view l.at (IsEntry (whole (l.view old))) item old (Ok first) mid → Takes l.view l.at (front is_whitespace (l.view mid).rest) (after is_whitespace (l.view mid).rest) mid new

@@ -12,3 +12,5 @@ pub mod MarkSteps
 pub mod Meanings
 pub mod NameSteps
 pub mod PieceSteps
+pub mod Runs
+pub mod WordSteps

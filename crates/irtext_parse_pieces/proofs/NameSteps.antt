@@ -1,5 +1,5 @@
 -- Steps of the readers of names.
-use Rattle.std.proofs.Common.{◌≡◌, ℕ, Bool, true, false, Result, Ok, Err, List, [], Some, length, codes, refl, sym, ◌∙◌, inl, inr}
+use Rattle.std.proofs.Common.{◌≡◌, ℕ, Bool, true, false, Result, Ok, Err, IsErrAnd, List, [], Some, length, codes, refl, sym, ◌∙◌, inl, inr}
 use Rattle.std.specs.List.{slice_get}
 use Rattle.irtext_base.specs.Text.{Text, begins, front, after, begins_word, in_word}
 use Rattle.irtext_base.specs.Stream.{first_of}
@@ -36,16 +36,22 @@ moved_is place w text =
 
 module _ {S A : Type 0} (l : Lens S) where
   -- no name begins there
-  pub no_name : {Means : ReadName → Name ℕ → Type 0} {old new : S} {fault : ParseFault A} → (l.view old).failed ≡ false → begins begins_word (l.view old).rest ≡ false → Passes l.view l.at (Unexpected (first_of (l.view old).rest) AnIdentifier) old fault new
+  pub no_name : {Y : Type 0} {Means : Y → Name ℕ → Type 0} {old new : S} {fault : ParseFault A} → (l.view old).failed ≡ false → begins begins_word (l.view old).rest ≡ false → Passes l.view l.at (Unexpected (first_of (l.view old).rest) AnIdentifier) old fault new
       → MayMean l.view l.at Means name_at old (Err fault) new
   unfolding word_at
   no_name f b h = record { meant = λ _. nobody; means = tt; read = record { answers = rw (f, b) (inr h) } }
 
   -- memory was refused behind it
-  pub name_starved : {Means : ReadName → Name ℕ → Type 0} {old mid new : S} {fault : ParseFault A} → (l.view old).failed ≡ false → Takes l.view l.at (front in_word (l.view old).rest) (after in_word (l.view old).rest) old mid → StarvesHere l.view l.at mid fault new
+  pub name_starved : {Y : Type 0} {Means : Y → Name ℕ → Type 0} {old mid new : S} {fault : ParseFault A} → (l.view old).failed ≡ false → Takes l.view l.at (front in_word (l.view old).rest) (after in_word (l.view old).rest) old mid → StarvesHere l.view l.at mid fault new
       → MayMean l.view l.at Means name_at old (Err fault) new
   name_starved {old = old} {mid = mid} {new = new} {fault = fault} f t h =
       record { meant = λ _. nobody; means = tt; read = record { answers = rw f (inl (starves_behind l.view l.at l.view_at l.at_at old mid new (front in_word (l.view old).rest) (after in_word (l.view old).rest) fault f t h)) } }
+
+  -- whatever is returned then, it is that error
+  pub unstored : {Means : ReadName → Name ℕ → Type 0} {old mid new : S} (r : Result ReadName (ParseFault A)) → (l.view old).failed ≡ false → Takes l.view l.at (front in_word (l.view old).rest) (after in_word (l.view old).rest) old mid → IsErrAnd r (λ fault. StarvesHere l.view l.at mid fault new)
+      → MayMean l.view l.at Means name_at old r new
+  unstored (Ok n) f t h = absurd h
+  unstored (Err fault) f t h = name_starved f t h
 
   -- a name was taken, and has a number
   pub name_there : {old new : S} (names : List Text) (n : ReadName) → (l.view old).failed ≡ false → begins begins_word (l.view old).rest ≡ true → Takes l.view l.at (front in_word (l.view old).rest) (after in_word (l.view old).rest) old new

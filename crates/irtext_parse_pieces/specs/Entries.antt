@@ -1,10 +1,11 @@
 -- Between functions: what the parsed dictionaries represent.
-use Rattle.std.specs.Prelude.{◌≡◌, ℕ, false, List, [], ◌∷◌, length, Option, Some, None, Result, Vec}
+use Rattle.std.specs.Prelude.{◌≡◌, ℕ, true, false, IfSome, List, [], ◌∷◌, length, Option, Some, None, Result, Vec}
 use Rattle.std.specs.Global.{Global}
-use Rattle.irtext_base.specs.Text.{Text, begins}
+use Rattle.std.specs.List.{list_all}
+use Rattle.irtext_base.specs.Text.{Text, begins, in_word}
 use Rattle.irtext_base.specs.Reading.{the}
 use Rattle.irtext_base.specs.Stream.{StreamView}
-use Rattle.irtext_base.specs.Answers.{Outcome}
+use Rattle.irtext_base.specs.Answers.{Outcome, Takes}
 use Rattle.irtext_base.specs.Locations.{AttrView}
 use Rattle.irtext_base.specs.declared.base.attributes.AttrObj.{AttrObj}
 use Rattle.irtext_base.specs.declared.parsable.fault.ParseFault.{ParseFault}
@@ -15,6 +16,13 @@ use Rattle.irtext_grammar.specs.Grammar.Tree.{Name, Attribute}
 use Rattle.irtext_nesting.specs.Heads.{dictionary_at}
 use Rattle.irtext_parse_pieces.specs.declared.entries.Key.{Key}
 use Rattle.irtext_parse_pieces.specs.Named.{whole, Leaves, Each, Optional, MustMean}
+
+-- Characters of a word were consumed, or nothing. If there is a key, it is these, and no character of a word follows.
+pub record TakesWord {S : Type 0} (view : S → StreamView) (at : S → StreamView → S) (old : S) (key : Option Text) (new : S) : Type 0 where
+  pub word : Text
+  pub in_words : list_all in_word word ≡ true
+  pub takes : Takes view at word (view new).rest old new
+  pub ends : IfSome key (λ k. (k ≡ word) × (begins in_word (view new).rest ≡ false))
 
 -- the key has the text of the name, and is at the name's place
 pub record IsKey (text : Text) (key : Key) (name : Name ℕ) : Type 0 where

@@ -1,16 +1,21 @@
 -- Between functions: what was parsed before an operation's first region.
-use Rattle.std.specs.Prelude.{◌≡◌, ℕ, Bool, List, [], ◌∷◌, ◌++◌, Result}
+use Rattle.std.specs.Prelude.{◌≡◌, ℕ, Bool, List, [], ◌∷◌, ◌++◌, length, map, MatchBool, Result}
+use Rattle.irtext_base.specs.Format.{word}
 use Rattle.irtext_base.specs.Text.{Text}
 use Rattle.irtext_base.specs.Stream.{StreamView}
 use Rattle.irtext_base.specs.Answers.{Outcome}
 use Rattle.irtext_base.specs.Locations.{AttrView}
 use Rattle.irtext_base.specs.declared.parsable.fault.ParseFault.{ParseFault}
+use Rattle.irtext_stream.specs.Classes.{behind_space}
+use Rattle.irtext_stream.specs.Stream.{Comes}
 use Rattle.irtext_read.specs.Infix.{Reader}
 use Rattle.irtext_grammar.specs.Grammar.Tree as tree
 use Rattle.irtext_grammar.specs.Grammar.Tree.{Piece, Part}
-use Rattle.irtext_nesting.specs.Heads.{Step, front_steps}
+use Rattle.irtext_nesting.specs.Heads.{Step, flat, front_steps}
 use Rattle.irtext_nesting.specs.Resume.{front_at}
 use Rattle.irtext_parse_pieces.specs.declared.pieces.ReadPiece.{ReadPiece}
+use Rattle.irtext_parse_pieces.specs.declared.pieces.ReadPiece.TheVariants as read
+use Rattle.irtext_parse_pieces.specs.Found.{only_words}
 use Rattle.irtext_parse_pieces.specs.Pieces.{IsPiece}
 use Rattle.irtext_parse_pieces.specs.Named.{whole, Each, MustMean}
 
@@ -26,7 +31,35 @@ front_of types_at attr inside steps = front_at types_at attr inside (front_steps
 abbrev pub IsBehind : {T A : Type 0} → List Text → Text → List (ReadPiece T A) → List (ReadPiece T A) → Piece ℕ T A → Type 0
 IsBehind {T = T} {A = A} names text found more p = (read : ReadPiece T A) × (more ≡ found ++ read ∷ []) × IsPiece names text read p
 
+-- these texts come next, one after another with white space before each, and this is the view behind them
+abbrev pub ComeSpaced : List Text → StreamView → StreamView → Type 0
+ComeSpaced [] v w = w ≡ v
+ComeSpaced (t ∷ ts) v w = Comes t (behind_space v) (λ u. ComeSpaced ts u w)
+
 module _ {S T A : Type 0} (view : S → StreamView) (at : S → StreamView → S) where
+  -- the text was consumed, with white space before it, and appended to the pieces; or nothing changed
+  abbrev pub RanOne : Text → List (ReadPiece T A) → List (ReadPiece T A) → S → Bool → S → Type 0
+  RanOne t found more old result new = MatchBool result
+      (Comes t (behind_space (view old)) (λ v. new ≡ at old v) × (more ≡ found ++ read.Word ∷ []))
+      ((new ≡ old) × (more ≡ found))
+
+  -- the first of these texts, as many as these, were consumed, with white space before each, and appended to the pieces
+  pub record Ran (all : List Text) (found more : List (ReadPiece T A)) (old new : S) : Type 0 where
+    pub texts : List Text
+    pub later : List Text
+    pub first : texts ++ later ≡ all
+    pub behind : StreamView
+    pub come : ComeSpaced texts (view old) behind
+    pub reached : new ≡ at old behind
+    pub appended : more ≡ found ++ only_words (length texts)
+
+  -- the first of these steps are texts, of which the first were consumed and appended to the pieces
+  pub record RunsOn (left : List Step) (found more : List (ReadPiece T A)) (old new : S) : Type 0 where
+    pub all : List Text
+    pub rest : List Step
+    pub are : left ≡ map (λ t. flat (word t)) all ++ rest
+    pub ran : Ran all found more old new
+
   -- the result is the list of pieces that the steps parse, or their fault
   abbrev pub MustFront : List Text → (Text → Outcome T) → (Text → Outcome (AttrView A)) → Bool → List Step → S → Result (List (ReadPiece T A)) (ParseFault A) → S → Type 0
   MustFront names types_at attr inside steps old result new = MustMean view at (Each (IsPart names (whole (view old)))) (front_of types_at attr inside steps []) old result new

@@ -5,17 +5,18 @@ ghost use Rattle.irtext_read.specs.MustRead.{MustRead};
 ghost use Rattle.irtext_outcomes.specs.Readers.Directives.{attribute_at};
 ghost use Rattle.irtext_grammar.specs.Contexts.Held.{attribute_of};
 ghost use Rattle.irtext_nesting.specs.Heads.{name_at, pair_at, dictionary_at};
-ghost use Rattle.irtext_parse_pieces.specs.Entries.{IsKey, IsEntry, MustEntries, EntriesBehind, MustDictionaryIf};
+ghost use Rattle.irtext_parse_pieces.specs.Entries.{IsKey, IsEntry, TakesWord, MustEntries, EntriesBehind, MustDictionaryIf};
 ghost use Rattle.irtext_parse_pieces.specs.Named.{MayMean, whole};
 
+use crate::keys::Keys;
 use crate::lists::{NameKind, none_named};
 use irtext_base::base::{AttrObj, Identifier};
 use irtext_base::parsable::{CharStream, ParseResult, Place};
-use irtext_base::result::Cause;
+use irtext_base::result::{Cause, Expected};
 use irtext_base::text::AttrText;
 use irtext_read::irfmt::demanded::{spaced_text_demanded, text_demanded};
-use irtext_read::irfmt::faults::{committed, next_is, out_of_memory, refuse};
-use irtext_read::irfmt::parsers::{attr_parse, identifier_parse, skip_white_space};
+use irtext_read::irfmt::faults::{begins, committed, next_is, out_of_memory, refuse, unexpected};
+use irtext_read::irfmt::parsers::{Class, attr_parse, skip_class, skip_white_space};
 use irtext_read::parsable::OwnStream;
 
 /// A parsed key, and the position where it begins.
@@ -36,22 +37,71 @@ pub fn attr_demanded<S: OwnStream, A: AttrText<A>>(stream: &mut S) -> ParseResul
     committed(stream, answer)
 }
 
-/// Parses a key. If no name comes next, the error is uncommitted and the stream is unchanged.
-pub fn key_parse<S: CharStream, A>(stream: &mut S) -> ParseResult<Key, A>
-    ensures { MayMean S.view S.at (IsKey (whole (S.view stream.old))) name_at stream.old result stream.new }
+/// Consumes the text of a kept key if it comes next. Returns a clone of the key, unless more characters of a word follow.
+#[inline(always)]
+fn key_taken<S: CharStream>(stream: &mut S, kept: &Identifier) -> Option<Identifier>
+    ensures { TakesWord S.view S.at stream.old result stream.new }
 {
-    let at = stream.position();
-    let name = identifier_parse(stream)?;
-    Ok(Key { name, at })
+    if !stream.accept(kept.as_str()) {
+        return None;
+    }
+    if begins(stream, Class::Word) {
+        return None;
+    }
+    match kept.clone() {
+        Ok(key) => Some(key),
+        Err(_) => None,
+    }
 }
 
-/// Parses an entry of a dictionary: a key, `:` and an attribute. If no name comes next, the error is uncommitted and the stream is
+/// The same; without a kept key nothing changes.
+#[inline(always)]
+fn key_again<S: CharStream>(stream: &mut S, kept: Option<&Identifier>) -> Option<Identifier>
+    ensures { TakesWord S.view S.at stream.old result stream.new }
+{
+    match kept {
+        Some(kept) => key_taken(stream, kept),
+        None => None,
+    }
+}
+
+/// Parses a key, the one at this place of a dictionary. It may share its text with the key that is kept at the place. If no name comes
+/// next, the error is uncommitted and the stream is unchanged.
+pub fn key_parse<S: CharStream, A>(
+    stream: &mut S,
+    keys: &mut Keys,
+    index: usize,
+) -> ParseResult<Key, A>
+    ensures { MayMean S.view S.at (IsKey (whole (S.view stream.old))) name_at stream.old result stream.new }
+{
+    if stream.has_failed() {
+        return Err(refuse(stream, Cause::StreamFailed));
+    }
+    if !begins(stream, Class::Beginning) {
+        return Err(unexpected(stream, Expected::Identifier));
+    }
+    let at = stream.position();
+    if let Some(name) = key_again(stream, keys.at(index)) {
+        return Ok(Key { name, at });
+    }
+    skip_class(stream, Class::Word);
+    match keys.key(stream.allocator(), index, stream.text_since(at)) {
+        Ok(name) => Ok(Key { name, at }),
+        Err(_) => Err(out_of_memory(stream)),
+    }
+}
+
+/// Parses the entry at this place of a dictionary: a key, `:` and an attribute. If no name comes next, the error is uncommitted and the stream is
 /// unchanged; other errors are committed.
-fn entry_parse<S: OwnStream, A: AttrText<A>>(stream: &mut S) -> ParseResult<ReadEntry<A>, A>
+fn entry_parse<S: OwnStream, A: AttrText<A>>(
+    stream: &mut S,
+    keys: &mut Keys,
+    index: usize,
+) -> ParseResult<ReadEntry<A>, A>
     ensures { MayMean S.CharStream.view S.CharStream.at (IsEntry (whole (S.CharStream.view stream.old)))
         (pair_at (attr_at A.IrText.reading)) stream.old result stream.new }
 {
-    let key = key_parse(stream)?;
+    let key = key_parse(stream, keys, index)?;
     spaced_text_demanded(stream, ":")?;
     let attr = attr_demanded(stream)?;
     Ok((key, attr))
@@ -60,6 +110,7 @@ fn entry_parse<S: OwnStream, A: AttrText<A>>(stream: &mut S) -> ParseResult<Read
 /// Parses the entries after the first one, as long as `,` comes next.
 fn more_entries<S: OwnStream, A: AttrText<A>>(
     stream: &mut S,
+    keys: &mut Keys,
     first: ReadEntry<A>,
 ) -> ParseResult<Vec<ReadEntry<A>>, A>
     ensures { EntriesBehind S.CharStream.view S.CharStream.at (pair_at (attr_at A.IrText.reading)) first stream.old result stream.new }
@@ -71,7 +122,7 @@ fn more_entries<S: OwnStream, A: AttrText<A>>(
     while next_is(stream, ',') {
         let _ = stream.take();
         skip_white_space(stream);
-        let answer = entry_parse(stream);
+        let answer = entry_parse(stream, keys, found.len());
         let next = committed(stream, answer)?;
         skip_white_space(stream);
         let Ok(()) = found.push(next) else {
@@ -83,16 +134,19 @@ fn more_entries<S: OwnStream, A: AttrText<A>>(
 
 /// Parses entries that are separated by `,`, with white space after each. If no name comes next, returns an empty list. Every error is
 /// committed.
-fn entries_parse<S: OwnStream, A: AttrText<A>>(stream: &mut S) -> ParseResult<Vec<ReadEntry<A>>, A>
+fn entries_parse<S: OwnStream, A: AttrText<A>>(
+    stream: &mut S,
+    keys: &mut Keys,
+) -> ParseResult<Vec<ReadEntry<A>>, A>
     ensures { MustEntries S.CharStream.view S.CharStream.at (separated_at 44 (pair_at (attr_at A.IrText.reading))) stream.old result stream.new }
 {
     if none_named(stream, NameKind::Value) {
         return Ok(Vec::new(stream.allocator()));
     }
-    match entry_parse(stream) {
+    match entry_parse(stream, keys, 0) {
         Ok(first) => {
             skip_white_space(stream);
-            more_entries(stream, first)
+            more_entries(stream, keys, first)
         }
         Err(fault) => {
             if fault.committed {
@@ -107,37 +161,40 @@ fn entries_parse<S: OwnStream, A: AttrText<A>>(stream: &mut S) -> ParseResult<Ve
 #[inline(never)]
 fn bracketed_parse<S: OwnStream, A: AttrText<A>>(
     stream: &mut S,
+    keys: &mut Keys,
 ) -> ParseResult<Vec<ReadEntry<A>>, A>
     ensures { MustEntries S.CharStream.view S.CharStream.at (dictionary_at (attr_at A.IrText.reading)) stream.old result stream.new }
 {
     text_demanded(stream, "[")?;
     skip_white_space(stream);
-    let entries = entries_parse(stream)?;
+    let entries = entries_parse(stream, keys)?;
     text_demanded(stream, "]")?;
     Ok(entries)
 }
 
 /// Parses a dictionary: entries in brackets, separated by `,`, each a key, `:` and an attribute, as `[key: attribute]`. Reserved and
-/// repeated keys are accepted here. An empty dictionary allocates nothing, and one with entries allocates a vector. Every error is
-/// committed.
+/// repeated keys are accepted here. Keys may share their texts with those that are kept at their places. An empty dictionary allocates
+/// nothing, and one with entries allocates a vector. Every error is committed.
 #[inline(always)]
 pub fn dictionary_parse<S: OwnStream, A: AttrText<A>>(
     stream: &mut S,
+    keys: &mut Keys,
 ) -> ParseResult<Vec<ReadEntry<A>>, A>
     ensures { MustEntries S.CharStream.view S.CharStream.at (dictionary_at (attr_at A.IrText.reading)) stream.old result stream.new }
 {
     if stream.has_failed() {
-        return bracketed_parse(stream);
+        return bracketed_parse(stream, keys);
     }
     if stream.accept("[]") {
         return Ok(Vec::new(stream.allocator()));
     }
-    bracketed_parse(stream)
+    bracketed_parse(stream, keys)
 }
 
 /// Parses a dictionary as `dictionary_parse` does if `[` comes next; otherwise returns `None`. Every error is committed.
 pub fn dictionary_if_parse<S: OwnStream, A: AttrText<A>>(
     stream: &mut S,
+    keys: &mut Keys,
 ) -> ParseResult<Option<Vec<ReadEntry<A>>>, A>
     ensures { MustDictionaryIf S.CharStream.view S.CharStream.at (attr_at A.IrText.reading) stream.old result stream.new }
 {
@@ -147,6 +204,6 @@ pub fn dictionary_if_parse<S: OwnStream, A: AttrText<A>>(
     if !next_is(stream, '[') {
         return Ok(None);
     }
-    let entries = dictionary_parse(stream)?;
+    let entries = dictionary_parse(stream, keys)?;
     Ok(Some(entries))
 }

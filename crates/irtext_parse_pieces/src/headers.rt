@@ -5,6 +5,7 @@ ghost use Rattle.irtext_parse_pieces.specs.Named.{NamesRead};
 
 use crate::arguments::arguments_parse;
 use crate::entries::{ReadEntry, dictionary_if_parse};
+use crate::keys::Keys;
 use crate::marks::{ReadMark, mark_parse};
 use crate::names::{ReadName, label_demanded};
 use irtext_base::parsable::{CharStream, ParseResult};
@@ -39,7 +40,8 @@ pub fn block_head_parse<S: OwnStream, V: Copy, B: Copy, T: IrText<A>, A: AttrTex
     let arguments = arguments_parse(stream, names)?;
     text_demanded(stream, ")")?;
     skip_white_space(stream);
-    let attributes = dictionary_if_parse(stream)?;
+    let mut keys = Keys::none(stream.allocator());
+    let attributes = dictionary_if_parse(stream, &mut keys)?;
     skip_white_space(stream);
     let mark = mark_parse(stream)?;
     skip_white_space(stream);

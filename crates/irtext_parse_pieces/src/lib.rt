@@ -8,6 +8,7 @@ pub mod found;
 pub mod fronts;
 pub mod headers;
 pub mod ids;
+pub mod keys;
 pub mod lists;
 pub mod marks;
 pub mod names;

@@ -68,6 +68,7 @@ fn named_parse<S: CharStream, V: Copy, B: Copy, A>(
 }
 
 /// Parses the names after the first one, as long as `,` comes next.
+#[inline(never)]
 fn more_names<S: CharStream, V: Copy, B: Copy, A: Drop>(
     stream: &mut S,
     names: &mut NameTracker<V, B>,
@@ -91,6 +92,24 @@ fn more_names<S: CharStream, V: Copy, B: Copy, A: Drop>(
         };
     }
     Ok(found)
+}
+
+/// Parses the names after the first one, if `,` comes next. A list of one name costs no more than that.
+#[inline(always)]
+fn names_after<S: CharStream, V: Copy, B: Copy, A: Drop>(
+    stream: &mut S,
+    names: &mut NameTracker<V, B>,
+    kind: NameKind,
+    inside: bool,
+    first: ReadName,
+) -> ParseResult<Few<ReadName>, A>
+    ensures read { NamesBehind S.view S.at names.old.names names.new.names (named_at kind inside) first stream.old result stream.new }
+    ensures names { NamesRead names.old names.new }
+{
+    if !next_is(stream, ',') {
+        return Ok(Few::one(first));
+    }
+    more_names(stream, names, kind, inside, first)
 }
 
 /// Whether no name of this kind comes next, judged by the next character alone. Returns false on a stream that has failed.
@@ -126,7 +145,7 @@ pub fn names_parse<S: CharStream, V: Copy, B: Copy, A: Drop>(
     match named_parse(stream, names, kind, inside) {
         Ok(first) => {
             skip_white_space(stream);
-            more_names(stream, names, kind, inside, first)
+            names_after(stream, names, kind, inside, first)
         }
         Err(fault) => {
             if fault.committed {

@@ -1,5 +1,7 @@
 //! Parsing of names. Each distinct name is stored once per parse, and is known by its number from then on.
-ghost use Rattle.std.specs.Prelude.{false};
+ghost use Rattle.std.specs.Prelude.{◌≡◌, List, false, IsErrAnd};
+ghost use Rattle.irtext_base.specs.Answers.{StarvesHere};
+ghost use Rattle.irtext_base.specs.Text.{Text, begins, begins_word};
 ghost use Rattle.irtext_nesting.specs.Heads.{name_at, label_at, symbol_at, used_at, target_at};
 ghost use Rattle.irtext_parse_pieces.specs.Named.{whole, IsSymbol, MustMean, MayName, MustName, NamesRead, Misses};
 
@@ -35,6 +37,28 @@ pub fn symbol_demanded<S: CharStream, A>(stream: &mut S) -> ParseResult<Symbol, 
     Ok(Symbol { name, at })
 }
 
+/// Returns the error for a name where none begins: uncommitted, with the stream unchanged; on a stream that has failed it is committed.
+#[cold]
+#[inline(never)]
+fn name_missing<S: CharStream, A>(stream: &mut S) -> ParseResult<ReadName, A>
+    requires { (S.view stream.old).failed ≡ false → begins begins_word (S.view stream.old).rest ≡ false }
+    ensures { (names : List Text) → MayName S.view S.at names name_at stream.old result stream.new }
+{
+    if stream.has_failed() {
+        return Err(refuse(stream, Cause::StreamFailed));
+    }
+    Err(unexpected(stream, Expected::Identifier))
+}
+
+/// Returns the error `Memory`, committed, for a name that cannot be stored.
+#[cold]
+#[inline(never)]
+fn name_unstored<S: CharStream, A>(stream: &mut S) -> ParseResult<ReadName, A>
+    ensures { IsErrAnd result (λ fault. StarvesHere S.view S.at stream.old fault stream.new) }
+{
+    Err(out_of_memory(stream))
+}
+
 /// Parses a name, and stores it. If none comes next, the error is uncommitted and the stream is unchanged; other errors are committed.
 pub fn name_parse<S: CharStream, V: Copy, B: Copy, A>(
     stream: &mut S,
@@ -44,16 +68,16 @@ pub fn name_parse<S: CharStream, V: Copy, B: Copy, A>(
     ensures names { NamesRead names.old names.new }
 {
     if stream.has_failed() {
-        return Err(refuse(stream, Cause::StreamFailed));
+        return name_missing(stream);
     }
     if !begins(stream, Class::Beginning) {
-        return Err(unexpected(stream, Expected::Identifier));
+        return name_missing(stream);
     }
     let at = stream.position();
     skip_class(stream, Class::Word);
     match names.intern(stream.text_since(at)) {
         Ok(name) => Ok(ReadName { name, at }),
-        Err(_) => Err(out_of_memory(stream)),
+        Err(_) => name_unstored(stream),
     }
 }
 

@@ -17,6 +17,7 @@ ghost use Rattle.irtext_parse_pieces.specs.Named.{NamesRead};
 ghost use Rattle.irtext_parse_pieces.specs.Steps.{seen_step};
 
 use crate::entries::{ReadEntry, attr_demanded, dictionary_parse};
+use crate::keys::Keys;
 use crate::lists::{NameKind, names_parse};
 use crate::names::{ReadName, Symbol, symbol_demanded, target_demanded, used_demanded};
 use crate::steps::FormatStep;
@@ -166,11 +167,12 @@ fn attr_piece<S: OwnStream, T: IrText<A>, A: AttrText<A>>(
 /// Parses a dictionary.
 fn dictionary_piece<S: OwnStream, T: IrText<A>, A: AttrText<A>>(
     stream: &mut S,
+    keys: &mut Keys,
 ) -> ParseResult<ReadPiece<T, A>, A>
     ensures { (names : List Text) → MustPiece S.CharStream.view S.CharStream.at names
         (dictionary_at (attr_at A.IrText.reading) ⇒ dictionary) stream.old result stream.new }
 {
-    let entries = dictionary_parse(stream)?;
+    let entries = dictionary_parse(stream, keys)?;
     Ok(ReadPiece::Dictionary(entries))
 }
 
@@ -228,6 +230,7 @@ fn piece_parse<S: OwnStream, V: Copy, B: Copy, T: IrText<A>, A: AttrText<A>>(
     names: &mut NameTracker<V, B>,
     directive: &Directive,
     inside: bool,
+    keys: &mut Keys,
 ) -> ParseResult<ReadPiece<T, A>, A>
     ensures read { MustPiece S.CharStream.view S.CharStream.at names.new.names
         (directive_at T.IrText.reading (attr_at A.IrText.reading) inside (directive_of directive.now)) stream.old result stream.new }
@@ -240,7 +243,7 @@ fn piece_parse<S: OwnStream, V: Copy, B: Copy, T: IrText<A>, A: AttrText<A>>(
         Directive::Successor(index) => successor_piece(stream, names, *index, inside),
         Directive::Successors => successors_piece(stream, names, inside),
         Directive::Attr(key) => attr_piece(stream, key),
-        Directive::AttrDict => dictionary_piece(stream),
+        Directive::AttrDict => dictionary_piece(stream, keys),
         Directive::ResultType(index) => type_piece(stream, *index),
         Directive::SymbolHeader => header_piece(stream),
         Directive::Region(_) => no_piece(stream),
@@ -249,25 +252,27 @@ fn piece_parse<S: OwnStream, V: Copy, B: Copy, T: IrText<A>, A: AttrText<A>>(
 }
 
 /// Parses what a step of a format describes. `inside` says whether it is inside of a region; outside of every region no name can be used.
-/// An attribute may be replaced by the marker `!outlined`; reserved and repeated keys of a dictionary are accepted here. If the step
-/// describes regions, fails with `Unexpected`: an operation was expected. Every error is committed, and leaves the stream failed.
+/// An attribute may be replaced by the marker `!outlined`; reserved and repeated keys of a dictionary are accepted here, and may share
+/// their texts with those that are kept at their places. If the step describes regions, fails with `Unexpected`: an operation was expected.
+/// Every error is committed, and leaves the stream failed.
 #[inline(always)]
 pub fn step_parse<S: OwnStream, V: Copy, B: Copy, T: IrText<A>, A: AttrText<A>>(
     stream: &mut S,
     names: &mut NameTracker<V, B>,
     step: FormatStep<'_>,
     inside: bool,
+    keys: &mut Keys,
 ) -> ParseResult<ReadPiece<T, A>, A>
     ensures read { MustPiece S.CharStream.view S.CharStream.at names.new.names
         (piece_at T.IrText.reading (attr_at A.IrText.reading) inside (seen_step step.entry)) stream.old result stream.new }
     ensures names { NamesRead names.old names.new }
 {
     match step {
-        FormatStep::Directive(directive) => piece_parse(stream, names, directive, inside),
+        FormatStep::Directive(directive) => piece_parse(stream, names, directive, inside, keys),
         FormatStep::Word(text) => word_piece(stream, text),
         FormatStep::Operands => operands_piece(stream, names, inside),
         FormatStep::Successors => successors_piece(stream, names, inside),
-        FormatStep::Dictionary => dictionary_piece(stream),
+        FormatStep::Dictionary => dictionary_piece(stream, keys),
         FormatStep::Types => types_piece(stream),
         FormatStep::Regions => no_piece(stream),
     }

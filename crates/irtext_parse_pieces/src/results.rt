@@ -30,6 +30,7 @@ fn begins_id<S: CharStream>(stream: &mut S) -> bool
 }
 
 /// Looks for the names after the first one, as long as `,` comes next. Returns `None` if a `,` is not followed by a name.
+#[inline(never)]
 fn more_results<S: CharStream, V: Copy, B: Copy, A: Drop>(
     stream: &mut S,
     names: &mut NameTracker<V, B>,
@@ -60,6 +61,22 @@ fn more_results<S: CharStream, V: Copy, B: Copy, A: Drop>(
     Ok(Some(found))
 }
 
+/// Looks for the names after the first one, if `,` comes next. A list of one name costs no more than that.
+#[inline(always)]
+fn results_after<S: CharStream, V: Copy, B: Copy, A: Drop>(
+    stream: &mut S,
+    names: &mut NameTracker<V, B>,
+    first: ReadName,
+) -> ParseResult<Option<Few<ReadName>>, A>
+    ensures looks { LooksBehind S.view S.at names.old.names names.new.names first stream.old result stream.new }
+    ensures names { NamesRead names.old names.new }
+{
+    if !next_is(stream, ',') {
+        return Ok(Some(Few::one(first)));
+    }
+    more_results(stream, names, first)
+}
+
 /// Looks for names that are separated by `,`.
 fn names_there<S: CharStream, V: Copy, B: Copy, A: Drop>(
     stream: &mut S,
@@ -71,7 +88,7 @@ fn names_there<S: CharStream, V: Copy, B: Copy, A: Drop>(
     match name_parse(stream, names) {
         Ok(first) => {
             skip_white_space(stream);
-            more_results(stream, names, first)
+            results_after(stream, names, first)
         }
         Err(fault) => {
             if fault.committed {

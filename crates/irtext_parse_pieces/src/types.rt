@@ -21,6 +21,7 @@ fn type_parse<S: OwnStream, T: IrText<A>, A>(stream: &mut S) -> ParseResult<T, A
 }
 
 /// Parses the types after the first one, as long as `,` comes next.
+#[inline(never)]
 fn more_types<S: OwnStream, T: IrText<A>, A: Drop>(
     stream: &mut S,
     first: T,
@@ -42,6 +43,20 @@ fn more_types<S: OwnStream, T: IrText<A>, A: Drop>(
     Ok(found)
 }
 
+/// Parses the types after the first one, if `,` comes next. A list of one type costs no more than that.
+#[inline(always)]
+fn types_after<S: OwnStream, T: IrText<A>, A: Drop>(
+    stream: &mut S,
+    first: T,
+) -> ParseResult<Few<T>, A>
+    ensures { TypesBehind S.CharStream.view S.CharStream.at T.IrText.reading first stream.old result stream.new }
+{
+    if !next_is(stream, ',') {
+        return Ok(Few::one(first));
+    }
+    more_types(stream, first)
+}
+
 /// Parses types that are separated by `,`, with white space after each. If no type comes next, returns an empty list. Every error is
 /// committed.
 pub fn types_parse<S: OwnStream, T: IrText<A>, A: Drop>(stream: &mut S) -> ParseResult<Few<T>, A>
@@ -50,7 +65,7 @@ pub fn types_parse<S: OwnStream, T: IrText<A>, A: Drop>(stream: &mut S) -> Parse
     match type_parse(stream) {
         Ok(first) => {
             skip_white_space(stream);
-            more_types(stream, first)
+            types_after(stream, first)
         }
         Err(fault) => {
             if fault.committed {

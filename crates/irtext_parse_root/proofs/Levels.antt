@@ -1,12 +1,13 @@
 -- What is open in code and in theory: it lasts, it is pushed and popped, and as much is left to do of the one as of the other.
-use Rattle.std.proofs.Common.{◌≡◌, ◌∙◌, ◌+◌, ◌*◌, ◌≤◌, ℕ, suc, List, [], ◌∷◌, ◌++◌, map, drop, length, length-append, Option, Some, None, IsSome, refl, sym, ap, subst, arith}
+use Rattle.std.proofs.Common.{◌≡◌, ◌∙◌, ◌+◌, ◌*◌, ◌≤◌, ℕ, suc, List, [], ◌∷◌, ◌++◌, map, drop, length, length-append, Option, Some, None, IsSome, refl, sym, ap, subst, arith, slice_get}
 use Rattle.std.proofs.lemmas.List.{map_push}
+use Rattle.std.specs.Prelude.{IfSome}
 use Rattle.irtext_base.specs.Text.{Text}
 use Rattle.irtext_context.specs.Context.{ContextView}
 use Rattle.irtext_graph.specs.declared.object.Object.TheVariants.{TheOperation, TheBlock, TheRegion}
 use Rattle.irtext_graph.specs.Graph.{GraphView}
 use Rattle.irtext_scopes.specs.Names.{KeepsNames}
-use Rattle.irtext_grammar.specs.Contexts.Formats.{format_of}
+use Rattle.irtext_grammar.specs.Contexts.Formats.{format_of, isolated}
 use Rattle.irtext_grammar.specs.Grammar.Tree.{Name}
 use Rattle.irtext_grammar.specs.Names.Acts.{result_types}
 use Rattle.irtext_nesting.specs.Heads.{Step}
@@ -19,6 +20,7 @@ use Rattle.irtext_parse_pieces.proofs.Meanings.{stands_on}
 use Rattle.irtext_parse_nested.specs.declared.frame.BegunOperation.{BegunOperation}
 use Rattle.irtext_parse_nested.specs.Beginning.{HasBegun}
 use Rattle.irtext_parse_nested.specs.Begun.{IsBegun}
+use Rattle.irtext_parse_nested.specs.Coming.{IsStep}
 use Rattle.irtext_parse_nested.specs.Items.{Lasts}
 use Rattle.irtext_parse_root.specs.declared.frames.Frame.{Frame}
 use Rattle.irtext_parse_root.specs.declared.frames.Frame.TheVariants as framed
@@ -43,6 +45,8 @@ module _ {T A : Type 0} (names more : List Text) (text : Text) (old new : Contex
     known = subst (λ d. IsSome (format_of d o.id)) (sym lasts.dialects) h.known;
     steps = subst (λ d. o.steps ≡ drop b.step (steps_in d o.id)) (sym lasts.dialects) h.steps;
     counted = subst (λ d. b.steps ≡ length (steps_in d o.id)) (sym lasts.dialects) h.counted;
+    coming = subst (λ d. IfSome b.coming (λ next. IsStep next (slice_get (steps_in d o.id) b.step))) (sym lasts.dialects) h.coming;
+    is_isolated = subst (λ d. b.isolated ≡ isolated d o.id) (sym lasts.dialects) h.is_isolated;
     late = h.late;
     stands = lasts.operations b.op h.stands;
     counts = lasts.results b.op h.stands ∙ h.counts;

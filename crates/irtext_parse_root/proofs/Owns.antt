@@ -18,8 +18,8 @@ use Rattle.irtext_nesting.specs.Stands.{OwnSoFar, own_of}
 use Rattle.irtext_parse_nested.specs.declared.frame.BegunOperation.{BegunOperation}
 use Rattle.irtext_parse_nested.specs.Beginning.{IsPartOf, ArePartsOf, HasBegun}
 use Rattle.irtext_parse_nested.specs.Begun.{HasNoType, ReadNeither, IsBegun}
-use Rattle.irtext_parse_root.specs.declared.coming.Coming.TheVariants as comes
-use Rattle.irtext_parse_root.specs.Turns.{IsStep}
+use Rattle.irtext_parse_nested.specs.declared.coming.Coming.TheVariants as comes
+use Rattle.irtext_parse_nested.specs.Coming.{IsStep}
 
 put_both : {V : Type 0} (es xs ys : List (Text × V)) → put_all es (xs ++ ys) ≡ put_all (put_all es xs) ys
 put_both es [] ys = refl
@@ -94,7 +94,7 @@ step_none (y ∷ xs) (suc n) e = step_none xs n e
 
 module _ {T A : Type 0} (names : List Text) (text : Text) (ctx : ContextView T A) (b next : BegunOperation) (o : Begun T A) where
   -- a region was read: the operation goes on behind it
-  pub begun_region : (step : Step) (ss : List Step) (part : Part ℕ T A) → o.steps ≡ step ∷ ss → next ≡ record b { step = b.step + 1 } → HasNoType part → IsBegun names text ctx b o
+  pub begun_region : (step : Step) (ss : List Step) (part : Part ℕ T A) → o.steps ≡ step ∷ ss → next ≡ record b { coming = None; step = b.step + 1 } → HasNoType part → IsBegun names text ctx b o
       → IsBegun names text ctx next (with_steps o ss (o.parts ++ part ∷ []))
   begun_region step ss part e is none h = subst (λ z. IsBegun names text ctx z (with_steps o ss (o.parts ++ part ∷ []))) (sym is) (record {
     inside = h.inside;
@@ -104,6 +104,8 @@ module _ {T A : Type 0} (names : List Text) (text : Text) (ctx : ContextView T A
     known = h.known;
     steps = rest_of (steps_in ctx.dialects o.id) b.step (sym e ∙ h.steps);
     counted = h.counted;
+    coming = tt;
+    is_isolated = h.is_isolated;
     late = (subst ReadNeither e h.late).1;
     stands = h.stands;
     counts = h.counts;

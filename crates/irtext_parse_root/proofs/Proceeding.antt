@@ -39,7 +39,7 @@ use Rattle.irtext_parse_nested.specs.Items.{Names}
 use Rattle.irtext_parse_nested.specs.Read.{begun_by, EndsRegion}
 use Rattle.irtext_parse_root.specs.declared.frames.Frame.{Frame}
 use Rattle.irtext_parse_root.specs.declared.frames.Frame.TheVariants as framed
-use Rattle.irtext_parse_root.specs.declared.coming.Coming.TheVariants as comes
+use Rattle.irtext_parse_nested.specs.declared.coming.Coming.TheVariants as comes
 use Rattle.irtext_parse_root.specs.Here.{AreHere, Base, AreLevels, StandsInBlock, Nest, IsHere}
 use Rattle.irtext_parse_root.specs.Levels.{Level, at_operation, at_region, at_block, outward, open_of, first_frame, next_of, waiting, isolated_in, regions_in, left_to_do, AreNewFrames}
 use Rattle.irtext_parse_root.specs.Told.{told}
@@ -253,7 +253,7 @@ module _ {T A U : Type 0} (types_at : Reader T) (reading : Reader A) (h : Splits
         fewer = let m = brace_fewer v.rest tt en.begins.taken new.stream.rest en.begins.read in let n = moves_fewer old.stream v passes.moves in omega (arith, m, n)
 
       -- ---- the one that comes next
-      module _ (is : IsNext ctx.dialects b comes.Region) (next : BegunOperation) (next_is : next ≡ record b { step = b.step + 1 }) (pushed : waits ≡ frames ++ framed.Operation next ∷ []) where
+      module _ (is : IsNext ctx.dialects b comes.Region) (next : BegunOperation) (next_is : next ≡ record b { coming = None; step = b.step + 1 }) (pushed : waits ≡ frames ++ framed.Operation next ∷ []) where
         same_op : next.op ≡ b.op
         same_op = ap (λ z. z.op) next_is
 
@@ -332,7 +332,7 @@ module _ {T A U : Type 0} (types_at : Reader T) (reading : Reader A) (h : Splits
         }
 
     -- ---- no more regions
-    module _ (b next : BegunOperation) (frames : List Frame) (is : IsNext ctx.dialects b comes.Regions) (none : begins_region (after_space old.stream.rest) ≡ false) (next_is : next ≡ record b { step = b.step + 1 }) where
+    module _ (b next : BegunOperation) (frames : List Frame) (is : IsNext ctx.dialects b comes.Regions) (none : begins_region (after_space old.stream.rest) ≡ false) (next_is : next ≡ record b { coming = None; step = b.step + 1 }) where
       over_carries : Carries before old before (with_stream old v)
       over_carries = carries_pass before old v passes.moves
 

@@ -28,7 +28,7 @@ is_own (script.UnknownPrintOnce i) = refl
 is_own (script.ReservedKey k) = refl
 
 -- the characters in front of what is left
-front_is : (a b : Text) → take (length (a ++ b) - length b) (a ++ b) ≡ a
+pub front_is : (a b : Text) → take (length (a ++ b) - length b) (a ++ b) ≡ a
 front_is a b = let n : length (a ++ b) - length b ≡ length a = omega (arith, length-append a b) in ap (λ z. take z (a ++ b)) n ∙ take-append_seam a b
 
 module _ {A X : Type 0} (all passed rest : Text) (whole : passed ++ rest ≡ all) (fault : ParseFault A) (cause : Fault) (upto : Text) (because : fault_of fault.cause ≡ cause) (at : IsAt fault.pos.line fault.pos.column (passed ++ upto)) where

@@ -2,7 +2,7 @@
 use Rattle.std.proofs.Common.{◌≡◌, ◌∙◌, ◌==◌, ℕ, suc, true, false, List, [], ◌∷◌, ◌++◌, map, length, Option, Some, refl, sym, ap, subst, inl, inr}
 use Rattle.irtext_base.specs.Text.{Text}
 use Rattle.irtext_base.specs.Format.{distinct, Id}
-use Rattle.irtext_base.specs.Answers.{Outcome}
+use Rattle.irtext_base.specs.Answers.{Outcome, Read}
 use Rattle.irtext_base.specs.Own.{texts_of, Sincere, Lawful}
 use Rattle.irtext_base.specs.Paths.{Written}
 use Rattle.irtext_base.specs.declared.location.Location.{Location}
@@ -21,7 +21,7 @@ use Rattle.irtext_state.specs.declared.parsable.state.StateStream.{StateStream}
 use Rattle.irtext_grammar.specs.Contexts.Formats.{format_of, isolated, IsAccepted}
 use Rattle.irtext_grammar.specs.Contexts.Held.{location_over, whole}
 use Rattle.irtext_grammar.specs.Contexts.Nested.{pointers}
-use Rattle.irtext_grammar.specs.Grammar.Marked.{marked, section_if}
+use Rattle.irtext_grammar.specs.Grammar.Marked.{marked, section_if, reads_root}
 use Rattle.irtext_grammar.specs.Grammar.Reads as grammar
 use Rattle.irtext_grammar.specs.Grammar.Section.{Entry, section}
 use Rattle.irtext_grammar.specs.Grammar.Tree.{Mark, Tree}
@@ -191,22 +191,33 @@ module _ {T A U : Type 0} (types_at : Text → Outcome T) (types_written : T →
         m.leaves.items marks m.carried (length old.stream.rest) (length mid.stream.rest) m.falls m.leaves.held.tracks.once apart
 
     -- ---- it was read
+    -- what the text is then, whatever the items have
+    module _ (entries : List (Entry ℕ A (Written A))) (taken rest : Text) (reads : section_at (attr_at reading) noted (rules_of marks) mid.stream.rest ≡ Read entries taken rest) where
+      read : section (knot.L types_at types_written reading written dialects) (location_standing (attr_at reading)) entries mid.stream.rest rest
+          × (taken ++ rest ≡ mid.stream.rest) × (refused noted (rules_of marks) entries ≡ [])
+      read = section_read (texts_of types_at types_written) reading written (format_of dialects) sincere lawful noted (rules_of marks) mid.stream.rest entries taken rest reads
+
+      none_wrong : refused noted (rule_of t) entries ≡ []
+      none_wrong = subst (λ rules. refused noted rules entries ≡ []) same_rules read.2
+
+      pub reads_marked : reads_root (knot.L types_at types_written reading written dialects) (location_standing (attr_at reading)) t entries old.stream.rest rest
+      reads_marked = (mid.stream.rest, reads_it, subst (λ b. section_if (knot.L types_at types_written reading written dialects) (location_standing (attr_at reading)) b entries mid.stream.rest rest) (sym has_mark) read.0)
+
+      pub resolves_marked : failures_of (isolated dialects) t entries ≡ []
+      resolves_marked = root.section_failures types_at types_written reading written dialects types_split splits words short_types short_owns accepted L op noted old.state.ctx.now mid.state.ctx.now old.stream.rest mid.stream.rest m.leaves entries ∙ none_wrong
+
     module _ (new : StateStream T A U) (r : ReadsSection (attr_at reading) mid new) (older : AllOlder old.state.ctx.now.graph.made old.state.ctx.now.graph)
         (before : KeepsOlder old.state.ctx.now.graph.made old.state.ctx.now mid.state.ctx.now) (later : KeepsOlder old.state.ctx.now.graph.made mid.state.ctx.now new.state.ctx.now) where
       abbrev first : ℕ → Written A
       first = first_of new.state.ctx.now
 
-      read : section (knot.L types_at types_written reading written dialects) (location_standing (attr_at reading)) r.entries mid.stream.rest new.stream.rest
-          × (r.taken ++ new.stream.rest ≡ mid.stream.rest) × (refused noted (rules_of marks) r.entries ≡ [])
-      read = section_read (texts_of types_at types_written) reading written (format_of dialects) sincere lawful noted (rules_of marks) mid.stream.rest r.entries r.taken new.stream.rest r.reads
-
-      none_wrong : refused noted (rule_of t) r.entries ≡ []
-      none_wrong = subst (λ rules. refused noted rules r.entries ≡ []) same_rules read.2
+      none_refused : refused noted (rules_of marks) r.entries ≡ []
+      none_refused = (read r.entries r.taken new.stream.rest r.reads).2
 
       each : GivesEach L mid.state.ctx.now m.leaves.items marks new.state.ctx.now first r.entries
       each = record {
-        operations = gives.operation_has (attr_at reading) mid new r (rules_of marks) read.2 L m.leaves.items first (λ n l e. place_told new.state.ctx.now.paths old.state.src (whole old.stream) n l e);
-        blocks = gives.block_has (attr_at reading) mid new r (rules_of marks) read.2 L m.leaves.items first (λ n l e. place_told new.state.ctx.now.paths old.state.src (whole old.stream) n l e);
+        operations = gives.operation_has (attr_at reading) mid new r (rules_of marks) none_refused L m.leaves.items first (λ n l e. place_told new.state.ctx.now.paths old.state.src (whole old.stream) n l e);
+        blocks = gives.block_has (attr_at reading) mid new r (rules_of marks) none_refused L m.leaves.items first (λ n l e. place_told new.state.ctx.now.paths old.state.src (whole old.stream) n l e);
       }
 
       has : RootHas new.state.ctx.now first r.entries (pointers mid.state.ctx.now.graph op) t
@@ -236,8 +247,8 @@ module _ {T A U : Type 0} (types_at : Text → Outcome T) (types_written : T →
       root_marked = record {
         tree = t;
         entries = r.entries;
-        reads = (mid.stream.rest, reads_it, subst (λ b. section_if (knot.L types_at types_written reading written dialects) (location_standing (attr_at reading)) b r.entries mid.stream.rest new.stream.rest) (sym has_mark) read.0);
-        resolves = root.section_failures types_at types_written reading written dialects types_split splits words short_types short_owns accepted L op noted old.state.ctx.now mid.state.ctx.now old.stream.rest mid.stream.rest m.leaves r.entries ∙ none_wrong;
+        reads = reads_marked r.entries r.taken new.stream.rest r.reads;
+        resolves = resolves_marked r.entries r.taken new.stream.rest r.reads;
         moves = moves_more moves r.moves;
         builds = held;
         is_whole = root_whole new.state.ctx.now first r.entries op t (subst (λ ps. RootHas new.state.ctx.now first r.entries ps t) (sym (pointers_same mid.state.ctx.now.graph new.state.ctx.now.graph shape op)) has);

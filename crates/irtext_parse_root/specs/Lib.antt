@@ -3,6 +3,7 @@ pub mod AnyState
 pub mod Block
 pub mod Built
 pub mod Carried
+pub mod Ended
 pub mod Here
 pub mod Levels
 pub mod Marked
@@ -15,3 +16,4 @@ pub mod Turned
 pub mod Turns
 pub mod Under
 pub mod Whole
+pub mod WholeAny

@@ -1,5 +1,5 @@
 -- Between functions: what each action of the loop promises: what was parsed, the names, and what was added to the context.
-use Rattle.std.specs.Prelude.{◌≡◌, ◌≤◌, ℕ, Bool, true, List, [], ◌∷◌, ◌++◌, length, map, Option, Some, None, slice_get, ⊤}
+use Rattle.std.specs.Prelude.{◌≡◌, ◌≤◌, ℕ, Bool, true, List, [], ◌∷◌, ◌++◌, length, map, Option, Some, None, slice_get}
 use Rattle.irtext_base.specs.Text.{Text}
 use Rattle.irtext_base.specs.Answers.{Read}
 use Rattle.irtext_base.specs.Faults.{id_of}
@@ -24,33 +24,25 @@ use Rattle.irtext_grammar.specs.Contexts.Held.{whole}
 use Rattle.irtext_grammar.specs.Grammar.Tree as tree
 use Rattle.irtext_grammar.specs.Grammar.Tree.{Mark, Piece}
 use Rattle.irtext_grammar.specs.Graphs.Build.{put_all, stored, read_names}
-use Rattle.irtext_nesting.specs.Heads.{Step, one, all, mark_if_at}
+use Rattle.irtext_nesting.specs.Heads.{Step, mark_if_at}
 use Rattle.irtext_nesting.specs.Reached.{steps_in}
-use Rattle.irtext_nesting.specs.Resume.{Begun, with_steps, is_flat}
+use Rattle.irtext_nesting.specs.Resume.{Begun, with_steps}
 use Rattle.irtext_nesting.specs.Grows.{RegionCame, OperationGains, RegionGains, BlockCame, OwnBecame}
 use Rattle.irtext_nesting.specs.Stands.{OwnSoFar, HasOwn, HasUses, Spares}
+use Rattle.irtext_parse_nested.specs.declared.coming.Coming.{Coming}
 use Rattle.irtext_parse_nested.specs.declared.frame.BegunOperation.{BegunOperation}
 use Rattle.irtext_parse_nested.specs.declared.frame.BegunRegion.{BegunRegion}
 use Rattle.irtext_parse_nested.specs.declared.frame.BegunBlock.{BegunBlock}
 use Rattle.irtext_parse_nested.specs.Beginning.{HasBegun, ComesInto}
 use Rattle.irtext_parse_nested.specs.Begun.{IsBegun, IsRegion}
+use Rattle.irtext_parse_nested.specs.Coming.{IsStep}
 use Rattle.irtext_parse_nested.specs.Ends.{noted_as}
 use Rattle.irtext_parse_nested.specs.Items.{Names}
 use Rattle.irtext_parse_nested.specs.Located.{IsLocated}
 use Rattle.irtext_parse_nested.specs.Read.{begun_by, BeginsOperation, ReadsPiece, EndsOperation, BeginsRegion, EndsRegion, BeginsBlock}
 use Rattle.irtext_parse_root.specs.Turned.{Carries}
-use Rattle.irtext_parse_root.specs.declared.coming.Coming.{Coming}
-use Rattle.irtext_parse_root.specs.declared.coming.Coming.TheVariants as comes
 
 -- ---- which action it is
--- the next step is of this kind
-abbrev pub IsStep : Coming → Option Step → Type 0
-IsStep comes.Piece (Some step) = is_flat step ≡ true
-IsStep comes.Region (Some step) = (i : ℕ) × (step ≡ one i)
-IsStep comes.Regions (Some step) = step ≡ all
-IsStep comes.End None = ⊤
-IsStep _ _ = ⊥
-
 -- the next step of an open operation is of this kind
 abbrev pub IsNext : List (Text × Table) → BegunOperation → Coming → Type 0
 IsNext dialects b c = IsStep c (slice_get (steps_in dialects (id_of b.id)) b.step)

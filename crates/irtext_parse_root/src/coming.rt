@@ -1,32 +1,20 @@
 //! What comes next in an open operation, according to its format.
-ghost use Rattle.std.specs.Prelude.{◌≡◌, ◌≢◌, ◌+◌, ◌<◌, false, length, slice_get, Some, IsSome};
+ghost use Rattle.std.specs.Prelude.{◌≡◌, ◌≢◌, ◌+◌, ◌<◌, false, length, slice_get, IsSome, IfSome};
 ghost use Rattle.irtext_base.specs.Faults.{id_of};
 ghost use Rattle.irtext_formats.specs.Directives.{format_of};
 ghost use Rattle.irtext_grammar.specs.Contexts.Formats.{isolated};
 ghost use Rattle.irtext_nesting.specs.Heads.{steps_of};
 ghost use Rattle.irtext_nesting.specs.Reached.{steps_in};
-ghost use Rattle.irtext_parse_pieces.specs.Steps.{seen_step};
-ghost use Rattle.irtext_parse_root.specs.Turns.{IsStep, IsNext};
-ghost use Rattle.irtext_parse_root.specs.declared.coming.Coming.TheVariants as comes;
+ghost use Rattle.irtext_parse_nested.specs.Coming.{IsStep};
+ghost use Rattle.irtext_parse_nested.specs.declared.coming.Coming.TheVariants as comes;
+ghost use Rattle.irtext_parse_root.specs.Turns.{IsNext};
 
-use irtext_base::format::{Directive, OpFormat};
+use irtext_base::format::OpFormat;
 use irtext_base::text::{AttrText, IrText};
 use irtext_context::base::Context;
+use irtext_parse_nested::coming::{Coming, kind_of};
 use irtext_parse_nested::frame::BegunOperation;
-use irtext_parse_pieces::steps::{FormatStep, step_at};
-
-/// What comes next in an open operation.
-#[derive(Clone, Copy)]
-pub enum Coming {
-    /// A step of the format that parses no region.
-    Piece,
-    /// One region.
-    Region,
-    /// All remaining regions.
-    Regions,
-    /// The end of the operation.
-    End,
-}
+use irtext_parse_pieces::steps::step_at;
 
 /// What comes next in an operation, whether the operation is isolated from above, and the index of the step after it.
 #[derive(Clone, Copy)]
@@ -34,33 +22,6 @@ pub struct Next {
     pub coming: Coming,
     pub isolated: bool,
     pub behind: usize,
-}
-
-/// What a step parses.
-fn kind_of(step: FormatStep<'_>) -> Coming
-    ensures { IsStep result (Some (seen_step step.entry)) }
-{
-    match step {
-        FormatStep::Directive(directive) => match directive {
-            Directive::Region(_) => Coming::Region,
-            Directive::Regions => Coming::Regions,
-            Directive::Literal(_)
-            | Directive::Operand(_)
-            | Directive::Operands
-            | Directive::Successor(_)
-            | Directive::Successors
-            | Directive::Attr(_)
-            | Directive::AttrDict
-            | Directive::ResultType(_)
-            | Directive::SymbolHeader => Coming::Piece,
-        },
-        FormatStep::Regions => Coming::Regions,
-        FormatStep::Word(_)
-        | FormatStep::Operands
-        | FormatStep::Successors
-        | FormatStep::Dictionary
-        | FormatStep::Types => Coming::Piece,
-    }
 }
 
 /// The index after that of a step.
@@ -88,18 +49,27 @@ fn ended(step: usize) -> Next
     }
 }
 
-/// Returns what comes next in an open operation. The format is looked up only if steps are left.
+/// Returns what comes next in an open operation. The format is looked up only at a step after the first region.
 pub(crate) fn next_turn<T: IrText<A>, A: AttrText<A>>(
     ctx: &Context<T, A>,
     begun: &BegunOperation,
 ) -> Next
     requires counted { begun.now.steps ≡ length (steps_in ctx.now.dialects (id_of begun.now.id)) }
+    requires coming { IfSome begun.now.coming (λ next. IsStep next (slice_get (steps_in ctx.now.dialects (id_of begun.now.id)) begun.now.step)) }
+    requires isolated { begun.now.isolated ≡ isolated ctx.now.dialects (id_of begun.now.id) }
     ensures next { IsNext ctx.now.dialects begun.now result.coming }
     ensures isolated { result.coming ≢ comes.End → result.isolated ≡ isolated ctx.now.dialects (id_of begun.now.id) }
     ensures behind { IsSome (slice_get (steps_in ctx.now.dialects (id_of begun.now.id)) begun.now.step) → result.behind ≡ begun.now.step + 1 }
 {
     if begun.steps <= begun.step {
         return ended(begun.step);
+    }
+    if let Some(coming) = begun.coming {
+        return Next {
+            coming,
+            isolated: begun.isolated,
+            behind: begun.step + 1,
+        };
     }
     let Some(info) = ctx.op_info(&begun.id) else {
         return ended(begun.step);

@@ -15,6 +15,7 @@ use crate::steps::step;
 use irtext_base::parsable::ParseResult;
 use irtext_base::text::{AttrText, IrText};
 use irtext_parse_nested::frame::Names;
+use irtext_parse_pieces::keys::Keys;
 use irtext_state::parsable::StateStream;
 
 /// Parses the rest of the text of a frame that is the only open one. Every error is committed. On an error, scopes may be left open.
@@ -34,10 +35,12 @@ pub(crate) fn items_parse<T: IrText<A>, A: AttrText<A>, U>(
     ensures kept { (m : ℕ) → m ≤ s.old.state.ctx.now.graph.made → IsClosedBelow m s.old.state.ctx.now.graph → IsSound m names.old s.old.state
         → AreAllNew m s.old.state.ctx.now.graph (Some first) [] → KeepsOlder m s.old.state.ctx.now s.new.state.ctx.now }
 {
-    let mut frames = Waiting::new(s.stream.allocator());
+    let alloc = s.stream.allocator();
+    let mut keys = Keys::new(alloc);
+    let mut frames = Waiting::new(alloc);
     let mut next = Some(first);
     while let Some(frame) = next {
-        next = step(s, names, &mut frames, frame)?;
+        next = step(s, names, &mut keys, &mut frames, frame)?;
     }
     Ok(())
 }

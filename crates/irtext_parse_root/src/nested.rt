@@ -21,6 +21,7 @@ use irtext_base::parsable::ParseResult;
 use irtext_base::text::{AttrText, IrText};
 use irtext_context::base::{Operation, Ptr};
 use irtext_parse_nested::frame::Names;
+use irtext_parse_pieces::keys::Keys;
 use irtext_state::parsable::StateStream;
 
 /// Parses an operation outside of every region, with everything nested in it. The error is the first one in the order of the text. It is
@@ -44,7 +45,8 @@ pub fn nested_parse<T: IrText<A>, A: AttrText<A>, U>(
     ensures kept { (m : ℕ) → m ≤ s.old.state.ctx.now.graph.made → IsClosedBelow m s.old.state.ctx.now.graph → IsSound m names.old s.old.state
         → KeepsOlder m s.old.state.ctx.now s.new.state.ctx.now }
 {
-    let begun = begin(s, names, None)?;
+    let mut keys = Keys::none(s.stream.allocator());
+    let begun = begin(s, names, &mut keys, None)?;
     let op = begun.op;
     items_parse(s, names, Frame::Operation(begun))?;
     Ok(op)

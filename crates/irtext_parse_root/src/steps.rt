@@ -1,5 +1,5 @@
 //! One step of the loop: for the innermost frame it begins a nested frame, continues the frame, or ends it.
-ghost use Rattle.std.specs.Prelude.{◌≡◌, ◌≢◌, ◌≤◌, ◌+◌, ◌++◌, ◌∷◌, [], ℕ, false, length, IfOk, IfErr, OnOk, OnErr, Some};
+ghost use Rattle.std.specs.Prelude.{◌≡◌, ◌≢◌, ◌≤◌, ◌+◌, ◌++◌, ◌∷◌, [], ℕ, false, length, IfOk, IfErr, OnOk, OnErr, None, Some, IfSome, slice_get};
 ghost use Rattle.irtext_base.specs.Faults.{id_of};
 ghost use Rattle.irtext_context.specs.Context.{KeepsOlder};
 ghost use Rattle.irtext_graph.specs.Back.{IsClosedBelow};
@@ -8,21 +8,24 @@ ghost use Rattle.irtext_scopes.specs.Names.{KeepsNames};
 ghost use Rattle.irtext_grammar.specs.Contexts.Formats as formats;
 ghost use Rattle.irtext_grammar.specs.Contexts.Held.{whole};
 ghost use Rattle.irtext_nesting.specs.Reached.{steps_in};
+ghost use Rattle.irtext_parse_nested.specs.Coming.{IsStep};
 ghost use Rattle.irtext_parse_nested.specs.Items.{IsSound};
 ghost use Rattle.irtext_parse_root.specs.Here.{AreHere};
 ghost use Rattle.irtext_parse_root.specs.Levels.{AreAllNew};
 ghost use Rattle.irtext_parse_root.specs.Turned.{IsSoundOnce, Remains, Proceeds, Stops};
 ghost use Rattle.irtext_parse_root.specs.Turns.{IsNext};
-ghost use Rattle.irtext_parse_root.specs.declared.coming.Coming.TheVariants as comes;
+ghost use Rattle.irtext_parse_nested.specs.declared.coming.Coming.TheVariants as comes;
 ghost use Rattle.irtext_parse_root.specs.declared.frames.Frame.TheVariants as framed;
 
-use crate::coming::{Coming, Next, next_turn};
+use crate::coming::{Next, next_turn};
 use crate::frames::{Frame, Waiting};
 use crate::passing::{another_stands, space_parse};
 use crate::turns::{begin, end, enter, go_on, head, leave};
 use irtext_base::parsable::ParseResult;
 use irtext_base::text::{AttrText, IrText};
+use irtext_parse_nested::coming::Coming;
 use irtext_parse_nested::frame::{BegunBlock, BegunOperation, BegunRegion, Names};
+use irtext_parse_pieces::keys::Keys;
 use irtext_read::irfmt::faults::{next_is, out_of_memory};
 use irtext_state::parsable::StateStream;
 use irtext_state::parsable::state::State;
@@ -33,6 +36,8 @@ fn coming_here<T: IrText<A>, A: AttrText<A>, U>(
     begun: &BegunOperation,
 ) -> Next
     requires counted { begun.now.steps ≡ length (steps_in state.now.ctx.now.dialects (id_of begun.now.id)) }
+    requires coming { IfSome begun.now.coming (λ next. IsStep next (slice_get (steps_in state.now.ctx.now.dialects (id_of begun.now.id)) begun.now.step)) }
+    requires isolated { begun.now.isolated ≡ formats.isolated state.now.ctx.now.dialects (id_of begun.now.id) }
     ensures next { IsNext state.now.ctx.now.dialects begun.now result.coming }
     ensures isolated { result.coming ≢ comes.End → result.isolated ≡ formats.isolated state.now.ctx.now.dialects (id_of begun.now.id) }
     ensures behind { result.coming ≢ comes.End → result.behind ≡ begun.now.step + 1 }
@@ -42,9 +47,10 @@ fn coming_here<T: IrText<A>, A: AttrText<A>, U>(
 
 /// The same operation at another step of its format.
 fn at_step(begun: BegunOperation, step: usize) -> BegunOperation
-    ensures { result ≡ record begun { step = step } }
+    ensures { result ≡ record begun { coming = None; step = step } }
 {
     let mut begun = begun;
+    begun.coming = None;
     begun.step = step;
     begun
 }
@@ -242,6 +248,7 @@ fn blocks_step<T: IrText<A>, A: AttrText<A>, U>(
 fn block_step<T: IrText<A>, A: AttrText<A>, U>(
     s: &mut StateStream<'_, T, A, U>,
     names: &mut Names,
+    keys: &mut Keys,
     frames: &mut Waiting,
     block: BegunBlock,
 ) -> ParseResult<Option<Frame>, A>
@@ -261,7 +268,7 @@ fn block_step<T: IrText<A>, A: AttrText<A>, U>(
     if !another_stands(&mut s.stream, block.first) {
         return Ok(frames.pop());
     }
-    let begun = begin(s, names, Some(block.block))?;
+    let begun = begin(s, names, keys, Some(block.block))?;
     let waits = BegunBlock {
         block: block.block,
         first: false,
@@ -276,6 +283,7 @@ fn block_step<T: IrText<A>, A: AttrText<A>, U>(
 pub(crate) fn step<T: IrText<A>, A: AttrText<A>, U>(
     s: &mut StateStream<'_, T, A, U>,
     names: &mut Names,
+    keys: &mut Keys,
     frames: &mut Waiting,
     frame: Frame,
 ) -> ParseResult<Option<Frame>, A>
@@ -295,6 +303,6 @@ pub(crate) fn step<T: IrText<A>, A: AttrText<A>, U>(
     match frame {
         Frame::Operation(begun) => operation_step(s, names, frames, begun),
         Frame::Region(region) => blocks_step(s, names, frames, region),
-        Frame::Block(block) => block_step(s, names, frames, block),
+        Frame::Block(block) => block_step(s, names, keys, frames, block),
     }
 }

@@ -20,7 +20,7 @@ ghost use Rattle.irtext_parse_nested.specs.Items.{IsSound};
 ghost use Rattle.irtext_parse_nested.specs.Read.{RefusesOperation, RefusesPiece, RefusesEnd, RefusesRegion, RefusesRegionEnd, RefusesBlock};
 ghost use Rattle.irtext_parse_root.specs.Turned.{IsSoundOnce, Remains};
 ghost use Rattle.irtext_parse_root.specs.Turns.{IsNext, Begins, Continues, Ends, Enters, Leaves, Heads};
-ghost use Rattle.irtext_parse_root.specs.declared.coming.Coming.TheVariants as comes;
+ghost use Rattle.irtext_parse_nested.specs.declared.coming.Coming.TheVariants as comes;
 
 use irtext_base::parsable::ParseResult;
 use irtext_base::text::{AttrText, IrText};
@@ -31,12 +31,14 @@ use irtext_parse_nested::frame::{BegunBlock, BegunOperation, BegunRegion, Names}
 use irtext_parse_nested::later::operation_piece;
 use irtext_parse_nested::operation_end::operation_end;
 use irtext_parse_nested::regions::{region_begin, region_end};
+use irtext_parse_pieces::keys::Keys;
 use irtext_state::parsable::StateStream;
 
 /// Begins an operation: the last of a block, or one outside of every region.
 pub(crate) fn begin<T: IrText<A>, A: AttrText<A>, U>(
     s: &mut StateStream<'_, T, A, U>,
     names: &mut Names,
+    keys: &mut Keys,
     block: Option<Ptr<BasicBlock>>,
 ) -> ParseResult<BegunOperation, A>
     requires fine { s.old.stream.failed ≡ false }
@@ -53,7 +55,7 @@ pub(crate) fn begin<T: IrText<A>, A: AttrText<A>, U>(
         IsSound m names.old s.old.state
         → IfSome block (λ b. IsNew m s.old.state.ctx.now.graph (TheBlock b)) → KeepsOlder m s.old.state.ctx.now s.new.state.ctx.now }
 {
-    operation_begin(s, names, block)
+    operation_begin(s, names, keys, block)
 }
 
 /// Parses a piece after a region, by the next step of an open operation.

@@ -1,26 +1,104 @@
 //! The parser for a whole text: a root, and white space up to the end.
-ghost use Rattle.std.specs.Prelude.{◌≡◌, [], IfOk, IfErr, OnErr};
+ghost use Rattle.std.specs.Prelude.{◌≡◌, ℕ, List, ◌++◌, false, IfOk, IfErr, OnOk, OnErr};
 ghost use Rattle.irtext_base.specs.Own.{texts_of};
+ghost use Rattle.irtext_context.specs.Context.{KeepsOlder};
 ghost use Rattle.irtext_context.specs.Made.{SameObjects};
+ghost use Rattle.irtext_context.specs.declared.base.item.Item.{Item};
 ghost use Rattle.irtext_read.specs.AttrTexts.{attr_at};
 ghost use Rattle.irtext_state.specs.States.{marks_of};
-ghost use Rattle.irtext_outcomes.specs.Readers.Refusals.{Refusal, RefusesFailed};
+ghost use Rattle.irtext_grammar.specs.Contexts.Held.{whole};
+ghost use Rattle.irtext_outcomes.specs.Readers.Refusals.{Refusal, CommittedRefusal, RefusesFailed};
 ghost use Rattle.irtext_outcomes.specs.Readers.Streams.{KeepsRest};
 ghost use Rattle.irtext_outcomes.specs.Promises.Root.{IsFresh, UnlessMemory};
-ghost use Rattle.irtext_parse_root.specs.Whole.{BuildsWhole, RefusesWhole};
+ghost use Rattle.irtext_parse_section.specs.Applied.{AreNewer};
+ghost use Rattle.irtext_parse_root.specs.Ended.{EndsAny, MissesEnd};
+ghost use Rattle.irtext_parse_root.specs.Whole.{OnlySpace, ExpectsEnd, BuildsWhole, RefusesWhole};
+ghost use Rattle.irtext_parse_root.specs.WholeAny.{ReadsWholeAny, MissesWholeAny};
 
-use crate::outermost::{made_in, root_parse};
-use irtext_base::parsable::{CharStream, ParseResult};
+use crate::outermost::{failed_fault, made_in};
+use crate::tree::tree_parse;
+use irtext_base::parsable::{CharStream, ParseResult, TextStream};
 use irtext_base::result::Expected;
 use irtext_base::text::{AttrText, IrText};
 use irtext_context::base::context::making::Making;
 use irtext_context::base::{Operation, Ptr};
+use irtext_parse_section::section::{section_checked, section_given};
 use irtext_read::irfmt::faults::commit_unexpected;
 use irtext_read::irfmt::parsers::skip_white_space;
 use irtext_state::parsable::StateStream;
+use irtext_state::parsable::state::Noting;
+
+/// Skips white space, after which nothing may be left. Otherwise the error is `Unexpected` at the first other character, and committed.
+fn end_demanded<A>(stream: &mut TextStream) -> ParseResult<(), A>
+    ensures ends { OnOk result (OnlySpace stream.old stream.new) }
+    ensures more { IfErr result (ExpectsEnd (whole stream.old) stream.old.rest) }
+    ensures refused { IfErr result (λ fault. CommittedRefusal stream.old fault stream.new) }
+{
+    skip_white_space(stream);
+    if stream.peek().is_none() {
+        return Ok(());
+    }
+    Err(commit_unexpected(stream, Expected::EndOfInput))
+}
+
+/// Parses what follows the operation of a whole text: if a mark is recorded, the section of all recorded marks, and white space up to the
+/// end. Only then does each item, which is an operation or a block that carries a mark, get what its entry gives, and no mark is recorded
+/// any more. So an error of the text changes no item. If an allocation fails, no item changes either if `earlier` is set, which says that
+/// marks were recorded before the operation was parsed; otherwise the caller removes the items. Every error is committed, and leaves the
+/// recorded marks unchanged.
+fn rest_parse<T: IrText<A>, A: AttrText<A>, U>(
+    s: &mut StateStream<'_, T, A, U>,
+    earlier: bool,
+) -> ParseResult<(), A>
+    ensures lent { s.new.state.ctx.ghost_name ≡ s.old.state.ctx.ghost_name }
+    ensures rest { KeepsRest s.old.state s.new.state }
+    ensures read { OnOk result (EndsAny (attr_at A.IrText.reading) s.old s.new) }
+    ensures missed { s.old.stream.failed ≡ false → IfErr result (UnlessMemory (MissesEnd (attr_at A.IrText.reading) s.old)) }
+    ensures refused { IfErr result (λ fault. CommittedRefusal s.old.stream fault s.new.stream) }
+    ensures marks { OnErr result (marks_of s.new.state ≡ marks_of s.old.state) }
+    ensures kept { (mark : ℕ) → AreNewer mark s.old.state.ctx.now (marks_of s.old.state) → KeepsOlder mark s.old.state.ctx.now s.new.state.ctx.now }
+    ensures unchanged { (mark : ℕ) → (earlier ≡ false → AreNewer mark s.old.state.ctx.now (marks_of s.old.state)) →
+        OnErr result (KeepsOlder mark s.old.state.ctx.now s.new.state.ctx.now) }
+{
+    if !s.state.has_marks() {
+        return end_demanded(&mut s.stream);
+    }
+    let entries = section_checked(s)?;
+    end_demanded(&mut s.stream)?;
+    section_given(s, entries, earlier)
+}
+
+/// Parses a root with its section, and white space up to the end. On an error, the objects that were created stay in the context, and
+/// the root's marks stay recorded.
+fn ended_parse<T: IrText<A>, A: AttrText<A>, U>(
+    s: &mut StateStream<'_, T, A, U>,
+) -> ParseResult<Ptr<Operation>, A>
+    requires fine { s.old.stream.failed ≡ false }
+    ensures lent { s.new.state.ctx.ghost_name ≡ s.old.state.ctx.ghost_name }
+    ensures rest { KeepsRest s.old.state s.new.state }
+    ensures refused { IfErr result (λ fault. Refusal s.old.stream fault s.new.stream) }
+    ensures read { IfOk result (λ op. ReadsWholeAny T.IrText.reading (attr_at A.IrText.reading) op s.old s.new) }
+    ensures missed { IfErr result (UnlessMemory (MissesWholeAny T.IrText.reading (attr_at A.IrText.reading) s.old)) }
+    ensures builds { IsFresh s.old →
+        IfOk result (λ op. BuildsWhole (texts_of T.IrText.reading T.IrText.written) (texts_of A.IrText.reading A.IrText.written)
+        T.IrText.reading (attr_at A.IrText.reading) op s.old s.new) }
+    ensures unresolved { IsFresh s.old →
+        IfErr result (UnlessMemory
+        (RefusesWhole (texts_of T.IrText.reading T.IrText.written) (texts_of A.IrText.reading A.IrText.written) T.IrText.reading
+        (attr_at A.IrText.reading) s.old)) }
+    ensures noted { OnErr result ((more : List (ℕ × Item)) × (marks_of s.new.state ≡ marks_of s.old.state ++ more)) }
+    ensures kept { OnErr result (KeepsOlder s.old.state.ctx.now.graph.made s.old.state.ctx.now s.new.state.ctx.now) }
+{
+    let earlier = s.state.has_marks();
+    let op = tree_parse(s)?;
+    rest_parse(s, earlier)?;
+    Ok(op)
+}
 
 /// Parses a root with its section, as `root_parse` does, after which only white space may be left. Otherwise the error is `Unexpected` at
-/// the first other character: the end of the text was expected. On an error, the objects that were created are removed.
+/// the first other character: the end of the text was expected. On an error, the objects that were created are removed, none of the
+/// root's marks stays recorded, and everything older is unchanged: the items of roots that were parsed before, whose marks are still
+/// recorded, keep what they had. On a stream that has failed the error is `StreamFailed`; if an allocation fails, the error is `Memory`.
 pub fn whole_parse<T: IrText<A>, A: AttrText<A>, U>(
     s: &mut StateStream<'_, T, A, U>,
 ) -> ParseResult<Ptr<Operation>, A>
@@ -28,6 +106,8 @@ pub fn whole_parse<T: IrText<A>, A: AttrText<A>, U>(
     ensures rest { KeepsRest s.old.state s.new.state }
     ensures refused { IfErr result (λ fault. Refusal s.old.stream fault s.new.stream) }
     ensures failed { RefusesFailed s.old.stream result s.new.stream }
+    ensures read { IfOk result (λ op. ReadsWholeAny T.reading (attr_at A.reading) op s.old s.new) }
+    ensures missed { s.old.stream.failed ≡ false → IfErr result (UnlessMemory (MissesWholeAny T.reading (attr_at A.reading) s.old)) }
     ensures builds { IsFresh s.old →
         IfOk result (λ op. BuildsWhole (texts_of T.reading T.written) (texts_of A.reading A.written) T.reading
         (attr_at A.reading) op s.old s.new) }
@@ -35,18 +115,20 @@ pub fn whole_parse<T: IrText<A>, A: AttrText<A>, U>(
         IfErr result (UnlessMemory
         (RefusesWhole (texts_of T.reading T.written) (texts_of A.reading A.written) T.reading
         (attr_at A.reading) s.old)) }
-    ensures objects { IsFresh s.old → OnErr result (SameObjects s.old.state.ctx.now s.new.state.ctx.now) }
-    ensures marks { IsFresh s.old → OnErr result (marks_of s.new.state ≡ []) }
+    ensures objects { OnErr result (SameObjects s.old.state.ctx.now s.new.state.ctx.now) }
+    ensures marks { OnErr result (marks_of s.new.state ≡ marks_of s.old.state) }
 {
-    let made = made_in(&s.state);
-    let op = match root_parse(s) {
-        Ok(op) => op,
-        Err(fault) => return Err(fault),
-    };
-    skip_white_space(&mut s.stream);
-    if s.stream.peek().is_none() {
-        return Ok(op);
+    if s.stream.has_failed() {
+        return Err(failed_fault(&s.stream));
     }
-    s.state.ctx.roll_back(made);
-    Err(commit_unexpected(&mut s.stream, Expected::EndOfInput))
+    let made = made_in(&s.state);
+    let marks = s.state.num_marks();
+    match ended_parse(s) {
+        Ok(op) => Ok(op),
+        Err(fault) => {
+            s.state.ctx.roll_back(made);
+            s.state.truncate_marks(marks);
+            Err(fault)
+        }
+    }
 }

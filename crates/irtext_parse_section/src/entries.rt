@@ -15,6 +15,7 @@ use crate::said::{Entries, NotedEntries, ReadEntry};
 use indexmap::IndexMap;
 use irtext_base::parsable::{CharStream, ParseResult};
 use irtext_base::text::{AttrText, IrText};
+use irtext_parse_pieces::keys::Keys;
 use irtext_read::irfmt::faults::{next_is, out_of_memory};
 use irtext_read::irfmt::parsers::skip_white_space;
 use irtext_state::parsable::StateStream;
@@ -65,6 +66,7 @@ fn first_noted<A: Drop>(alloc: Global, first: ReadEntry<A>) -> Result<NotedEntri
 fn more_parse<T: IrText<A>, A: AttrText<A>, U>(
     s: &mut StateStream<'_, T, A, U>,
     entries: NotedEntries<A>,
+    keys: Keys,
 ) -> ParseResult<Entries<A>, A>
     ensures lent { s.new.state.ctx.ghost_name ≡ s.old.state.ctx.ghost_name }
     ensures rest { KeepsRest s.old.state s.new.state }
@@ -73,8 +75,9 @@ fn more_parse<T: IrText<A>, A: AttrText<A>, U>(
     ensures read { MustGoOn (attr_at A.IrText.reading) (noted entries) s.old result s.new }
 {
     let mut entries = entries;
+    let mut keys = keys;
     while next_is(&s.stream, '!') {
-        let entry = entry_parse(s, Some(&entries.seen))?;
+        let entry = entry_parse(s, Some(&entries.seen), &mut keys)?;
         if entry_noted(&mut entries, entry).is_err() {
             return Err(out_of_memory(&mut s.stream));
         }
@@ -91,6 +94,7 @@ fn more_parse<T: IrText<A>, A: AttrText<A>, U>(
 fn first_and_more<T: IrText<A>, A: AttrText<A>, U>(
     s: &mut StateStream<'_, T, A, U>,
     first: ReadEntry<A>,
+    keys: Keys,
 ) -> ParseResult<Entries<A>, A>
     ensures lent { s.new.state.ctx.ghost_name ≡ s.old.state.ctx.ghost_name }
     ensures rest { KeepsRest s.old.state s.new.state }
@@ -99,7 +103,7 @@ fn first_and_more<T: IrText<A>, A: AttrText<A>, U>(
     ensures read { MustGoOn (attr_at A.IrText.reading) (one_noted first) s.old result s.new }
 {
     match first_noted(s.stream.allocator(), first) {
-        Ok(entries) => more_parse(s, entries),
+        Ok(entries) => more_parse(s, entries, keys),
         Err(AllocError) => Err(out_of_memory(&mut s.stream)),
     }
 }
@@ -122,13 +126,14 @@ pub(crate) fn entries_parse<T: IrText<A>, A: AttrText<A>, U>(
     if !next_is(&s.stream, '!') {
         return Ok(Entries::Nothing);
     }
-    let first = entry_parse(s, None)?;
+    let mut keys = Keys::new(s.stream.allocator());
+    let first = entry_parse(s, None, &mut keys)?;
     skip_white_space(&mut s.stream);
     if next_is(&s.stream, '!') {
-        return first_and_more(s, first);
+        return first_and_more(s, first, keys);
     }
     match first {
         ReadEntry::OfItem(_, entry) => Ok(Entries::Only(entry)),
-        ReadEntry::OfOnce(index, attr) => first_and_more(s, ReadEntry::OfOnce(index, attr)),
+        ReadEntry::OfOnce(index, attr) => first_and_more(s, ReadEntry::OfOnce(index, attr), keys),
     }
 }

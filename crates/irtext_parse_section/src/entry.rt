@@ -25,6 +25,7 @@ use irtext_base::text::{AttrText, IrText};
 use irtext_context::base::Item;
 use irtext_parse_locations::location::plain::digits_there;
 use irtext_parse_pieces::entries::attr_demanded;
+use irtext_parse_pieces::keys::Keys;
 use irtext_parse_pieces::marks::ReadMark;
 use irtext_read::irfmt::demanded::{index_demanded, spaced_text_demanded};
 use irtext_read::irfmt::faults::refuse_at;
@@ -187,11 +188,13 @@ fn head_parse<T: IrText<A>, A: AttrText<A>, U>(
     }
 }
 
-/// Parses an entry; `seen` has the indices of the entries before it, if there are any. Every error is committed.
+/// Parses an entry; `seen` has the indices of the entries before it, if there are any. Keys may share their texts with those that are kept
+/// at their places. Every error is committed.
 #[inline(always)]
 pub(crate) fn entry_parse<T: IrText<A>, A: AttrText<A>, U>(
     s: &mut StateStream<'_, T, A, U>,
     seen: Option<&Numbered<()>>,
+    keys: &mut Keys,
 ) -> ParseResult<ReadEntry<A>, A>
     ensures lent { s.new.state.ctx.ghost_name ≡ s.old.state.ctx.ghost_name }
     ensures rest { KeepsRest s.old.state s.new.state }
@@ -209,7 +212,7 @@ pub(crate) fn entry_parse<T: IrText<A>, A: AttrText<A>, U>(
         return Ok(ReadEntry::OfOnce(head.mark.index, attr));
     };
     let ctx = &mut *s.state.ctx;
-    let given = given_parse(&mut s.stream, ctx, is_block(item))?;
+    let given = given_parse(&mut s.stream, ctx, is_block(item), keys)?;
     Ok(ReadEntry::OfItem(
         head.mark.index,
         ItemEntry {

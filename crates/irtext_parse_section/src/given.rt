@@ -19,6 +19,7 @@ use irtext_base::result::Cause;
 use irtext_base::text::{AttrText, IrText};
 use irtext_context::base::Context;
 use irtext_parse_locations::location::nested::location_demanded;
+use irtext_parse_pieces::keys::Keys;
 use irtext_read::irfmt::demanded::{spaced_text_demanded, text_demanded};
 use irtext_read::irfmt::faults::{next_is, refuse};
 use irtext_read::irfmt::parsers::skip_white_space;
@@ -83,6 +84,7 @@ pub(crate) fn given_parse<T: IrText<A>, A: AttrText<A>>(
     stream: &mut TextStream,
     ctx: &mut Context<T, A>,
     of_block: bool,
+    keys: &mut Keys,
 ) -> ParseResult<Given<A>, A>
     ensures adds { AddsPaths ctx.old ctx.new }
     ensures read { MustMean itself replaced (IsGivenOver ctx.new.paths (whole stream.old))
@@ -90,6 +92,6 @@ pub(crate) fn given_parse<T: IrText<A>, A: AttrText<A>>(
     ensures paths { IfOk result (λ given. ctx.new.paths ≡ given_kept ctx.old.paths (given_over ctx.new.paths given.0)) }
 {
     let location = entry_location(stream, ctx)?;
-    let pairs = pairs_parse(stream, of_block)?;
+    let pairs = pairs_parse(stream, of_block, keys)?;
     Ok((location, pairs))
 }

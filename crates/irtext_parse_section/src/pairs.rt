@@ -13,6 +13,7 @@ use irtext_base::parsable::{CharStream, ParseResult, Place, TextStream};
 use irtext_base::result::Cause;
 use irtext_base::text::AttrText;
 use irtext_parse_pieces::entries::{attr_demanded, key_parse};
+use irtext_parse_pieces::keys::Keys;
 use irtext_parse_pieces::marks::ReadMark;
 use irtext_read::irfmt::demanded::{index_demanded, spaced_text_demanded, text_demanded};
 use irtext_read::irfmt::faults::{committed, next_is, out_of_memory, refuse, refuse_at};
@@ -35,11 +36,16 @@ fn item_parse<A: AttrText<A>>(stream: &mut TextStream) -> ParseResult<GivenAttr<
     Ok(GivenAttr::Direct(attr))
 }
 
-/// Parses a key, `=`, and what is given under the key. If no key comes next, the error is uncommitted and the stream is unchanged.
-fn pair_parse<A: AttrText<A>>(stream: &mut TextStream) -> ParseResult<ReadPair<A>, A>
+/// Parses the pair at this place of an entry: a key, `=`, and what is given under the key. If no key comes next, the error is uncommitted
+/// and the stream is unchanged.
+fn pair_parse<A: AttrText<A>>(
+    stream: &mut TextStream,
+    keys: &mut Keys,
+    index: usize,
+) -> ParseResult<ReadPair<A>, A>
     ensures { MayMean itself replaced (IsPair (whole stream.old)) (pair_at (attr_at A.IrText.reading)) stream.old result stream.new }
 {
-    let key = key_parse(stream)?;
+    let key = key_parse(stream, keys, index)?;
     spaced_text_demanded(stream, "=")?;
     let given = item_parse(stream)?;
     Ok((key, given))
@@ -65,16 +71,18 @@ fn allowed<A: AttrText<A>>(
     Ok((key, given))
 }
 
-/// Parses a pair whose attribute is allowed under its key.
+/// Parses the pair at this place of an entry, whose attribute is allowed under its key.
 fn kept_parse<A: AttrText<A>>(
     stream: &mut TextStream,
     of_block: bool,
+    keys: &mut Keys,
+    index: usize,
 ) -> ParseResult<ReadPair<A>, A>
     ensures { MayMean itself replaced (IsPair (whole stream.old))
         (λ t. kept (rule_for of_block) (pair_at (attr_at A.IrText.reading) t)) stream.old result stream.new }
 {
     let at = stream.position();
-    let answer = pair_parse(stream);
+    let answer = pair_parse(stream, keys, index);
     allowed(stream, of_block, at, answer)
 }
 
@@ -94,6 +102,7 @@ fn pushed<A: Drop>(
 fn more_pairs<A: AttrText<A>>(
     stream: &mut TextStream,
     of_block: bool,
+    keys: &mut Keys,
     first: ReadPair<A>,
 ) -> ParseResult<Vec<ReadPair<A>>, A>
     ensures { PairsBehind (λ t. kept (rule_for of_block) (pair_at (attr_at A.IrText.reading) t)) first stream.old result stream.new }
@@ -105,7 +114,7 @@ fn more_pairs<A: AttrText<A>>(
     while next_is(stream, ',') {
         let _ = stream.take();
         skip_white_space(stream);
-        let answer = kept_parse(stream, of_block);
+        let answer = kept_parse(stream, of_block, keys, found.len());
         let next = committed(stream, answer)?;
         skip_white_space(stream);
         found = match pushed(found, next) {
@@ -121,13 +130,14 @@ fn more_pairs<A: AttrText<A>>(
 fn list_parse<A: AttrText<A>>(
     stream: &mut TextStream,
     of_block: bool,
+    keys: &mut Keys,
 ) -> ParseResult<Vec<ReadPair<A>>, A>
     ensures { MustPairs (separated_at 44 (λ t. kept (rule_for of_block) (pair_at (attr_at A.IrText.reading) t))) stream.old result stream.new }
 {
-    match kept_parse(stream, of_block) {
+    match kept_parse(stream, of_block, keys, 0) {
         Ok(first) => {
             skip_white_space(stream);
-            more_pairs(stream, of_block, first)
+            more_pairs(stream, of_block, keys, first)
         }
         Err(fault) => {
             if fault.committed {
@@ -143,30 +153,32 @@ fn list_parse<A: AttrText<A>>(
 fn bracketed_parse<A: AttrText<A>>(
     stream: &mut TextStream,
     of_block: bool,
+    keys: &mut Keys,
 ) -> ParseResult<Vec<ReadPair<A>>, A>
     ensures { MustPairs (pairs_at (attr_at A.IrText.reading) (rule_for of_block)) stream.old result stream.new }
 {
     text_demanded(stream, "[")?;
     skip_white_space(stream);
-    let pairs = list_parse(stream, of_block)?;
+    let pairs = list_parse(stream, of_block, keys)?;
     text_demanded(stream, "]")?;
     Ok(pairs)
 }
 
-/// Parses the pairs of the entry of a block or of an operation: in brackets, separated by `,`, as `[key = attribute]`. Every error is
-/// committed.
+/// Parses the pairs of the entry of a block or of an operation: in brackets, separated by `,`, as `[key = attribute]`. Keys may share
+/// their texts with those that are kept at their places. Every error is committed.
 #[inline(always)]
 pub(crate) fn pairs_parse<A: AttrText<A>>(
     stream: &mut TextStream,
     of_block: bool,
+    keys: &mut Keys,
 ) -> ParseResult<Vec<ReadPair<A>>, A>
     ensures { MustPairs (pairs_at (attr_at A.IrText.reading) (rule_for of_block)) stream.old result stream.new }
 {
     if stream.has_failed() {
-        return bracketed_parse(stream, of_block);
+        return bracketed_parse(stream, of_block, keys);
     }
     if stream.accept("[]") {
         return Ok(Vec::new(stream.allocator()));
     }
-    bracketed_parse(stream, of_block)
+    bracketed_parse(stream, of_block, keys)
 }

@@ -1,5 +1,6 @@
 //! The parser of the section after a root.
-ghost use Rattle.std.specs.Prelude.{◌≡◌, ◌⊎◌, ℕ, true, false, IfErr, OnOk, OnErr};
+ghost use Rattle.std.specs.Prelude.{◌≡◌, ◌⊎◌, ℕ, true, false, [], IfErr, OnOk, OnErr};
+ghost use Rattle.irtext_base.specs.Answers.{StarvesHere};
 ghost use Rattle.irtext_context.specs.Context.{KeepsOlder};
 ghost use Rattle.irtext_graph.specs.Back.{IsClosedBelow};
 ghost use Rattle.irtext_read.specs.AttrTexts.{attr_at};
@@ -44,8 +45,9 @@ fn all_parse<T: IrText<A>, A: AttrText<A>, U>(
     entries_parse(s)
 }
 
-/// Parses a whole section, and checks its references. Every error is committed.
-fn right_parse<T: IrText<A>, A: AttrText<A>, U>(
+/// Parses the section, which is required, and checks it as a whole. No item changes; `section_given` gives the items what the entries
+/// give. Every error is committed, and leaves the recorded marks unchanged.
+pub fn section_checked<T: IrText<A>, A: AttrText<A>, U>(
     s: &mut StateStream<'_, T, A, U>,
 ) -> ParseResult<Entries<A>, A>
     ensures lent { s.new.state.ctx.ghost_name ≡ s.old.state.ctx.ghost_name }
@@ -81,6 +83,32 @@ fn entries_given<T: IrText<A>, A: AttrText<A>, U>(
     all_given(ctx, entries, earlier)
 }
 
+/// Gives each item what its entry of a section gives that was parsed and checked by `section_checked`: a location, attributes, and for a
+/// block its label; then no mark is recorded any more. The only error is `Memory`, if an allocation fails: it is committed, and leaves the
+/// recorded marks unchanged. No item changes then if `earlier` is set; otherwise some may have got what their entries give.
+pub fn section_given<T: IrText<A>, A: AttrText<A>, U>(
+    s: &mut StateStream<'_, T, A, U>,
+    entries: Entries<A>,
+    earlier: bool,
+) -> ParseResult<(), A>
+    ensures lent { s.new.state.ctx.ghost_name ≡ s.old.state.ctx.ghost_name }
+    ensures rest { KeepsRest s.old.state s.new.state }
+    ensures gives { OnOk result (GivesAll (once_of entries) (items_of entries) s.old.state.ctx.now s.new.state.ctx.now) }
+    ensures stream { OnOk result (s.new.stream ≡ s.old.stream) }
+    ensures fresh { OnOk result (marks_of s.new.state ≡ []) }
+    ensures starved { IfErr result (λ fault. StarvesHere itself replaced s.old.stream fault s.new.stream) }
+    ensures marks { OnErr result (marks_of s.new.state ≡ marks_of s.old.state) }
+    ensures kept { (mark : ℕ) → ItemsAreNewer mark s.old.state.ctx.now (items_of entries) → KeepsOlder mark s.old.state.ctx.now s.new.state.ctx.now }
+    ensures closed { (mark : ℕ) → IsClosedBelow mark s.old.state.ctx.now.graph → IsClosedBelow mark s.new.state.ctx.now.graph }
+    ensures unchanged { (mark : ℕ) → earlier ≡ true → OnErr result (KeepsOlder mark s.old.state.ctx.now s.new.state.ctx.now) }
+{
+    if entries_given(s, entries, earlier).is_err() {
+        return Err(out_of_memory(&mut s.stream));
+    }
+    s.state.truncate_marks(0);
+    Ok(())
+}
+
 /// Parses the section, which is required, as `outlined_attributes: !0 = @[?], []`. It is parsed and checked as a whole. Then each item,
 /// which is an operation or a block that carries a mark, gets what its entry gives: a location, attributes, and for a block its label;
 /// and no mark is recorded any more. `earlier` says whether marks were recorded before the root was parsed; then an error changes no
@@ -104,10 +132,7 @@ pub fn section_parse<T: IrText<A>, A: AttrText<A>, U>(
     ensures unchanged { (mark : ℕ) → (earlier ≡ false → AreNewer mark s.old.state.ctx.now (marks_of s.old.state)) →
         OnErr result (KeepsOlder mark s.old.state.ctx.now s.new.state.ctx.now) }
 {
-    let entries = right_parse(s)?;
-    if entries_given(s, entries, earlier).is_err() {
-        return Err(out_of_memory(&mut s.stream));
-    }
-    s.state.truncate_marks(0);
+    let entries = section_checked(s)?;
+    section_given(s, entries, earlier)?;
     Ok(())
 }

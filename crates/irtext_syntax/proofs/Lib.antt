@@ -8,3 +8,4 @@ pub mod WordRead
 pub mod MaybeRead
 pub mod Rows
 pub mod Composed
+pub mod Restored

@@ -1,5 +1,5 @@
 //! Parts of the texts of types and attributes.
-ghost use Rattle.std.specs.Prelude.{◌≡◌, ◌↔◌, ℕ, List, ◌++◌, Bool, true, IsTrue, IfOk, string_bytes};
+ghost use Rattle.std.specs.Prelude.{◌≡◌, ◌↔◌, ℕ, List, ◌++◌, Bool, true, IsTrue, IfOk, MatchOption, Ok, string_bytes};
 ghost use Rattle.std.specs.Str.{encode_utf8_all};
 ghost use Rattle.irtext_base.specs.Answers.{Outcome};
 ghost use Rattle.irtext_read.specs.MustRead.{MayRead};
@@ -25,6 +25,15 @@ pub trait Part<A>: Sized + Drop + Eq {
     /// further on, if an allocation fails, or if the stream had failed, the error is committed and the stream has failed.
     fn read(stream: &mut TextStream) -> ParseResult<Self, A>
         ensures { MayRead (λ s. s) (λ s v. v) (λ x. x) reading stream.old result stream.new };
+
+    /// Parses a value as `read` does, but returns `None` in place of any error, and the stream is unchanged then. It may also return `None`
+    /// where `read` finds a value, as this default does. A part that is often parsed should have it: no error is made where it succeeds.
+    fn read_known(stream: &mut TextStream) -> Option<Self>
+        ensures { MatchOption result (stream.new ≡ stream.old)
+            (λ x. MayRead {A = A} (λ s. s) (λ s v. v) (λ x. x) reading stream.old (Ok x) stream.new) }
+    {
+        None
+    }
 
     /// Appends the text of the value. Fails only when out of memory.
     fn write_text(&self, f: &mut String) -> fmt::Result

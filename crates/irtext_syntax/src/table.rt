@@ -1,7 +1,7 @@
 //! Families of types or attributes whose texts begin with dotted words: what comes after each word.
-ghost use Rattle.std.specs.Prelude.{◌≡◌, ◌++◌, ◌∷◌, OnOk, List, ℕ, string_bytes};
+ghost use Rattle.std.specs.Prelude.{◌≡◌, ◌++◌, ◌∷◌, OnOk, List, ℕ, string_bytes, MatchOption, IfSome, Ok};
 ghost use Rattle.std.specs.Str.{encode_utf8_all};
-ghost use Rattle.irtext_base.specs.Answers.{Outcome};
+ghost use Rattle.irtext_base.specs.Answers.{Outcome, Gives, unless_failed};
 ghost use Rattle.irtext_base.specs.Faults.{characters, demand_of};
 ghost use Rattle.irtext_read.specs.Infix.{nothing, ◌▷◌};
 ghost use Rattle.irtext_read.specs.MustRead.{MayRead, MustRead};
@@ -10,7 +10,7 @@ ghost use Rattle.irtext_syntax.specs.Tables.{table_at};
 
 use crate::part::Part;
 use crate::sequence::demanded;
-use crate::words::{DottedWord, dotted_parse};
+use crate::words::{DottedWord, dotted_parse, dotted_there};
 use irtext_base::parsable::{CharStream, ParseResult, TextStream};
 use irtext_base::result::{Cause, Expected};
 use irtext_read::irfmt::faults::refuse;
@@ -25,11 +25,22 @@ pub trait Table<E, A>: DottedWord {
     /// Parses the rest of a value, after its word. Every error is committed.
     fn parse(self, stream: &mut TextStream) -> ParseResult<E, A>
         ensures { MustRead (λ s. s) (λ s v. v) (λ x. x) (behind self) stream.old result stream.new };
+
+    /// Parses the rest of a value as `parse` does, but returns `None` in place of any error, and the stream is unchanged then. It may also
+    /// return `None` where `parse` finds a value, as this default does. Words that come often should have it: no error is made where it
+    /// succeeds.
+    fn parse_known(self, stream: &mut TextStream) -> Option<E>
+        ensures { MatchOption result (stream.new ≡ stream.old)
+            (λ x. MustRead {A = A} (λ s. s) (λ s v. v) (λ x. x) (behind self) stream.old (Ok x) stream.new) }
+    {
+        None
+    }
 }
 
-/// Parses a word of the table, and what comes after it. If no word begins, fails with `Unexpected`, uncommitted. Every other error is
-/// committed: an unknown word is an `OwnText` of `refusal` and the word, at its beginning.
-pub fn table_parse<W: Table<E, A>, E: Drop, A>(
+/// Parses a word of the table, and what comes after it, as `table_parse` does: for texts that begin with no word of the table.
+#[cold]
+#[inline(never)]
+fn table_slowly<W: Table<E, A>, E: Drop, A>(
     stream: &mut TextStream,
     refusal: &str,
     expected: Expected,
@@ -42,6 +53,24 @@ pub fn table_parse<W: Table<E, A>, E: Drop, A>(
     }
 }
 
+/// Parses a word of the table, and what comes after it. If no word begins, fails with `Unexpected`, uncommitted. Every other error is
+/// committed: an unknown word is an `OwnText` of `refusal` and the word, at its beginning.
+pub fn table_parse<W: Table<E, A>, E: Drop, A>(
+    stream: &mut TextStream,
+    refusal: &str,
+    expected: Expected,
+) -> ParseResult<E, A>
+    ensures { MayRead (λ s. s) (λ s v. v) (λ x. x) (table_at W.word W.behind refusal.now (demand_of expected)) stream.old result stream.new }
+{
+    let Some(word) = dotted_there::<W>(stream) else {
+        return table_slowly::<W, E, A>(stream, refusal, expected);
+    };
+    if let Some(value) = word.parse_known(stream) {
+        return Ok(value);
+    }
+    word.parse(stream)
+}
+
 /// Parses a required part after a word, with optional white space between. Every error is committed.
 pub fn behind_word<P: Part<A>, A>(stream: &mut TextStream) -> ParseResult<P, A>
     ensures { MustRead (λ s. s) (λ s v. v) (λ x. x) (space_at ▷ P.reading) stream.old result stream.new }
@@ -51,6 +80,35 @@ pub fn behind_word<P: Part<A>, A>(stream: &mut TextStream) -> ParseResult<P, A>
     }
     skip_white_space(stream);
     demanded(stream)
+}
+
+/// Parses a part after a word, with optional white space between, if the part's `read_known` finds it. Otherwise the stream is unchanged.
+#[inline(always)]
+pub fn behind_known<P: Part<A>, A>(stream: &mut TextStream) -> Option<P>
+    ensures { MatchOption result (stream.new ≡ stream.old)
+        (λ x. MustRead {A = A} (λ s. s) (λ s v. v) (λ x. x) (space_at ▷ P.reading) stream.old (Ok x) stream.new) }
+{
+    if stream.has_failed() {
+        return None;
+    }
+    let place = stream.position();
+    skip_white_space(stream);
+    if let Some(part) = <P as Part<A>>::read_known(stream) {
+        return Some(part);
+    }
+    stream.reset(place);
+    None
+}
+
+/// Returns the value of a word that has nothing after it, or `None` on a stream that has failed.
+#[inline(always)]
+pub fn alone_known<E: Drop>(stream: &TextStream, value: E) -> Option<E>
+    ensures { IfSome result (λ x. Gives (λ s. s) (λ s v. v) (unless_failed stream.now.failed (nothing value stream.now.rest)) stream.now x stream.now) }
+{
+    if stream.has_failed() {
+        return None;
+    }
+    Some(value)
 }
 
 /// Returns the value of a word that has nothing after it.

@@ -1,8 +1,8 @@
 //! The dotted words that types and attributes begin with, such as `builtin.integer`.
-ghost use Rattle.std.specs.Prelude.{◌≡◌, ◌⊎◌, ◌++◌, ℕ, List, Option};
+ghost use Rattle.std.specs.Prelude.{◌≡◌, ◌⊎◌, ◌++◌, ℕ, List, Option, MatchOption};
 ghost use Rattle.std.specs.Str.{encode_utf8_all};
-ghost use Rattle.irtext_base.specs.Answers.{Answers, StarvesHere, FailsBehind, unless_failed};
-ghost use Rattle.irtext_base.specs.Faults.{demand_of, OwnText};
+ghost use Rattle.irtext_base.specs.Answers.{Answers, Gives, StarvesHere, FailsBehind, unless_failed};
+ghost use Rattle.irtext_base.specs.Faults.{Demand, demand_of, OwnText};
 ghost use Rattle.irtext_base.specs.Places.{StandsBehind};
 ghost use Rattle.irtext_syntax.specs.Words.{dotted_at};
 
@@ -38,6 +38,29 @@ fn unregistered<A>(stream: &mut TextStream, place: Place, refusal: &str) -> Pars
         Ok(text) => refuse_at(stream, place, Cause::OwnText(text)),
         Err(_) => out_of_memory(stream),
     }
+}
+
+/// Consumes the longest dotted word that comes next, if `W` has it, and returns what it is. Otherwise, and on a stream that has failed,
+/// returns `None` and the stream is unchanged.
+#[inline(always)]
+pub(crate) fn dotted_there<W: DottedWord>(stream: &mut TextStream) -> Option<W>
+    ensures { MatchOption result (stream.new ≡ stream.old)
+        (λ w. (refusal : List ℕ) (demand : Demand) → Gives (λ s. s) (λ s v. v)
+        (unless_failed stream.old.failed (dotted_at W.word refusal demand stream.old.rest)) stream.old w stream.new) }
+{
+    if stream.has_failed() {
+        return None;
+    }
+    if !begins(stream, Class::Beginning) {
+        return None;
+    }
+    let place = stream.position();
+    skip_class(stream, Class::Dotted);
+    if let Some(word) = W::of(stream.text_since(place)) {
+        return Some(word);
+    }
+    stream.reset(place);
+    None
 }
 
 /// Parses the longest dotted word that comes next. Fails with `Unexpected`, uncommitted, if there is none, and with `OwnText`, committed,

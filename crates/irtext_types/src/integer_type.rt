@@ -1,6 +1,8 @@
 //! The integer types and their parser: a sign, and a width in decimal digits.
-ghost use Rattle.std.specs.Prelude.{◌≡◌, Some};
-ghost use Rattle.irtext_base.specs.Answers.{Answers, unless_failed};
+ghost use Rattle.std.specs.Prelude.{◌≡◌, Some, MatchBool, MatchOption};
+ghost use Rattle.irtext_base.specs.Faults.{characters};
+ghost use Rattle.irtext_read.specs.Tokens.{word};
+ghost use Rattle.irtext_base.specs.Answers.{Answers, Gives, unless_failed};
 ghost use Rattle.irtext_types.specs.IntegerTypes.{integer_type_text, signedness_text, signedness_at, width_if, width_at, integer_type_at};
 
 use crate::width::Width;
@@ -115,6 +117,87 @@ pub fn integer_type_parse<A>(stream: &mut TextStream) -> ParseResult<IntegerType
     Ok(IntegerType { kind, width })
 }
 
+/// Consumes a fixed text if the whole of it comes next, and returns whether it does. Otherwise, and on a stream that has failed, the stream
+/// is unchanged.
+#[inline(always)]
+fn text_there(stream: &mut TextStream, text: &str) -> bool
+    ensures { MatchBool result
+        (Gives (λ s. s) (λ s v. v) (unless_failed stream.old.failed (word (characters text.now) stream.old.rest)) stream.old tt stream.new)
+        (stream.new ≡ stream.old) }
+{
+    if stream.has_failed() {
+        return false;
+    }
+    if !stream.accept(text) {
+        return false;
+    }
+    true
+}
+
+/// Consumes a sign if one comes next, and returns it. Otherwise the stream is unchanged.
+#[inline(always)]
+fn sign_there(stream: &mut TextStream) -> Option<Signedness>
+    ensures { MatchOption result (stream.new ≡ stream.old)
+        (λ k. Gives (λ s. s) (λ s v. v) (unless_failed stream.old.failed (signedness_at stream.old.rest)) stream.old k stream.new) }
+{
+    if next_is(stream, 's') {
+        if text_there(stream, "si") {
+            return Some(Signedness::Signed);
+        }
+        return None;
+    }
+    if next_is(stream, 'u') {
+        if text_there(stream, "ui") {
+            return Some(Signedness::Unsigned);
+        }
+        return None;
+    }
+    if next_is(stream, 'i') {
+        if text_there(stream, "i") {
+            return Some(Signedness::Signless);
+        }
+    }
+    None
+}
+
+/// Consumes a width if one comes next, and returns it. Otherwise the stream is unchanged.
+#[inline(always)]
+fn width_there(stream: &mut TextStream) -> Option<Width>
+    ensures { MatchOption result (stream.new ≡ stream.old)
+        (λ w. Gives (λ s. s) (λ s v. v) (unless_failed stream.old.failed (width_at stream.old.rest)) stream.old w stream.new) }
+{
+    if stream.has_failed() {
+        return None;
+    }
+    if !begins(stream, Class::Digit) {
+        return None;
+    }
+    let place = stream.position();
+    let number = take_digits(stream, Radix::Decimal);
+    if let Some(width) = width_if(number) {
+        return Some(width);
+    }
+    stream.reset(place);
+    None
+}
+
+/// Consumes an integer type if one comes next, and returns it. Otherwise the stream is unchanged.
+#[inline(always)]
+fn integer_type_there(stream: &mut TextStream) -> Option<IntegerType>
+    ensures { MatchOption result (stream.new ≡ stream.old)
+        (λ t. Gives (λ s. s) (λ s v. v) (unless_failed stream.old.failed (integer_type_at stream.old.rest)) stream.old t stream.new) }
+{
+    let place = stream.position();
+    let Some(kind) = sign_there(stream) else {
+        return None;
+    };
+    if let Some(width) = width_there(stream) {
+        return Some(IntegerType { kind, width });
+    }
+    stream.reset(place);
+    None
+}
+
 /// An integer type as a part of other texts. A digit right after it would belong to its width.
 impl<A> Part<A> for IntegerType {
     ghost use Rattle.irtext_types.specs.IntegerTypes.{integer_type_ends};
@@ -135,6 +218,11 @@ impl<A> Part<A> for IntegerType {
             Ok(ty) => Ok(ty),
             Err(fault) => Err(fault),
         }
+    }
+
+    #[inline(always)]
+    fn read_known(stream: &mut TextStream) -> Option<IntegerType> {
+        integer_type_there(stream)
     }
 
     fn write_text(&self, f: &mut String) -> fmt::Result {

@@ -4,7 +4,9 @@ use irtext_base::parsable::{ParseResult, TextStream};
 use irtext_base::result::Expected;
 use irtext_base::text::{Family, IrText, Worded};
 use irtext_syntax::part::{Item, Part, TryClone};
-use irtext_syntax::table::{Table, behind_word, table_parse, word_alone, write_row, write_word};
+use irtext_syntax::table::{
+    Table, alone_known, behind_known, behind_word, table_parse, word_alone, write_row, write_word,
+};
 use irtext_syntax::words::DottedWord;
 use std::alloc::AllocError;
 use std::fmt;
@@ -66,6 +68,17 @@ impl<A> Table<DemoType, A> for TypeWord {
         match self {
             TypeWord::Integer => Ok(DemoType::Integer(behind_word(stream)?)),
             TypeWord::Pointer => word_alone(stream, DemoType::Pointer),
+        }
+    }
+
+    #[inline(always)]
+    fn parse_known(self, stream: &mut TextStream) -> Option<DemoType> {
+        match self {
+            TypeWord::Integer => match behind_known::<IntegerType, A>(stream) {
+                Some(ty) => Some(DemoType::Integer(ty)),
+                None => None,
+            },
+            TypeWord::Pointer => alone_known(stream, DemoType::Pointer),
         }
     }
 }

@@ -1,5 +1,5 @@
 //! The calls that parse an operation, and that give it as a printable value.
-ghost use Rattle.std.specs.Prelude.{◌≡◌, true, false, [], IfOk, IfErr, OnErr};
+ghost use Rattle.std.specs.Prelude.{◌≡◌, true, false, IfOk, IfErr, OnErr};
 ghost use Rattle.irtext_context.specs.Made.{SameObjects};
 ghost use Rattle.irtext_base.specs.Own.{texts_of};
 ghost use Rattle.irtext_read.specs.AttrTexts.{attr_at};
@@ -9,6 +9,7 @@ ghost use Rattle.irtext_outcomes.specs.Promises.Root.{IsFresh, UnlessMemory};
 ghost use Rattle.irtext_promises.specs.Promises.{BuildsRoot, RefusesRoot};
 ghost use Rattle.irtext_parse_root.specs.AnyState.{ReadsAny, MissesAny};
 ghost use Rattle.irtext_parse_root.specs.Whole.{BuildsWhole, RefusesWhole};
+ghost use Rattle.irtext_parse_root.specs.WholeAny.{ReadsWholeAny, MissesWholeAny};
 ghost use Rattle.irtext_outcomes.specs.Readers.Streams.{KeepsRest};
 
 use irtext_base::parsable::ParseResult;
@@ -60,9 +61,11 @@ pub trait OperationText {
         ensures objects { OnErr result (SameObjects stream.old.state.ctx.now stream.new.state.ctx.now) }
         ensures marks { OnErr result (marks_of stream.new.state ≡ marks_of stream.old.state) };
 
-    /// Parses an operation as `top_level_parse` does; only white space may follow it up to the end of the text. If something else
-    /// follows, the error is committed and its position is there: ``Unexpected `b`, expected end of input``. If the stream has not
-    /// failed and the state has no recorded marks, an error leaves the context's objects and the marks unchanged.
+    /// Parses an operation as `top_level_parse` does; only white space may follow it, or the section after it, up to the end of the text.
+    /// If something else follows, the error is committed and its position is there: ``Unexpected `b`, expected end of input``. The end is
+    /// looked for before the operations and blocks of the recorded marks get what their entries give. So after any error, including out
+    /// of memory, all objects of the context, the recorded marks, the source and the caller's data are unchanged; the context may hold
+    /// more file paths than before.
     fn whole_text_parse<T: IrText<A>, A: AttrText<A>, U>(
         stream: &mut StateStream<'_, T, A, U>,
     ) -> ParseResult<Ptr<Operation>, A>
@@ -70,6 +73,9 @@ pub trait OperationText {
         ensures rest { KeepsRest stream.old.state stream.new.state }
         ensures refused { IfErr result (λ fault. Refusal stream.old.stream fault stream.new.stream) }
         ensures failed { RefusesFailed stream.old.stream result stream.new.stream }
+        ensures read { IfOk result (λ op. ReadsWholeAny T.reading (attr_at A.reading) op stream.old stream.new) }
+        ensures missed { stream.old.stream.failed ≡ false →
+            IfErr result (UnlessMemory (MissesWholeAny T.reading (attr_at A.reading) stream.old)) }
         ensures builds { IsFresh stream.old →
             IfOk result (λ op. BuildsWhole (texts_of T.reading T.written) (texts_of A.reading A.written) T.reading
             (attr_at A.reading) op stream.old stream.new) }
@@ -77,8 +83,8 @@ pub trait OperationText {
             IfErr result (UnlessMemory
             (RefusesWhole (texts_of T.reading T.written) (texts_of A.reading A.written) T.reading
             (attr_at A.reading) stream.old)) }
-        ensures objects { IsFresh stream.old → OnErr result (SameObjects stream.old.state.ctx.now stream.new.state.ctx.now) }
-        ensures marks { IsFresh stream.old → OnErr result (marks_of stream.new.state ≡ []) };
+        ensures objects { OnErr result (SameObjects stream.old.state.ctx.now stream.new.state.ctx.now) }
+        ensures marks { OnErr result (marks_of stream.new.state ≡ marks_of stream.old.state) };
 
     /// Returns the operation as a plain value that prints its concrete text: its id and its pieces, without its mark and without a
     /// section.

@@ -1,7 +1,10 @@
-use Rattle.std.proofs.Common.{sym, ap, ◌∙◌, length, true≢false}
+use Rattle.std.proofs.Common.{sym, ap, ◌∙◌, subst, length, slice_get, true≢false}
 use Rattle.irtext_read.proofs.Exits.{handed_on}
+use Rattle.irtext_formats.specs.Directives.{format_of}
+use Rattle.irtext_nesting.specs.Heads.{steps_of}
 use Rattle.irtext_parse_pieces.proofs.Meanings.{names_more}
-use Rattle.irtext_parse_nested.proofs.FrontRead.{lead_lacks, lead_unread, piece_lacks, piece_commits, front_stands, steps_are}
+use Rattle.irtext_parse_nested.specs.Coming.{IsStep}
+use Rattle.irtext_parse_nested.proofs.FrontRead.{lead_lacks, lead_unread, piece_lacks, piece_commits, front_stands, steps_are, isolated_is}
 use Rattle.irtext_parse_nested.proofs.beginning.front_read.Goals as goal
 
 pub returns-in-Err-clause-lacks : goal.returns-in-Err-clause-lacks
@@ -37,3 +40,12 @@ returns-clause-counted g c =
 
 pub returns-clause-names : goal.returns-clause-names
 returns-clause-names g c = names_more c.args.names.now c.results_and_id_parse.new.names c.front_parse.new.names c.results_and_id_parse.ensures.names c.front_parse.ensures.names
+
+pub returns-clause-coming : goal.returns-clause-coming
+returns-clause-coming g c =
+    let same = steps_are g.T.IrText.reading g.A.IrText.reading c.args.ctx.now.dialects c.args.stream.now c.requires.fine c.in-Ok.led c.in-Ok.led.2.now c.in-Ok.ensures.read c.in-Ok.ensures.known in
+    subst (λ ss. IsStep c.coming_at.result (slice_get ss (length c.in_ok-pieces.pieces))) (sym same) (subst (λ n. IsStep c.coming_at.result (slice_get (steps_of (format_of c.in-Ok.led.2.now.format)) n)) c.len.ensures c.coming_at.ensures)
+
+pub returns-clause-isolated : goal.returns-clause-isolated
+returns-clause-isolated g c =
+    sym (isolated_is g.T.IrText.reading g.A.IrText.reading c.args.ctx.now.dialects c.args.stream.now c.requires.fine c.in-Ok.led c.in-Ok.led.2.now c.in-Ok.ensures.read c.in-Ok.ensures.known)

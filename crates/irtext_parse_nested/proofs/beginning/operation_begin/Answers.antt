@@ -43,7 +43,7 @@ returns-clause-begins g c =
     let old = c.args.s.now in
     let f = c.in_ok-front.ensures.stands in
     if_ok_both c.begin_read.result (λ b m s. front_begins g.T.IrText.reading (attr_at g.A.IrText.reading) old f c.begin_read.new.s m (subst (λ n. AllOlder n old.state.ctx.now.graph) c.made.ensures.made c.made.ensures.older) c.requires.block
-    c.front_read.ensures.names c.in_ok-front.ensures.distinct c.begin_read.ensures.marks c.in_ok-front.ensures.counted c.front_read.new.stream.rest refl s
+    c.front_read.ensures.names c.in_ok-front.ensures.distinct c.begin_read.ensures.marks c.in_ok-front.ensures.counted c.in_ok-front.ensures.coming c.in_ok-front.ensures.isolated c.front_read.new.stream.rest refl s
     (record { passed = old.stream.passed; rest = old.stream.rest; same = refl; stands = c.position-at.ensures; counts = refl })) c.begin_read.ensures.makes c.begin_read.ensures.stream
 
 pub returns-clause-refused : goal.returns-clause-refused

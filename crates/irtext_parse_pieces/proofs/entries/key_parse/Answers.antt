@@ -1,6 +1,11 @@
-use Rattle.irtext_read.proofs.Exits.{handed_on}
+use Rattle.std.proofs.Common.{sym, ◌∙◌}
+use Rattle.irtext_base.specs.Text.{front, after, in_word}
+use Rattle.irtext_read.proofs.Words.{encodes-front_word, is_identifier-front, taken_since}
 use Rattle.irtext_read.proofs.Steps.{Lens, lens}
-use Rattle.irtext_parse_pieces.proofs.EntrySteps.{key_read, key_refused}
+use Rattle.irtext_parse_pieces.proofs.EntrySteps.{key_there}
+use Rattle.irtext_parse_pieces.proofs.Meanings.{may_fail}
+use Rattle.irtext_parse_pieces.proofs.NameSteps.{nobody, no_name, name_starved}
+use Rattle.irtext_parse_pieces.proofs.WordSteps.{word_after, whole_taken, whole_key}
 use Rattle.irtext_parse_pieces.proofs.entries.key_parse.Given as given
 use Rattle.irtext_parse_pieces.proofs.entries.key_parse.Goals as goal
 
@@ -8,8 +13,37 @@ use Rattle.irtext_parse_pieces.proofs.entries.key_parse.Goals as goal
 abbrev stream : (g : given.Over) → Lens g.row.S.Denot
 stream g = let m = g.met.S.CharStream in lens g.S.CharStream.view g.S.CharStream.at m.view_at m.at_view m.at_at
 
-pub returns-in_err-name : goal.returns-in_err-name
-returns-in_err-name g c = rw (handed_on c.from_residual.result c.from_residual.ensures.1) (key_refused (stream g) c.in_err-name.ensures)
+pub returns-then-has_failed : goal.returns-then-has_failed
+returns-then-has_failed g c = may_fail (stream g) nobody (sym c.has_failed.ensures ∙ c.if-has_failed.true) c.refuse.ensures
 
-pub returns : goal.returns
-returns g c = key_read (stream g) (record { name = c.in_ok-name.name; at = c.position-at.result }) c.in_ok-name.ensures c.position-at.ensures
+pub returns-then-not-begins : goal.returns-then-not-begins
+returns-then-not-begins g c = no_name (stream g) (sym c.has_failed.ensures ∙ c.if-has_failed.false) (sym c.begins.ensures ∙ c.if-not-begins.true) c.unexpected.ensures
+
+pub returns-in-Some : goal.returns-in-Some
+returns-in-Some g c =
+    let l = stream g in
+    let w = c.in-Some.ensures in
+    key_there l (record { name = c.in-Some.name; at = c.position-at.result }) (sym c.has_failed.ensures ∙ c.if-has_failed.false) (sym c.begins.ensures ∙ c.if-not-begins.false) (whole_taken l w) c.position-at.ensures (whole_key l w)
+
+pub key-requires : goal.key-requires
+key-requires g c =
+    let l = stream g in
+    let old = c.args.stream.now in
+    let text = (l.view old).rest in
+    let t = word_after l c.key_again.ensures c.skip_class.ensures in
+    let w = taken_since l.view l.at l.view_at l.at_at old c.skip_class.new.stream c.position-at.result c.text_since.result.now (front in_word text) (after in_word text) t c.position-at.ensures c.text_since.ensures in
+    rw (w, encodes-front_word text) (is_identifier-front text (sym c.begins.ensures ∙ c.if-not-begins.false))
+
+pub returns-in-Ok : goal.returns-in-Ok
+returns-in-Ok g c =
+    let l = stream g in
+    let old = c.args.stream.now in
+    let text = (l.view old).rest in
+    let t = word_after l c.key_again.ensures c.skip_class.ensures in
+    let w = taken_since l.view l.at l.view_at l.at_at old c.skip_class.new.stream c.position-at.result c.text_since.result.now (front in_word text) (after in_word text) t c.position-at.ensures c.text_since.ensures in
+    key_there l (record { name = c.in-Ok.name; at = c.position-at.result }) (sym c.has_failed.ensures ∙ c.if-has_failed.false) (sym c.begins.ensures ∙ c.if-not-begins.false) t c.position-at.ensures (c.in-Ok.ensures ∙ (w ∙ encodes-front_word text))
+
+pub returns-in-Err : goal.returns-in-Err
+returns-in-Err g c =
+    let l = stream g in
+    name_starved l (sym c.has_failed.ensures ∙ c.if-has_failed.false) (word_after l c.key_again.ensures c.skip_class.ensures) c.out_of_memory.ensures

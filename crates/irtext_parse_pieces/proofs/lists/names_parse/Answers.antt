@@ -16,10 +16,10 @@ returns-then-none_named-clause-read g c =
     list_unbegun (stream g) (named_at c.args.kind c.args.inside) c.args.kind (none_begins c.args.kind c.args.inside) c.none_named.ensures c.if-none_named.true c.none.result (rw c.none.ensures tt)
 
 pub returns-in-Ok-clause-read : goal.returns-in-Ok-clause-read
-returns-in-Ok-clause-read g c = list_names (stream g) (named_at c.args.kind c.args.inside) c.named_parse.new.names.names c.more_names.new.names.names c.in-Ok.ensures.read c.skip_white_space.ensures c.more_names.ensures.read
+returns-in-Ok-clause-read g c = list_names (stream g) (named_at c.args.kind c.args.inside) c.named_parse.new.names.names c.names_after.new.names.names c.in-Ok.ensures.read c.skip_white_space.ensures c.names_after.ensures.read
 
 pub returns-in-Ok-clause-names : goal.returns-in-Ok-clause-names
-returns-in-Ok-clause-names g c = names_more _ _ _ c.in-Ok.ensures.names c.more_names.ensures.names
+returns-in-Ok-clause-names g c = names_more _ _ _ c.in-Ok.ensures.names c.names_after.ensures.names
 
 pub returns-then-fault-clause-read : goal.returns-then-fault-clause-read
 returns-then-fault-clause-read g c = must_refuse (stream g) (list_bad (stream g) (named_at c.args.kind c.args.inside) (λ _. []) c.if-fault.true c.in-Err.ensures.read.read)

@@ -3,8 +3,7 @@ use Rattle.irtext_base.specs.Text.{front, after, in_word, is_identifier}
 use Rattle.irtext_read.proofs.Words.{encodes-front_word, is_identifier-front, taken_since}
 use Rattle.irtext_parse_pieces.proofs.Interned.{words_with}
 use Rattle.irtext_parse_pieces.specs.Named.{AreWords}
-use Rattle.irtext_parse_pieces.proofs.Meanings.{may_fail}
-use Rattle.irtext_parse_pieces.proofs.NameSteps.{nobody, no_name, name_starved, name_there}
+use Rattle.irtext_parse_pieces.proofs.NameSteps.{unstored, name_there}
 use Rattle.irtext_read.proofs.Steps.{Lens, lens}
 use Rattle.irtext_parse_pieces.proofs.names.name_parse.Given as given
 use Rattle.irtext_parse_pieces.proofs.names.name_parse.Goals as goal
@@ -12,12 +11,6 @@ use Rattle.irtext_parse_pieces.proofs.names.name_parse.Goals as goal
 -- the stream's view, and the rules that it keeps
 abbrev stream : (g : given.Over) → Lens g.row.S.Denot
 stream g = let m = g.met.S.CharStream in lens g.S.CharStream.view g.S.CharStream.at m.view_at m.at_view m.at_at
-
-pub returns-then-has_failed-clause-read : goal.returns-then-has_failed-clause-read
-returns-then-has_failed-clause-read g c = may_fail (stream g) nobody (sym c.has_failed.ensures ∙ c.if-has_failed.true) c.refuse.ensures
-
-pub returns-then-not-begins-clause-read : goal.returns-then-not-begins-clause-read
-returns-then-not-begins-clause-read g c = no_name (stream g) (sym c.has_failed.ensures ∙ c.if-has_failed.false) (sym c.begins.ensures ∙ c.if-not-begins.true) c.unexpected.ensures
 
 pub returns-in-Ok-clause-read : goal.returns-in-Ok-clause-read
 returns-in-Ok-clause-read g c =
@@ -28,7 +21,7 @@ returns-in-Ok-clause-read g c =
     name_there l c.intern.new.self.names (record { name = c.in-Ok.name; at = c.position-at.result }) (sym c.has_failed.ensures ∙ c.if-has_failed.false) (sym c.begins.ensures ∙ c.if-not-begins.false) c.skip_class.ensures c.position-at.ensures (c.in-Ok.ensures.named ∙ ap Some w)
 
 pub returns-in-Err-clause-read : goal.returns-in-Err-clause-read
-returns-in-Err-clause-read g c = name_starved (stream g) (sym c.has_failed.ensures ∙ c.if-has_failed.false) c.skip_class.ensures c.out_of_memory.ensures
+returns-in-Err-clause-read g c = unstored (stream g) c.name_unstored.result (sym c.has_failed.ensures ∙ c.if-has_failed.false) c.skip_class.ensures c.name_unstored.ensures
 
 pub returns-in-Ok-clause-names : goal.returns-in-Ok-clause-names
 returns-in-Ok-clause-names g c =

@@ -12,10 +12,10 @@ abbrev stream : (g : given.Over) → Lens g.row.S.Denot
 stream g = let m = g.met.S.CharStream in lens g.S.CharStream.view g.S.CharStream.at m.view_at m.at_view m.at_at
 
 pub returns-in-Ok-clause-looks : goal.returns-in-Ok-clause-looks
-returns-in-Ok-clause-looks g c = λ fine. list_looks (stream g) c.name_parse.new.names.names c.more_results.new.names.names c.more_results.new.stream c.more_results.result c.in-Ok.ensures.read c.skip_white_space.ensures c.more_results.ensures.looks
+returns-in-Ok-clause-looks g c = λ fine. list_looks (stream g) c.name_parse.new.names.names c.results_after.new.names.names c.results_after.new.stream c.results_after.result c.in-Ok.ensures.read c.skip_white_space.ensures c.results_after.ensures.looks
 
 pub returns-in-Ok-clause-names : goal.returns-in-Ok-clause-names
-returns-in-Ok-clause-names g c = names_more _ _ _ c.in-Ok.ensures.names c.more_results.ensures.names
+returns-in-Ok-clause-names g c = names_more _ _ _ c.in-Ok.ensures.names c.results_after.ensures.names
 
 pub returns-then-fault-clause-looks : goal.returns-then-fault-clause-looks
 returns-then-fault-clause-looks g c = λ fine. name_starves (stream g) fine c.in-Err.ensures.read.read c.if-fault.true

@@ -11,7 +11,7 @@ abbrev stream : (g : given.Over) → Lens g.row.S.Denot
 stream g = let m = g.met.S.CharStream in lens g.S.CharStream.view g.S.CharStream.at m.view_at m.at_view m.at_at
 
 pub returns-in-Ok : goal.returns-in-Ok
-returns-in-Ok g c = list_types (stream g) g.T.IrText.reading c.in-Ok.ensures c.skip_white_space.ensures c.more_types.ensures
+returns-in-Ok g c = list_types (stream g) g.T.IrText.reading c.in-Ok.ensures c.skip_white_space.ensures c.types_after.ensures
 
 pub returns-then-fault : goal.returns-then-fault
 returns-then-fault g c = must_refuse (stream g) (list_bad (stream g) g.T.IrText.reading (λ _. []) c.if-fault.true c.in-Err.ensures.read)

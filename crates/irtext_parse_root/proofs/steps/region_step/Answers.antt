@@ -1,4 +1,4 @@
-use Rattle.std.proofs.Common.{◌∙◌, ap}
+use Rattle.std.proofs.Common.{◌∙◌, None, ap}
 use Rattle.irtext_read.proofs.Exits.{handed_on}
 use Rattle.irtext_parse_root.proofs.Proceeding.{region_proceeds}
 use Rattle.irtext_parse_root.proofs.Stopping.{region_stops}
@@ -13,7 +13,7 @@ returns-in_err-region-clause-stops g c =
 pub returns-clause-proceeds : goal.returns-clause-proceeds
 returns-clause-proceeds g c =
     region_proceeds g.T.IrText.reading g.A.IrText.reading g.met.T.IrText.sincere.reads g.met.A.IrText.sincere.reads c.args.names.now c.args.s.now c.space_parse.new.stream c.space_parse.ensures c.args.begun c.args.frames.now c.push.new.self c.in_ok-region.region c.enter.new.names c.enter.new.s c.args.isolated
-    c.in_ok-region.ensures.enters c.requires.isolated c.requires.next c.at_step-waits.result (c.at_step-waits.ensures ∙ ap (λ z. record c.args.begun { step = z }) c.requires.behind) c.in-Ok.ensures c.requires.here
+    c.in_ok-region.ensures.enters c.requires.isolated c.requires.next c.at_step-waits.result (c.at_step-waits.ensures ∙ ap (λ z. record c.args.begun { coming = None; step = z }) c.requires.behind) c.in-Ok.ensures c.requires.here
 
 pub returns-in_err-region-clause-remains : goal.returns-in_err-region-clause-remains
 returns-in_err-region-clause-remains g c = rw (handed_on c.from_residual.result c.from_residual.ensures.1) (c.in_err-region.ensures.remains)

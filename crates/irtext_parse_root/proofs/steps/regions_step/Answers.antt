@@ -1,4 +1,4 @@
-use Rattle.std.proofs.Common.{◌≡◌, ◌∙◌, sym, ap, subst, true, false}
+use Rattle.std.proofs.Common.{◌≡◌, ◌∙◌, None, sym, ap, subst, true, false}
 use Rattle.irtext_read.proofs.Exits.{handed_on}
 use Rattle.irtext_nesting.specs.Reached.{begins_region}
 use Rattle.irtext_parse_root.proofs.Proceeding.{another_proceeds, over_proceeds}
@@ -9,7 +9,7 @@ use Rattle.irtext_parse_root.proofs.steps.regions_step.Goals as goal
 pub returns-then-not-next_is-clause-proceeds : goal.returns-then-not-next_is-clause-proceeds
 returns-then-not-next_is-clause-proceeds g c =
     over_proceeds g.T.IrText.reading g.A.IrText.reading g.met.T.IrText.sincere.reads g.met.A.IrText.sincere.reads c.args.names.now c.args.s.now c.space_parse.new.stream c.space_parse.ensures c.args.begun c.at_step.result c.args.frames.now c.requires.next
-    (subst (λ t. begins_region t ≡ false) c.space_parse.ensures.rest (sym c.next_is.ensures ∙ c.if-not-next_is.true)) (c.at_step.ensures ∙ ap (λ z. record c.args.begun { step = z }) c.requires.behind) c.requires.here
+    (subst (λ t. begins_region t ≡ false) c.space_parse.ensures.rest (sym c.next_is.ensures ∙ c.if-not-next_is.true)) (c.at_step.ensures ∙ ap (λ z. record c.args.begun { coming = None; step = z }) c.requires.behind) c.requires.here
 
 pub returns-in_err-region-clause-stops : goal.returns-in_err-region-clause-stops
 returns-in_err-region-clause-stops g c =

@@ -1,4 +1,4 @@
-use Rattle.std.proofs.Common.{inl, inr, ◌∙◌, sym}
+use Rattle.std.proofs.Common.{inl, inr, ◌∙◌}
 use Rattle.irtext_context.proofs.Kept.{kept_trans}
 use Rattle.irtext_read.specs.AttrTexts.{attr_at}
 use Rattle.irtext_read.proofs.Exits.{handed_on}
@@ -10,7 +10,6 @@ use Rattle.irtext_outcomes.proofs.Readers.NewPaths.{adds_kept}
 use Rattle.irtext_nesting.proofs.Fine.{fine_section}
 use Rattle.irtext_parse_section.specs.Said.{rules_of}
 use Rattle.irtext_parse_section.proofs.SectionSteps.{either_way, adds_closed, starved_refusal, starved_there, given_kept, reads_section}
-use Rattle.irtext_parse_section.proofs.LoopSteps.{unless_err, where_err}
 use Rattle.irtext_parse_section.proofs.section.section_parse.Goals as goal
 
 pub returns-in_err-entries-clause-missed : goal.returns-in_err-entries-clause-missed
@@ -26,49 +25,53 @@ pub returns-in_err-entries-clause-kept : goal.returns-in_err-entries-clause-kept
 returns-in_err-entries-clause-kept g c = λ mark n. adds_kept mark c.in_err-entries.ensures.adds
 
 pub returns-in_err-entries-clause-closed : goal.returns-in_err-entries-clause-closed
-returns-in_err-entries-clause-closed g c = λ mark h. adds_closed mark c.args.s.now.state.ctx.now c.right_parse.new.s.state.ctx.now c.in_err-entries.ensures.adds h
+returns-in_err-entries-clause-closed g c = λ mark h. adds_closed mark c.args.s.now.state.ctx.now c.section_checked.new.s.state.ctx.now c.in_err-entries.ensures.adds h
 
 pub returns-in_err-entries-clause-adds : goal.returns-in_err-entries-clause-adds
 returns-in_err-entries-clause-adds g c = rw (handed_on c.from_residual.result c.from_residual.ensures.1) (inr c.in_err-entries.ensures.adds)
 
-pub returns-then-is_err-clause-missed : goal.returns-then-is_err-clause-missed
-returns-then-is_err-clause-missed g c = λ fine. inl (starved_there c.out_of_memory.ensures)
-
-pub returns-then-is_err-clause-refused : goal.returns-then-is_err-clause-refused
-returns-then-is_err-clause-refused g c = starved_refusal c.out_of_memory.ensures
-
-pub returns-then-is_err-clause-marks : goal.returns-then-is_err-clause-marks
-returns-then-is_err-clause-marks g c = c.entries_given.ensures.marks ∙ c.in_ok-entries.ensures.marks
-
-pub returns-then-is_err-clause-kept : goal.returns-then-is_err-clause-kept
-returns-then-is_err-clause-kept g c = λ mark n.
-    given_kept g.row.A.Denot (attr_at g.A.IrText.reading) c.args.s.now c.right_parse.new.s c.in_ok-entries.entries c.in_ok-entries.ensures.read c.in_ok-entries.ensures.adds c.entries_given.new.s.state.ctx.now mark n (c.entries_given.ensures.kept mark)
-
-pub returns-then-is_err-clause-closed : goal.returns-then-is_err-clause-closed
-returns-then-is_err-clause-closed g c = λ mark h.
-    c.entries_given.ensures.closed mark (adds_closed mark c.args.s.now.state.ctx.now c.right_parse.new.s.state.ctx.now c.in_ok-entries.ensures.adds h)
-
-pub returns-then-is_err-clause-adds : goal.returns-then-is_err-clause-adds
-returns-then-is_err-clause-adds g c = inl (starved_there c.out_of_memory.ensures)
-
-pub returns-clause-kept : goal.returns-clause-kept
-returns-clause-kept g c = λ mark n.
-    rw c.truncate_marks.ensures.ctx (given_kept g.row.A.Denot (attr_at g.A.IrText.reading) c.args.s.now c.right_parse.new.s c.in_ok-entries.entries c.in_ok-entries.ensures.read c.in_ok-entries.ensures.adds c.entries_given.new.s.state.ctx.now mark n (c.entries_given.ensures.kept mark))
-
-pub returns-clause-closed : goal.returns-clause-closed
-returns-clause-closed g c = λ mark h.
-    rw c.truncate_marks.ensures.ctx (c.entries_given.ensures.closed mark (adds_closed mark c.args.s.now.state.ctx.now c.right_parse.new.s.state.ctx.now c.in_ok-entries.ensures.adds h))
-
-pub returns-clause-read : goal.returns-clause-read
-returns-clause-read g c =
-    let gives = unless_err c.entries_given.result (sym c.is_err.ensures.value ∙ c.if-is_err.false) c.entries_given.ensures.gives in
-    reads_section g.row.A.Denot (attr_at g.A.IrText.reading) c.args.s.now c.right_parse.new.s c.in_ok-entries.entries c.in_ok-entries.ensures.read c.in_ok-entries.ensures.adds _
-    (rw c.truncate_marks.ensures.ctx gives) c.entries_given.ensures.stream c.truncate_marks.ensures.marks
-
 pub returns-in_err-entries-clause-unchanged : goal.returns-in_err-entries-clause-unchanged
 returns-in_err-entries-clause-unchanged g c = λ mark n. rw (handed_on c.from_residual.result c.from_residual.ensures.1) (adds_kept mark c.in_err-entries.ensures.adds)
 
-pub returns-then-is_err-clause-unchanged : goal.returns-then-is_err-clause-unchanged
-returns-then-is_err-clause-unchanged g c = λ mark n. either_way c.args.earlier
-    (λ e. kept_trans (adds_kept mark c.in_ok-entries.ensures.adds) (where_err c.entries_given.result (sym c.is_err.ensures.value ∙ c.if-is_err.true) (c.entries_given.ensures.unchanged mark e)))
-    (λ e. given_kept g.row.A.Denot (attr_at g.A.IrText.reading) c.args.s.now c.right_parse.new.s c.in_ok-entries.entries c.in_ok-entries.ensures.read c.in_ok-entries.ensures.adds c.entries_given.new.s.state.ctx.now mark (n e) (c.entries_given.ensures.kept mark))
+pub returns-in_err-section_given-clause-missed : goal.returns-in_err-section_given-clause-missed
+returns-in_err-section_given-clause-missed g c = λ fine.
+    rw (handed_on c.from_residual-in_err-section_given.result c.from_residual-in_err-section_given.ensures.1) (inl (starved_there c.in_err-section_given.ensures.starved))
+
+pub returns-in_err-section_given-clause-refused : goal.returns-in_err-section_given-clause-refused
+returns-in_err-section_given-clause-refused g c =
+    rw (handed_on c.from_residual-in_err-section_given.result c.from_residual-in_err-section_given.ensures.1) (starved_refusal c.in_err-section_given.ensures.starved)
+
+pub returns-in_err-section_given-clause-marks : goal.returns-in_err-section_given-clause-marks
+returns-in_err-section_given-clause-marks g c =
+    rw (handed_on c.from_residual-in_err-section_given.result c.from_residual-in_err-section_given.ensures.1) (c.in_err-section_given.ensures.marks ∙ c.in_ok-entries.ensures.marks)
+
+pub returns-in_err-section_given-clause-kept : goal.returns-in_err-section_given-clause-kept
+returns-in_err-section_given-clause-kept g c = λ mark n.
+    given_kept g.row.A.Denot (attr_at g.A.IrText.reading) c.args.s.now c.section_checked.new.s c.in_ok-entries.entries c.in_ok-entries.ensures.read c.in_ok-entries.ensures.adds c.section_given.new.s.state.ctx.now mark n (c.in_err-section_given.ensures.kept mark)
+
+pub returns-in_err-section_given-clause-closed : goal.returns-in_err-section_given-clause-closed
+returns-in_err-section_given-clause-closed g c = λ mark h.
+    c.in_err-section_given.ensures.closed mark (adds_closed mark c.args.s.now.state.ctx.now c.section_checked.new.s.state.ctx.now c.in_ok-entries.ensures.adds h)
+
+pub returns-in_err-section_given-clause-adds : goal.returns-in_err-section_given-clause-adds
+returns-in_err-section_given-clause-adds g c =
+    rw (handed_on c.from_residual-in_err-section_given.result c.from_residual-in_err-section_given.ensures.1) (inl (starved_there c.in_err-section_given.ensures.starved))
+
+pub returns-in_err-section_given-clause-unchanged : goal.returns-in_err-section_given-clause-unchanged
+returns-in_err-section_given-clause-unchanged g c = λ mark n.
+    rw (handed_on c.from_residual-in_err-section_given.result c.from_residual-in_err-section_given.ensures.1) (either_way c.args.earlier
+    (λ e. kept_trans (adds_kept mark c.in_ok-entries.ensures.adds) (c.in_err-section_given.ensures.unchanged mark e))
+    (λ e. returns-in_err-section_given-clause-kept g c mark (n e)))
+
+pub returns-clause-read : goal.returns-clause-read
+returns-clause-read g c =
+    let e = c.in_ok-section_given.ensures in
+    reads_section g.row.A.Denot (attr_at g.A.IrText.reading) c.args.s.now c.section_checked.new.s c.in_ok-entries.entries c.in_ok-entries.ensures.read c.in_ok-entries.ensures.adds _ e.gives e.stream e.fresh
+
+pub returns-clause-kept : goal.returns-clause-kept
+returns-clause-kept g c = λ mark n.
+    given_kept g.row.A.Denot (attr_at g.A.IrText.reading) c.args.s.now c.section_checked.new.s c.in_ok-entries.entries c.in_ok-entries.ensures.read c.in_ok-entries.ensures.adds c.section_given.new.s.state.ctx.now mark n (c.in_ok-section_given.ensures.kept mark)
+
+pub returns-clause-closed : goal.returns-clause-closed
+returns-clause-closed g c = λ mark h.
+    c.in_ok-section_given.ensures.closed mark (adds_closed mark c.args.s.now.state.ctx.now c.section_checked.new.s.state.ctx.now c.in_ok-entries.ensures.adds h)

@@ -1,10 +1,13 @@
-use Rattle.irtext_read.proofs.Steps.{alone, may_read, begins_with, begun_by, last}
 use Rattle.std.proofs.Common.{Ok}
 use Rattle.irtext_base.specs.Faults.{demand_of}
+use Rattle.irtext_read.proofs.Steps.{alone, may_read, begins_with, begun_by, last}
 use Rattle.irtext_syntax.specs.Words.{dotted_at}
 use Rattle.irtext_syntax.proofs.table.table_parse.Goals as goal
 
-pub returns-in-Ok : goal.returns-in-Ok
-returns-in-Ok g c =
-    let h = may_read alone (λ w. w) (dotted_at g.W.DottedWord.word c.args.refusal.now (demand_of c.args.expected)) c.args.stream.now c.dotted_parse.new.stream (Ok c.in-Ok.word) c.in-Ok.ensures in
-    begun_by alone g.W.Table.behind h (last alone (begins_with alone g.W.Table.behind h) c.parse.ensures)
+pub returns : goal.returns
+returns g c =
+    let refusal = c.args.refusal.now in
+    let demand = demand_of c.args.expected in
+    let h = may_read alone (λ w. w) (dotted_at g.W.DottedWord.word refusal demand) c.args.stream.now c.dotted_there.new.stream (Ok c.in-Some.word) (c.in-Some.ensures refusal demand) in
+    let m = rw c.in_default-parse_known.ensures at c.parse.ensures in
+    begun_by alone g.W.Table.behind h (last alone (begins_with alone g.W.Table.behind h) m)

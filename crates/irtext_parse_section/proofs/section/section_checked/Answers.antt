@@ -12,7 +12,7 @@ use Rattle.irtext_parse_pieces.specs.Named.{whole, Each, MustMean}
 use Rattle.irtext_nesting.specs.Readers.{wrong_references, section_at}
 use Rattle.irtext_parse_section.specs.Entries.{AreEntriesOver, items_of, once_of}
 use Rattle.irtext_parse_section.proofs.References.{IsWrong, references_same, references_near, section_unread, section_right, section_wrong}
-use Rattle.irtext_parse_section.proofs.section.right_parse.Goals as goal
+use Rattle.irtext_parse_section.proofs.section.section_checked.Goals as goal
 
 pub returns-in_err-entries-clause-read : goal.returns-in_err-entries-clause-read
 returns-in_err-entries-clause-read g c =

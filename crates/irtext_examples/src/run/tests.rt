@@ -1,0 +1,80 @@
+//! The two tasks over small inputs, with the outputs and the errors.
+use super::run;
+use std::process::Abort;
+
+/// A task, an input, and the output.
+const ACCEPTED: &[(&str, &[u8], &[u8])] = &[
+    (
+        "front",
+        b"7 +\n  -2",
+        b"builtin.module @program \n{\n  ^entry_block2v1() !0:\n    arith.func @sum \n    {\n      ^body_block1v1(start_v0: arith.int 32) !1:\n        term_v1 = arith.constant arith.value <7: arith.int 32>: arith.int 32 !2;\n        sum_v2 = arith.add start_v0, term_v1: arith.int 32 !3;\n        term_v3 = arith.constant arith.value <-2: arith.int 32>: arith.int 32 !4;\n        sum_v4 = arith.add sum_v2, term_v3: arith.int 32 !5;\n        arith.return sum_v4\n    } !6\n} !7\n\noutlined_attributes:\n!0 = [builtin_block_label = builtin.identifier entry]\n!1 = [builtin_block_label = builtin.identifier body, builtin_given_names = builtin.given_names [start]]\n!2 = @[<in-memory>: line: 1, column: 1], [builtin_given_names = builtin.given_names [term]]\n!3 = @[<in-memory>: line: 1, column: 1], [builtin_given_names = builtin.given_names [sum]]\n!4 = @[<in-memory>: line: 2, column: 3], [builtin_given_names = builtin.given_names [term]]\n!5 = @[<in-memory>: line: 2, column: 3], [builtin_given_names = builtin.given_names [sum]]\n!6 = @[<in-memory>: line: 1, column: 1], []\n!7 = @[<in-memory>: line: 1, column: 1], []\n",
+    ),
+    (
+        "pass",
+        b"builtin.module @m { ^a(): x = arith.constant arith.value <-21: arith.index>: arith.index; test.nop }",
+        b"builtin.module @m \n{\n  ^a_block1v1() !0:\n    x_v0 = arith.constant arith.value <-42: arith.index>: arith.index !1;\n    test.nop !2\n} !3\n\noutlined_attributes:\n!0 = @[<in-memory>: line: 1, column: 21], [builtin_block_label = builtin.identifier a]\n!1 = @[<in-memory>: line: 1, column: 27], [builtin_given_names = builtin.given_names [x]]\n!2 = @[<in-memory>: line: 1, column: 91], []\n!3 = @[<in-memory>: line: 1, column: 1], []\n",
+    ),
+];
+
+/// A task, an input that is rejected, and the error.
+const REFUSED: &[(&str, &[u8], &[u8])] = &[
+    (
+        "front",
+        b"1 + x",
+        b"[<in-memory>: line: 1, column: 5] Compilation error: invalid input program.\n`x` is not a number of 64 bits\n1 + x\n    ^\n",
+    ),
+    (
+        "pass",
+        b"builtin.module @m {} !",
+        b"[<in-memory>: line: 1, column: 23] Compilation error: invalid input program.\nParse error at line: 1, column: 23\nUnexpected end of input, expected digit\nbuiltin.module @m {} !\n                      ^\n",
+    ),
+    (
+        "pass",
+        b"builtin.module @m {\n  ^a():\n    x = arith.constant arith.value <9223372036854775807: arith.index>: arith.index\n}",
+        b"[<in-memory>: line: 3, column: 5] Compilation error: verification failed.\ntwice 9223372036854775807 is not a number of 64 bits\n    x = arith.constant arith.value <9223372036854775807: arith.i..\n    ^\n",
+    ),
+];
+
+/// Runs the program with this argument and this input, and checks its exit status, output and errors.
+fn check(
+    rt: &(impl Abort + AllocGlobal),
+    word: &str,
+    input: &[u8],
+    status: u8,
+    output: &[u8],
+    errors: &[u8],
+) {
+    let mut written = Vec::new(rt.alloc());
+    let mut told = Vec::new(rt.alloc());
+    let mut left = input;
+    let ended = run(rt.alloc(), &[word], &mut left, &mut written, &mut told);
+    assert_eq!(rt; told.as_slice(), errors);
+    assert_eq!(rt; written.as_slice(), output);
+    assert_eq!(rt; ended, status);
+}
+
+#[test]
+fn roots_are_built_and_changed(rt: HostRuntime) {
+    for row in ACCEPTED {
+        check(&rt, row.0, row.1, 0, row.2, b"");
+    }
+}
+
+#[test]
+fn errors_show_their_place(rt: HostRuntime) {
+    for row in REFUSED {
+        check(&rt, row.0, row.1, 1, b"", row.2);
+    }
+}
+
+#[test]
+fn another_word_is_told_the_usage(rt: HostRuntime) {
+    check(
+        &rt,
+        "fmt",
+        b"1",
+        2,
+        b"",
+        b"usage: irtext_examples front|pass\n",
+    );
+}

@@ -1,0 +1,10 @@
+use Rattle.std.proofs.lemmas.Str.{chars_from_encodes}
+use Rattle.irtext_base.specs.Faults.{characters}
+use Rattle.irtext_read.proofs.Characters.{encodes-characters}
+use Rattle.irtext_parse_pieces.proofs.fronts.word_ran.Goals as goal
+
+pub returns : goal.returns
+returns g c =
+    let bytes = c.args.text.now in
+    let h = rw (← chars_from_encodes (characters bytes) bytes c.utf8.text (encodes-characters bytes c.utf8.text)) at c.if-not-accept_spaced.ensures in
+    (h, c.push_word.ensures)

@@ -1,0 +1,99 @@
+//! The keys that are kept while dictionaries are parsed one after the other: a key that comes again at the same place shares its text.
+ghost use Rattle.std.specs.Prelude.{◌≡◌, IfOk, IfSome, IsTrue};
+ghost use Rattle.irtext_base.specs.Text.{is_identifier};
+
+use irtext_base::base::Identifier;
+use std::alloc::{AllocError, Global};
+
+/// How many keys are kept: those at the first places of a dictionary.
+const PLACES: usize = 8;
+
+/// The keys at the first places of the dictionaries that were parsed, for each place the last one.
+#[derive(Drop)]
+pub struct Keys {
+    kept: Vec<Identifier>,
+    /// How many keys may be kept.
+    places: usize,
+}
+
+impl Keys {
+    /// Returns keys of which none is kept yet. Allocates nothing.
+    pub fn new(alloc: Global) -> Keys {
+        Keys {
+            kept: Vec::new(alloc),
+            places: PLACES,
+        }
+    }
+
+    /// Returns keys that keep none. Allocates nothing.
+    pub fn none(alloc: Global) -> Keys {
+        Keys {
+            kept: Vec::new(alloc),
+            places: 0,
+        }
+    }
+
+    /// Returns the key that is kept at this place, if there is one.
+    #[inline(always)]
+    pub(crate) fn at(&self, index: usize) -> Option<&Identifier> {
+        self.kept.get(index)
+    }
+
+    /// Returns the key that is kept at this place, if it has this text. Shares its text.
+    #[inline(always)]
+    fn shared(&self, index: usize, text: &str) -> Option<Identifier>
+        ensures { IfSome result (λ key. key ≡ text.now) }
+    {
+        let kept = self.kept.get(index)?;
+        if kept.as_str() != text {
+            return None;
+        }
+        match kept.clone() {
+            Ok(key) => Some(key),
+            Err(_) => None,
+        }
+    }
+
+    /// Keeps a key at this place, unless an allocation fails.
+    fn keep(&mut self, index: usize, key: &Identifier) {
+        if index >= self.places {
+            return;
+        }
+        let Ok(key) = key.clone() else {
+            return;
+        };
+        match self.kept.get_mut(index) {
+            Some(kept) => *kept = key,
+            None => {
+                let _ = self.kept.push(key);
+            }
+        }
+    }
+
+    /// Returns a new key with this text, and keeps it at this place.
+    fn made(&mut self, alloc: Global, index: usize, text: &str) -> Result<Identifier, AllocError>
+        requires { IsTrue (is_identifier text.now) }
+        ensures { IfOk result (λ key. key ≡ text.now) }
+    {
+        let key = Identifier::from_word(alloc, text)?;
+        self.keep(index, &key);
+        Ok(key)
+    }
+
+    /// Returns the key with this text, which must be that of an identifier. If the key that is kept at this place has the text, shares it
+    /// and allocates nothing; otherwise the key is new, and is kept at the place. Fails only when out of memory.
+    pub(crate) fn key(
+        &mut self,
+        alloc: Global,
+        index: usize,
+        text: &str,
+    ) -> Result<Identifier, AllocError>
+        requires { IsTrue (is_identifier text.now) }
+        ensures { IfOk result (λ key. key ≡ text.now) }
+    {
+        match self.shared(index, text) {
+            Some(key) => Ok(key),
+            None => self.made(alloc, index, text),
+        }
+    }
+}

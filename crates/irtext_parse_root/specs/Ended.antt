@@ -1,0 +1,30 @@
+-- Between functions: what is parsed after the operation of a whole text, up to the end.
+use Rattle.std.specs.Prelude.{◌≡◌, true, cond}
+use Rattle.irtext_base.specs.Text.{Text}
+use Rattle.irtext_base.specs.Answers.{Outcome}
+use Rattle.irtext_base.specs.Locations.{AttrView}
+use Rattle.irtext_base.specs.declared.parsable.fault.ParseFault.{ParseFault}
+use Rattle.irtext_state.specs.States.{marks_of}
+use Rattle.irtext_state.specs.declared.parsable.state.StateStream.{StateStream}
+use Rattle.irtext_grammar.specs.Contexts.Held.{whole}
+use Rattle.irtext_outcomes.specs.Promises.Section.{Faults, indices_of, is_noted}
+use Rattle.irtext_outcomes.specs.Promises.Supported.{RefusedAs}
+use Rattle.irtext_nesting.specs.Readers.{section_at}
+use Rattle.irtext_parse_section.specs.Said.{rules_of}
+use Rattle.irtext_parse_section.specs.Section.{ReadsSection}
+use Rattle.irtext_parse_root.specs.Whole.{OnlySpace, ExpectsEnd}
+use Rattle.irtext_parse_root.specs.WholeAny.{IsRest}
+
+module _ {T A U : Type 0} (attr : Text → Outcome (AttrView A)) where
+  -- if a mark is recorded, the section of all recorded marks was parsed; and only white space was left, which was consumed
+  pub record EndsAny (old new : StateStream T A U) : Type 0 where
+    pub end : StateStream T A U
+    pub section : cond (is_noted (marks_of old.state)) (ReadsSection attr old end) (end ≡ old)
+    pub ends : OnlySpace end.stream new.stream
+    pub state : new.state ≡ end.state
+
+  -- a mark is recorded, but the section of all recorded marks was not parsed; or something else than white space is left
+  pub data MissesEnd (old : StateStream T A U) (fault : ParseFault A) : Type 0 where
+    wrong_section : is_noted (marks_of old.state) ≡ true
+        → Faults true (RefusedAs (section_at attr (indices_of (marks_of old.state)) (rules_of (marks_of old.state)) old.stream.rest)) old.stream fault → MissesEnd old fault
+    not_ended : (rest : Text) → IsRest attr old rest → ExpectsEnd (whole old.stream) rest fault → MissesEnd old fault
