@@ -4,4 +4,5 @@ mod directives;
 mod kept;
 mod roots;
 mod sections;
+mod syntax;
 mod whole_texts;
