@@ -91,8 +91,8 @@ pub fn key_parse<S: CharStream, A>(
     }
 }
 
-/// Parses the entry at this place of a dictionary: a key, `:` and an attribute. If no name comes next, the error is uncommitted and the stream is
-/// unchanged; other errors are committed.
+/// Parses the entry at this place of a dictionary: a key, `:` and an attribute. If no name comes next, the error is uncommitted and the
+/// stream is unchanged; other errors are committed.
 fn entry_parse<S: OwnStream, A: AttrText<A>>(
     stream: &mut S,
     keys: &mut Keys,
