@@ -10,7 +10,7 @@ from dataclasses import dataclass, field
 
 TOP = os.path.dirname(os.path.dirname(os.path.realpath(__file__)))
 # crates to copy from
-EXAMPLES = ("irtext_arith", "irtext_two", "irtext_examples")
+EXAMPLES = ("irtext_arith", "irtext_examples")
 
 
 def text_of(path):
@@ -60,7 +60,7 @@ class Crate:
     def is_library(self):
         """Whether it is a library of the product, and no program, no example and no crate of tests and rows."""
         is_program = os.path.isfile(os.path.join(self.folder, "src", "main.rt"))
-        return not is_program and not self.is_example and not self.name.startswith("irtext_vectors")
+        return not is_program and not self.is_example and not self.name.startswith("irtext_tests")
 
 
 def crates():

@@ -2,8 +2,8 @@
 ghost use Rattle.std.specs.Prelude.{◌≤◌, ◌≡◌, IsSome};
 ghost use Rattle.irtext_context.specs.Context.{operation};
 
-use irtext_types::dialects::register_demo;
-use irtext_types::{DemoAttr, DemoType};
+use irtext_demo::dialects::register_demo;
+use irtext_demo::{DemoAttr, DemoType};
 use pliron_text::base::{Context, Operation, Ptr};
 use pliron_text::ir::{OperationText, print_dbg};
 use pliron_text::parsable::parse_from_str;

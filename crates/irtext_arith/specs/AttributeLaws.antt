@@ -5,7 +5,7 @@ use Rattle.irtext_base.specs.Families.{BeginsWithWord}
 use Rattle.irtext_base.specs.Faults.{AnAttribute}
 use Rattle.irtext_base.specs.Own.{texts_of, Lawful, Sincere, Unreserved}
 use Rattle.irtext_base.specs.Text.{Text}
-use Rattle.irtext_read.specs.Infix.{Reader}
+use Rattle.irtext_tokens.specs.Infix.{Reader}
 use Rattle.irtext_syntax.specs.IntegerKinds.{i64}
 use Rattle.irtext_syntax.specs.NumberLaws.{digits_last}
 use Rattle.irtext_syntax.specs.Sequences.{anything_ends}

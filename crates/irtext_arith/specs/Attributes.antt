@@ -3,8 +3,8 @@ use Rattle.std.specs.Prelude.{ℤ, Bool, true, false, cond, Option, Some, None, 
 use Rattle.std.specs.Str.{bytes_eq}
 use Rattle.irtext_base.specs.Text.{Text}
 use Rattle.irtext_base.specs.Faults.{AnAttribute}
-use Rattle.irtext_read.specs.Infix.{Reader, ◌▷◌, ◌⇒◌}
-use Rattle.irtext_read.specs.Tokens.{space_at}
+use Rattle.irtext_tokens.specs.Infix.{Reader, ◌▷◌, ◌⇒◌}
+use Rattle.irtext_tokens.specs.Tokens.{space_at}
 use Rattle.irtext_syntax.specs.IntegerKinds.{i64}
 use Rattle.irtext_syntax.specs.ScalarTexts.{ScalarText}
 use Rattle.irtext_syntax.specs.Shapes.{Shape, angle, colon, comma, number, quoted, flag, ranged, own, then_of, within}

@@ -3,7 +3,7 @@ use Rattle.std.specs.Prelude.{cond, Option, Some, None, List, [], ◌∷◌, cod
 use Rattle.std.specs.Str.{bytes_eq}
 use Rattle.irtext_base.specs.Text.{Text}
 use Rattle.irtext_base.specs.Faults.{AnAttribute}
-use Rattle.irtext_read.specs.Infix.{Reader, nothing}
+use Rattle.irtext_tokens.specs.Infix.{Reader, nothing}
 use Rattle.irtext_syntax.specs.Owns.{ends_text}
 use Rattle.irtext_syntax.specs.Shapes.{Shape}
 use Rattle.irtext_syntax.specs.Tables.{table_at}

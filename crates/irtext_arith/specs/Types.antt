@@ -3,8 +3,8 @@ use Rattle.std.specs.Prelude.{ℕ, cond, Option, Some, None, List, [], ◌∷◌
 use Rattle.std.specs.Str.{bytes_eq}
 use Rattle.irtext_base.specs.Text.{Text}
 use Rattle.irtext_base.specs.Faults.{AType}
-use Rattle.irtext_read.specs.Infix.{Reader, nothing, ◌▷◌, ◌⇒◌}
-use Rattle.irtext_read.specs.Tokens.{space_at}
+use Rattle.irtext_tokens.specs.Infix.{Reader, nothing, ◌▷◌, ◌⇒◌}
+use Rattle.irtext_tokens.specs.Tokens.{space_at}
 use Rattle.irtext_syntax.specs.IntegerKinds.{u32}
 use Rattle.irtext_syntax.specs.Shapes.{Shape, number}
 use Rattle.irtext_syntax.specs.Tables.{table_at}

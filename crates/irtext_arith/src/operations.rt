@@ -1,6 +1,6 @@
 //! The operations of the dialect `arith`, with their formats.
 ghost use Rattle.std.specs.Prelude.{◌≡◌, IfOk, IfErr, OnOk, codes};
-ghost use Rattle.irtext_formats.specs.Directives.{directive_of, format_of};
+ghost use Rattle.irtext_format_check.specs.Directives.{directive_of, format_of};
 ghost use Rattle.irtext_base.specs.Format.{word};
 ghost use Rattle.irtext_base.specs.declared.location.Location.{Unknown};
 ghost use Rattle.irtext_arith.specs.Operations.{arith_op, arith_operations, with_one, with_all};

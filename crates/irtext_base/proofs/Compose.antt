@@ -3,7 +3,7 @@ use Rattle.std.proofs.Common.{◌≡◌, Bool, true, false, Result, Ok, Err, [],
 use Rattle.irtext_base.specs.Text.{Text}
 use Rattle.irtext_base.specs.Stream.{StreamView, IsAt, behind, after_failure}
 use Rattle.irtext_base.specs.Faults.{Fault, fault_of}
-use Rattle.irtext_base.specs.Answers.{Outcome, Read, Missing, Bad, Takes, Stands, Starves, FailsBehind, StarvesHere, Commits, Demands, DemandsOf, Answers, Gives, Refuses, demanded, prefixed, mapped, followed, unless_failed}
+use Rattle.irtext_base.specs.Answers.{Outcome, Read, Missing, Bad, Takes, SameStream, Starves, FailsBehind, StarvesHere, Commits, Demands, DemandsOf, Answers, Gives, Refuses, demanded, prefixed, mapped, followed, unless_failed}
 use Rattle.irtext_base.specs.declared.parsable.fault.ParseFault.{ParseFault}
 
 -- what follows characters taken is demanded already
@@ -30,7 +30,7 @@ module _ {S : Type 0} (view : S → StreamView) (at : S → StreamView → S) (v
   fine_before old mid t r k f = sym (ap (λ v. v.failed) (seen_after old mid t r k)) ∙ f
 
   -- a stream that stands in what follows stands in the whole text
-  pub stands_after : (b : Bool) (old mid new : S) (t r : Text) → Takes view at t r old mid → Stands view at b mid new → Stands view at b old new
+  pub stands_after : (b : Bool) (old mid new : S) (t r : Text) → Takes view at t r old mid → SameStream view at b mid new → SameStream view at b old new
   stands_after b old mid new t r k s =
       let v : view mid ≡ behind (view old) t r = seen_after old mid t r k in
       record {
@@ -51,7 +51,7 @@ module _ {S : Type 0} (view : S → StreamView) (at : S → StreamView → S) (v
       }
 
   -- a stream that fails where it stands
-  pub stands_failed : (b : Bool) (old mid new : S) → Stands view at b old mid → new ≡ at mid (after_failure (view mid)) → Stands view at true old new
+  pub stands_failed : (b : Bool) (old mid new : S) → SameStream view at b old mid → new ≡ at mid (after_failure (view mid)) → SameStream view at true old new
   stands_failed b old mid new s n =
       let v : view mid ≡ s.seen = ap view s.is ∙ view_at old s.seen in
       record {
@@ -70,7 +70,7 @@ module _ {S : Type 0} (view : S → StreamView) (at : S → StreamView → S) (v
   beside old new v e = e ∙ ap (at old) (sym (ap view e ∙ view_at old v))
 
   -- a stream behind characters taken stands in the text
-  pub takes_stands : (old mid : S) (t r : Text) → Takes view at t r old mid → Stands view at (view old).failed old mid
+  pub takes_stands : (old mid : S) (t r : Text) → Takes view at t r old mid → SameStream view at (view old).failed old mid
   takes_stands old mid t r k = record { seen = behind (view old) t r; is = k.is; fails = refl; same = append_assoc (view old).passed t r ∙ ap (λ z. (view old).passed ++ z) k.same }
 
   -- a reader whose value is seen in another way

@@ -55,7 +55,7 @@ Outcomes R false text o = R text o
 
 module _ {S : Type 0} (view : S → StreamView) (at : S → StreamView → S) where
   -- the stream is at some position of the same text, and has failed or not as given
-  pub record Stands (failed : Bool) (old new : S) : Type 0 where
+  pub record SameStream (failed : Bool) (old new : S) : Type 0 where
     pub seen : StreamView
     pub is : new ≡ at old seen
     pub fails : seen.failed ≡ failed
@@ -86,7 +86,7 @@ module _ {S : Type 0} (view : S → StreamView) (at : S → StreamView → S) wh
       pub committed : fault.committed ≡ true
       pub fine : (view old).failed ≡ false
       pub place : IsAt fault.pos.line fault.pos.column (view new).passed
-      pub left : Stands true old new
+      pub left : SameStream true old new
 
     -- a committed error at the position after the characters `passed`, and the stream is marked as failed without being moved
     pub record FailsBehind (cause : Fault) (passed : Text) (old : S) (fault : ParseFault A) (new : S) : Type 0 where
@@ -104,7 +104,7 @@ module _ {S : Type 0} (view : S → StreamView) (at : S → StreamView → S) wh
       pub because : fault_of fault.cause ≡ cause
       pub committed : fault.committed ≡ true
       pub place : IsAt fault.pos.line fault.pos.column ((view old).passed ++ upto)
-      pub left : Stands true old new
+      pub left : SameStream true old new
 
     -- an error at the stream's position that is not committed, and the stream is unchanged
     pub record Passes (cause : Fault) (old : S) (fault : ParseFault A) (new : S) : Type 0 where

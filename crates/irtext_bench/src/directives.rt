@@ -1,7 +1,7 @@
 //! Formats written as words, one for each directive: `operand.0`, `operands`, `successor.0`, `successors`, `attribute.KEY`,
 //! `dictionary`, `result.0`, `region.0`, `regions`, `symbol`, and `literal.TEXT`. The word `canonical` alone is the canonical form.
 
-use irtext_types::DemoAttr;
+use irtext_demo::DemoAttr;
 use pliron_text::base::Identifier;
 use pliron_text::format::{Directive, OpFormat};
 use pliron_text::result::Result as Answer;

@@ -1,7 +1,7 @@
 //! Roots that are parsed and erased, one after another, with one context.
 
 use crate::said::{Ctx, erase};
-use irtext_types::dialects::register_demo;
+use irtext_demo::dialects::register_demo;
 use pliron_text::base::{Context, Operation};
 use pliron_text::ir::OperationText;
 use pliron_text::location::Source;

@@ -3,8 +3,8 @@
 
 use crate::directives::format_of;
 use crate::said::{Ctx, print_of};
-use irtext_types::DemoAttr;
-use irtext_types::dialects::register_demo;
+use irtext_demo::DemoAttr;
+use irtext_demo::dialects::register_demo;
 use pliron_text::base::{Context, OpId};
 use pliron_text::dialect::{Dialect, DialectName};
 use pliron_text::format::OpFormat;

@@ -1,6 +1,6 @@
 //! Lists of tokens, parsed from a text.
 
-use irtext_types::DemoAttr;
+use irtext_demo::DemoAttr;
 use pliron_text::irfmt::parsers::{int_parse, list_parser, quoted_string_parse};
 use pliron_text::parsable::{ParseResult, TextStream};
 use std::alloc::{AllocError, Global};

@@ -2,7 +2,7 @@
 //! a context that already contains a root.
 
 use crate::said::{Ctx, Said, erase, print_of, printed, read, refused, said_of};
-use irtext_types::dialects::register_demo;
+use irtext_demo::dialects::register_demo;
 use pliron_text::base::{Context, Operation, Ptr};
 use std::alloc::{AllocError, Global};
 

@@ -1,7 +1,7 @@
 //! Several roots, parsed from one stream, and printed.
 
-use irtext_types::dialects::register_demo;
-use irtext_types::{DemoAttr, DemoType};
+use irtext_demo::dialects::register_demo;
+use irtext_demo::{DemoAttr, DemoType};
 use pliron_text::base::{Context, OpId, Operation, Ptr};
 use pliron_text::dialect::{Dialect, DialectName};
 use pliron_text::format::{Directive, OpFormat};

@@ -1,6 +1,6 @@
 //! The result of parsing a text as a root: its printed text, or why there is none.
 
-use irtext_types::{DemoAttr, DemoType};
+use irtext_demo::{DemoAttr, DemoType};
 use pliron_text::base::{Context, Operation, Ptr};
 use pliron_text::ir::OperationText;
 use pliron_text::parsable::{SourcePosition, parse_from_str};

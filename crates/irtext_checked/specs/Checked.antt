@@ -7,7 +7,7 @@ use Rattle.irtext_base.specs.declared.result.Cause.{Cause, Memory, ReservedKey, 
 use Rattle.irtext_dict.specs.Dictionary.{is_reserved_for}
 use Rattle.irtext_context.specs.Context.{ContextView}
 use Rattle.irtext_context.specs.Made.{BlocksStand, IsUnregistered, ValuesStand}
-use Rattle.irtext_graph.specs.Graph.{GraphView, CanInsert, Stands}
+use Rattle.irtext_graph.specs.Graph.{GraphView, CanInsert, IsLive}
 use Rattle.irtext_graph.specs.Parts.{regions}
 use Rattle.irtext_graph.specs.declared.arena.Ptr.{Ptr}
 use Rattle.irtext_graph.specs.declared.object.BasicBlock.{BasicBlock}
@@ -38,7 +38,7 @@ module _ {T A : Type 0} where
 module _ {O B T A : Type 0} where
   -- why c is not inserted into k: one of them is not live, or c has a parent, or k is c or nested in it; or an allocation failed
   abbrev pub RefusesInsert : GraphView O B T → Object → Object → Cause A → Type 0
-  RefusesInsert g k c (IsText text) = Stands g k × Stands g c × CanInsert g k c → ⊥
+  RefusesInsert g k c (IsText text) = IsLive g k × IsLive g c × CanInsert g k c → ⊥
   RefusesInsert g k c Memory = Unit {0}
   RefusesInsert g k c cause = ⊥
 

@@ -1,7 +1,7 @@
 //! Insertion of an object where the caller does not know whether it can be inserted.
 ghost use Rattle.std.specs.Prelude.{◌≡◌, ◌↔◌, ℕ, IfErr, IsTrue, OnOk, OnErr};
 ghost use Rattle.irtext_base.specs.declared.location.Location.{Unknown};
-ghost use Rattle.irtext_graph.specs.Graph.{Appends, CanInsert, IsNew, KeepsOlder, Stands};
+ghost use Rattle.irtext_graph.specs.Graph.{Appends, CanInsert, IsNew, KeepsOlder, IsLive};
 ghost use Rattle.irtext_checked.specs.Checked.{RefusesInsert};
 
 use crate::unfit;
@@ -42,7 +42,7 @@ fn can_insert<K: Kind, H: Holds<K>, T: IrText<A>, A: AttrText<A>>(
     item: Ptr<K>,
     holder: Ptr<H>,
 ) -> bool
-    ensures { IsTrue result ↔ (Stands ctx.now.graph (H.object holder) × Stands ctx.now.graph (K.object item)
+    ensures { IsTrue result ↔ (IsLive ctx.now.graph (H.object holder) × IsLive ctx.now.graph (K.object item)
         × CanInsert ctx.now.graph (H.object holder) (K.object item)) }
 {
     let graph = ctx.graph();

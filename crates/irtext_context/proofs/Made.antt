@@ -2,7 +2,7 @@
 use Rattle.std.proofs.Common.{◌≡◌, ◌≤◌, ◌+◌, ◌∙◌, ℕ, suc, Option, None, Some, IsSome, sym, subst, arith, List}
 use Rattle.std.specs.Option.{option_map}
 use Rattle.irtext_graph.specs.Content.{OperationContent, Content, Content.{AnOperation}}
-use Rattle.irtext_graph.specs.Graph.{Stands, content_of}
+use Rattle.irtext_graph.specs.Graph.{IsLive, content_of}
 use Rattle.irtext_graph.specs.Regions.{with_child}
 use Rattle.irtext_graph.specs.Store.{get, before, object_of}
 use Rattle.irtext_graph.specs.declared.arena.Ptr.{Ptr}
@@ -28,7 +28,7 @@ There T A o = IsSome (option_map (shown {O = Option (OperationData A)} {B = Bloc
 
 module _ {T A : Type 0} where
   -- an operation stands behind a region that came to it
-  pub still_stands : {old new : ContextView T A} {op : Ptr Operation} {r : Ptr Region} → Stands old.graph (TheOperation op) → AddsRegion old new op r → Stands new.graph (TheOperation op)
+  pub still_stands : {old new : ContextView T A} {op : Ptr Operation} {r : Ptr Region} → IsLive old.graph (TheOperation op) → AddsRegion old new op r → IsLive new.graph (TheOperation op)
   still_stands {old} {new} {op} {r} h a = subst (There T A) (sym a.graph.operations.updates.changed) (go (get old.graph.operations op) h)
     where
       go : (o : Option (OperationEntry T A)) → There T A o → There T A (option_map (object_of (with_child r)) o)

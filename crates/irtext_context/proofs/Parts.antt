@@ -2,7 +2,7 @@
 use Rattle.std.proofs.Common.{◌≡◌, ℕ, refl, Option, None, Some, IsSome, length}
 use Rattle.std.specs.Option.{option_map}
 use Rattle.std.specs.Prelude.{option_and_then}
-use Rattle.irtext_graph.specs.Graph.{Stands, children_of}
+use Rattle.irtext_graph.specs.Graph.{IsLive, children_of}
 use Rattle.irtext_graph.specs.Parts.{regions}
 use Rattle.irtext_graph.specs.Store.{get}
 use Rattle.irtext_graph.specs.declared.arena.Ptr.{Ptr}
@@ -15,7 +15,7 @@ use Rattle.irtext_context.proofs.Made.{There}
 
 module _ {T A : Type 0} (c : ContextView T A) (p : Ptr Operation) where
   -- an operation that is seen stands in the graph
-  pub stands_seen : IsSome (operation c p) → Stands c.graph (TheOperation p)
+  pub stands_seen : IsSome (operation c p) → IsLive c.graph (TheOperation p)
   stands_seen h = go (get c.graph.operations p) h
     where
       go : (o : Option (OperationEntry T A)) → IsSome (option_and_then operation_of o) → There T A o

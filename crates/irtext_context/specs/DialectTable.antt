@@ -9,7 +9,7 @@ use Rattle.irtext_base.specs.Format.{Format, Accepted, first_fault}
 use Rattle.irtext_base.specs.Text.{Text, is_identifier}
 use Rattle.irtext_context.specs.Dialects.{Known, Table, same_id, with_op}
 use Rattle.irtext_context.specs.Named.{id_of_texts}
-use Rattle.irtext_formats.specs.Directives.{condition_number}
+use Rattle.irtext_format_check.specs.Directives.{condition_number}
 use Rattle.irtext_base.specs.declared.base.identifier.OpId.{OpId}
 use Rattle.irtext_base.specs.declared.result.Cause.{Cause, Memory, Unexpected, FormatFault, WrongDialect}
 

@@ -5,7 +5,7 @@ use Rattle.irtext_base.specs.Text.{Text}
 use Rattle.irtext_context.specs.Dialects.{Table}
 use Rattle.irtext_context.specs.DialectTable.{dialect_of, registered}
 use Rattle.irtext_context.specs.Context.{ContextView, OperationView, BlockView, known, MakesOperation, AddsRegion}
-use Rattle.irtext_graph.specs.Graph.{Stands}
+use Rattle.irtext_graph.specs.Graph.{IsLive}
 use Rattle.irtext_graph.specs.Parts.{ValueStands}
 use Rattle.irtext_graph.specs.Store.{get}
 use Rattle.irtext_base.specs.Paths.{KeepsPaths}
@@ -42,7 +42,7 @@ module _ {T A : Type 0} where
 
   -- each of these blocks is live
   abbrev pub BlocksStand : ContextView T A → List (Ptr BasicBlock) → Type 0
-  BlocksStand c blocks = (i : ℕ) (b : Ptr BasicBlock) → slice_get blocks i ≡ Some b → Stands c.graph (TheBlock b)
+  BlocksStand c blocks = (i : ℕ) (b : Ptr BasicBlock) → slice_get blocks i ≡ Some b → IsLive c.graph (TheBlock b)
 
   -- the view of a new operation with this data and results of these types, without regions
   abbrev pub made_view : OperationData A → List T → OperationView T A

@@ -1,7 +1,7 @@
 //! Erasing the locations of operations and blocks.
 ghost use Rattle.std.specs.Prelude.{◌≡◌, ℕ, None, IsSome, option_map};
 ghost use Rattle.irtext_base.specs.declared.location.Location.{Unknown};
-ghost use Rattle.irtext_graph.specs.Graph.{Stands};
+ghost use Rattle.irtext_graph.specs.Graph.{IsLive};
 ghost use Rattle.irtext_graph.specs.Throughout.{EditsObject, EditsInside, HoldsNoBlocks, IsNewInside};
 ghost use Rattle.irtext_graph.specs.declared.object.Object.TheVariants.{TheOperation};
 ghost use Rattle.irtext_context.specs.Context.{operation, with_loc, with_block_loc, EditsOperation, KeepsOlder};
@@ -19,7 +19,7 @@ fn erase_object<T: IrText<A>, A: AttrText<A>>(
     graph: &mut Graph<Option<OperationData<A>>, BlockData<A>, Option<T>>,
     o: Object,
 )
-    requires { Stands graph.old o }
+    requires { IsLive graph.old o }
     ensures { EditsObject graph.old graph.new o (option_map (with_loc Unknown)) (with_block_loc Unknown) }
 {
     match o {
@@ -43,7 +43,7 @@ fn erase_inside<T: IrText<A>, A: AttrText<A>>(
     graph: &mut Graph<Option<OperationData<A>>, BlockData<A>, Option<T>>,
     o: Object,
 )
-    requires { Stands graph.old o }
+    requires { IsLive graph.old o }
     ensures { EditsInside graph.old graph.new o (option_map (with_loc Unknown)) (with_block_loc Unknown) }
 {
     graph.keeps_nesting();

@@ -1,10 +1,10 @@
 //! What the front end and the pass share: the types and attributes of their context, its operations, and the values of constants.
 use irtext_arith::register_arith;
 pub use irtext_arith::{ArithAttr, ArithType};
+use irtext_demo::dialects::register_demo;
 use irtext_syntax::Number;
 use irtext_syntax::own::Own;
 use irtext_syntax::sequence::{Then, Within};
-use irtext_types::dialects::register_demo;
 use pliron_text::base::{AttrObj, Context};
 use pliron_text::result;
 use std::marker::PhantomData;

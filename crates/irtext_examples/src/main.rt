@@ -1,8 +1,10 @@
-//! The program `irtext_examples`: a small front end and a small pass. `irtext_examples front` parses a sum such as `1 + 2 + 3` from
-//! standard input, builds a function that computes it, and prints its module. `irtext_examples pass` parses a module, doubles each number
-//! that is the value of an `arith.constant`, and prints it.
+//! The program `irtext_examples`: a small front end, a small pass, and two authors' dialects in one context. `irtext_examples front` parses a
+//! sum such as `1 + 2 + 3` from standard input, builds a function that computes it, and prints its module. `irtext_examples pass` parses a
+//! module, doubles each number that is the value of an `arith.constant`, and prints it. `irtext_examples both` parses a module with
+//! operations, types and attributes of `arith` and of the demo dialects, and prints it.
 #![tactic(auto)]
 
+mod both;
 mod front;
 mod ir;
 mod pass;

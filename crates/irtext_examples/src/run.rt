@@ -2,24 +2,27 @@
 ghost use Rattle.std.specs.Prelude.{◌≤◌, IfOk, IsSome};
 ghost use Rattle.irtext_context.specs.Context.{operation};
 
-use crate::ir::{Answer, Attr, Ir, register};
-use crate::{front, pass};
+use crate::both::{AnyAttr, Both};
+use crate::ir::{Answer, Ir, register};
+use crate::{both, front, pass};
 use pliron_text::base::{Context, Operation, Ptr};
 use pliron_text::ir::OperationText;
 use pliron_text::location::{Location, Source, SourcePosition};
 use pliron_text::parsable::parse_from_str;
 use pliron_text::printable::Disp;
+use pliron_text::result;
 use pliron_text::result::{Error, Excerpt};
+use pliron_text::text::{AttrText, IrText};
 use std::alloc::{AllocError, Global};
 use std::fmt::Write as _;
 use std::io::{Read, Write};
 use thiserror::Error as ErrorText;
 
-/// Why the program failed. Its text goes to the error output. `Usage`: the arguments are not the one word `front` or `pass`. `Refused`: the
-/// input was rejected, or the root could not be printed, with the error's text.
+/// Why the program failed. Its text goes to the error output. `Usage`: the arguments are not the one word `front`, `pass` or `both`. `Refused`:
+/// the input was rejected, or the root could not be printed, with the error's text.
 #[derive(Debug, Drop, ErrorText)]
 pub enum Fault {
-    #[error("usage: irtext_examples front|pass")]
+    #[error("usage: irtext_examples front|pass|both")]
     Usage,
     #[error("cannot read standard input as UTF-8")]
     Unreadable,
@@ -50,9 +53,11 @@ enum Task {
     Front,
     /// Doubles the constants of a module.
     Pass,
+    /// Parses a module with operations, types and attributes of two authors' dialects.
+    Both,
 }
 
-/// Returns the task that the arguments ask for: one word, `front` or `pass`.
+/// Returns the task that the arguments ask for: one word, `front`, `pass` or `both`.
 fn task_of(args: &[&str]) -> Result<Task, Fault> {
     let [word] = args else {
         return Err(Fault::Usage);
@@ -60,12 +65,13 @@ fn task_of(args: &[&str]) -> Result<Task, Fault> {
     match *word {
         "front" => Ok(Task::Front),
         "pass" => Ok(Task::Pass),
+        "both" => Ok(Task::Both),
         _ => Err(Fault::Usage),
     }
 }
 
 /// Returns the position in the input that an error is about, if there is one.
-fn position(error: &Error<Attr>) -> Option<SourcePosition> {
+fn position<A>(error: &Error<A>) -> Option<SourcePosition> {
     match &error.loc {
         Location::SrcPos {
             src: Source::InMemory,
@@ -76,11 +82,11 @@ fn position(error: &Error<Attr>) -> Option<SourcePosition> {
 }
 
 /// Returns the text of an error, and the line of the input that it is about with a caret below the place.
-fn error_text(
+fn error_text<T: IrText<A>, A: AttrText<A>>(
     alloc: Global,
-    ctx: &Ir,
+    ctx: &Context<T, A>,
     input: &str,
-    error: &Error<Attr>,
+    error: &Error<A>,
 ) -> Result<String, AllocError> {
     let mut text = format!(in alloc; "{}", error.disp(ctx))?;
     let Some(position) = position(error) else {
@@ -98,7 +104,12 @@ fn error_text(
 }
 
 /// Returns the fault for an error: its text.
-fn refusal(alloc: Global, ctx: &Ir, input: &str, error: &Error<Attr>) -> Fault {
+fn refusal<T: IrText<A>, A: AttrText<A>>(
+    alloc: Global,
+    ctx: &Context<T, A>,
+    input: &str,
+    error: &Error<A>,
+) -> Fault {
     match error_text(alloc, ctx, input, error) {
         Ok(text) => Fault::Refused(text),
         Err(AllocError) => Fault::Memory(AllocError),
@@ -106,10 +117,21 @@ fn refusal(alloc: Global, ctx: &Ir, input: &str, error: &Error<Attr>) -> Fault {
 }
 
 /// Parses a root from the input.
-fn parsed(ctx: &mut Ir, input: &str) -> Answer<Ptr<Operation>>
+fn parsed<T: IrText<A>, A: AttrText<A>>(
+    ctx: &mut Context<T, A>,
+    input: &str,
+) -> result::Result<Ptr<Operation>, A>
     ensures { IfOk result (λ op. IsSome (operation ctx.new op)) }
 {
     parse_from_str(|stream| Operation::whole_text_parse(stream), ctx, input)
+}
+
+/// Builds the module of the sum in the input.
+fn compiled(ctx: &mut Ir, input: &str) -> Answer<Ptr<Operation>>
+    ensures { IfOk result (λ op. IsSome (operation ctx.new op)) }
+{
+    register(ctx)?;
+    front::compile(ctx, input)
 }
 
 /// Parses a root from the input, and doubles its constants.
@@ -117,35 +139,53 @@ fn parsed(ctx: &mut Ir, input: &str) -> Answer<Ptr<Operation>>
 fn doubled(ctx: &mut Ir, input: &str) -> Answer<Ptr<Operation>>
     ensures { IfOk result (λ op. IsSome (operation ctx.new op)) }
 {
+    register(ctx)?;
     let root = parsed(ctx, input)?;
     pass::double_all(ctx, root)?;
     Ok(root)
 }
 
-/// Registers the dialects, does the task, and returns the root.
-fn root_of(ctx: &mut Ir, task: Task, input: &str) -> Answer<Ptr<Operation>>
+/// Parses a root with the operations, types and attributes of two authors' dialects.
+fn parsed_both(ctx: &mut Both, input: &str) -> result::Result<Ptr<Operation>, AnyAttr>
     ensures { IfOk result (λ op. IsSome (operation ctx.new op)) }
 {
-    register(ctx)?;
-    match task {
-        Task::Front => front::compile(ctx, input),
-        Task::Pass => doubled(ctx, input),
+    both::register(ctx)?;
+    parsed(ctx, input)
+}
+
+/// Returns the root's text, or the fault for the error.
+fn printed<T: IrText<A>, A: AttrText<A>>(
+    alloc: Global,
+    ctx: &Context<T, A>,
+    input: &str,
+    root: result::Result<Ptr<Operation>, A>,
+) -> Result<String, Fault>
+    requires { IfOk root (λ op. IsSome (operation ctx.now op)) }
+{
+    match root {
+        Ok(root) => Ok(format!(in alloc; "{}", root.disp(ctx))?),
+        Err(error) => Err(refusal(alloc, ctx, input, &error)),
     }
 }
 
-/// Returns the root's text.
-fn printed(alloc: Global, ctx: &Ir, root: Ptr<Operation>) -> Result<String, Fault>
-    requires { IsSome (operation ctx.now root) }
-{
-    Ok(format!(in alloc; "{}", root.disp(ctx))?)
-}
-
-/// Does the task, and returns the root's text.
+/// Does the task in a new context, and returns the root's text.
 fn output_of(alloc: Global, task: Task, input: &str) -> Result<String, Fault> {
-    let mut ctx = Context::new(alloc);
-    match root_of(&mut ctx, task, input) {
-        Ok(root) => printed(alloc, &ctx, root),
-        Err(error) => Err(refusal(alloc, &ctx, input, &error)),
+    match task {
+        Task::Front => {
+            let mut ctx = Context::new(alloc);
+            let root = compiled(&mut ctx, input);
+            printed(alloc, &ctx, input, root)
+        }
+        Task::Pass => {
+            let mut ctx = Context::new(alloc);
+            let root = doubled(&mut ctx, input);
+            printed(alloc, &ctx, input, root)
+        }
+        Task::Both => {
+            let mut ctx = Context::new(alloc);
+            let root = parsed_both(&mut ctx, input);
+            printed(alloc, &ctx, input, root)
+        }
     }
 }
 

@@ -10,7 +10,7 @@ use Rattle.irtext_graph.specs.declared.object.Object.TheVariants.{TheOperation, 
 use Rattle.irtext_graph.specs.Chained.{Among}
 use Rattle.irtext_graph.specs.Content.{Content, Content.{AnOperation, ABlock, ARegion}, RegionContent}
 use Rattle.irtext_graph.specs.Data.{with_data, with_block, with_operation_data, with_block_data, EditsOperation, EditsBlock}
-use Rattle.irtext_graph.specs.Graph.{GraphView, SamePlaces, parent, children, content, parent_of, children_of, content_of, Stands, IsInside, IsNew, KeepsOlder}
+use Rattle.irtext_graph.specs.Graph.{GraphView, SamePlaces, parent, children, content, parent_of, children_of, content_of, IsLive, IsInside, IsNew, KeepsOlder}
 use Rattle.irtext_graph.specs.Nested.{Nested}
 use Rattle.irtext_graph.specs.Objects.{eq_object, is_older}
 use Rattle.irtext_graph.specs.Parts.{operation_at, block_at}
@@ -149,9 +149,9 @@ module _ {O B T : Type 0} where
       pub either : (q : Object) → SameObject old now q ⊎ (IsInside old o q × ChangedObject old now q f h)
       pub rest : KeepsRest old now
       pub at_inside : IfSome at (λ q. IsInside old o q)
-      pub at_stands : IfSome at (λ q. Stands now q)
+      pub at_stands : IfSome at (λ q. IsLive now q)
 
-    pub going_begins : (g : GraphView O B T) (o : Object) → Stands g o → ((o q : Object) → IsInside g o q → Among q (all_from g o (Some o))) → Going g g o (Some o)
+    pub going_begins : (g : GraphView O B T) (o : Object) → IsLive g o → ((o q : Object) → IsInside g o q → Among q (all_from g o (Some o))) → Going g g o (Some o)
     going_begins g o l all = record {
       inside = λ q w. inl (all o q w);
       either = λ q. inl (object_self g q);
@@ -197,7 +197,7 @@ module _ {O B T : Type 0} where
         pub going_shrinks : length (all_from old o next) < length (all_from old o (Some q))
         going_shrinks = let n : length (all_from old o (Some q)) ≡ suc (length (all_from old o next)) = ap length was_step in omega (arith, n)
 
-        module _ (found : IfSome next (λ r. IsInside now o r)) (there : IfSome next (λ r. Stands now r)) (e : EditsObject now then q f h) where
+        module _ (found : IfSome next (λ r. IsInside now o r)) (there : IfSome next (λ r. IsLive now r)) (e : EditsObject now then q f h) where
           here : ChangedObject old then q f h
           here = elim (d.either q) [
             | inl s ↦ record { what = e.here.what ∙ ap (option_map (changed f h)) s.what; holder = e.here.holder ∙ s.holder; items = e.here.items ∙ s.items }
@@ -210,9 +210,9 @@ module _ {O B T : Type 0} where
           changed_on : (r : Object) → ChangedObject old now r f h → SameObject now then r → ChangedObject old then r f h
           changed_on r a b = record { what = b.what ∙ a.what; holder = b.holder ∙ a.holder; items = b.items ∙ a.items }
 
-          still : (r : Object) → Stands now r → Stands then r
+          still : (r : Object) → IsLive now r → IsLive then r
           still r l = elim (told object_tells r q) [
-            | inl s ↦ subst (λ z. Stands then z) (sym s) (subst IsSome (sym e.here.what) (stands_on (content now q) (subst (λ z. Stands now z) s l)))
+            | inl s ↦ subst (λ z. IsLive then z) (sym s) (subst IsSome (sym e.here.what) (stands_on (content now q) (subst (λ z. IsLive now z) s l)))
             | inr ne ↦ subst IsSome (sym (e.others r ne).what) l
           ]
 
@@ -220,7 +220,7 @@ module _ {O B T : Type 0} where
           found_was None w = w
           found_was (Some r) w = was_inside old now o (Some q) d r w
 
-          found_stands : (r : Option Object) → IfSome r (λ r. Stands now r) → IfSome r (λ r. Stands then r)
+          found_stands : (r : Option Object) → IfSome r (λ r. IsLive now r) → IfSome r (λ r. IsLive then r)
           found_stands None l = l
           found_stands (Some r) l = still r l
 

@@ -7,7 +7,7 @@ use Rattle.irtext_graph.specs.Nested.{Nested}
 use Rattle.irtext_graph.specs.declared.object.Object.TheVariants.{TheOperation, TheBlock, TheRegion}
 use Rattle.irtext_graph.specs.Store.{get}
 use Rattle.irtext_graph.specs.Objects.{up, IsForest, Fits}
-use Rattle.irtext_graph.specs.Graph.{GraphView, graph_of, parent, children, children_of, Stands}
+use Rattle.irtext_graph.specs.Graph.{GraphView, graph_of, parent, children, children_of, IsLive}
 use Rattle.irtext_graph.proofs.Nests.{climb-same, some_eq}
 use Rattle.irtext_graph.proofs.Places.{parent_lives}
 use Rattle.irtext_graph.proofs.Views.{lives_seen, up_seen, kids_seen}
@@ -26,7 +26,7 @@ child_fits g (TheRegion p) c i e = let m = mapped TheBlock (children_of (get g.r
 
 module _ {O B T : Type 0} (m : ℕ) (v : Counters) (x : Objects O B T) where
   -- what an object stands in is there
-  pub holder_stands : (o : Object) → IsForest x → (r : Option Object) → r ≡ up x o → IfSome r (λ k. Stands (graph_of m v x) k)
+  pub holder_stands : (o : Object) → IsForest x → (r : Option Object) → r ≡ up x o → IfSome r (λ k. IsLive (graph_of m v x) k)
   holder_stands o f None e = tt
   holder_stands o f (Some k) e = lives_seen m v x k (parent_lives x o k f (sym e))
 

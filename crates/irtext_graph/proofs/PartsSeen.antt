@@ -22,7 +22,7 @@ use Rattle.irtext_graph.specs.declared.arena.Arena.{Arena}
 use Rattle.irtext_graph.specs.Store.{store_of, get, object_of}
 use Rattle.irtext_graph.specs.Nest.{datum_in}
 use Rattle.irtext_graph.specs.Content.{node_of, typed, operation_content, block_content}
-use Rattle.irtext_graph.specs.Graph.{graph_of, Stands}
+use Rattle.irtext_graph.specs.Graph.{graph_of, IsLive}
 use Rattle.irtext_graph.specs.Uses.{result_in, argument_in}
 use Rattle.irtext_graph.specs.Parts.{operation_at, block_at, operands_of, successors_of, results_of, arguments_of, operands, successors, results, arguments, value_at, ValueStands, definition_at}
 use Rattle.irtext_graph.proofs.Stores.{get_seen, seen_mapped}
@@ -96,10 +96,10 @@ module _ {O B T : Type 0} (m : ℕ) (v : Counters) (x : Objects O B T) where
       go None = refl
       go (Some o) = slice_get-map typed o.content.data.arguments i
 
-  pub operation_there : (p : Ptr Operation) → Stands (graph_of m v x) (TheOperation p) → IsSome (arena.get x.operations p)
+  pub operation_there : (p : Ptr Operation) → IsLive (graph_of m v x) (TheOperation p) → IsSome (arena.get x.operations p)
   operation_there p s = there (arena.get x.operations p) (some_of _ _ (lives_at m v x (TheOperation p) s))
 
-  pub block_there : (p : Ptr BasicBlock) → Stands (graph_of m v x) (TheBlock p) → IsSome (arena.get x.blocks p)
+  pub block_there : (p : Ptr BasicBlock) → IsLive (graph_of m v x) (TheBlock p) → IsSome (arena.get x.blocks p)
   block_there p s = there (arena.get x.blocks p) (some_of _ _ (lives_at m v x (TheBlock p) s))
 
   pub value_there : (d : Value) → ValueStands (graph_of m v x) d → IsSome (definition_at x d)

@@ -5,7 +5,7 @@ use Rattle.irtext_graph.specs.declared.object.Object.{Object}
 use Rattle.irtext_graph.specs.declared.objects.Objects.{Objects}
 use Rattle.irtext_graph.specs.Chained.{Among}
 use Rattle.irtext_graph.specs.Content.{node_of, operation_content, block_content, region_content}
-use Rattle.irtext_graph.specs.Graph.{graph_of, parent, children, Stands, IsInside}
+use Rattle.irtext_graph.specs.Graph.{graph_of, parent, children, IsLive, IsInside}
 use Rattle.irtext_graph.specs.Nested.{Within}
 use Rattle.irtext_graph.specs.Objects.{up, kids, Lives, IsForest, eq_object}
 use Rattle.irtext_graph.specs.Preorder.{left, onward, slots}
@@ -33,7 +33,7 @@ module _ {O B T : Type 0} (m : ℕ) (v : Counters) (x : Objects O B T) where
   found_inside o None f = tt
   found_inside o (Some q) f = within_seen m v x o q (f q refl)
 
-  pub found_stands : (r : Option Object) → ((q : Object) → r ≡ Some q → Lives x q) → IfSome r (λ q. Stands (graph_of m v x) q)
+  pub found_stands : (r : Option Object) → ((q : Object) → r ≡ Some q → Lives x q) → IfSome r (λ q. IsLive (graph_of m v x) q)
   found_stands None f = tt
   found_stands (Some q) f = lives_seen m v x q (f q refl)
 

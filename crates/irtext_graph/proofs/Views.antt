@@ -18,7 +18,7 @@ use Rattle.irtext_graph.proofs.Nests.{climb-same}
 use Rattle.irtext_graph.specs.Nest.{parent_in, children_in, datum_in}
 use Rattle.irtext_graph.specs.Objects.{up, kids, what, Lives, SameNodes}
 use Rattle.irtext_graph.specs.Objects as objects
-use Rattle.irtext_graph.specs.Graph.{SamePlaces, graph_of, parent_of, children_of, content_of, parent, children, content, Stands, IsInside, CanInsert, KeepsObjects, Appends}
+use Rattle.irtext_graph.specs.Graph.{SamePlaces, graph_of, parent_of, children_of, content_of, parent, children, content, IsLive, IsInside, CanInsert, KeepsObjects, Appends}
 use Rattle.irtext_graph.proofs.Stores.{get_seen, generation_seen, length_seen, mapped_seen, seen_mapped}
 
 module _ {P C D E : Type 0} (see : D → E) where
@@ -64,7 +64,7 @@ module _ {O B T : Type 0} where
   what_seen m v x (TheBlock p) = content_seen block_content ABlock x.blocks p
   what_seen m v x (TheRegion p) = content_seen region_content ARegion x.regions p
 
-  pub lives_at : (m : ℕ) (v : Counters) (x : Objects O B T) (o : Object) → Stands (graph_of m v x) o → Lives x o
+  pub lives_at : (m : ℕ) (v : Counters) (x : Objects O B T) (o : Object) → IsLive (graph_of m v x) o → Lives x o
   lives_at m v x o l = rw (what_seen m v x o) at l
 
   pub within_seen : (m : ℕ) (v : Counters) (x : Objects O B T) (o q : Object) → Within (up x) o q → IsInside (graph_of m v x) o q
@@ -110,5 +110,5 @@ module _ {O B T : Type 0} where
   refused_seen m v x y (Ok u) s = s
   refused_seen m v x y (Err e) s = same_seen m v x y s
 
-  pub lives_seen : (m : ℕ) (v : Counters) (x : Objects O B T) (o : Object) → Lives x o → Stands (graph_of m v x) o
+  pub lives_seen : (m : ℕ) (v : Counters) (x : Objects O B T) (o : Object) → Lives x o → IsLive (graph_of m v x) o
   lives_seen m v x o l = rw (what_seen m v x o) l

@@ -116,8 +116,8 @@ module _ {O B T : Type 0} where
   content g (TheRegion p) = option_map (λ d. ARegion d.0 d.1) (content_of (get g.regions p))
 
   -- the object is live
-  abbrev pub Stands : GraphView O B T → Object → Type 0
-  Stands g o = IsSome (content g o)
+  abbrev pub IsLive : GraphView O B T → Object → Type 0
+  IsLive g o = IsSome (content g o)
 
   -- the object was not made before the mark, or is not live
   abbrev pub IsNew : ℕ → GraphView O B T → Object → Type 0

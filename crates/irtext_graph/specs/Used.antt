@@ -15,7 +15,7 @@ use Rattle.irtext_graph.specs.declared.arena.Arena.{Arena}
 use Rattle.irtext_graph.specs.declared.nest.Nest.{Nest}
 use Rattle.irtext_graph.specs.declared.objects.Objects.{Objects}
 use Rattle.irtext_graph.specs.declared.objects.OperationData.{OperationData}
-use Rattle.irtext_graph.specs.Graph.{GraphView, Stands, IsNew, seen}
+use Rattle.irtext_graph.specs.Graph.{GraphView, IsLive, IsNew, seen}
 use Rattle.irtext_graph.specs.Parts.{operands, successors, ValueStands}
 use Rattle.irtext_graph.specs.Store.{Store, Cell, mapped}
 use Rattle.irtext_graph.specs.Uses.{eq_defined, operations_seen}
@@ -80,7 +80,7 @@ module _ {O B T : Type 0} where
   -- the value is defined, or the block is live
   abbrev pub IsDefined : GraphView O B T → Defined → Type 0
   IsDefined g (OfValue v) = ValueStands g v
-  IsDefined g (OfBlock b) = Stands g (TheBlock b)
+  IsDefined g (OfBlock b) = IsLive g (TheBlock b)
 
   -- the graph without the operands and successors of its operations
   abbrev pub without_uses : GraphView O B T → GraphView O B T

@@ -1,6 +1,6 @@
 //! The graph and the calls of its users.
 ghost use Rattle.std.specs.Prelude.{◌≡◌, ◌≤◌, ◌+◌, ◌∷◌, ◌↔◌, Some, IsSome, IfSome, IsTrue, OnOk, OnErr, length, slice_get, ◌<◌, ℕ};
-ghost use Rattle.irtext_graph.specs.Graph.{empty, begun, parent, children, ancestor, Stands, IsInside, CanInsert, Appends, Unlinks, IsNew, KeepsOlder, num_live};
+ghost use Rattle.irtext_graph.specs.Graph.{empty, begun, parent, children, ancestor, IsLive, IsInside, CanInsert, Appends, Unlinks, IsNew, KeepsOlder, num_live};
 ghost use Rattle.irtext_graph.specs.Nested.{Nested};
 ghost use Rattle.irtext_graph.specs.Chained.{Among};
 ghost use Rattle.irtext_graph.specs.Throughout.{all_from};
@@ -115,25 +115,25 @@ impl<O: Drop, B: Drop, T: Drop> Graph<O, B, T> {
 
     /// Whether an object is live.
     pub fn contains(&self, o: Object) -> bool
-        ensures { IsTrue result ↔ Stands self.now o }
+        ensures { IsTrue result ↔ IsLive self.now o }
     {
         self.objects.contains(o)
     }
 
     /// Returns the parent of an object, which is live too.
     pub fn get_parent(&self, o: Object) -> Option<Object>
-        requires { Stands self.now o }
+        requires { IsLive self.now o }
         ensures parent { result ≡ parent self.now o }
-        ensures stands { IfSome result (λ k. Stands self.now k) }
+        ensures stands { IfSome result (λ k. IsLive self.now k) }
     {
         self.objects.parent_of(o)
     }
 
     /// Returns the ancestor of an object that many levels up: level 1 is the parent.
     pub fn ancestor(&self, o: Object, levels: usize) -> Option<Object>
-        requires { Stands self.now o }
+        requires { IsLive self.now o }
         ensures ancestor { result ≡ ancestor self.now levels o }
-        ensures stands { IfSome result (λ k. Stands self.now k) }
+        ensures stands { IfSome result (λ k. IsLive self.now k) }
     {
         let mut at = o;
         for _ in 0..levels {
@@ -146,7 +146,7 @@ impl<O: Drop, B: Drop, T: Drop> Graph<O, B, T> {
     /// is nested in itself; `next_inside` visits all that is nested in an object; what is used is defined.
     pub fn keeps_nesting(&self)
         ensures forest { Nested (children self.now) (parent self.now) }
-        ensures holders { (c k : _) → parent self.now c ≡ Some k → Stands self.now k }
+        ensures holders { (c k : _) → parent self.now c ≡ Some k → IsLive self.now k }
         ensures kinds { (k c : _) (i : ℕ) → slice_get (children self.now k) i ≡ Some c → Fits k c }
         ensures uses { (u d : _) → IsUse self.now d u → IsDefined self.now d }
         ensures all { (o q : _) → IsInside self.now o q → Among q (all_from self.now o (Some o)) }
@@ -165,7 +165,7 @@ impl<O: Drop, B: Drop, T: Drop> Graph<O, B, T> {
 
     /// The number of children of an object.
     pub fn num_children(&self, o: Object) -> usize
-        requires { Stands self.now o }
+        requires { IsLive self.now o }
         ensures { result ≡ length (children self.now o) }
     {
         self.objects.child_count(o)
@@ -173,7 +173,7 @@ impl<O: Drop, B: Drop, T: Drop> Graph<O, B, T> {
 
     /// Returns the child of an object at an index.
     pub fn get_child(&self, o: Object, i: usize) -> Object
-        requires stands { Stands self.now o }
+        requires stands { IsLive self.now o }
         requires within { i < length (children self.now o) }
         ensures child { slice_get (children self.now o) i ≡ Some result }
         ensures fits { Fits o result }
@@ -183,7 +183,7 @@ impl<O: Drop, B: Drop, T: Drop> Graph<O, B, T> {
 
     /// Whether q is o or nested in o, at any depth. Its time grows with the depth of q.
     pub fn is_inside(&self, o: Object, q: Object) -> bool
-        requires { Stands self.now q }
+        requires { IsLive self.now q }
         ensures { IsTrue result ↔ IsInside self.now o q }
     {
         self.objects.is_inside(o, q)
@@ -191,19 +191,19 @@ impl<O: Drop, B: Drop, T: Drop> Graph<O, B, T> {
 
     /// Returns the object after q in the preorder of o and everything nested in it: each object comes before its children.
     pub fn next_inside(&self, o: Object, q: Object) -> Option<Object>
-        requires stands { Stands self.now q }
+        requires stands { IsLive self.now q }
         requires within { IsInside self.now o q }
         ensures next { all_from self.now o (Some q) ≡ q ∷ all_from self.now o result }
         ensures inside { IfSome result (λ r. IsInside self.now o r) }
-        ensures there { IfSome result (λ r. Stands self.now r) }
+        ensures there { IfSome result (λ r. IsLive self.now r) }
     {
         self.objects.after(o, q)
     }
 
     /// Whether c has no parent, and k is neither c nor nested in it: the condition of `insert_at_back`.
     pub fn can_insert_at_back(&self, k: Object, c: Object) -> bool
-        requires holder { Stands self.now k }
-        requires stands { Stands self.now c }
+        requires holder { IsLive self.now k }
+        requires stands { IsLive self.now c }
         ensures { IsTrue result ↔ CanInsert self.now k c }
     {
         self.objects.can_insert(k, c)
@@ -211,8 +211,8 @@ impl<O: Drop, B: Drop, T: Drop> Graph<O, B, T> {
 
     /// Makes c the last child of k. If an allocation fails, the graph is unchanged.
     pub fn insert_at_back(&mut self, k: Object, c: Object) -> Result<(), AllocError>
-        requires holder { Stands self.old k }
-        requires stands { Stands self.old c }
+        requires holder { IsLive self.old k }
+        requires stands { IsLive self.old c }
         requires fits { Fits k c }
         requires can { CanInsert self.old k c }
         ensures ok { OnOk result (Appends self.old self.new k c) }
@@ -233,7 +233,7 @@ impl<O: Drop, B: Drop, T: Drop> Graph<O, B, T> {
     /// Removes an object from its parent, if it has one. Its children stay with it. It allocates nothing. Its time grows with the number
     /// of children after it.
     pub fn unlink(&mut self, c: Object)
-        requires { Stands self.old c }
+        requires { IsLive self.old c }
         ensures unlinks { Unlinks self.old self.new c }
         ensures kept { (m : ℕ) → IsNew m self.old c → ((k : _) → parent self.old c ≡ Some k → IsNew m self.old k) → KeepsOlder m self.old self.new }
     {
@@ -243,7 +243,7 @@ impl<O: Drop, B: Drop, T: Drop> Graph<O, B, T> {
     /// Whether nothing outside of o uses a value or a block that is defined in o: the condition of `erase`. It allocates nothing. Its
     /// time grows with the objects in o, and with the uses of what they define, each times the depth of its operation.
     pub fn can_erase(&self, o: Object) -> bool
-        requires { Stands self.now o }
+        requires { IsLive self.now o }
         ensures { IsTrue result ↔ CanErase self.now o }
     {
         self.objects.can_erase(o)
@@ -252,7 +252,7 @@ impl<O: Drop, B: Drop, T: Drop> Graph<O, B, T> {
     /// Drops all operands and successors of o and of the operations nested in it. All else is unchanged. It allocates nothing. Its time
     /// grows with the objects in o and their uses.
     pub fn drop_all_uses(&mut self, o: Object)
-        requires { Stands self.old o }
+        requires { IsLive self.old o }
         ensures drops { DropsUses self.old self.new o }
         ensures kept { (m : ℕ) → ((p : _) → IsInside self.old o (TheOperation p) → IsNew m self.old (TheOperation p))
             → KeepsOlder m self.old self.new }
@@ -265,7 +265,7 @@ impl<O: Drop, B: Drop, T: Drop> Graph<O, B, T> {
     /// uses, and the children after o in its parent. Now and then erased objects are removed from the graph's log of made objects, so
     /// that it has no more of them than of live objects.
     pub fn erase(&mut self, o: Object)
-        requires stands { Stands self.old o }
+        requires stands { IsLive self.old o }
         requires can { CanErase self.old o }
         ensures erases { Erases self.old self.new o }
         ensures kept { (m : ℕ) → ((q : _) → IsInside self.old o q → IsNew m self.old q)

@@ -2,7 +2,7 @@
 ghost use Rattle.std.specs.Prelude.{◌≡◌, ◌<◌, ◌↔◌, ℕ, Some, None, IfSome, IsSome, IsTrue, OnOk, OnErr, length, option_map, slice_get};
 ghost use Rattle.std.specs.Borrow.{sem};
 ghost use Rattle.irtext_graph.specs.Objects.{Fits};
-ghost use Rattle.irtext_graph.specs.Graph.{GraphView, Stands, parent, children, ancestor, CanInsert, Appends, Unlinks, IsNew, KeepsOlder};
+ghost use Rattle.irtext_graph.specs.Graph.{GraphView, IsLive, parent, children, ancestor, CanInsert, Appends, Unlinks, IsNew, KeepsOlder};
 ghost use Rattle.irtext_graph.specs.Erasing.{CanErase, DropsUses, Erases};
 ghost use Rattle.irtext_graph.specs.Held.{KeepsBeside, KeepsRound, KeepsOutside, by_kind, to_operation, to_block, to_region};
 ghost use Rattle.irtext_graph.specs.Parts.{regions, blocks, operations_in};
@@ -119,8 +119,8 @@ fn by_kind(o: Object, operation: usize, block: usize, region: usize) -> usize
 impl<K: Kind> Ptr<K> {
     /// Whether the object has no parent, and the holder is neither the object nor nested in it: the condition of `insert_at_back`.
     pub fn can_insert_at_back<H: Holds<K>, C: HasGraph>(self, holder: Ptr<H>, ctx: &C) -> bool
-        requires holder { Stands (C.graph ctx.now) (H.object holder) }
-        requires stands { Stands (C.graph ctx.now) (K.object self) }
+        requires holder { IsLive (C.graph ctx.now) (H.object holder) }
+        requires stands { IsLive (C.graph ctx.now) (K.object self) }
         ensures { IsTrue result ↔ CanInsert (C.graph ctx.now) (H.object holder) (K.object self) }
     {
         ctx.graph()
@@ -133,8 +133,8 @@ impl<K: Kind> Ptr<K> {
         holder: Ptr<H>,
         ctx: &mut C,
     ) -> Result<(), AllocError>
-        requires holder { Stands (C.graph ctx.old) (H.object holder) }
-        requires stands { Stands (C.graph ctx.old) (K.object self) }
+        requires holder { IsLive (C.graph ctx.old) (H.object holder) }
+        requires stands { IsLive (C.graph ctx.old) (K.object self) }
         requires can { CanInsert (C.graph ctx.old) (H.object holder) (K.object self) }
         ensures ok { OnOk result (Appends (C.graph ctx.old) (C.graph ctx.new) (H.object holder) (K.object self)) }
         ensures err { OnErr result (ctx.new ≡ ctx.old) }
@@ -148,7 +148,7 @@ impl<K: Kind> Ptr<K> {
 
     /// Removes the object from its parent, if it has one. Its children stay with it.
     pub fn unlink<C: HasGraph>(self, ctx: &mut C)
-        requires { Stands (C.graph ctx.old) (K.object self) }
+        requires { IsLive (C.graph ctx.old) (K.object self) }
         ensures unlinks { Unlinks (C.graph ctx.old) (C.graph ctx.new) (K.object self) }
         ensures kept { KeepsBeside (C.graph ctx.old) (C.graph ctx.new) (K.object self) }
         ensures rest { ctx.new ≡ C.with_graph ctx.old (C.graph ctx.new) }
@@ -158,7 +158,7 @@ impl<K: Kind> Ptr<K> {
 
     /// Whether nothing outside of the object uses what is defined in it: the condition of `erase`. It allocates nothing.
     pub fn can_erase<C: HasGraph>(self, ctx: &C) -> bool
-        requires { Stands (C.graph ctx.now) (K.object self) }
+        requires { IsLive (C.graph ctx.now) (K.object self) }
         ensures { IsTrue result ↔ CanErase (C.graph ctx.now) (K.object self) }
     {
         ctx.graph().can_erase(K::object(self))
@@ -166,7 +166,7 @@ impl<K: Kind> Ptr<K> {
 
     /// Drops all operands and successors of the object and of the operations nested in it. It allocates nothing.
     pub fn drop_all_uses<C: HasGraph>(self, ctx: &mut C)
-        requires { Stands (C.graph ctx.old) (K.object self) }
+        requires { IsLive (C.graph ctx.old) (K.object self) }
         ensures drops { DropsUses (C.graph ctx.old) (C.graph ctx.new) (K.object self) }
         ensures kept { KeepsRound (C.graph ctx.old) (C.graph ctx.new) (K.object self) }
         ensures rest { ctx.new ≡ C.with_graph ctx.old (C.graph ctx.new) }
@@ -176,7 +176,7 @@ impl<K: Kind> Ptr<K> {
 
     /// Erases the object and everything nested in it, and removes it from its parent. It allocates nothing.
     pub fn erase<C: HasGraph>(self, ctx: &mut C)
-        requires stands { Stands (C.graph ctx.old) (K.object self) }
+        requires stands { IsLive (C.graph ctx.old) (K.object self) }
         requires can { CanErase (C.graph ctx.old) (K.object self) }
         ensures erases { Erases (C.graph ctx.old) (C.graph ctx.new) (K.object self) }
         ensures kept { KeepsOutside (C.graph ctx.old) (C.graph ctx.new) (K.object self) }
@@ -187,9 +187,9 @@ impl<K: Kind> Ptr<K> {
 
     /// Returns the nearest operation that encloses the object, if there is one.
     pub fn get_parent_op<C: HasGraph>(self, ctx: &C) -> Option<Ptr<Operation>>
-        requires { Stands (C.graph ctx.now) (K.object self) }
+        requires { IsLive (C.graph ctx.now) (K.object self) }
         ensures parent { ancestor (C.graph ctx.now) (to_operation (K.object self)) (K.object self) ≡ option_map TheOperation result }
-        ensures stands { IfSome result (λ p. Stands (C.graph ctx.now) (TheOperation p)) }
+        ensures stands { IfSome result (λ p. IsLive (C.graph ctx.now) (TheOperation p)) }
     {
         let o = K::object(self);
         match ctx.graph().ancestor(o, by_kind(o, 3, 2, 1)) {
@@ -201,9 +201,9 @@ impl<K: Kind> Ptr<K> {
 
     /// Returns the nearest block that encloses the object, if there is one.
     pub fn get_parent_block<C: HasGraph>(self, ctx: &C) -> Option<Ptr<BasicBlock>>
-        requires { Stands (C.graph ctx.now) (K.object self) }
+        requires { IsLive (C.graph ctx.now) (K.object self) }
         ensures parent { ancestor (C.graph ctx.now) (to_block (K.object self)) (K.object self) ≡ option_map TheBlock result }
-        ensures stands { IfSome result (λ p. Stands (C.graph ctx.now) (TheBlock p)) }
+        ensures stands { IfSome result (λ p. IsLive (C.graph ctx.now) (TheBlock p)) }
     {
         let o = K::object(self);
         match ctx.graph().ancestor(o, by_kind(o, 1, 3, 2)) {
@@ -215,9 +215,9 @@ impl<K: Kind> Ptr<K> {
 
     /// Returns the nearest region that encloses the object, if there is one.
     pub fn get_parent_region<C: HasGraph>(self, ctx: &C) -> Option<Ptr<Region>>
-        requires { Stands (C.graph ctx.now) (K.object self) }
+        requires { IsLive (C.graph ctx.now) (K.object self) }
         ensures parent { ancestor (C.graph ctx.now) (to_region (K.object self)) (K.object self) ≡ option_map TheRegion result }
-        ensures stands { IfSome result (λ p. Stands (C.graph ctx.now) (TheRegion p)) }
+        ensures stands { IfSome result (λ p. IsLive (C.graph ctx.now) (TheRegion p)) }
     {
         let o = K::object(self);
         match ctx.graph().ancestor(o, by_kind(o, 2, 1, 3)) {
@@ -229,7 +229,7 @@ impl<K: Kind> Ptr<K> {
 
     /// Returns the index of the object in its parent.
     pub fn find_index_in_parent<C: HasGraph>(self, ctx: &C) -> usize
-        requires stands { Stands (C.graph ctx.now) (K.object self) }
+        requires stands { IsLive (C.graph ctx.now) (K.object self) }
         requires inside { IsSome (parent (C.graph ctx.now) (K.object self)) }
         ensures { (k : _) → parent (C.graph ctx.now) (K.object self) ≡ Some k
             → slice_get (children (C.graph ctx.now) k) result ≡ Some (K.object self) }
@@ -245,7 +245,7 @@ impl<K: Kind> Ptr<K> {
 impl Ptr<Operation> {
     /// The number of regions of the operation.
     pub fn num_regions<C: HasGraph>(self, ctx: &C) -> usize
-        requires { Stands (C.graph ctx.now) (TheOperation self) }
+        requires { IsLive (C.graph ctx.now) (TheOperation self) }
         ensures { result ≡ length (regions (C.graph ctx.now) self) }
     {
         ctx.graph().num_children(Object::TheOperation(self))
@@ -266,7 +266,7 @@ impl Ptr<Operation> {
 impl Ptr<BasicBlock> {
     /// The number of operations in the block.
     pub fn num_operations<C: HasGraph>(self, ctx: &C) -> usize
-        requires { Stands (C.graph ctx.now) (TheBlock self) }
+        requires { IsLive (C.graph ctx.now) (TheBlock self) }
         ensures { result ≡ length (operations_in (C.graph ctx.now) self) }
     {
         ctx.graph().num_children(Object::TheBlock(self))
@@ -287,7 +287,7 @@ impl Ptr<BasicBlock> {
 impl Ptr<Region> {
     /// The number of blocks in the region.
     pub fn num_blocks<C: HasGraph>(self, ctx: &C) -> usize
-        requires { Stands (C.graph ctx.now) (TheRegion self) }
+        requires { IsLive (C.graph ctx.now) (TheRegion self) }
         ensures { result ≡ length (blocks (C.graph ctx.now) self) }
     {
         ctx.graph().num_children(Object::TheRegion(self))

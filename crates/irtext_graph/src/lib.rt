@@ -2,19 +2,19 @@
 #![tactic(auto)]
 
 pub mod arena;
-mod back;
 mod erasing;
 mod forest;
 pub mod graph;
 pub mod held;
-mod linking;
-mod links;
 mod log;
 mod making;
 mod nest;
+mod new_uses;
 pub mod object;
 mod objects;
 mod parts;
+mod rollback;
 mod standing;
-mod uses;
-mod using;
+mod use_fields;
+mod use_lists;
+mod users;

@@ -1,6 +1,6 @@
 //! Making objects.
 ghost use Rattle.std.specs.Prelude.{◌≡◌, ◌≢◌, ◌≤◌, ◌+◌, ◌++◌, ◌∷◌, ℕ, Some, None, [], IsSome, IfOk, OnOk, OnErr, length, slice_get};
-ghost use Rattle.irtext_graph.specs.Graph.{MakesRegion, MakesBlock, MakesOperation, KeepsOlder, Stands};
+ghost use Rattle.irtext_graph.specs.Graph.{MakesRegion, MakesBlock, MakesOperation, KeepsOlder, IsLive};
 ghost use Rattle.irtext_graph.specs.Parts.{ValueStands};
 ghost use Rattle.irtext_few.specs.Growing.{listed};
 ghost use Rattle.irtext_graph.specs.Linking.{Defines};
@@ -9,9 +9,9 @@ ghost use Rattle.irtext_graph.specs.Store.{Edits, before};
 
 use crate::arena::{Arena, Ptr};
 use crate::graph::Graph;
-use crate::linking::{Side, unlinked_uses};
 use crate::log::{make_room, note};
 use crate::nest::Nest;
+use crate::new_uses::{Side, unlinked_uses};
 use crate::object::{BasicBlock, Object, Operation, Region, Value};
 use crate::objects::{BlockData, Definition, OperationData, RegionData, Use};
 use irtext_few::{Few, Growing, Items, Lone};
@@ -165,7 +165,7 @@ impl<O: Drop, B: Drop, T: Drop> Graph<O, B, T> {
 
     /// Makes an empty region, the last of an operation. If an allocation fails or a counter is at its limit, the graph is unchanged.
     pub fn add_region(&mut self, op: Ptr<Operation>) -> Result<Ptr<Region>, AllocError>
-        requires { Stands self.old (TheOperation op) }
+        requires { IsLive self.old (TheOperation op) }
         ensures added { IfOk result (λ r. AddsRegion self.old self.new op r) }
         ensures err { OnErr result (self.new ≡ self.old) }
         ensures kept { (m : ℕ) → m ≤ self.old.made → before m self.old.operations op ≡ None → KeepsOlder m self.old self.new }
@@ -234,7 +234,7 @@ impl<O: Drop, B: Drop, T: Drop> Graph<O, B, T> {
         successors: &[Ptr<BasicBlock>],
     ) -> Result<Ptr<Operation>, AllocError>
         requires operands { (i : ℕ) (v : Value) → slice_get operands.now i ≡ Some v → ValueStands self.old v }
-        requires successors { (i : ℕ) (b : Ptr BasicBlock) → slice_get successors.now i ≡ Some b → Stands self.old (TheBlock b) }
+        requires successors { (i : ℕ) (b : Ptr BasicBlock) → slice_get successors.now i ≡ Some b → IsLive self.old (TheBlock b) }
         ensures made { IfOk result (λ p. MakesOperation self.old self.new p value types operands.now successors.now) }
         ensures err { OnErr result (self.new ≡ self.old) }
         ensures kept { (m : ℕ) → m ≤ self.old.made → KeepsOlder m self.old self.new }

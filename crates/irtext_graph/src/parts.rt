@@ -1,7 +1,7 @@
 //! The parts of an object: its data, operands, successors, results and arguments.
 ghost use Rattle.std.specs.Prelude.{◌≡◌, ◌↔◌, ◌<◌, ℕ, Some, IsSome, IsTrue, length, slice_get, option_map};
 ghost use Rattle.irtext_graph.specs.declared.object.Object.TheVariants.{TheOperation, TheBlock};
-ghost use Rattle.irtext_graph.specs.Graph.{Stands};
+ghost use Rattle.irtext_graph.specs.Graph.{IsLive};
 ghost use Rattle.std.specs.Borrow.{sem};
 ghost use Rattle.irtext_graph.specs.Parts.{operation_at, block_at, operands, successors, results, arguments, value_at, ValueStands, definition_at};
 
@@ -47,7 +47,7 @@ impl<O: Drop, B: Drop, T: Drop> Graph<O, B, T> {
 
     /// The number of results of an operation.
     pub fn num_results(&self, op: Ptr<Operation>) -> usize
-        requires { Stands self.now (TheOperation op) }
+        requires { IsLive self.now (TheOperation op) }
         ensures { result ≡ length (results self.now op) }
     {
         self.objects.operations.content(op).data.results.len()
@@ -55,7 +55,7 @@ impl<O: Drop, B: Drop, T: Drop> Graph<O, B, T> {
 
     /// The number of operands of an operation. A value that is used twice counts twice.
     pub fn num_operands(&self, op: Ptr<Operation>) -> usize
-        requires { Stands self.now (TheOperation op) }
+        requires { IsLive self.now (TheOperation op) }
         ensures { result ≡ length (operands self.now op) }
     {
         self.objects.operations.content(op).data.operands.len()
@@ -63,7 +63,7 @@ impl<O: Drop, B: Drop, T: Drop> Graph<O, B, T> {
 
     /// Returns the operand of an operation at an index.
     pub fn get_operand(&self, op: Ptr<Operation>, i: usize) -> Value
-        requires stands { Stands self.now (TheOperation op) }
+        requires stands { IsLive self.now (TheOperation op) }
         requires within { i < length (operands self.now op) }
         ensures { slice_get (operands self.now op) i ≡ Some result }
     {
@@ -72,7 +72,7 @@ impl<O: Drop, B: Drop, T: Drop> Graph<O, B, T> {
 
     /// The number of successors of an operation. A block that is used twice counts twice.
     pub fn num_successors(&self, op: Ptr<Operation>) -> usize
-        requires { Stands self.now (TheOperation op) }
+        requires { IsLive self.now (TheOperation op) }
         ensures { result ≡ length (successors self.now op) }
     {
         self.objects.operations.content(op).data.successors.len()
@@ -80,7 +80,7 @@ impl<O: Drop, B: Drop, T: Drop> Graph<O, B, T> {
 
     /// Returns the successor of an operation at an index.
     pub fn get_successor(&self, op: Ptr<Operation>, i: usize) -> Ptr<BasicBlock>
-        requires stands { Stands self.now (TheOperation op) }
+        requires stands { IsLive self.now (TheOperation op) }
         requires within { i < length (successors self.now op) }
         ensures { slice_get (successors self.now op) i ≡ Some result }
     {
@@ -89,7 +89,7 @@ impl<O: Drop, B: Drop, T: Drop> Graph<O, B, T> {
 
     /// The number of arguments of a block.
     pub fn num_arguments(&self, block: Ptr<BasicBlock>) -> usize
-        requires { Stands self.now (TheBlock block) }
+        requires { IsLive self.now (TheBlock block) }
         ensures { result ≡ length (arguments self.now block) }
     {
         self.objects.blocks.content(block).data.arguments.len()
@@ -116,7 +116,7 @@ impl<O: Drop, B: Drop, T: Drop> Graph<O, B, T> {
 
     /// Whether each of these blocks is live, so that a new operation can use them.
     pub fn contains_blocks(&self, blocks: &[Ptr<BasicBlock>]) -> bool
-        ensures { IsTrue result ↔ ((i : ℕ) (b : Ptr BasicBlock) → slice_get blocks.now i ≡ Some b → Stands self.now (TheBlock b)) }
+        ensures { IsTrue result ↔ ((i : ℕ) (b : Ptr BasicBlock) → slice_get blocks.now i ≡ Some b → IsLive self.now (TheBlock b)) }
     {
         for b in blocks {
             if !self.contains(Object::TheBlock(*b)) {
@@ -144,7 +144,7 @@ impl<O: Drop, B: Drop, T: Drop> Graph<O, B, T> {
 
     /// Returns the data of an operation.
     pub fn operation(&self, op: Ptr<Operation>) -> &O
-        requires { Stands self.now (TheOperation op) }
+        requires { IsLive self.now (TheOperation op) }
         ensures { option_map (λ c. c.data_of) (operation_at self.now op) ≡ Some result.now }
     {
         &self.objects.operations.content(op).data.data
@@ -152,7 +152,7 @@ impl<O: Drop, B: Drop, T: Drop> Graph<O, B, T> {
 
     /// Returns the data of a block.
     pub fn block(&self, block: Ptr<BasicBlock>) -> &B
-        requires { Stands self.now (TheBlock block) }
+        requires { IsLive self.now (TheBlock block) }
         ensures { option_map (λ c. c.data_of) (block_at self.now block) ≡ Some result.now }
     {
         &self.objects.blocks.content(block).data.data
@@ -160,7 +160,7 @@ impl<O: Drop, B: Drop, T: Drop> Graph<O, B, T> {
 
     /// Borrows the data of an operation as `&mut`. All else in the graph is unchanged.
     pub fn operation_mut(&mut self, op: Ptr<Operation>) -> &mut O
-        requires { Stands self.old (TheOperation op) }
+        requires { IsLive self.old (TheOperation op) }
         ensures* lends { sem 𝓛 (LendsOperation O.row B.row T.row self.entry op result) }
         ensures value { option_map (λ c. c.data_of) (operation_at self.old op) ≡ Some result.now }
     {
@@ -169,7 +169,7 @@ impl<O: Drop, B: Drop, T: Drop> Graph<O, B, T> {
 
     /// Borrows the data of a block as `&mut`. All else in the graph is unchanged.
     pub fn block_mut(&mut self, block: Ptr<BasicBlock>) -> &mut B
-        requires { Stands self.old (TheBlock block) }
+        requires { IsLive self.old (TheBlock block) }
         ensures* lends { sem 𝓛 (LendsBlock O.row B.row T.row self.entry block result) }
         ensures value { option_map (λ c. c.data_of) (block_at self.old block) ≡ Some result.now }
     {

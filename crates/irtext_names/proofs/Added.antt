@@ -22,7 +22,7 @@ use Rattle.irtext_graph.proofs.Nests.{told, some_eq}
 use Rattle.irtext_graph.proofs.Same.{object_tells}
 use Rattle.irtext_scopes.specs.Scopes.{Scope, value_of}
 use Rattle.irtext_names.specs.Placeholders.{IsBlank}
-use Rattle.irtext_names.specs.Tied.{Tied, Waiting, AreTied, AreWaiting, IsNoPlaceholder}
+use Rattle.irtext_names.specs.Tied.{Tied, Waiting, MatchesGraph, ArePending, IsNoPlaceholder}
 use Rattle.irtext_names.proofs.Gained.{operation_added, block_added}
 use Rattle.irtext_names.proofs.SameBut.{SameBut, same_age, none_defined, still_defined, was_defined, still_blank, was_placeholder}
 
@@ -39,10 +39,10 @@ module _ {O B T : Type 0} where
   none_waiting : {V : Type 0} (of : V → Defined) (g : GraphView (Option O) B T) → AllOlder g.made g → Waiting g.made [] of [] g
   none_waiting of g a = record { late = λ k n h f. absurd (cc); known = λ v d b new not. absurd (all_old g a (of v) d new) }
 
-  pub no_ties : (g : GraphView (Option O) B T) → AreTied [] [] g
+  pub no_ties : (g : GraphView (Option O) B T) → MatchesGraph [] [] g
   no_ties g = record { value_ties = none_tied OfValue g; label_ties = none_tied OfBlock g }
 
-  pub no_waits : (g : GraphView (Option O) B T) → AllOlder g.made g → AreWaiting g.made [] [] [] g
+  pub no_waits : (g : GraphView (Option O) B T) → AllOlder g.made g → ArePending g.made [] [] [] g
   no_waits g a = record { value_waits = none_waiting OfValue g a; label_waits = none_waiting OfBlock g a }
 
   -- ---- an object was made
@@ -68,7 +68,7 @@ module _ {O B T : Type 0} where
         not_new : (x : Defined) → IsDefined g x → Some o ≡ Some (owner x) → ⊥
         not_new x d e = none_defined g x (s.gone (owner x) e) d
 
-    pub added_ties : (vs : List (Scope Value)) (ls : List (Scope (Ptr BasicBlock))) → AreTied vs ls g → AreTied vs ls k
+    pub added_ties : (vs : List (Scope Value)) (ls : List (Scope (Ptr BasicBlock))) → MatchesGraph vs ls g → MatchesGraph vs ls k
     added_ties vs ls t = record { value_ties = tied_added OfValue vs t.value_ties; label_ties = tied_added OfBlock ls t.label_ties }
 
   -- what was made just now is no placeholder of a name
@@ -77,13 +77,13 @@ module _ {O B T : Type 0} where
 
   -- an operation was made, or refused
   pub operation_tried : {E : Type 0} {g k : GraphView (Option O) B T} (vs : List (Scope Value)) (ls : List (Scope (Ptr BasicBlock))) (v : Option O) (ts : List T) (os : List Value) (bs : List (Ptr BasicBlock)) (r : Tried (Ptr Operation) E)
-      → IfOk r (λ p. MakesOperation g k p v ts os bs) → OnErr r (k ≡ g) → AreTied vs ls g → AreTied vs ls k
+      → IfOk r (λ p. MakesOperation g k p v ts os bs) → OnErr r (k ≡ g) → MatchesGraph vs ls g → MatchesGraph vs ls k
   operation_tried vs ls v ts os bs (Ok p) m e t = added_ties (operation_added p m) vs ls t
   operation_tried vs ls v ts os bs (Err x) m e t = rw e t
 
   -- an operation that has its data waits for no name
   pub operation_waits : {g k : GraphView (Option O) B T} (p : Ptr Operation) (x : O) (ts : List T) (os : List Value) (bs : List (Ptr BasicBlock)) → MakesOperation g k p (Some x) ts os bs
-      → (m : ℕ) (own : List (Ptr BasicBlock)) (vs : List (Scope Value)) (ls : List (Scope (Ptr BasicBlock))) → AreTied vs ls g → AreWaiting m own vs ls g → AreWaiting m own vs ls k
+      → (m : ℕ) (own : List (Ptr BasicBlock)) (vs : List (Scope Value)) (ls : List (Scope (Ptr BasicBlock))) → MatchesGraph vs ls g → ArePending m own vs ls g → ArePending m own vs ls k
   operation_waits {g} {k} p x ts os bs make m own vs ls t w = record {
     value_waits = waiting_added (operation_added p make) OfValue m [] [] vs t.value_ties (λ v a. a) (λ v b not e. values v b e) w.value_waits;
     label_waits = waiting_added (operation_added p make) OfBlock m own own ls t.label_ties (λ v a. a) (λ v b not e. cc) w.label_waits;
@@ -98,7 +98,7 @@ module _ {O B T : Type 0} where
 
   -- a block that was made is one's own until it stands somewhere
   pub block_waits : {g k : GraphView (Option O) B T} (b : Ptr BasicBlock) (x : B) (ts : List T) → MakesBlock g k b x ts
-      → (m : ℕ) (own : List (Ptr BasicBlock)) (vs : List (Scope Value)) (ls : List (Scope (Ptr BasicBlock))) → AreTied vs ls g → AreWaiting m own vs ls g → AreWaiting m (b ∷ own) vs ls k
+      → (m : ℕ) (own : List (Ptr BasicBlock)) (vs : List (Scope Value)) (ls : List (Scope (Ptr BasicBlock))) → MatchesGraph vs ls g → ArePending m own vs ls g → ArePending m (b ∷ own) vs ls k
   block_waits {g} {k} b x ts make m own vs ls t w = record {
     value_waits = waiting_added (block_added b make) OfValue m [] [] vs t.value_ties (λ v a. a) (λ v blank not e. values v blank e) w.value_waits;
     label_waits = waiting_added (block_added b make) OfBlock m own (b ∷ own) ls t.label_ties (λ v a. inr a) (λ v blank not e. labels v not e) w.label_waits;

@@ -21,7 +21,7 @@ use Rattle.irtext_scopes.specs.Scopes.{Scope}
 use Rattle.irtext_grammar.specs.Names.Script.{Path, Place, User, operand, successor}
 use Rattle.irtext_grammar.specs.Names.History.{State}
 use Rattle.irtext_names.specs.Linked.{Known, StandsAt}
-use Rattle.irtext_names.specs.Tied.{AreTied}
+use Rattle.irtext_names.specs.Tied.{MatchesGraph}
 use Rattle.irtext_names.proofs.Added.{made_none}
 use Rattle.irtext_names.proofs.Gained.{operation_added}
 use Rattle.irtext_names.proofs.Linked.Steps.{operation_made}
@@ -89,5 +89,5 @@ module _ {O B T : Type 0} {g k : GraphView (Option O) B T} (op : Ptr Operation) 
           (ap (λ z. owner (OfValue z)) r.1, subst (λ z. IsDefined k (OfValue z)) (sym r.1) (result_here (0 + r.0) (omega (arith, l))))
 
   -- it has its results, and no name waits with one of them
-  pub made_ready : (vs' : List (Scope Value)) (ls : List (Scope (Ptr BasicBlock))) → AreTied vs' ls g → AreReady op (length types) vs' k
+  pub made_ready : (vs' : List (Scope Value)) (ls : List (Scope (Ptr BasicBlock))) → MatchesGraph vs' ls g → AreReady op (length types) vs' k
   made_ready vs' ls t = λ i l. (result_here i l, made_none OfValue vs' (Result op i) t.value_ties (operation_added op make))

@@ -13,7 +13,7 @@ use Rattle.irtext_scopes.specs.declared.scopes.Entry.TheVariants.{Defined as IsM
 use Rattle.irtext_scopes.specs.Scopes.{Scope, find, innermost, outer, first_pending, value_of}
 use Rattle.irtext_scopes.specs.Tracker.{entered, left, first_value, unresolved}
 use Rattle.irtext_names.specs.Placeholders.{IsPlaceholder}
-use Rattle.irtext_names.specs.Tied.{entry_at, Tied, Waiting, AreTied, AreWaiting, NoneIsLeft}
+use Rattle.irtext_names.specs.Tied.{entry_at, Tied, Waiting, MatchesGraph, ArePending, NoneIsLeft}
 
 module _ {V : Type 0} where
   none_pending : (n : ℕ) (h : V) (s : Scope V) → first_pending s ≡ None → find n s ≡ Some (Pending h) → ⊥
@@ -77,42 +77,42 @@ either_none (Some x) b e = absurd (cc)
 
 module _ {O B T : Type 0} (g : GraphView (Option O) B T) (vs vs' : List (Scope Value)) (ls ls' : List (Scope (Ptr BasicBlock))) where
   -- ---- a region was entered, or not
-  pub entered_ties : {A E : Type 0} (r : Result A E) (isolated : Bool) → OnOk r (vs' ≡ entered isolated vs) → OnOk r (ls' ≡ [] ∷ ls) → OnErr r (vs' ≡ vs) → OnErr r (ls' ≡ ls) → AreTied vs ls g → AreTied vs' ls' g
+  pub entered_ties : {A E : Type 0} (r : Result A E) (isolated : Bool) → OnOk r (vs' ≡ entered isolated vs) → OnOk r (ls' ≡ [] ∷ ls) → OnErr r (vs' ≡ vs) → OnErr r (ls' ≡ ls) → MatchesGraph vs ls g → MatchesGraph vs' ls' g
   entered_ties (Err x) isolated a b c d t = rw (c, d) t
   entered_ties (Ok x) true a b c d t = rw (a, b) (record { value_ties = tied_entered _ vs t.value_ties; label_ties = tied_entered _ ls t.label_ties })
   entered_ties (Ok x) false a b c d t = rw (a, b) (record { value_ties = t.value_ties; label_ties = tied_entered _ ls t.label_ties })
 
   pub entered_waits : {A E : Type 0} (r : Result A E) (isolated : Bool) → OnOk r (vs' ≡ entered isolated vs) → OnOk r (ls' ≡ [] ∷ ls) → OnErr r (vs' ≡ vs) → OnErr r (ls' ≡ ls)
-      → (m : ℕ) (own : List (Ptr BasicBlock)) → AreWaiting m own vs ls g → AreWaiting m own vs' ls' g
+      → (m : ℕ) (own : List (Ptr BasicBlock)) → ArePending m own vs ls g → ArePending m own vs' ls' g
   entered_waits (Err x) isolated a b c d m own w = rw (c, d) w
   entered_waits (Ok x) true a b c d m own w = rw (a, b) (record { value_waits = waiting_entered _ m [] vs w.value_waits; label_waits = waiting_entered _ m own ls w.label_waits })
   entered_waits (Ok x) false a b c d m own w = rw (a, b) (record { value_waits = w.value_waits; label_waits = waiting_entered _ m own ls w.label_waits })
 
   -- ---- a region was left
-  pub left_ties : (isolated : Bool) → vs' ≡ left isolated vs → ls' ≡ outer ls → AreTied vs ls g → AreTied vs' ls' g
+  pub left_ties : (isolated : Bool) → vs' ≡ left isolated vs → ls' ≡ outer ls → MatchesGraph vs ls g → MatchesGraph vs' ls' g
   left_ties true a b t = rw (a, b) (record { value_ties = tied_left _ vs t.value_ties; label_ties = tied_left _ ls t.label_ties })
   left_ties false a b t = rw (a, b) (record { value_ties = t.value_ties; label_ties = tied_left _ ls t.label_ties })
 
   left_waits : (isolated : Bool) → unresolved isolated vs ls ≡ None → vs' ≡ left isolated vs → ls' ≡ outer ls
-      → (m : ℕ) (own : List (Ptr BasicBlock)) → AreWaiting m own vs ls g → AreWaiting m own vs' ls' g
+      → (m : ℕ) (own : List (Ptr BasicBlock)) → ArePending m own vs ls g → ArePending m own vs' ls' g
   left_waits true e a b m own w = let n = either_none (first_value true vs) (first_pending (innermost ls)) e in
       rw (a, b) (record { value_waits = waiting_left _ m [] vs n.0 w.value_waits; label_waits = waiting_left _ m own ls n.1 w.label_waits })
   left_waits false e a b m own w = let n = either_none (first_value false vs) (first_pending (innermost ls)) e in
       rw (a, b) (record { value_waits = w.value_waits; label_waits = waiting_left _ m own ls n.1 w.label_waits })
 
   -- where no scope is open, nothing waits
-  none_left : (m : ℕ) (own : List (Ptr BasicBlock)) → vs' ≡ [] → ls' ≡ [] → AreWaiting m own vs' ls' g → NoneIsLeft m own g
+  none_left : (m : ℕ) (own : List (Ptr BasicBlock)) → vs' ≡ [] → ls' ≡ [] → ArePending m own vs' ls' g → NoneIsLeft m own g
   none_left m own a b w = record {
     values = λ v d k new. let r = w.value_waits.known v d k new (λ e. e) in let e = sym (ap (entry_at r.0 r.1) a) ∙ r.2 in cc;
     labels = λ v d k new not. let r = w.label_waits.known v d k new not in let e = sym (ap (entry_at r.0 r.1) b) ∙ r.2 in cc;
   }
 
   pub if_left_waits : (o : Option ℕ) (isolated : Bool) → o ≡ unresolved isolated vs ls → vs' ≡ left isolated vs → ls' ≡ outer ls
-      → IfNone o ((m : ℕ) (own : List (Ptr BasicBlock)) → AreWaiting m own vs ls g → AreWaiting m own vs' ls' g)
+      → IfNone o ((m : ℕ) (own : List (Ptr BasicBlock)) → ArePending m own vs ls g → ArePending m own vs' ls' g)
   if_left_waits (Some n) isolated e a b = tt
   if_left_waits None isolated e a b = left_waits isolated (sym e) a b
 
   pub if_none_left : (o : Option ℕ) (isolated : Bool) → o ≡ unresolved isolated vs ls → vs' ≡ left isolated vs → ls' ≡ outer ls
-      → IfNone o ((m : ℕ) (own : List (Ptr BasicBlock)) → AreWaiting m own vs ls g → vs' ≡ [] → ls' ≡ [] → NoneIsLeft m own g)
+      → IfNone o ((m : ℕ) (own : List (Ptr BasicBlock)) → ArePending m own vs ls g → vs' ≡ [] → ls' ≡ [] → NoneIsLeft m own g)
   if_none_left (Some n) isolated e a b = tt
   if_none_left None isolated e a b = λ m own w c d. none_left m own c d (left_waits isolated (sym e) a b m own w)

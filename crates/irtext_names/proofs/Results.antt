@@ -20,7 +20,7 @@ use Rattle.irtext_grammar.specs.Names.History.{act, State, going, failed, next, 
 use Rattle.irtext_grammar.specs.Names.Scopes.{fact_of}
 use Rattle.irtext_names.specs.Linked.{Known, StandsAt, TakesDefinition, FailsBy}
 use Rattle.irtext_names.specs.Placeholders.{Defines}
-use Rattle.irtext_names.specs.Tied.{AreTied, IsNoPlaceholder}
+use Rattle.irtext_names.specs.Tied.{MatchesGraph, IsNoPlaceholder}
 use Rattle.irtext_names.proofs.Loses.{Loses}
 use Rattle.irtext_names.proofs.NamesOf.{one_value, no_block}
 use Rattle.irtext_names.proofs.Pairs.{lost}
@@ -58,7 +58,7 @@ made_here p op i (m ∷ ns) n ms known a = subst (λ j. Among (result p j, Resul
 
 module _ {O B T : Type 0} where
   -- a definition takes no other value away, and no name comes to wait with one
-  pub still_ready : (n : ℕ) (v x : Value) (vs vs' : List (Scope Value)) (ls : List (Scope (Ptr BasicBlock))) (g k : GraphView (Option O) B T) → AreTied vs ls g → Defines OfValue vs vs' g k n v
+  pub still_ready : (n : ℕ) (v x : Value) (vs vs' : List (Scope Value)) (ls : List (Scope (Ptr BasicBlock))) (g k : GraphView (Option O) B T) → MatchesGraph vs ls g → Defines OfValue vs vs' g k n v
       → IsDefined g (OfValue x) × IsNoPlaceholder vs x → IsDefined k (OfValue x) × IsNoPlaceholder vs' x
   still_ready n v x vs vs' ls g k t d ready =
       let o = option_map OfValue (placeholder_of (find n (innermost vs))) in

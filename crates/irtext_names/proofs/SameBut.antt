@@ -13,7 +13,7 @@ use Rattle.irtext_graph.specs.declared.object.Defined.{Defined}
 use Rattle.irtext_graph.specs.declared.object.Defined.TheVariants.{OfValue, OfBlock}
 use Rattle.irtext_graph.specs.Content.{Typed, Node, Content, Content.{AnOperation, ABlock, ARegion}, OperationContent, BlockContent}
 use Rattle.irtext_graph.specs.Erasing.{without_uses, owner}
-use Rattle.irtext_graph.specs.Graph.{GraphView, content, content_of, parent, children, Stands}
+use Rattle.irtext_graph.specs.Graph.{GraphView, content, content_of, parent, children, IsLive}
 use Rattle.irtext_graph.specs.Objects.{is_older}
 use Rattle.irtext_graph.specs.Parts.{operation_at, results, results_of, arguments, arguments_of}
 use Rattle.irtext_graph.specs.Store.{get}
@@ -83,7 +83,7 @@ module _ {O B T : Type 0} where
   none_defined g (OfBlock b) e d = let k = subst IsSome e d in cc
 
   -- what is defined belongs to an object that is there
-  pub defined_stands : (g : GraphView O B T) (x : Defined) → IsDefined g x → Stands g (owner x)
+  pub defined_stands : (g : GraphView O B T) (x : Defined) → IsDefined g x → IsLive g (owner x)
   defined_stands g x d = go (content g (owner x)) refl
     where
       go : (c : Option (Content O B T)) → content g (owner x) ≡ c → IsSome c

@@ -23,7 +23,7 @@ use Rattle.irtext_grammar.specs.Names.Script.{Place, User}
 use Rattle.irtext_grammar.specs.Names.Scopes.{uses, defines, fact_of}
 use Rattle.irtext_grammar.specs.Names.TextScopes.{Fact, Act, Failure, lookup}
 use Rattle.irtext_grammar.specs.Names.History.{Event, act, State, after, going, failed, step}
-use Rattle.irtext_names.specs.Tied.{AreTied, IsNoPlaceholder}
+use Rattle.irtext_names.specs.Tied.{MatchesGraph, IsNoPlaceholder}
 
 -- the name in a fact
 abbrev pub name_of : Fact → Text
@@ -115,7 +115,7 @@ module _ {O B T : Type 0} where
   pub record StandsAt (names : NameTracker Value (Ptr BasicBlock)) (g : GraphView (Option O) B T) (known : Known) (held : List (User × Defined))
       (st : State) : Type 0 where
     pub distinct : AreDistinct names.names
-    pub tied : AreTied names.values names.labels g
+    pub tied : MatchesGraph names.values names.labels g
     pub value_links : AreLinked names.names OfValue known.values known.sites held g st.values names.values
     pub label_links : AreLinked names.names OfBlock known.blocks known.sites held g st.labels names.labels
     pub values_made : AreMade OfValue known.values names.values g

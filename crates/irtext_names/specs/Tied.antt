@@ -41,13 +41,13 @@ module _ {O B T V : Type 0} where
 
 module _ {O B T : Type 0} where
   -- names of values and labels are tied to the graph
-  pub record AreTied (values : List (Scope Value)) (labels : List (Scope (Ptr BasicBlock))) (g : GraphView (Option O) B T) : Type 0 where
+  pub record MatchesGraph (values : List (Scope Value)) (labels : List (Scope (Ptr BasicBlock))) (g : GraphView (Option O) B T) : Type 0 where
     pub value_ties : Tied OfValue values g
     pub label_ties : Tied OfBlock labels g
 
   -- of the objects that were created after the first m: only these are placeholders of waiting names; each operation without data has a
   -- result that waits for a name, and each detached block waits for a label, except the blocks in `own`
-  pub record AreWaiting (m : ℕ) (own : List (Ptr BasicBlock)) (values : List (Scope Value)) (labels : List (Scope (Ptr BasicBlock)))
+  pub record ArePending (m : ℕ) (own : List (Ptr BasicBlock)) (values : List (Scope Value)) (labels : List (Scope (Ptr BasicBlock)))
       (g : GraphView (Option O) B T) : Type 0 where
     pub value_waits : Waiting m [] OfValue values g
     pub label_waits : Waiting m own OfBlock labels g

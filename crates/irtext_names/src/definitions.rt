@@ -6,7 +6,7 @@ ghost use Rattle.irtext_graph.specs.declared.arena.Ptr.{Ptr};
 ghost use Rattle.irtext_graph.specs.declared.object.BasicBlock.{BasicBlock};
 ghost use Rattle.irtext_scopes.specs.Scopes.{is_open};
 ghost use Rattle.irtext_scopes.specs.declared.scopes.DefineFault.{DefineFault};
-ghost use Rattle.irtext_names.specs.Tied.{AreTied, AreWaiting};
+ghost use Rattle.irtext_names.specs.Tied.{MatchesGraph, ArePending};
 ghost use Rattle.irtext_names.specs.Rows.{AreKnown, AreReady, DefinesResults, FailsResults};
 
 use crate::named::Named;
@@ -36,7 +36,7 @@ pub fn process_parsed_ssa_defs<N: Named, O: Drop, B: Drop, T: Drop>(
 ) -> Result<(), UndefinedName>
     requires open { is_open names.old.values ≡ true }
     requires known { AreKnown (length names.old.names) (map N.numbered defined.now) }
-    requires tied { AreTied names.old.values names.old.labels graph.old }
+    requires tied { MatchesGraph names.old.values names.old.labels graph.old }
     requires ready { AreReady op (length defined.now) names.old.values graph.old }
     ensures defines { OnOk result (DefinesResults op (map N.numbered defined.now) names.old names.new graph.old graph.new) }
     ensures fails { IfErr result (λ undefined. undefined.fault ≡ DefineFault.MultipleDefinitions
@@ -44,11 +44,11 @@ pub fn process_parsed_ssa_defs<N: Named, O: Drop, B: Drop, T: Drop>(
     ensures within { IfErr result (λ undefined. undefined.index < length defined.now) }
     ensures open { is_open names.new.values ≡ true }
     ensures rest { (names.new.names ≡ names.old.names) × (names.new.labels ≡ names.old.labels) }
-    ensures tied { AreTied names.new.values names.new.labels graph.new }
+    ensures tied { MatchesGraph names.new.values names.new.labels graph.new }
     ensures waiting { (m : ℕ) (own : List (Ptr BasicBlock))
-        → AreWaiting m own names.old.values names.old.labels graph.old → AreWaiting m own names.new.values names.new.labels graph.new }
+        → ArePending m own names.old.values names.old.labels graph.old → ArePending m own names.new.values names.new.labels graph.new }
     ensures kept { (m : ℕ) (own : List (Ptr BasicBlock)) → IsClosedBelow m graph.old
-        → AreWaiting m own names.old.values names.old.labels graph.old → KeepsOlder m graph.old graph.new }
+        → ArePending m own names.old.values names.old.labels graph.old → KeepsOlder m graph.old graph.new }
 {
     for (index, name) in defined.iter().enumerate() {
         if let Err(fault) = ssa_def(names, graph, name.number(), Value::Result(op, index)) {

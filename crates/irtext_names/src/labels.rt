@@ -1,7 +1,7 @@
 //! Uses and definitions of labels of blocks.
 ghost use Rattle.std.specs.Prelude.{◌≡◌, ◌<◌, ◌≤◌, ◌↔◌, ℕ, List, length, slice_get, true, None, Some, Err, OnOk, OnErr, IfOk};
 ghost use Rattle.irtext_graph.specs.Back.{IsClosedBelow};
-ghost use Rattle.irtext_graph.specs.Graph.{KeepsOlder, Stands};
+ghost use Rattle.irtext_graph.specs.Graph.{KeepsOlder, IsLive};
 ghost use Rattle.irtext_graph.specs.declared.arena.Ptr.{Ptr};
 ghost use Rattle.irtext_graph.specs.declared.object.BasicBlock.{BasicBlock};
 ghost use Rattle.irtext_graph.specs.declared.object.Defined.TheVariants.{OfBlock};
@@ -13,7 +13,7 @@ ghost use Rattle.irtext_grammar.specs.Names.Script.{Place, User, use_label, defi
 ghost use Rattle.irtext_grammar.specs.Names.TextScopes.{Word};
 ghost use Rattle.irtext_names.specs.Linked.{TakesUse, TakesDefinition, FailsBy};
 ghost use Rattle.irtext_names.specs.Placeholders.{MakesLabel, Uses, Defines, StandsAsBefore};
-ghost use Rattle.irtext_names.specs.Tied.{AreTied, AreWaiting, IsNoPlaceholder};
+ghost use Rattle.irtext_names.specs.Tied.{MatchesGraph, ArePending, IsNoPlaceholder};
 
 use crate::placeholders::settle;
 use irtext_few::Few;
@@ -35,17 +35,17 @@ pub fn block_opd<O: Drop, B: Drop, T: Drop>(
 ) -> Result<Ptr<BasicBlock>, AllocError>
     requires open { is_open names.old.labels ≡ true }
     requires known { name < length names.old.names }
-    requires tied { AreTied names.old.values names.old.labels graph.old }
+    requires tied { MatchesGraph names.old.values names.old.labels graph.old }
     ensures uses { IfOk result (λ b. Uses (MakesLabel value) names.old.labels names.new.labels graph.old graph.new name b) }
-    ensures there { IfOk result (λ b. Stands graph.new (TheBlock b)) }
+    ensures there { IfOk result (λ b. IsLive graph.new (TheBlock b)) }
     ensures follows { IfOk result (λ b. (w : Word) (u : User) → slice_get names.old.names name ≡ Some w.name
         → TakesUse (use_label w u) names.old names.new graph.old graph.new u (OfBlock b)) }
     ensures scopes { OnErr result (names.new.labels ≡ names.old.labels) }
     ensures objects { OnErr result (StandsAsBefore graph.old graph.new) }
     ensures rest { (names.new.names ≡ names.old.names) × (names.new.values ≡ names.old.values) }
-    ensures tied { AreTied names.new.values names.new.labels graph.new }
+    ensures tied { MatchesGraph names.new.values names.new.labels graph.new }
     ensures waiting { (m : ℕ) (own : List (Ptr BasicBlock)) → m ≤ graph.old.made
-        → AreWaiting m own names.old.values names.old.labels graph.old → AreWaiting m own names.new.values names.new.labels graph.new }
+        → ArePending m own names.old.values names.old.labels graph.old → ArePending m own names.new.values names.new.labels graph.new }
     ensures kept { (m : ℕ) → m ≤ graph.old.made → KeepsOlder m graph.old graph.new }
 {
     if let Some(block) = names.block_use(name) {
@@ -71,8 +71,8 @@ pub fn block_def<O: Drop, B: Drop, T: Drop>(
 ) -> Result<(), DefineFault>
     requires open { is_open names.old.labels ≡ true }
     requires known { name < length names.old.names }
-    requires tied { AreTied names.old.values names.old.labels graph.old }
-    requires there { Stands graph.old (TheBlock def) }
+    requires tied { MatchesGraph names.old.values names.old.labels graph.old }
+    requires there { IsLive graph.old (TheBlock def) }
     requires no_placeholder { IsNoPlaceholder names.old.labels def }
     ensures twice { (result ≡ Err DefineFault.MultipleDefinitions) ↔ (is_defined (find name (innermost names.old.labels)) ≡ true) }
     ensures memory { result ≡ Err DefineFault.Memory → find name (innermost names.old.labels) ≡ None }
@@ -84,11 +84,11 @@ pub fn block_def<O: Drop, B: Drop, T: Drop>(
     ensures scopes { OnErr result (names.new.labels ≡ names.old.labels) }
     ensures objects { OnErr result (graph.new ≡ graph.old) }
     ensures rest { (names.new.names ≡ names.old.names) × (names.new.values ≡ names.old.values) }
-    ensures tied { AreTied names.new.values names.new.labels graph.new }
+    ensures tied { MatchesGraph names.new.values names.new.labels graph.new }
     ensures waiting { (m : ℕ) (own : List (Ptr BasicBlock))
-        → AreWaiting m own names.old.values names.old.labels graph.old → AreWaiting m own names.new.values names.new.labels graph.new }
+        → ArePending m own names.old.values names.old.labels graph.old → ArePending m own names.new.values names.new.labels graph.new }
     ensures kept { (m : ℕ) (own : List (Ptr BasicBlock)) → IsClosedBelow m graph.old
-        → AreWaiting m own names.old.values names.old.labels graph.old → KeepsOlder m graph.old graph.new }
+        → ArePending m own names.old.values names.old.labels graph.old → KeepsOlder m graph.old graph.new }
 {
     if let Some(placeholder) = names.block_def(name, def)? {
         settle(graph, Defined::OfBlock(placeholder), Defined::OfBlock(def));

@@ -11,7 +11,7 @@ ghost use Rattle.irtext_scopes.specs.Scopes.{is_open, outer};
 ghost use Rattle.irtext_scopes.specs.Tracker.{entered, left, unresolved};
 ghost use Rattle.irtext_scopes.specs.declared.tracker.EnterFault.{EnterFault};
 ghost use Rattle.irtext_names.specs.Linked.{StandsAt, Takes, FailsBy, nothing_made};
-ghost use Rattle.irtext_names.specs.Tied.{AreTied, AreWaiting, NoneIsLeft};
+ghost use Rattle.irtext_names.specs.Tied.{MatchesGraph, ArePending, NoneIsLeft};
 
 use irtext_graph::arena::Ptr;
 use irtext_graph::graph::Graph;
@@ -28,8 +28,8 @@ pub fn no_names<O: Drop, B: Drop, T: Drop>(
     ensures names { result.names ≡ [] }
     ensures values { result.values ≡ [] }
     ensures labels { result.labels ≡ [] }
-    ensures tied { AreTied result.values result.labels graph.now }
-    ensures waiting { AreWaiting graph.now.made [] result.values result.labels graph.now }
+    ensures tied { MatchesGraph result.values result.labels graph.now }
+    ensures waiting { ArePending graph.now.made [] result.values result.labels graph.now }
     ensures stands { StandsAt result graph.now nothing_made [] start }
 {
     let _made = graph.made();
@@ -44,7 +44,7 @@ pub fn enter_region<O: Drop, B: Drop, T: Drop>(
     graph: &Graph<Option<O>, B, Option<T>>,
     isolated: bool,
 ) -> Result<(), EnterFault>
-    requires { AreTied names.old.values names.old.labels graph.now }
+    requires { MatchesGraph names.old.values names.old.labels graph.now }
     ensures values { OnOk result (names.new.values ≡ entered isolated names.old.values) }
     ensures labels { OnOk result (names.new.labels ≡ [] ∷ names.old.labels) }
     ensures shared { (result ≡ Err EnterFault.TopLevelOpRegionNotIsolatedFromAbove) ↔
@@ -52,9 +52,9 @@ pub fn enter_region<O: Drop, B: Drop, T: Drop>(
     ensures err_values { OnErr result (names.new.values ≡ names.old.values) }
     ensures err_labels { OnErr result (names.new.labels ≡ names.old.labels) }
     ensures names { names.new.names ≡ names.old.names }
-    ensures tied { AreTied names.new.values names.new.labels graph.now }
+    ensures tied { MatchesGraph names.new.values names.new.labels graph.now }
     ensures waiting { (m : ℕ) (own : List (Ptr BasicBlock))
-        → AreWaiting m own names.old.values names.old.labels graph.now → AreWaiting m own names.new.values names.new.labels graph.now }
+        → ArePending m own names.old.values names.old.labels graph.now → ArePending m own names.new.values names.new.labels graph.now }
     ensures enters { OnOk result (Takes (enter isolated) (history.entered isolated) names.old names.new graph.now) }
     ensures shut { result ≡ Err EnterFault.TopLevelOpRegionNotIsolatedFromAbove
         → FailsBy (enter isolated) names.old graph.now (record { cause = NotIsolated; at = None }) }
@@ -72,16 +72,16 @@ pub fn exit_region<O: Drop, B: Drop, T: Drop>(
     graph: &Graph<Option<O>, B, Option<T>>,
     isolated: bool,
 ) -> Option<usize>
-    requires { AreTied names.old.values names.old.labels graph.now }
+    requires { MatchesGraph names.old.values names.old.labels graph.now }
     ensures first { result ≡ unresolved isolated names.old.values names.old.labels }
     ensures known { IfSome result (λ n. n < length names.old.names) }
     ensures values { names.new.values ≡ left isolated names.old.values }
     ensures labels { names.new.labels ≡ outer names.old.labels }
     ensures names { names.new.names ≡ names.old.names }
-    ensures tied { AreTied names.new.values names.new.labels graph.now }
+    ensures tied { MatchesGraph names.new.values names.new.labels graph.now }
     ensures waiting { IfNone result ((m : ℕ) (own : List (Ptr BasicBlock))
-        → AreWaiting m own names.old.values names.old.labels graph.now → AreWaiting m own names.new.values names.new.labels graph.now) }
-    ensures none_left { IfNone result ((m : ℕ) (own : List (Ptr BasicBlock)) → AreWaiting m own names.old.values names.old.labels graph.now
+        → ArePending m own names.old.values names.old.labels graph.now → ArePending m own names.new.values names.new.labels graph.now) }
+    ensures none_left { IfNone result ((m : ℕ) (own : List (Ptr BasicBlock)) → ArePending m own names.old.values names.old.labels graph.now
         → names.new.values ≡ [] → names.new.labels ≡ [] → NoneIsLeft m own graph.now) }
     ensures leaves { IfNone result ((a : ℕ) → Takes (leave isolated a) (history.left isolated) names.old names.new graph.now) }
     ensures unresolved { IfSome result (λ n. (a : ℕ) → (t : Text) × (slice_get names.old.names n ≡ Some t)

@@ -7,7 +7,7 @@ ghost use Rattle.irtext_graph.specs.declared.object.Value.{Value};
 ghost use Rattle.irtext_graph.specs.declared.object.Defined.TheVariants.{OfValue, OfBlock};
 ghost use Rattle.irtext_grammar.specs.Names.Script.{use_value, use_label};
 ghost use Rattle.irtext_scopes.specs.Scopes.{is_open};
-ghost use Rattle.irtext_names.specs.Tied.{AreTied, AreWaiting};
+ghost use Rattle.irtext_names.specs.Tied.{MatchesGraph, ArePending};
 ghost use Rattle.irtext_names.specs.Rows.{AreKnown, UsesRow};
 
 use crate::labels::block_opd;
@@ -30,14 +30,14 @@ pub fn ssa_opds<N: Named, O: Drop, B: Drop, T: Drop>(
 ) -> Result<(), AllocError>
     requires open { is_open names.old.values ≡ true }
     requires known { AreKnown (length names.old.names) (map N.numbered used.now) }
-    requires tied { AreTied names.old.values names.old.labels graph.old }
+    requires tied { MatchesGraph names.old.values names.old.labels graph.old }
     ensures uses { OnOk result ((more : List Value) × (values.new.items ≡ values.old.items ++ more)
         × UsesRow OfValue use_value (map N.numbered used.now) names.old names.new graph.old graph.new more) }
     ensures open { is_open names.new.values ≡ true }
     ensures rest { (names.new.names ≡ names.old.names) × (names.new.labels ≡ names.old.labels) }
-    ensures tied { AreTied names.new.values names.new.labels graph.new }
+    ensures tied { MatchesGraph names.new.values names.new.labels graph.new }
     ensures waiting { (m : ℕ) (own : List (Ptr BasicBlock)) → m ≤ graph.old.made
-        → AreWaiting m own names.old.values names.old.labels graph.old → AreWaiting m own names.new.values names.new.labels graph.new }
+        → ArePending m own names.old.values names.old.labels graph.old → ArePending m own names.new.values names.new.labels graph.new }
     ensures kept { (m : ℕ) → m ≤ graph.old.made → KeepsOlder m graph.old graph.new }
 {
     for name in used {
@@ -57,14 +57,14 @@ pub fn block_opds<N: Named, O: Drop, A: Drop, T: Drop>(
 ) -> Result<(), AllocError>
     requires open { is_open names.old.labels ≡ true }
     requires known { AreKnown (length names.old.names) (map N.numbered used.now) }
-    requires tied { AreTied names.old.values names.old.labels graph.old }
+    requires tied { MatchesGraph names.old.values names.old.labels graph.old }
     ensures uses { OnOk result ((more : List (Ptr BasicBlock)) × (blocks.new.items ≡ blocks.old.items ++ more)
         × UsesRow OfBlock use_label (map N.numbered used.now) names.old names.new graph.old graph.new more) }
     ensures open { is_open names.new.labels ≡ true }
     ensures rest { (names.new.names ≡ names.old.names) × (names.new.values ≡ names.old.values) }
-    ensures tied { AreTied names.new.values names.new.labels graph.new }
+    ensures tied { MatchesGraph names.new.values names.new.labels graph.new }
     ensures waiting { (m : ℕ) (own : List (Ptr BasicBlock)) → m ≤ graph.old.made
-        → AreWaiting m own names.old.values names.old.labels graph.old → AreWaiting m own names.new.values names.new.labels graph.new }
+        → ArePending m own names.old.values names.old.labels graph.old → ArePending m own names.new.values names.new.labels graph.new }
     ensures kept { (m : ℕ) → m ≤ graph.old.made → KeepsOlder m graph.old graph.new }
 {
     for name in used {

@@ -13,7 +13,7 @@ ghost use Rattle.irtext_grammar.specs.Names.Script.{Place, User, use_value, defi
 ghost use Rattle.irtext_grammar.specs.Names.TextScopes.{Word};
 ghost use Rattle.irtext_names.specs.Linked.{TakesUse, TakesDefinition, FailsBy};
 ghost use Rattle.irtext_names.specs.Placeholders.{MakesValue, Uses, Defines, StandsAsBefore};
-ghost use Rattle.irtext_names.specs.Tied.{AreTied, AreWaiting, IsNoPlaceholder};
+ghost use Rattle.irtext_names.specs.Tied.{MatchesGraph, ArePending, IsNoPlaceholder};
 
 use crate::placeholders::settle;
 use irtext_few::Few;
@@ -34,7 +34,7 @@ pub fn ssa_opd<O: Drop, B: Drop, T: Drop>(
 ) -> Result<Value, AllocError>
     requires open { is_open names.old.values ≡ true }
     requires known { name < length names.old.names }
-    requires tied { AreTied names.old.values names.old.labels graph.old }
+    requires tied { MatchesGraph names.old.values names.old.labels graph.old }
     ensures uses { IfOk result (λ v. Uses MakesValue names.old.values names.new.values graph.old graph.new name v) }
     ensures there { IfOk result (λ v. ValueStands graph.new v) }
     ensures follows { IfOk result (λ v. (w : Word) (u : User) → slice_get names.old.names name ≡ Some w.name
@@ -42,9 +42,9 @@ pub fn ssa_opd<O: Drop, B: Drop, T: Drop>(
     ensures scopes { OnErr result (names.new.values ≡ names.old.values) }
     ensures objects { OnErr result (StandsAsBefore graph.old graph.new) }
     ensures rest { (names.new.names ≡ names.old.names) × (names.new.labels ≡ names.old.labels) }
-    ensures tied { AreTied names.new.values names.new.labels graph.new }
+    ensures tied { MatchesGraph names.new.values names.new.labels graph.new }
     ensures waiting { (m : ℕ) (own : List (Ptr BasicBlock)) → m ≤ graph.old.made
-        → AreWaiting m own names.old.values names.old.labels graph.old → AreWaiting m own names.new.values names.new.labels graph.new }
+        → ArePending m own names.old.values names.old.labels graph.old → ArePending m own names.new.values names.new.labels graph.new }
     ensures kept { (m : ℕ) → m ≤ graph.old.made → KeepsOlder m graph.old graph.new }
 {
     if let Some(value) = names.ssa_use(name) {
@@ -70,7 +70,7 @@ pub fn ssa_def<O: Drop, B: Drop, T: Drop>(
 ) -> Result<(), DefineFault>
     requires open { is_open names.old.values ≡ true }
     requires known { name < length names.old.names }
-    requires tied { AreTied names.old.values names.old.labels graph.old }
+    requires tied { MatchesGraph names.old.values names.old.labels graph.old }
     requires there { ValueStands graph.old def }
     requires no_placeholder { IsNoPlaceholder names.old.values def }
     ensures twice { (result ≡ Err DefineFault.MultipleDefinitions) ↔ (is_defined (find name (innermost names.old.values)) ≡ true) }
@@ -83,11 +83,11 @@ pub fn ssa_def<O: Drop, B: Drop, T: Drop>(
     ensures scopes { OnErr result (names.new.values ≡ names.old.values) }
     ensures objects { OnErr result (graph.new ≡ graph.old) }
     ensures rest { (names.new.names ≡ names.old.names) × (names.new.labels ≡ names.old.labels) }
-    ensures tied { AreTied names.new.values names.new.labels graph.new }
+    ensures tied { MatchesGraph names.new.values names.new.labels graph.new }
     ensures waiting { (m : ℕ) (own : List (Ptr BasicBlock))
-        → AreWaiting m own names.old.values names.old.labels graph.old → AreWaiting m own names.new.values names.new.labels graph.new }
+        → ArePending m own names.old.values names.old.labels graph.old → ArePending m own names.new.values names.new.labels graph.new }
     ensures kept { (m : ℕ) (own : List (Ptr BasicBlock)) → IsClosedBelow m graph.old
-        → AreWaiting m own names.old.values names.old.labels graph.old → KeepsOlder m graph.old graph.new }
+        → ArePending m own names.old.values names.old.labels graph.old → KeepsOlder m graph.old graph.new }
 {
     if let Some(placeholder) = names.ssa_def(name, def)? {
         settle(graph, Defined::OfValue(placeholder), Defined::OfValue(def));

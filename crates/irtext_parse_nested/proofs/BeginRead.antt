@@ -5,16 +5,16 @@ use Rattle.irtext_context.specs.Context.{ContextView, MakesOperation, KeepsOlder
 use Rattle.irtext_context.specs.declared.base.operation.OperationData.{OperationData}
 use Rattle.irtext_graph.specs.Back.{AllOlder}
 use Rattle.irtext_graph.specs.Graph as graphs
-use Rattle.irtext_graph.specs.Graph.{Stands, IsNew}
+use Rattle.irtext_graph.specs.Graph.{IsLive, IsNew}
 use Rattle.irtext_graph.proofs.Closed.{older_on}
 use Rattle.irtext_graph.specs.declared.arena.Ptr.{Ptr}
 use Rattle.irtext_graph.specs.declared.object.BasicBlock.{BasicBlock}
 use Rattle.irtext_graph.specs.declared.object.Operation.{Operation}
 use Rattle.irtext_graph.specs.declared.object.Object.TheVariants.{TheBlock, TheOperation}
 use Rattle.irtext_graph.specs.declared.object.Value.{Value}
-use Rattle.irtext_nesting.specs.Stands.{IsThere}
-use Rattle.irtext_parse_nested.specs.Gathered.{IsSteady}
-use Rattle.irtext_parse_nested.specs.Items.{Names, Lasts}
+use Rattle.irtext_parse_spec.specs.Unchanged.{IsThere}
+use Rattle.irtext_parse_nested.specs.Gathered.{KeepsScopes}
+use Rattle.irtext_parse_nested.specs.Items.{Names, KeepsLive}
 use Rattle.irtext_parse_nested.proofs.Lasting.{block_stands}
 use Rattle.irtext_parse_nested.proofs.UsedStands.{lasts_then, used_lasts, made_lasts, made_new}
 
@@ -43,8 +43,8 @@ module _ {T A : Type 0} where
     dialects = l.dialects ∙ k.dialects;
   }
 
-module _ {T A : Type 0} (old used : ContextView T A) (before names : Names) (all_older : AllOlder old.graph.made old.graph) (steady : IsSteady before names old.graph used.graph) (used_is : used ≡ with_graph old used.graph) where
-  lasts_used : Lasts old used
+module _ {T A : Type 0} (old used : ContextView T A) (before names : Names) (all_older : AllOlder old.graph.made old.graph) (steady : KeepsScopes before names old.graph used.graph) (used_is : used ≡ with_graph old used.graph) where
+  lasts_used : KeepsLive old used
   lasts_used = used_lasts old used all_older steady.kept steady.brings (ap (λ c. c.dialects) used_is)
 
   pub used_more : (m : ℕ) → m ≤ old.graph.made → m ≤ used.graph.made
@@ -54,11 +54,11 @@ module _ {T A : Type 0} (old used : ContextView T A) (before names : Names) (all
   keeps_used m le = used_keeps old used used_is m (steady.kept m le)
 
   module _ (made : ContextView T A) {op : Ptr Operation} {held : OperationData A} {types : List T} {vs : List Value} {bs : List (Ptr BasicBlock)} (makes : MakesOperation used made op held types vs bs) where
-    lasts_here : Lasts old made
+    lasts_here : KeepsLive old made
     lasts_here = lasts_then old used made lasts_used (made_lasts used made op held types makes)
 
     -- the block stands where it stood
-    pub block_there : (o : Option (Ptr BasicBlock)) → IfSome o (λ k. IsThere old (TheBlock k)) → IfSome o (λ k. Stands made.graph (TheBlock k))
+    pub block_there : (o : Option (Ptr BasicBlock)) → IfSome o (λ k. IsThere old (TheBlock k)) → IfSome o (λ k. IsLive made.graph (TheBlock k))
     block_there None there = tt
     block_there (Some k) there = block_stands made k (lasts_here.blocks k there.0 there.1).0
 

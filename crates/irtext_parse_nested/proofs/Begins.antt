@@ -31,7 +31,7 @@ use Rattle.irtext_grammar.proofs.Lists.InOrder.{firsts}
 use Rattle.irtext_grammar.proofs.Lists.Numbering.{own, numbered_in, own_numbered, in_order_length}
 use Rattle.irtext_names.specs.Linked.{Known, StandsAt}
 use Rattle.irtext_names.specs.Placeholders.{IsBlank, IsPlaceholder}
-use Rattle.irtext_names.specs.Tied.{AreTied, AreWaiting}
+use Rattle.irtext_names.specs.Tied.{MatchesGraph, ArePending}
 use Rattle.irtext_names.proofs.SameBut.{same_defined, data_in, data_is}
 use Rattle.irtext_names.proofs.Linked.Placed.{appended_ties, appended_stands}
 use Rattle.irtext_names.specs.Rows.{AreHeldBy}
@@ -143,7 +143,7 @@ module _ {O B T : Type 0} {g h : GraphView (Option O) B T} (b : Ptr BasicBlock) 
   block_apart : (c : Ptr BasicBlock) → IsPlaceholder g (OfBlock c) → (TheBlock c ≢ TheBlock b) × (TheBlock c ≢ TheOperation op)
   block_apart c w = (λ e. let same : c ≡ b = cc in let none : parent g (TheBlock b) ≡ None = subst (λ q. parent g (TheBlock q) ≡ None) same w.blank in absurd (true≢false (sym (subst IsSome none inside))), λ e. cc)
 
-  pub operation_placed_ties : (vs : List (Scope Value)) (ls : List (Scope (Ptr BasicBlock))) → AreTied vs ls g → AreTied vs ls h
+  pub operation_placed_ties : (vs : List (Scope Value)) (ls : List (Scope (Ptr BasicBlock))) → MatchesGraph vs ls g → MatchesGraph vs ls h
   operation_placed_ties vs ls t = appended_ties a vs ls (λ i n v f. value_apart v (t.value_ties.held i n v f)) (λ i n c f. block_apart c (t.label_ties.held i n c f)) t
 
   pub operation_placed : (names : Names) (known : Known) (held : List (User × Defined)) (st : State) → StandsAt names g known held st → StandsAt names h known held st
@@ -155,7 +155,7 @@ module _ {O B T : Type 0} {g h : GraphView (Option O) B T} (b : Ptr BasicBlock) 
   same_new : (m : ℕ) (q : Object) → is_older m (content h q) ≡ is_older m (content g q)
   same_new m q = ap (is_older m) (a.objects.contents q)
 
-  pub operation_placed_waits : (m : ℕ) (own : List (Ptr BasicBlock)) (vs : List (Scope Value)) (ls : List (Scope (Ptr BasicBlock))) → AreWaiting m own vs ls g → AreWaiting m own vs ls h
+  pub operation_placed_waits : (m : ℕ) (own : List (Ptr BasicBlock)) (vs : List (Scope Value)) (ls : List (Scope (Ptr BasicBlock))) → ArePending m own vs ls g → ArePending m own vs ls h
   operation_placed_waits m own vs ls w = record {
     value_waits = record {
       late = λ i n v f. same_new m (owner (OfValue v)) ∙ w.value_waits.late i n v f;

@@ -3,19 +3,19 @@ use Rattle.std.proofs.Common.{◌≡◌, ◌∙◌, ◌+◌, ℕ, suc, Bool, Lis
 use Rattle.irtext_base.specs.Text.{Text}
 use Rattle.irtext_base.specs.Format as format
 use Rattle.irtext_base.specs.Format.{Format, Directive, Id, Accepted, are_places}
-use Rattle.irtext_formats.specs.Conditions.{WritesNamesOrType}
+use Rattle.irtext_format_check.specs.Conditions.{WritesNamesOrType}
 use Rattle.irtext_grammar.specs.Grammar.Tree as tree
 use Rattle.irtext_grammar.specs.Grammar.Tree.{Name, Piece, Part, parts_of, views, in_order, directive_of_piece, operand_names, successor_labels}
 use Rattle.irtext_grammar.proofs.Lists.InOrder.{firsts}
 use Rattle.irtext_grammar.proofs.Lists.Numbering.{in_order_length}
-use Rattle.irtext_nesting.specs.Heads.{Step, flat, types, one, all, step_of, steps_of, canonical_steps, front_steps, region_steps}
-use Rattle.irtext_nesting.specs.Naming.{body_of, canonical_of, unmarked}
+use Rattle.irtext_parse_spec.specs.Heads.{Step, flat, types, one, all, step_of, steps_of, canonical_steps, front_steps, region_steps}
+use Rattle.irtext_parse_spec.specs.Naming.{body_of, canonical_of, unmarked}
 use Rattle.irtext_parse_pieces.specs.declared.pieces.ReadPiece.{ReadPiece}
 use Rattle.irtext_parse_pieces.specs.declared.pieces.ReadPiece.TheVariants as read
 use Rattle.irtext_parse_pieces.specs.Named.{StandsFor, Each}
 use Rattle.irtext_parse_pieces.specs.Pieces.{IsPiece}
 use Rattle.irtext_parse_nested.specs.Beginning.{ArePartsOf}
-use Rattle.irtext_parse_nested.specs.Begun.{ReadNeither}
+use Rattle.irtext_parse_nested.specs.OpenOperation.{ReadNeither}
 use Rattle.irtext_parse_nested.specs.Gathered.{operand_place, successor_place, operand_list, successor_list, type_list}
 use Rattle.irtext_parse_nested.proofs.BegunParts.{views_both, views_pieces, behind_neither, operand_places_are, successor_places_are, later_untyped, listed_later, two_lists, only_regions, operand_alike, successor_alike, seen_alike}
 use Rattle.irtext_parse_nested.proofs.Faults.{each_length}

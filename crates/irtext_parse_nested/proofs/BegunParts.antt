@@ -6,15 +6,15 @@ use Rattle.irtext_base.specs.Text.{Text}
 use Rattle.irtext_base.specs.Format as format
 use Rattle.irtext_base.specs.Format.{Format, Directive, Accepted, are_places, operand_places, successor_places, sym_name_key, count, is_operands, is_successors, c7}
 use Rattle.irtext_base.specs.declared.base.attributes.AttrObj.{AttrObj}
-use Rattle.irtext_formats.specs.Conditions.{WritesNamesOrType}
+use Rattle.irtext_format_check.specs.Conditions.{WritesNamesOrType}
 use Rattle.irtext_grammar.specs.Grammar.Tree as tree
 use Rattle.irtext_grammar.specs.Grammar.Tree.{Name, Attribute, ident, Piece, Part, parts_of, views, in_order}
 use Rattle.irtext_grammar.specs.Graphs.Build.{plain_entry, stored}
 use Rattle.irtext_grammar.specs.Names.Acts.{result_types}
 use Rattle.irtext_grammar.proofs.Graphs.FitsFormat.{and_left, and_right}
-use Rattle.irtext_nesting.specs.Exact.{IsOfStep}
-use Rattle.irtext_nesting.specs.Heads.{Step, flat, types, one, all, step_of, steps_of, canonical_steps, front_steps, region_steps}
-use Rattle.irtext_nesting.specs.Naming.{body_of, canonical_of, single_operands, single_successors}
+use Rattle.irtext_parse_spec.specs.Exact.{IsOfStep}
+use Rattle.irtext_parse_spec.specs.Heads.{Step, flat, types, one, all, step_of, steps_of, canonical_steps, front_steps, region_steps}
+use Rattle.irtext_parse_spec.specs.Naming.{body_of, canonical_of, single_operands, single_successors}
 use Rattle.irtext_names.specs.Rows.{AreKnown}
 use Rattle.irtext_parse_pieces.specs.declared.entries.Key.{Key}
 use Rattle.irtext_parse_pieces.specs.declared.names.ReadName.{ReadName}
@@ -25,7 +25,7 @@ use Rattle.irtext_parse_pieces.specs.Fronts.{IsPart}
 use Rattle.irtext_parse_pieces.specs.Named.{StandsFor, Each}
 use Rattle.irtext_parse_pieces.specs.Pieces.{IsPiece}
 use Rattle.irtext_parse_nested.specs.Beginning.{types_made, IsPartOf, ArePartsOf}
-use Rattle.irtext_parse_nested.specs.Begun.{HasNoType, ReadsNeither, ReadNeither}
+use Rattle.irtext_parse_nested.specs.OpenOperation.{HasNoType, ReadsNeither, ReadNeither}
 use Rattle.irtext_parse_nested.specs.Gathered.{entry_read, operand_place, successor_place, placed_type, type_list, stored_of, last_list, CanUse, CanUseAll, LackOperands, LackSuccessors, OperandsOnce, SuccessorsOnce, CanGather}
 use Rattle.irtext_parse_nested.specs.Items.{Names}
 use Rattle.irtext_parse_nested.proofs.Gathers.{map_both, none_left}

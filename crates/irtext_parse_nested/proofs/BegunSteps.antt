@@ -5,10 +5,10 @@ use Rattle.irtext_base.specs.Format.{Format, Id}
 use Rattle.irtext_grammar.specs.Grammar.Tree.{Part, Attribute, views, parts_of, operand_names, successor_labels}
 use Rattle.irtext_grammar.specs.Graphs.Build.{put, put_all, stored}
 use Rattle.irtext_grammar.specs.Names.Acts.{result_types}
-use Rattle.irtext_nesting.specs.Heads.{Step}
-use Rattle.irtext_nesting.specs.Naming.{body_of, unmarked}
-use Rattle.irtext_nesting.specs.Resume.{Begun, with_steps}
-use Rattle.irtext_nesting.specs.Stands.{OwnSoFar}
+use Rattle.irtext_parse_spec.specs.Heads.{Step}
+use Rattle.irtext_parse_spec.specs.Naming.{body_of, unmarked}
+use Rattle.irtext_parse_spec.specs.Resume.{OpenOperation, with_steps}
+use Rattle.irtext_parse_spec.specs.Unchanged.{OwnSoFar}
 use Rattle.irtext_parse_nested.specs.Beginning.{HasBegun, IsPartOf, ArePartsOf}
 use Rattle.irtext_parse_nested.proofs.BegunParts.{views_both}
 
@@ -21,7 +21,7 @@ put_both (d ∷ ds) es cs = put_both ds (put d es) cs
 abbrev pub with_entries : {T A : Type 0} → OwnSoFar T A → List (Text × Attribute A) → OwnSoFar T A
 with_entries own es = record { place = own.place; id = own.id; operands = own.operands; successors = own.successors; types = own.types; entries = es }
 
-module _ {T A : Type 0} (formats : Id → Option Format) (o : Begun T A) (own : OwnSoFar T A) (h : HasBegun formats o own) where
+module _ {T A : Type 0} (formats : Id → Option Format) (o : OpenOperation T A) (own : OwnSoFar T A) (h : HasBegun formats o own) where
   -- ---- one more step was read
   module _ (s : Step) (ss : List Step) (steps : o.steps ≡ s ∷ ss) (part : Part ℕ T A) (is : IsPartOf s part) where
     behind : (later : List (Part ℕ T A)) → ArePartsOf ss later → ArePartsOf o.steps (part ∷ later)

@@ -12,8 +12,8 @@ use Rattle.irtext_graph.specs.declared.object.Operation.{Operation}
 use Rattle.irtext_graph.specs.declared.object.Region.{Region}
 use Rattle.irtext_graph.specs.Parts.{operation_at}
 use Rattle.irtext_graph.specs.Store.{get}
-use Rattle.irtext_names.specs.Tied.{AreTied, AreWaiting}
-use Rattle.irtext_state.specs.declared.parsable.state.State as code
+use Rattle.irtext_names.specs.Tied.{MatchesGraph, ArePending}
+use Rattle.irtext_parse_state.specs.declared.parsable.state.State as code
 use Rattle.irtext_parse_nested.specs.Definitions.{BlanksHaveResults, LosesPlaceholders}
 use Rattle.irtext_parse_nested.specs.Items.{BlanksDefine, IsSound, Names}
 
@@ -51,6 +51,6 @@ module _ {T A : Type 0} where
   blanks_on old new keeps m h p i e n = keeps m (λ q b new. let u = blank_there old q b in h q u.0 u.1 new) p (unseen_blank new p i e) n
 
 -- what is sound is so where nothing but placeholders is lost
-pub loses_sound : {T A U : Type 0} (names new : Names) (s z : code.State T A U) → LosesPlaceholders s.ctx.now.graph z.ctx.now.graph → AreTied new.values new.labels z.ctx.now.graph → (m : ℕ)
-    → (AreWaiting m [] names.values names.labels s.ctx.now.graph → AreWaiting m [] new.values new.labels z.ctx.now.graph) → IsSound m names s → IsSound m new z
+pub loses_sound : {T A U : Type 0} (names new : Names) (s z : code.State T A U) → LosesPlaceholders s.ctx.now.graph z.ctx.now.graph → MatchesGraph new.values new.labels z.ctx.now.graph → (m : ℕ)
+    → (ArePending m [] names.values names.labels s.ctx.now.graph → ArePending m [] new.values new.labels z.ctx.now.graph) → IsSound m names s → IsSound m new z
 loses_sound names new s z loses tied m waits h = record { tied = tied; waiting = waits h.waiting; blanks = blanks_on s.ctx.now z.ctx.now loses.blanks m h.blanks }

@@ -14,7 +14,7 @@ use Rattle.irtext_graph.specs.declared.object.Object.{Object}
 use Rattle.irtext_graph.specs.declared.object.Object.TheVariants.{TheOperation, TheBlock, TheRegion}
 use Rattle.irtext_graph.specs.Content.{Node, Content, Content.{AnOperation, ABlock, ARegion}, RegionContent}
 use Rattle.irtext_graph.specs.Erasing.{without_uses}
-use Rattle.irtext_graph.specs.Graph.{content, content_of, Stands, IsNew}
+use Rattle.irtext_graph.specs.Graph.{content, content_of, IsLive, IsNew}
 use Rattle.irtext_graph.specs.Objects.{is_older}
 use Rattle.irtext_graph.specs.Parts.{results}
 use Rattle.irtext_graph.specs.Store.{get}
@@ -23,9 +23,9 @@ use Rattle.irtext_graph.proofs.Same.{ptr_tells}
 use Rattle.irtext_grammar.specs.Grammar.Tree.{Name, Attribute, Head}
 use Rattle.irtext_grammar.specs.Graphs.Build.{put_all, read_names, plain_entry}
 use Rattle.irtext_grammar.specs.Names.Acts.{entries_if}
-use Rattle.irtext_nesting.specs.Grows.{with_last_block, BlockCame, RegionGains}
-use Rattle.irtext_nesting.specs.Stands.{HasHead, IsThere, Spares}
-use Rattle.irtext_nesting.proofs.Edits.{spares_then, spares_fewer, made_head, block_was_new, block_came, block_came_last, block_came_spares}
+use Rattle.irtext_parse_spec.specs.Grows.{with_last_block, BlockCame, RegionGains}
+use Rattle.irtext_parse_spec.specs.Unchanged.{HasHead, IsThere, ModifiesOnly}
+use Rattle.irtext_parse_spec.proofs.Edits.{spares_then, spares_fewer, made_head, block_was_new, block_came, block_came_last, block_came_spares}
 use Rattle.irtext_context.specs.Made.{made_block}
 use Rattle.irtext_parse_pieces.specs.declared.entries.Key.{Key}
 use Rattle.irtext_parse_pieces.specs.declared.headers.BlockHead.{BlockHead}
@@ -35,7 +35,7 @@ use Rattle.irtext_parse_pieces.specs.Named.{Leaves, Each}
 use Rattle.irtext_parse_nested.specs.Blocks.{entries_in, MakesHead}
 use Rattle.irtext_parse_nested.specs.Definitions.{LosesPlaceholders}
 use Rattle.irtext_parse_nested.specs.Gathered.{entry_read}
-use Rattle.irtext_parse_nested.specs.Items.{Lasts}
+use Rattle.irtext_parse_nested.specs.Items.{KeepsLive}
 use Rattle.irtext_parse_nested.specs.Located.{IsLocated, IsLocatedAt}
 use Rattle.irtext_parse_nested.specs.Placing.{PlacesBlock}
 use Rattle.irtext_parse_nested.proofs.BlockKept.{block_new}
@@ -84,7 +84,7 @@ module _ {T A : Type 0} (old mid : ContextView T A) (r : Ptr Region) (b : Ptr Ba
   ]
   still_new m (TheRegion q) le n = ap (is_older m) (content_same (TheRegion q) (λ e. cc)) ∙ n
 
-  placed_spares : Spares (TheBlock b ∷ TheRegion r ∷ []) old mid
+  placed_spares : ModifiesOnly (TheBlock b ∷ TheRegion r ∷ []) old mid
   placed_spares = block_came_spares (λ n l. Unit {0}) old p.between mid r b held types p.makes p.appends
 
   -- it was not there
@@ -92,7 +92,7 @@ module _ {T A : Type 0} (old mid : ContextView T A) (r : Ptr Region) (b : Ptr Ba
   was_new = block_was_new (λ n l. Unit {0}) old p.between mid r b held types p.makes p.appends
 
   -- what is open lasts
-  pub placed_lasts : Lasts old mid
+  pub placed_lasts : KeepsLive old mid
   placed_lasts = record {
     operations = λ q h. subst IsSome (sym (placed_spares.spared (TheOperation q) h (λ i. elim i [ inl e ↦ cc e | inr j ↦ elim j [ inl f ↦ cc f | inr k ↦ k ] ])).0) h;
     results = λ q h. ap length (results_are mid.graph q ∙ (ap (λ c. results_in (option_map without_uses c)) (content_same (TheOperation q) (λ e. cc)) ∙ sym (results_are old.graph q)));
@@ -105,19 +105,19 @@ module _ {T A : Type 0} (old mid : ContextView T A) (r : Ptr Region) (b : Ptr Ba
 
   -- ---- and then nothing but placeholders is lost
   module _ (new : ContextView T A) (loses : LosesPlaceholders mid.graph new.graph) where
-    behind : Spares [] mid new
+    behind : ModifiesOnly [] mid new
     behind = loses_spares mid new loses
 
     pub begun_new : (m : ℕ) → m ≤ old.graph.made → IsNew m new.graph (TheBlock b)
     begun_new m le = loses.newer m (TheBlock b) (placed_new m le)
 
-    pub begun_lasts : new.dialects ≡ mid.dialects → Lasts old new
+    pub begun_lasts : new.dialects ≡ mid.dialects → KeepsLive old new
     begun_lasts same = lasts_more placed_lasts (loses_lasts mid new loses same)
 
-    pub begun_spares : Spares (TheBlock b ∷ TheRegion r ∷ []) old new
+    pub begun_spares : ModifiesOnly (TheBlock b ∷ TheRegion r ∷ []) old new
     begun_spares = spares_then old mid new (TheBlock b ∷ TheRegion r ∷ []) placed_spares (spares_fewer mid new (TheBlock b ∷ TheRegion r ∷ []) behind)
 
-    pub begun_gains : Stands old.graph (TheRegion r) → RegionGains old new r b
+    pub begun_gains : IsLive old.graph (TheRegion r) → RegionGains old new r b
     begun_gains stands =
         let gains = block_came_last (λ n l. Unit {0}) old p.between mid r b held types p.makes p.appends in
         let there : IsSome (region mid r) = subst IsSome (sym gains.gains) (some_mapped (with_last_block b) (region old r) (stands_region old r stands)) in

@@ -15,19 +15,19 @@ use Rattle.irtext_graph.specs.declared.object.Region.{Region}
 use Rattle.irtext_graph.specs.declared.object.Object.TheVariants.{TheBlock, TheRegion}
 use Rattle.irtext_graph.specs.declared.object.Value.TheVariants.{Argument}
 use Rattle.irtext_graph.specs.Back.{IsClosedBelow}
-use Rattle.irtext_graph.specs.Graph.{Stands, IsNew, parent}
-use Rattle.irtext_state.specs.States.{marks_of}
-use Rattle.irtext_state.specs.declared.parsable.state.State as code
-use Rattle.irtext_state.specs.declared.parsable.state.StateStream.{StateStream}
+use Rattle.irtext_graph.specs.Graph.{IsLive, IsNew, parent}
+use Rattle.irtext_parse_state.specs.States.{marks_of}
+use Rattle.irtext_parse_state.specs.declared.parsable.state.State as code
+use Rattle.irtext_parse_state.specs.declared.parsable.state.StateStream.{StateStream}
 use Rattle.irtext_scopes.specs.Names.{AreDistinct}
 use Rattle.irtext_grammar.specs.Contexts.Held.{whole}
 use Rattle.irtext_grammar.specs.Grammar.Tree.{Head}
-use Rattle.irtext_names.specs.Tied.{AreTied, AreWaiting}
-use Rattle.irtext_outcomes.specs.Promises.Root.{UnlessMemory}
-use Rattle.irtext_outcomes.specs.Readers.Streams.{itself, replaced}
-use Rattle.irtext_nesting.specs.Heads.{head_at}
-use Rattle.irtext_nesting.specs.Grows.{BlockCame, RegionGains}
-use Rattle.irtext_nesting.specs.Stands.{Spares}
+use Rattle.irtext_names.specs.Tied.{MatchesGraph, ArePending}
+use Rattle.irtext_parse_spec.specs.Promises.Root.{UnlessMemory}
+use Rattle.irtext_parse_spec.specs.Readers.Streams.{itself, replaced}
+use Rattle.irtext_parse_spec.specs.Heads.{head_at}
+use Rattle.irtext_parse_spec.specs.Grows.{BlockCame, RegionGains}
+use Rattle.irtext_parse_spec.specs.Unchanged.{ModifiesOnly}
 use Rattle.irtext_names.specs.Rows.{AreKnown}
 use Rattle.irtext_parse_pieces.specs.declared.headers.BlockHead.{BlockHead}
 use Rattle.irtext_parse_pieces.specs.declared.names.ReadName.{ReadName}
@@ -36,7 +36,7 @@ use Rattle.irtext_parse_pieces.specs.Named.{NamesRead}
 use Rattle.irtext_parse_nested.specs.Blocks.{entries_in, MakesHead, NamesHead, RefusesHead}
 use Rattle.irtext_parse_nested.specs.Definitions.{ValuesReady, LosesPlaceholders}
 use Rattle.irtext_parse_nested.specs.Ends.{numbers_of, noted_as}
-use Rattle.irtext_parse_nested.specs.Items.{Names, IsSound, Lasts}
+use Rattle.irtext_parse_nested.specs.Items.{Names, IsSound, KeepsLive}
 use Rattle.irtext_parse_nested.specs.Located.{IsLocated}
 use Rattle.irtext_parse_nested.specs.Read.{BeginsBlock, RefusesBlock}
 use Rattle.irtext_parse_nested.proofs.BlockBegun as begun
@@ -49,14 +49,14 @@ use Rattle.irtext_parse_nested.proofs.Lasting.{stands_block}
 
 -- ---- names that were read besides
 -- they are tied to the graph
-pub read_tied : {T A : Type 0} (before names : Names) → NamesRead before names → (c : ContextView T A) → AreTied before.values before.labels c.graph → AreTied names.values names.labels c.graph
-read_tied before names reads c t = subst (λ ls. AreTied names.values ls c.graph) (sym reads.labels) (subst (λ vs. AreTied vs before.labels c.graph) (sym reads.values) t)
+pub read_tied : {T A : Type 0} (before names : Names) → NamesRead before names → (c : ContextView T A) → MatchesGraph before.values before.labels c.graph → MatchesGraph names.values names.labels c.graph
+read_tied before names reads c t = subst (λ ls. MatchesGraph names.values ls c.graph) (sym reads.labels) (subst (λ vs. MatchesGraph vs before.labels c.graph) (sym reads.values) t)
 
 -- and sound
 pub read_sound : {T A U : Type 0} (before names : Names) → NamesRead before names → (n : ℕ) (s : code.State T A U) → IsSound n before s → IsSound n names s
 read_sound before names reads n s h = record {
   tied = read_tied before names reads s.ctx.now h.tied;
-  waiting = subst (λ ls. AreWaiting n [] names.values ls s.ctx.now.graph) (sym reads.labels) (subst (λ vs. AreWaiting n [] vs before.labels s.ctx.now.graph) (sym reads.values) h.waiting);
+  waiting = subst (λ ls. ArePending n [] names.values ls s.ctx.now.graph) (sym reads.labels) (subst (λ vs. ArePending n [] vs before.labels s.ctx.now.graph) (sym reads.values) h.waiting);
   blanks = h.blanks;
 }
 
@@ -73,17 +73,17 @@ module _ {T A U : Type 0} (types_at : Text → Outcome T) (attr : Text → Outco
 
   module _ (m : code.State T A U) (r : Ptr Region) (b : Ptr BasicBlock) (makes : MakesHead names.names old.state.src (whole v) read.label read.arguments (entries_in read.attributes) old.state.ctx.now m.ctx.now r b) where
     -- ---- the block before its names are defined
-    pub opened_tied : AreTied before.values before.labels old.state.ctx.now.graph → AreTied names.values names.labels m.ctx.now.graph
+    pub opened_tied : MatchesGraph before.values before.labels old.state.ctx.now.graph → MatchesGraph names.values names.labels m.ctx.now.graph
     opened_tied t = made_ties old.state.ctx.now m.ctx.now r b makes.held (map (λ a. a.1) read.arguments) makes.places names.values names.labels (read_tied before names reads old.state.ctx.now t)
 
-    pub opened_ready : (arguments : List ReadName) → arguments ≡ map (λ a. a.0) read.arguments → AreTied before.values before.labels old.state.ctx.now.graph → ValuesReady (λ i. Argument b i) (length arguments) names.values m.ctx.now.graph
+    pub opened_ready : (arguments : List ReadName) → arguments ≡ map (λ a. a.0) read.arguments → MatchesGraph before.values before.labels old.state.ctx.now.graph → ValuesReady (λ i. Argument b i) (length arguments) names.values m.ctx.now.graph
     opened_ready arguments e t = made_ready old.state.ctx.now m.ctx.now r b makes.held (map (λ a. a.1) read.arguments) makes.places names.values names.labels (length arguments)
         (ap length e ∙ (length-map read.arguments (λ a. a.0) ∙ sym (length-map read.arguments (λ a. a.1)))) (read_tied before names reads old.state.ctx.now t)
 
     pub opened_inside : IsSome (parent m.ctx.now.graph (TheBlock b))
     opened_inside = made_inside old.state.ctx.now m.ctx.now r b makes.held (map (λ a. a.1) read.arguments) makes.places
 
-    pub opened_there : Stands m.ctx.now.graph (TheBlock b)
+    pub opened_there : IsLive m.ctx.now.graph (TheBlock b)
     opened_there = made_there old.state.ctx.now m.ctx.now r b makes.held (map (λ a. a.1) read.arguments) makes.places
 
     pub opened_sound : (n : ℕ) → IsSound n before old.state → IsSound n names m
@@ -98,13 +98,13 @@ module _ {T A U : Type 0} (types_at : Text → Outcome T) (attr : Text → Outco
       pub opened_new : (n : ℕ) → n ≤ old.state.ctx.now.graph.made → IsNew n new.graph (TheBlock b)
       opened_new = begun.begun_new old.state.ctx.now m.ctx.now r b makes.held (map (λ a. a.1) read.arguments) makes.places new loses
 
-      pub opened_lasts : new.dialects ≡ m.ctx.now.dialects → Lasts old.state.ctx.now new
+      pub opened_lasts : new.dialects ≡ m.ctx.now.dialects → KeepsLive old.state.ctx.now new
       opened_lasts = begun.begun_lasts old.state.ctx.now m.ctx.now r b makes.held (map (λ a. a.1) read.arguments) makes.places new loses
 
-      pub opened_spares : Spares (TheBlock b ∷ TheRegion r ∷ []) old.state.ctx.now new
+      pub opened_spares : ModifiesOnly (TheBlock b ∷ TheRegion r ∷ []) old.state.ctx.now new
       opened_spares = begun.begun_spares old.state.ctx.now m.ctx.now r b makes.held (map (λ a. a.1) read.arguments) makes.places new loses
 
-      pub opened_gains : Stands old.state.ctx.now.graph (TheRegion r) → RegionGains old.state.ctx.now new r b
+      pub opened_gains : IsLive old.state.ctx.now.graph (TheRegion r) → RegionGains old.state.ctx.now new r b
       opened_gains = begun.begun_gains old.state.ctx.now m.ctx.now r b makes.held (map (λ a. a.1) read.arguments) makes.places new loses
 
       -- it has the header that stands in the text

@@ -18,7 +18,7 @@ use Rattle.irtext_scopes.specs.Scopes.{Scope}
 use Rattle.irtext_grammar.specs.Names.Script.{Path, Place, User, argument, block_at}
 use Rattle.irtext_grammar.specs.Names.History.{State}
 use Rattle.irtext_names.specs.Linked.{Known, StandsAt}
-use Rattle.irtext_names.specs.Tied.{AreTied, AreWaiting, IsNoPlaceholder}
+use Rattle.irtext_names.specs.Tied.{MatchesGraph, ArePending, IsNoPlaceholder}
 use Rattle.irtext_names.proofs.Added.{made_none, added_ties, block_waits}
 use Rattle.irtext_names.proofs.Gained.{block_added}
 use Rattle.irtext_names.proofs.SameBut.{same_defined}
@@ -54,18 +54,18 @@ module _ {O B T : Type 0} {g m k : GraphView (Option O) B T} (r : Ptr Region) (b
   block_here = rw make.blocks.updates.changed refl
 
   -- no label waits with it
-  block_none : (vs : List (Scope Value)) (ls : List (Scope (Ptr BasicBlock))) → AreTied vs ls g → IsNoPlaceholder ls b
+  block_none : (vs : List (Scope Value)) (ls : List (Scope (Ptr BasicBlock))) → MatchesGraph vs ls g → IsNoPlaceholder ls b
   block_none vs ls t = made_none OfBlock ls b t.label_ties (block_added b make)
 
   -- names stay tied, and wait for what they waited
-  pub placed_ties : (vs : List (Scope Value)) (ls : List (Scope (Ptr BasicBlock))) → AreTied vs ls g → AreTied vs ls k
+  pub placed_ties : (vs : List (Scope Value)) (ls : List (Scope (Ptr BasicBlock))) → MatchesGraph vs ls g → MatchesGraph vs ls k
   placed_ties vs ls t = block_placed_ties r b a vs ls (block_none vs ls t) (added_ties (block_added b make) vs ls t)
 
-  pub placed_waits : (n : ℕ) (vs : List (Scope Value)) (ls : List (Scope (Ptr BasicBlock))) → AreTied vs ls g → AreWaiting n [] vs ls g → AreWaiting n [] vs ls k
+  pub placed_waits : (n : ℕ) (vs : List (Scope Value)) (ls : List (Scope (Ptr BasicBlock))) → MatchesGraph vs ls g → ArePending n [] vs ls g → ArePending n [] vs ls k
   placed_waits n vs ls t w = block_placed_waits r b a n (b ∷ []) [] vs ls (λ y s. s) (block_waits b x types make n [] vs ls t w)
 
   -- its arguments are there, and no name waits with one of them
-  pub arguments_ready : (vs : List (Scope Value)) (ls : List (Scope (Ptr BasicBlock))) → AreTied vs ls g → ValuesReady (λ i. Argument b i) (length types) vs k
+  pub arguments_ready : (vs : List (Scope Value)) (ls : List (Scope (Ptr BasicBlock))) → MatchesGraph vs ls g → ValuesReady (λ i. Argument b i) (length types) vs k
   arguments_ready vs ls t = λ i l. (
     same_defined m k (OfValue (Argument b i)) (ap (option_map without_uses) (a.objects.contents (TheBlock b))) (argument_here i l),
     λ n j e. ((placed_ties vs ls t).value_ties.held n j (Argument b i) e).blank,

@@ -16,15 +16,15 @@ use Rattle.irtext_graph.specs.declared.object.Value.{Value}
 use Rattle.irtext_graph.specs.declared.object.Value.TheVariants.{Argument}
 use Rattle.irtext_graph.specs.Content.{Content, Content.{AnOperation, ABlock}, OperationContent, BlockContent}
 use Rattle.irtext_graph.specs.Erasing.{without_uses}
-use Rattle.irtext_graph.specs.Graph.{content, content_of, parent, Stands}
+use Rattle.irtext_graph.specs.Graph.{content, content_of, parent, IsLive}
 use Rattle.irtext_graph.specs.Store.{get}
-use Rattle.irtext_state.specs.declared.parsable.state.State as code
+use Rattle.irtext_parse_state.specs.declared.parsable.state.State as code
 use Rattle.irtext_scopes.specs.Scopes.{Scope}
 use Rattle.irtext_grammar.specs.Contexts.Held.{entries_of}
 use Rattle.irtext_grammar.specs.Graphs.Build.{put_all, read_names}
 use Rattle.irtext_grammar.specs.Grammar.Tree.{Name}
 use Rattle.irtext_grammar.specs.Names.Acts.{block_may_hold}
-use Rattle.irtext_names.specs.Tied.{AreTied, AreWaiting}
+use Rattle.irtext_names.specs.Tied.{MatchesGraph, ArePending}
 use Rattle.irtext_names.specs.Rows.{AreNamed, AreKnown}
 use Rattle.irtext_parse_pieces.specs.declared.entries.Key.{Key}
 use Rattle.irtext_parse_pieces.specs.declared.names.ReadName.{ReadName}
@@ -51,10 +51,10 @@ named_known names (n ∷ ns) [] a = absurd a
 named_known names (n ∷ ns) (w ∷ ws) a = (within names n w.text a.0, named_known names ns ws a.1)
 
 module _ {T A : Type 0} (old mid : ContextView T A) (r : Ptr Region) (b : Ptr BasicBlock) (held : BlockData A) (types : List T) (p : PlacesBlock old mid r b held types) where
-  pub made_ties : (vs : List (Scope Value)) (ls : List (Scope (Ptr BasicBlock))) → AreTied vs ls old.graph → AreTied vs ls mid.graph
+  pub made_ties : (vs : List (Scope Value)) (ls : List (Scope (Ptr BasicBlock))) → MatchesGraph vs ls old.graph → MatchesGraph vs ls mid.graph
   made_ties vs ls t = placed_ties r b held (known types) p.makes.graph p.appends vs ls t
 
-  pub made_ready : (vs : List (Scope Value)) (ls : List (Scope (Ptr BasicBlock))) (n : ℕ) → n ≡ length types → AreTied vs ls old.graph → ValuesReady (λ i. Argument b i) n vs mid.graph
+  pub made_ready : (vs : List (Scope Value)) (ls : List (Scope (Ptr BasicBlock))) (n : ℕ) → n ≡ length types → MatchesGraph vs ls old.graph → ValuesReady (λ i. Argument b i) n vs mid.graph
   made_ready vs ls n e t = subst (λ k. ValuesReady (λ i. Argument b i) k vs mid.graph) (length-map types (λ t. Some t) ∙ sym e) (arguments_ready r b held (known types) p.makes.graph p.appends vs ls t)
 
   pub made_inside : IsSome (parent mid.graph (TheBlock b))
@@ -63,7 +63,7 @@ module _ {T A : Type 0} (old mid : ContextView T A) (r : Ptr Region) (b : Ptr Ba
   abbrev a_block : ℕ × BlockContent (BlockData A) (Option T) → Content (Option (OperationData A)) (BlockData A) (Option T)
   a_block d = ABlock d.0 d.1
 
-  pub made_there : Stands mid.graph (TheBlock b)
+  pub made_there : IsLive mid.graph (TheBlock b)
   made_there = subst IsSome (sym (p.appends.objects.contents (TheBlock b) ∙ ap (λ e. option_map a_block (content_of e)) p.makes.graph.blocks.updates.changed)) refl
 
   abbrev an_operation : ℕ × OperationContent (Option (OperationData A)) (Option T) → Content (Option (OperationData A)) (BlockData A) (Option T)
@@ -75,11 +75,11 @@ module _ {T A : Type 0} (old mid : ContextView T A) (r : Ptr Region) (b : Ptr Ba
 
   pub made_sound : {U : Type 0} (names : Names) (s m : code.State T A U) → s.ctx.now ≡ old → m.ctx.now ≡ mid → (n : ℕ) → IsSound n names s → IsSound n names m
   made_sound names s m e f n h =
-      let tied = subst (λ c. AreTied names.values names.labels c.graph) e h.tied in
+      let tied = subst (λ c. MatchesGraph names.values names.labels c.graph) e h.tied in
       record {
-        tied = subst (λ c. AreTied names.values names.labels c.graph) (sym f) (made_ties names.values names.labels tied);
-        waiting = subst (λ c. AreWaiting n [] names.values names.labels c.graph) (sym f) (placed_waits r b held (known types) p.makes.graph p.appends n names.values names.labels tied
-            (subst (λ c. AreWaiting n [] names.values names.labels c.graph) e h.waiting));
+        tied = subst (λ c. MatchesGraph names.values names.labels c.graph) (sym f) (made_ties names.values names.labels tied);
+        waiting = subst (λ c. ArePending n [] names.values names.labels c.graph) (sym f) (placed_waits r b held (known types) p.makes.graph p.appends n names.values names.labels tied
+            (subst (λ c. ArePending n [] names.values names.labels c.graph) e h.waiting));
         blanks = subst (BlanksDefine n) (sym f) (blanks_on old mid (blanks_by old.graph mid.graph (λ p. inl (ap (option_map without_uses) (p_same p)))) n (subst (BlanksDefine n) e h.blanks));
       }
 

@@ -9,11 +9,11 @@ use Rattle.irtext_base.specs.Answers.{Outcome, Read, StarvesHere}
 use Rattle.irtext_base.specs.Locations.{AttrView}
 use Rattle.irtext_base.specs.declared.parsable.fault.ParseFault.{ParseFault}
 use Rattle.irtext_base.proofs.Sincere.{of_mapped, of_sincere}
-use Rattle.irtext_read.specs.AttrTexts.{attr_at}
-use Rattle.irtext_read.specs.Infix.{◌▷◌}
-use Rattle.irtext_read.specs.Tokens.{identifier_at, word}
-use Rattle.irtext_read.proofs.Honest.{Honest, ◌then◌, ◌kept◌, ◌so◌, seen, honest_either, honest_word, honest_space, honest_name, honest_spaced, honest_separated, honest_attr}
-use Rattle.irtext_read.proofs.Steps.{alone}
+use Rattle.irtext_tokens.specs.AttrTexts.{attr_at}
+use Rattle.irtext_tokens.specs.Infix.{◌▷◌}
+use Rattle.irtext_tokens.specs.Tokens.{identifier_at, word}
+use Rattle.irtext_tokens.proofs.Honest.{Honest, ◌then◌, ◌kept◌, ◌so◌, seen, honest_either, honest_word, honest_space, honest_name, honest_spaced, honest_separated, honest_attr}
+use Rattle.irtext_tokens.proofs.Steps.{alone}
 use Rattle.irtext_graph.specs.declared.arena.Ptr.{Ptr}
 use Rattle.irtext_graph.specs.declared.object.BasicBlock.{BasicBlock}
 use Rattle.irtext_graph.specs.declared.object.Region.{Region}
@@ -21,18 +21,18 @@ use Rattle.irtext_graph.specs.declared.object.Object.TheVariants.{TheBlock}
 use Rattle.irtext_graph.specs.Graph.{parent}
 use Rattle.irtext_context.specs.Context.{block}
 use Rattle.irtext_context.specs.declared.base.item.Item.TheVariants as item
-use Rattle.irtext_state.specs.States.{marks_of}
-use Rattle.irtext_state.specs.declared.parsable.state.State as code
-use Rattle.irtext_state.specs.declared.parsable.state.StateStream.{StateStream}
+use Rattle.irtext_parse_state.specs.States.{marks_of}
+use Rattle.irtext_parse_state.specs.declared.parsable.state.State as code
+use Rattle.irtext_parse_state.specs.declared.parsable.state.StateStream.{StateStream}
 use Rattle.irtext_scopes.specs.Names.{AreDistinct}
 use Rattle.irtext_grammar.specs.Contexts.Held.{whole}
 use Rattle.irtext_grammar.specs.Grammar.Tree.{Head}
-use Rattle.irtext_outcomes.specs.Promises.Root.{UnlessMemory}
-use Rattle.irtext_outcomes.specs.Promises.Section.{IsStarved}
-use Rattle.irtext_outcomes.specs.Readers.Streams.{itself, replaced}
-use Rattle.irtext_outcomes.proofs.Readers.Answered.{Answered, answered}
-use Rattle.irtext_outcomes.proofs.Readers.Honest.{honest_nothing}
-use Rattle.irtext_nesting.specs.Heads.{name_at, name_of, label_at, pair_at, dictionary_at, argument_at, head_at}
+use Rattle.irtext_parse_spec.specs.Promises.Root.{UnlessMemory}
+use Rattle.irtext_parse_spec.specs.Promises.Section.{IsStarved}
+use Rattle.irtext_parse_spec.specs.Readers.Streams.{itself, replaced}
+use Rattle.irtext_parse_spec.proofs.Readers.Answered.{Answered, answered}
+use Rattle.irtext_parse_spec.proofs.Readers.Honest.{honest_nothing}
+use Rattle.irtext_parse_spec.specs.Heads.{name_at, name_of, label_at, pair_at, dictionary_at, argument_at, head_at}
 use Rattle.irtext_parse_pieces.specs.declared.headers.BlockHead.{BlockHead}
 use Rattle.irtext_parse_pieces.specs.Headers.{IsHead, MustHead}
 use Rattle.irtext_parse_pieces.specs.Named.{NamesRead}

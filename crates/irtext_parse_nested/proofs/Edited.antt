@@ -31,17 +31,17 @@ use Rattle.irtext_graph.specs.Store.{get, object_of}
 use Rattle.irtext_graph.specs.Used.{IsDefined}
 use Rattle.irtext_graph.proofs.Nests.{told}
 use Rattle.irtext_graph.proofs.Same.{ptr_tells}
-use Rattle.irtext_state.specs.States.{marks_of}
-use Rattle.irtext_state.specs.declared.parsable.state.State as code
+use Rattle.irtext_parse_state.specs.States.{marks_of}
+use Rattle.irtext_parse_state.specs.declared.parsable.state.State as code
 use Rattle.irtext_scopes.specs.Scopes.{Scope}
 use Rattle.irtext_grammar.specs.Names.History.{Outcome}
 use Rattle.irtext_grammar.specs.Names.Script.{Path}
 use Rattle.irtext_names.specs.Linked.{IsInPlace}
 use Rattle.irtext_names.specs.Placeholders.{IsBlank}
-use Rattle.irtext_names.specs.Tied.{AreTied, AreWaiting}
+use Rattle.irtext_names.specs.Tied.{MatchesGraph, ArePending}
 use Rattle.irtext_names.proofs.Loses.{Loses}
 use Rattle.irtext_names.proofs.Ties.{tied_kept, waiting_kept}
-use Rattle.irtext_parse_nested.specs.Items.{Made, Names, Pledge, StandsAs, Lasts, IsSound, BlanksDefine}
+use Rattle.irtext_parse_nested.specs.Items.{Made, Names, Pledge, StandsAs, KeepsLive, IsSound, BlanksDefine}
 use Rattle.irtext_parse_nested.proofs.Standing.{stands_edited}
 
 module _ {O B T : Type 0} (g k : GraphView (Option O) B T) (op : Ptr Operation) (change : O → O) (edits : graphs.EditsOperation g k op (option_map change)) where
@@ -228,10 +228,10 @@ module _ {O B T : Type 0} (g k : GraphView (Option O) B T) (op : Ptr Operation) 
       let r = h p (data_is p g ∙ was_blank_operation p (sym (data_is p k) ∙ e)) (sym (age_same m (TheOperation p)) ∙ n) in
       (r.0, subst (λ c. IsSome (slice_get c r.0)) (sym (results_same p)) r.1)
 
-  pub edited_ties : (vs : List (Scope Value)) (ls : List (Scope (Ptr BasicBlock))) → AreTied vs ls g → AreTied vs ls k
+  pub edited_ties : (vs : List (Scope Value)) (ls : List (Scope (Ptr BasicBlock))) → MatchesGraph vs ls g → MatchesGraph vs ls k
   edited_ties vs ls t = record { value_ties = tied_kept OfValue vs t.value_ties edited_loses (λ v i e. cc); label_ties = tied_kept OfBlock ls t.label_ties edited_loses (λ v i e. cc) }
 
-  pub edited_waits : (m : ℕ) (own : List (Ptr BasicBlock)) (vs : List (Scope Value)) (ls : List (Scope (Ptr BasicBlock))) → AreTied vs ls g → AreWaiting m own vs ls g → AreWaiting m own vs ls k
+  pub edited_waits : (m : ℕ) (own : List (Ptr BasicBlock)) (vs : List (Scope Value)) (ls : List (Scope (Ptr BasicBlock))) → MatchesGraph vs ls g → ArePending m own vs ls g → ArePending m own vs ls k
   edited_waits m own vs ls t w = record {
     value_waits = waiting_kept OfValue m [] vs t.value_ties w.value_waits edited_loses (λ v i e. cc);
     label_waits = waiting_kept OfBlock m own ls t.label_ties w.label_waits edited_loses (λ v i e. cc);
@@ -259,7 +259,7 @@ module _ {T A : Type 0} (old new : ContextView T A) (op : Ptr Operation) (change
       go (Some e) s = mapped (view_of e.content.content.results e.content.children) e.content.content.data_of s
 
   -- what is open lasts
-  pub edited_lasts : Lasts old new
+  pub edited_lasts : KeepsLive old new
   edited_lasts = record {
     operations = still_seen;
     results = λ p h. ap length (results_same old.graph new.graph op change edits.graph p);
@@ -277,17 +277,17 @@ module _ {T A : Type 0} (old new : ContextView T A) (op : Ptr Operation) (change
     -- names wait for what they waited
     pub edited_sound : (m : ℕ) → IsSound m names s → IsSound m names z
     edited_sound m h =
-        let tied = subst (λ c. AreTied names.values names.labels c.graph) e h.tied in
+        let tied = subst (λ c. MatchesGraph names.values names.labels c.graph) e h.tied in
         record {
-          tied = subst (λ c. AreTied names.values names.labels c.graph) (sym f) (edited_ties old.graph new.graph op change edits.graph names.values names.labels tied);
-          waiting = subst (λ c. AreWaiting m [] names.values names.labels c.graph) (sym f) (edited_waits old.graph new.graph op change edits.graph m [] names.values names.labels tied
-              (subst (λ c. AreWaiting m [] names.values names.labels c.graph) e h.waiting));
+          tied = subst (λ c. MatchesGraph names.values names.labels c.graph) (sym f) (edited_ties old.graph new.graph op change edits.graph names.values names.labels tied);
+          waiting = subst (λ c. ArePending m [] names.values names.labels c.graph) (sym f) (edited_waits old.graph new.graph op change edits.graph m [] names.values names.labels tied
+              (subst (λ c. ArePending m [] names.values names.labels c.graph) e h.waiting));
           blanks = subst (BlanksDefine m) (sym f) (blanks_on old new (edited_blanks old.graph new.graph op change edits.graph) m (subst (BlanksDefine m) e h.blanks));
         }
 
     -- all stands where the machine stands
-    pub edited_stands : {path : ℕ → Path} {items : Made} {pledges : List Pledge} {o : Outcome} → marks_of z ≡ marks_of s → AreTied names.values names.labels old.graph → StandsAs path items pledges names s o → StandsAs path items pledges names z o
+    pub edited_stands : {path : ℕ → Path} {items : Made} {pledges : List Pledge} {o : Outcome} → marks_of z ≡ marks_of s → MatchesGraph names.values names.labels old.graph → StandsAs path items pledges names s o → StandsAs path items pledges names z o
     edited_stands same tied h = stands_edited names s z
         (λ d i. subst (λ c. IsDefined c.graph d) (sym f) (still_there old.graph new.graph op change edits.graph d (subst (λ c. IsDefined c.graph d) e i)))
         (λ u d i. subst (λ c. IsInPlace c.graph d u) (sym f) (in_place_still old.graph new.graph op change edits.graph u d (subst (λ c. IsInPlace c.graph d u) e i)))
-        (subst (λ c. AreTied names.values names.labels c.graph) (sym f) (edited_ties old.graph new.graph op change edits.graph names.values names.labels tied)) same h
+        (subst (λ c. MatchesGraph names.values names.labels c.graph) (sym f) (edited_ties old.graph new.graph op change edits.graph names.values names.labels tied)) same h

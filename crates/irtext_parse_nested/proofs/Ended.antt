@@ -7,30 +7,30 @@ use Rattle.irtext_base.specs.Answers.{Outcome, Read, Refuses, demanded, unless_f
 use Rattle.irtext_base.specs.Locations.{AttrView}
 use Rattle.irtext_base.specs.declared.parsable.fault.ParseFault.{ParseFault}
 use Rattle.irtext_base.proofs.Sincere.{Of, of_mapped}
-use Rattle.irtext_read.specs.Demanded.{index_at}
-use Rattle.irtext_read.specs.Infix.{◌▷◌}
-use Rattle.irtext_read.specs.MustRead.{MustRead}
-use Rattle.irtext_read.specs.Tokens.{space_at}
-use Rattle.irtext_read.proofs.Honest.{Honest, ◌then◌, seen, honest_either, honest_space, honest_index}
-use Rattle.irtext_read.proofs.Steps.{alone}
-use Rattle.irtext_state.specs.States.{marks_of}
-use Rattle.irtext_state.specs.declared.parsable.state.State as code
-use Rattle.irtext_state.specs.declared.parsable.state.StateStream.{StateStream}
+use Rattle.irtext_tokens.specs.Demanded.{index_at}
+use Rattle.irtext_tokens.specs.Infix.{◌▷◌}
+use Rattle.irtext_tokens.specs.MustRead.{MustRead}
+use Rattle.irtext_tokens.specs.Tokens.{space_at}
+use Rattle.irtext_tokens.proofs.Honest.{Honest, ◌then◌, seen, honest_either, honest_space, honest_index}
+use Rattle.irtext_tokens.proofs.Steps.{alone}
+use Rattle.irtext_parse_state.specs.States.{marks_of}
+use Rattle.irtext_parse_state.specs.declared.parsable.state.State as code
+use Rattle.irtext_parse_state.specs.declared.parsable.state.StateStream.{StateStream}
 use Rattle.irtext_grammar.specs.Contexts.Held.{whole}
 use Rattle.irtext_grammar.specs.Grammar.Tree.{Mark}
-use Rattle.irtext_outcomes.specs.Promises.Root.{UnlessMemory}
-use Rattle.irtext_outcomes.specs.Promises.Section.{indices_of}
-use Rattle.irtext_outcomes.specs.Readers.Streams.{itself, replaced}
-use Rattle.irtext_outcomes.proofs.Readers.Answered.{Answered, answered}
-use Rattle.irtext_outcomes.proofs.Readers.Honest.{honest_nothing}
-use Rattle.irtext_nesting.specs.Heads.{mark_at, mark_if_at}
-use Rattle.irtext_nesting.specs.Resume.{Begun}
+use Rattle.irtext_parse_spec.specs.Promises.Root.{UnlessMemory}
+use Rattle.irtext_parse_spec.specs.Promises.Section.{indices_of}
+use Rattle.irtext_parse_spec.specs.Readers.Streams.{itself, replaced}
+use Rattle.irtext_parse_spec.proofs.Readers.Answered.{Answered, answered}
+use Rattle.irtext_parse_spec.proofs.Readers.Honest.{honest_nothing}
+use Rattle.irtext_parse_spec.specs.Heads.{mark_at, mark_if_at}
+use Rattle.irtext_parse_spec.specs.Resume.{OpenOperation}
 use Rattle.irtext_parse_pieces.specs.declared.marks.ReadMark.{ReadMark}
 use Rattle.irtext_parse_pieces.specs.Marks.{IsMarkIf}
 use Rattle.irtext_parse_pieces.specs.Named.{MustMean}
 use Rattle.irtext_parse_pieces.proofs.Meanings.{must_whole}
 use Rattle.irtext_parse_nested.specs.declared.frame.BegunOperation.{BegunOperation}
-use Rattle.irtext_parse_nested.specs.Begun.{pledge_of}
+use Rattle.irtext_parse_nested.specs.OpenOperation.{pledge_of}
 use Rattle.irtext_parse_nested.specs.Ends.{closes_at, NotesMark, noted_as, RefusesMark}
 use Rattle.irtext_parse_nested.specs.Items.{Names, Acts}
 use Rattle.irtext_parse_nested.specs.Read.{EndsOperation, RefusesEnd, no_mark, same_mark}
@@ -65,7 +65,7 @@ must_commit {X} {f = f} {old = old} {new = new} {fault = fault} fine h = elim h.
     go (Missing cause) r = r.committed
     go (Bad cause upto) r = r.committed
 
-module _ {T A U X : Type 0} (types_at : Text → Outcome T) (attr : Text → Outcome (AttrView A)) (o : Begun T A) (b : BegunOperation) (before names : Names) (old : StateStream T A U) (mid : code.State T A U) (item : X) (marks : List (ℕ × X))
+module _ {T A U X : Type 0} (types_at : Text → Outcome T) (attr : Text → Outcome (AttrView A)) (o : OpenOperation T A) (b : BegunOperation) (before names : Names) (old : StateStream T A U) (mid : code.State T A U) (item : X) (marks : List (ℕ × X))
     (closes : Acts (closes_at o old.state) before old.state (pledge_of b o.place ∷ []) names mid []) (were : indices_of (marks_of mid) ≡ indices_of marks) (s v : StreamView) (same : s ≡ old.stream) where
   -- the mark was read
   there : (read : Option ReadMark) (h : MustMean {A = A} itself replaced (IsMarkIf (whole s)) end_at s (Ok read) v) → Answered (end_at old.stream.rest) old.stream (h.meant read) v

@@ -10,8 +10,8 @@ use Rattle.irtext_base.specs.declared.parsable.fault.ParseFault.{ParseFault}
 use Rattle.irtext_graph.specs.declared.object.Value.TheVariants.{Result}
 use Rattle.irtext_graph.specs.Chained.{Among}
 use Rattle.irtext_graph.proofs.Preorders.{among_left, among_right}
-use Rattle.irtext_state.specs.States.{marks_of}
-use Rattle.irtext_state.specs.declared.parsable.state.State as code
+use Rattle.irtext_parse_state.specs.States.{marks_of}
+use Rattle.irtext_parse_state.specs.declared.parsable.state.State as code
 use Rattle.irtext_grammar.specs.Contexts.Formats.{format_of}
 use Rattle.irtext_grammar.specs.Grammar.Tree.{Name}
 use Rattle.irtext_grammar.specs.Names.Acts.{result_types, result_definitions, word_of}
@@ -23,16 +23,16 @@ use Rattle.irtext_grammar.specs.Names.TextScopes.{Act, Failure, act_failures}
 use Rattle.irtext_names.specs.Linked.{Known, StandsAt}
 use Rattle.irtext_names.proofs.Linked.Moving.{onto_nothing}
 use Rattle.irtext_names.proofs.Linked.Outside.{value_definition_outside}
-use Rattle.irtext_outcomes.specs.Promises.Section.{indices_of}
+use Rattle.irtext_parse_spec.specs.Promises.Section.{indices_of}
 use Rattle.irtext_scopes.specs.Scopes.{is_open}
-use Rattle.irtext_nesting.specs.Naming.{body_of}
-use Rattle.irtext_nesting.specs.Resume.{Begun}
+use Rattle.irtext_parse_spec.specs.Naming.{body_of}
+use Rattle.irtext_parse_spec.specs.Resume.{OpenOperation}
 use Rattle.irtext_names.specs.Rows.{AreNamed}
 use Rattle.irtext_names.proofs.Rows.{rest_fails}
 use Rattle.irtext_parse_pieces.specs.declared.names.ReadName.{ReadName}
 use Rattle.irtext_parse_pieces.specs.Named.{StandsFor}
 use Rattle.irtext_parse_nested.specs.declared.frame.BegunOperation.{BegunOperation}
-use Rattle.irtext_parse_nested.specs.Begun.{IsBegun, pledge_of}
+use Rattle.irtext_parse_nested.specs.OpenOperation.{IsBegun, pledge_of}
 use Rattle.irtext_parse_nested.specs.Definitions.{definitions_from, AreMadeAs, DefinesRow, FailsRow, IsFaultOf}
 use Rattle.irtext_parse_nested.specs.Ends.{RefusesResults, uncounted, no_scope, defined_twice}
 use Rattle.irtext_parse_nested.specs.Items.{Made, Names, Pledge, StandsAs, Acts, ActFails, doing}
@@ -91,7 +91,7 @@ ends_uncounted p place types ws st e = ap (λ b. run (going st) (act (claim b (c
 among_front : {X : Type 0} (x y : X) (xs : List X) → Among x (xs ++ []) → Among x (xs ++ y ∷ [])
 among_front x y xs a = among_left x xs (y ∷ []) (subst (λ ys. Among x ys) (append-nil xs) a)
 
-module _ {T A U : Type 0} (names : Names) (text : Text) (s : code.State T A U) (b : BegunOperation) (o : Begun T A) (is : IsBegun names.names text s.ctx.now b o) where
+module _ {T A U : Type 0} (names : Names) (text : Text) (s : code.State T A U) (b : BegunOperation) (o : OpenOperation T A) (is : IsBegun names.names text s.ctx.now b o) where
   -- how many types its results have
   abbrev types : ℕ
   types = length (result_types (body_of (format_of s.ctx.now.dialects o.id) o.parts))

@@ -10,20 +10,20 @@ use Rattle.irtext_base.specs.Locations.{AttrView}
 use Rattle.irtext_base.proofs.Sincere.{Of, of_read, of_missing, of_mapped, of_sincere}
 use Rattle.irtext_context.specs.Dialects.{Table}
 use Rattle.irtext_context.specs.DialectTable.{dialect_of, registered}
-use Rattle.irtext_read.specs.AttrTexts.{attr_at}
-use Rattle.irtext_read.specs.Infix.{◌▷◌}
-use Rattle.irtext_read.specs.Tokens.{identifier_at, id_at, space_at, word}
-use Rattle.irtext_read.proofs.Honest.{Honest, ◌then◌, ◌kept◌, ◌so◌, seen, honest_either, honest_word, honest_space, honest_id, honest_name, honest_spaced, honest_separated, honest_attr}
-use Rattle.irtext_outcomes.specs.Readers.Parts.{behind}
-use Rattle.irtext_outcomes.specs.Readers.Marker.{marker, starts_with}
+use Rattle.irtext_tokens.specs.AttrTexts.{attr_at}
+use Rattle.irtext_tokens.specs.Infix.{◌▷◌}
+use Rattle.irtext_tokens.specs.Tokens.{identifier_at, id_at, space_at, word}
+use Rattle.irtext_tokens.proofs.Honest.{Honest, ◌then◌, ◌kept◌, ◌so◌, seen, honest_either, honest_word, honest_space, honest_id, honest_name, honest_spaced, honest_separated, honest_attr}
+use Rattle.irtext_parse_spec.specs.Readers.Parts.{behind}
+use Rattle.irtext_parse_spec.specs.Readers.Marker.{marker, starts_with}
 use Rattle.irtext_grammar.specs.Spelling.AttrText.{attr_tree}
-use Rattle.irtext_outcomes.specs.Readers.Operations.{registered_behind}
-use Rattle.irtext_outcomes.proofs.Readers.Honest.{honest_nothing}
+use Rattle.irtext_parse_spec.specs.Readers.Operations.{registered_behind}
+use Rattle.irtext_parse_spec.proofs.Readers.Honest.{honest_nothing}
 use Rattle.irtext_grammar.specs.Contexts.Formats.{op_id}
 use Rattle.irtext_grammar.specs.Grammar.Tree as tree
 use Rattle.irtext_grammar.specs.Grammar.Tree.{Name, Part}
-use Rattle.irtext_nesting.specs.Heads.{Step, flat, types, one, all, name_at, name_of, used_at, target_at, symbol_at, pair_at, dictionary_at, outlined_or_at, directive_at, piece_at, results_at, named, lead_at, led_by, led_at}
-use Rattle.irtext_nesting.specs.Resume.{front_at}
+use Rattle.irtext_parse_spec.specs.Heads.{Step, flat, types, one, all, name_at, name_of, used_at, target_at, symbol_at, pair_at, dictionary_at, outlined_or_at, directive_at, piece_at, results_at, named, lead_at, led_by, led_at}
+use Rattle.irtext_parse_spec.specs.Resume.{front_at}
 use Rattle.irtext_parse_nested.proofs.Ended.{within_honest}
 use Rattle.irtext_parse_nested.proofs.Faults.{StaysWithin}
 

@@ -19,8 +19,8 @@ use Rattle.irtext_context.specs.Context.{known}
 use Rattle.irtext_context.specs.declared.base.block.BlockData.{BlockData}
 use Rattle.irtext_context.specs.declared.base.item.Item.TheVariants as item
 use Rattle.irtext_context.specs.declared.base.operation.OperationData.{OperationData}
-use Rattle.irtext_state.specs.States.{marks_of, same_index}
-use Rattle.irtext_state.specs.declared.parsable.state.State as code
+use Rattle.irtext_parse_state.specs.States.{marks_of, same_index}
+use Rattle.irtext_parse_state.specs.declared.parsable.state.State as code
 use Rattle.irtext_scopes.specs.Names.{AreDistinct}
 use Rattle.irtext_grammar.specs.Grammar.Tree.{Name, Mark, Head}
 use Rattle.irtext_grammar.specs.Names.Acts.{key_act, block_may_hold, argument_definitions, mark_acts, entries_if, word_of}
@@ -31,7 +31,7 @@ use Rattle.irtext_grammar.specs.Names.Script.{Path, Place, argument, result, blo
 use Rattle.irtext_grammar.specs.Names.TextScopes.{Act, Failure}
 use Rattle.irtext_names.specs.Linked.{Known, StandsAt}
 use Rattle.irtext_names.proofs.Linked.Interned.{interned}
-use Rattle.irtext_outcomes.specs.Promises.Section.{indices_of}
+use Rattle.irtext_parse_spec.specs.Promises.Section.{indices_of}
 use Rattle.irtext_names.specs.Rows.{AreNamed}
 use Rattle.irtext_names.proofs.Rows.{rest_fails}
 use Rattle.irtext_parse_pieces.specs.declared.headers.BlockHead.{BlockHead}

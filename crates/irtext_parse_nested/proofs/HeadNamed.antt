@@ -12,15 +12,15 @@ use Rattle.irtext_graph.specs.declared.object.Object.TheVariants.{TheBlock}
 use Rattle.irtext_graph.specs.declared.object.Defined.TheVariants.{OfBlock}
 use Rattle.irtext_graph.specs.declared.object.Value.{Value}
 use Rattle.irtext_graph.specs.Back.{IsClosedBelow}
-use Rattle.irtext_graph.specs.Graph.{GraphView, parent, Stands}
-use Rattle.irtext_state.specs.States.{marks_of}
-use Rattle.irtext_state.specs.declared.parsable.state.State as code
+use Rattle.irtext_graph.specs.Graph.{GraphView, parent, IsLive}
+use Rattle.irtext_parse_state.specs.States.{marks_of}
+use Rattle.irtext_parse_state.specs.declared.parsable.state.State as code
 use Rattle.irtext_scopes.specs.Scopes.{Scope}
 use Rattle.irtext_grammar.specs.Names.Script.{Place, define_label}
 use Rattle.irtext_grammar.specs.Names.TextScopes.{Word}
 use Rattle.irtext_names.specs.Linked.{TakesDefinition}
-use Rattle.irtext_names.specs.Tied.{AreTied, AreWaiting, IsNoPlaceholder}
-use Rattle.irtext_outcomes.specs.Promises.Root.{UnlessMemory}
+use Rattle.irtext_names.specs.Tied.{MatchesGraph, ArePending, IsNoPlaceholder}
+use Rattle.irtext_parse_spec.specs.Promises.Root.{UnlessMemory}
 use Rattle.irtext_parse_pieces.specs.declared.marks.ReadMark.{ReadMark}
 use Rattle.irtext_parse_pieces.specs.declared.names.ReadName.{ReadName}
 use Rattle.irtext_parse_nested.specs.Blocks.{DefinesArguments, NamesHead, RefusesHead, same_mark, same_label}
@@ -36,7 +36,7 @@ nothing_there (Some x) e h = cc
 
 module _ {O B T : Type 0} where
   -- a block that stands in a region is no placeholder
-  pub waits_for_none : (g : GraphView (Option O) B T) (b : Ptr BasicBlock) (vs : List (Scope Value)) (ls : List (Scope (Ptr BasicBlock))) → AreTied vs ls g → IsSome (parent g (TheBlock b)) → IsNoPlaceholder ls b
+  pub waits_for_none : (g : GraphView (Option O) B T) (b : Ptr BasicBlock) (vs : List (Scope Value)) (ls : List (Scope (Ptr BasicBlock))) → MatchesGraph vs ls g → IsSome (parent g (TheBlock b)) → IsNoPlaceholder ls b
   waits_for_none g b vs ls t h = λ k n e. nothing_there (parent g (TheBlock b)) (t.label_ties.held k n b e).free h
 
   module _ (g k : GraphView (Option O) B T) (l : LosesPlaceholders g k) (b : Ptr BasicBlock) where
@@ -48,10 +48,10 @@ module _ {O B T : Type 0} where
         go None e s = absurd (nothing_there {X = Object} None refl s)
         go (Some o) e s = (l.blocks b o e).0 ∙ sym e
 
-    pub block_stays : IsSome (parent g (TheBlock b)) → Stands g (TheBlock b) → Stands k (TheBlock b)
+    pub block_stays : IsSome (parent g (TheBlock b)) → IsLive g (TheBlock b) → IsLive k (TheBlock b)
     block_stays h there = go (parent g (TheBlock b)) refl h
       where
-        go : (o : Option Object) → parent g (TheBlock b) ≡ o → IsSome o → Stands k (TheBlock b)
+        go : (o : Option Object) → parent g (TheBlock b) ≡ o → IsSome o → IsLive k (TheBlock b)
         go None e s = absurd (nothing_there {X = Object} None refl s)
         go (Some o) e s = (l.blocks b o e).1 there
 
@@ -62,8 +62,8 @@ module _ {O B T : Type 0} where
 module _ {T A U : Type 0} (names : Names) (s z : code.State T A U) (same : z.ctx.now ≡ s.ctx.now) where
   pub same_sound : (m : ℕ) → IsSound m names s → IsSound m names z
   same_sound m h = record {
-    tied = subst (λ c. AreTied names.values names.labels c.graph) (sym same) h.tied;
-    waiting = subst (λ c. AreWaiting m [] names.values names.labels c.graph) (sym same) h.waiting;
+    tied = subst (λ c. MatchesGraph names.values names.labels c.graph) (sym same) h.tied;
+    waiting = subst (λ c. ArePending m [] names.values names.labels c.graph) (sym same) h.waiting;
     blanks = subst (BlanksDefine m) (sym same) h.blanks;
   }
 

@@ -13,8 +13,8 @@ use Rattle.irtext_graph.specs.Chained.{Among}
 use Rattle.irtext_graph.specs.Graph.{GraphView}
 use Rattle.irtext_graph.proofs.Preorders.{among_right}
 use Rattle.irtext_context.specs.declared.base.item.Item.TheVariants as item
-use Rattle.irtext_state.specs.States.{same_index}
-use Rattle.irtext_state.specs.declared.parsable.state.State as code
+use Rattle.irtext_parse_state.specs.States.{same_index}
+use Rattle.irtext_parse_state.specs.declared.parsable.state.State as code
 use Rattle.irtext_grammar.specs.Contexts.Held.{attribute_of}
 use Rattle.irtext_grammar.specs.Grammar.Tree.{Name, Mark, Attribute}
 use Rattle.irtext_grammar.specs.Names.Acts.{Rule, key_act, argument_definitions, mark_acts, entries_if, word_of}
@@ -24,7 +24,7 @@ use Rattle.irtext_grammar.specs.Names.Script as script
 use Rattle.irtext_grammar.specs.Names.Script.{Path, argument, claim, define_value, mark}
 use Rattle.irtext_grammar.specs.Names.TextScopes.{Act, Failure}
 use Rattle.irtext_names.specs.Linked.{Known, StandsAt}
-use Rattle.irtext_outcomes.specs.Promises.Section.{indices_of}
+use Rattle.irtext_parse_spec.specs.Promises.Section.{indices_of}
 use Rattle.irtext_names.proofs.Rows.{rest_fails, map-through}
 use Rattle.irtext_parse_pieces.specs.declared.entries.Key.{Key}
 use Rattle.irtext_parse_pieces.specs.declared.marks.ReadMark.{ReadMark}

@@ -15,13 +15,13 @@ use Rattle.irtext_graph.specs.declared.object.Object.TheVariants.{TheBlock}
 use Rattle.irtext_graph.specs.declared.object.Value.{Value}
 use Rattle.irtext_graph.specs.declared.object.Value.TheVariants.{Result}
 use Rattle.irtext_graph.specs.Content.{Node, Content, Content.{ABlock}, OperationContent, BlockContent}
-use Rattle.irtext_graph.specs.Graph.{content_of, parent, Stands}
+use Rattle.irtext_graph.specs.Graph.{content_of, parent, IsLive}
 use Rattle.irtext_graph.specs.Parts.{operation_at, results}
 use Rattle.irtext_graph.specs.Store.{get}
 use Rattle.irtext_scopes.specs.Scopes.{Scope}
-use Rattle.irtext_names.specs.Tied.{AreTied}
+use Rattle.irtext_names.specs.Tied.{MatchesGraph}
 use Rattle.irtext_parse_nested.specs.Definitions.{ValuesReady, LosesPlaceholders}
-use Rattle.irtext_parse_nested.specs.Items.{Lasts}
+use Rattle.irtext_parse_nested.specs.Items.{KeepsLive}
 
 slice_there : {X : Type 0} (xs : List X) (i : ℕ) → i < length xs → IsSome (slice_get xs i)
 slice_there [] i l = absurd (omega (arith, l))
@@ -58,14 +58,14 @@ module _ {T A : Type 0} where
       go (Some e) s = data_in (view_of e.content.content.results e.content.children) e.content.content.data_of s
 
   -- a block that is seen stands, and the other way
-  pub block_stands : (c : ContextView T A) (b : Ptr BasicBlock) → IsSome (block c b) → Stands c.graph (TheBlock b)
+  pub block_stands : (c : ContextView T A) (b : Ptr BasicBlock) → IsSome (block c b) → IsLive c.graph (TheBlock b)
   block_stands c b h = go (get c.graph.blocks b) h
     where
       go : (e : Option (Entry (Node Region Operation (BlockContent (BlockData A) (Option T))))) → IsSome (option_map block_of e) → IsSome (option_map a_block (content_of e))
       go None s = absurd (cc)
       go (Some e) s = refl
 
-  pub stands_block : (c : ContextView T A) (b : Ptr BasicBlock) → Stands c.graph (TheBlock b) → IsSome (block c b)
+  pub stands_block : (c : ContextView T A) (b : Ptr BasicBlock) → IsLive c.graph (TheBlock b) → IsSome (block c b)
   stands_block c b h = go (get c.graph.blocks b) h
     where
       go : (e : Option (Entry (Node Region Operation (BlockContent (BlockData A) (Option T))))) → IsSome (option_map a_block (content_of e)) → IsSome (option_map block_of e)
@@ -73,7 +73,7 @@ module _ {T A : Type 0} where
       go (Some e) s = refl
 
   -- what is open lasts
-  pub loses_lasts : (old new : ContextView T A) → LosesPlaceholders old.graph new.graph → new.dialects ≡ old.dialects → Lasts old new
+  pub loses_lasts : (old new : ContextView T A) → LosesPlaceholders old.graph new.graph → new.dialects ≡ old.dialects → KeepsLive old new
   loses_lasts old new l same = record {
     operations = λ p h. let x = data_there old p h in there_data new p x.0 (l.operations p x.0 x.1);
     results = λ p h. let x = data_there old p h in l.results p x.0 x.1;
@@ -89,7 +89,7 @@ module _ {T A : Type 0} where
       stays b (Some o) e h s = let r = l.blocks b o e in (stands_block new b (r.1 (block_stands old b h)), r.0 ∙ sym e)
 
   -- the results of an operation that has data wait for no name
-  pub results_ready : (c : ContextView T A) (p : Ptr Operation) (count : ℕ) (vs : List (Scope Value)) (ls : List (Scope (Ptr BasicBlock))) → IsSome (operation c p) → length (results c.graph p) ≡ count → AreTied vs ls c.graph
+  pub results_ready : (c : ContextView T A) (p : Ptr Operation) (count : ℕ) (vs : List (Scope Value)) (ls : List (Scope (Ptr BasicBlock))) → IsSome (operation c p) → length (results c.graph p) ≡ count → MatchesGraph vs ls c.graph
       → ValuesReady (λ i. Result p i) count vs c.graph
   results_ready c p count vs ls h n t = λ i l. (
     slice_there (results c.graph p) i (subst (λ k. i < k) (sym n) l),

@@ -8,8 +8,8 @@ use Rattle.irtext_base.specs.Text.{front, after}
 use Rattle.irtext_base.specs.Own.{Sincere}
 use Rattle.irtext_base.specs.Stream.{StreamView}
 use Rattle.irtext_base.specs.declared.parsable.fault.ParseFault.{ParseFault}
-use Rattle.irtext_outcomes.specs.Readers.Streams.{itself, replaced}
-use Rattle.irtext_read.proofs.Steps.{alone, starts, spaced, last}
+use Rattle.irtext_parse_spec.specs.Readers.Streams.{itself, replaced}
+use Rattle.irtext_tokens.proofs.Steps.{alone, starts, spaced, last}
 use Rattle.irtext_parse_pieces.proofs.Meanings.{passed_whole}
 use Rattle.irtext_base.specs.Format as format
 use Rattle.irtext_base.specs.Format.{Directive}
@@ -20,20 +20,20 @@ use Rattle.irtext_base.specs.declared.base.identifier.OpId.{OpId}
 use Rattle.irtext_context.specs.DialectTable.{registered}
 use Rattle.irtext_context.specs.Dialects.{Table, known_of}
 use Rattle.irtext_context.specs.declared.dialect.OpInfo.{OpInfo}
-use Rattle.irtext_formats.specs.Directives.{format_of}
-use Rattle.irtext_nesting.specs.Reached.{steps_in}
-use Rattle.irtext_formats.specs.Conditions.{WritesNamesOrType}
-use Rattle.irtext_read.specs.AttrTexts.{attr_at}
-use Rattle.irtext_read.specs.Infix.{Reader, ◌▷◌}
-use Rattle.irtext_read.specs.Tokens.{space_at}
+use Rattle.irtext_format_check.specs.Directives.{format_of}
+use Rattle.irtext_parse_spec.specs.Reached.{steps_in}
+use Rattle.irtext_format_check.specs.Conditions.{WritesNamesOrType}
+use Rattle.irtext_tokens.specs.AttrTexts.{attr_at}
+use Rattle.irtext_tokens.specs.Infix.{Reader, ◌▷◌}
+use Rattle.irtext_tokens.specs.Tokens.{space_at}
 use Rattle.irtext_graph.specs.Graph.{GraphView}
 use Rattle.irtext_grammar.specs.Grammar.Tree as tree
 use Rattle.irtext_grammar.specs.Grammar.Tree.{Name, Piece, directive_of_piece}
 use Rattle.irtext_grammar.specs.Names.Acts.{piece_acts}
 use Rattle.irtext_grammar.specs.Names.Script.{Path, ReservedKey}
-use Rattle.irtext_outcomes.proofs.Joins.Answers.{followed_read}
-use Rattle.irtext_nesting.specs.Exact.{IsOfStep}
-use Rattle.irtext_nesting.specs.Heads.{Step, flat, types, one, all, steps_of, directive_at, piece_at}
+use Rattle.irtext_parse_spec.proofs.Joins.Answers.{followed_read}
+use Rattle.irtext_parse_spec.specs.Exact.{IsOfStep}
+use Rattle.irtext_parse_spec.specs.Heads.{Step, flat, types, one, all, steps_of, directive_at, piece_at}
 use Rattle.irtext_names.specs.Rows.{TakesUses}
 use Rattle.irtext_parse_pieces.specs.declared.entries.Key.{Key}
 use Rattle.irtext_parse_pieces.specs.declared.names.ReadName.{ReadName}
@@ -45,7 +45,7 @@ use Rattle.irtext_base.specs.declared.base.attributes.AttrObj.{AttrObj}
 use Rattle.irtext_parse_nested.specs.declared.operation_parts.NotGathered.{NotGathered}
 use Rattle.irtext_parse_nested.specs.declared.operation_parts.NotGathered.TheVariants as refusal
 use Rattle.irtext_parse_nested.specs.Beginning.{IsKnownIn, IsPartOf}
-use Rattle.irtext_parse_nested.specs.Begun.{ReadsNeither}
+use Rattle.irtext_parse_nested.specs.OpenOperation.{ReadsNeither}
 use Rattle.irtext_parse_nested.specs.Gathered.{FailsUses, IsFirstReserved, stored_of}
 use Rattle.irtext_parse_nested.specs.Items.{Names}
 use Rattle.irtext_parse_nested.specs.Later.{given_by, IsFlatNext, MayStore, RefusesStored}

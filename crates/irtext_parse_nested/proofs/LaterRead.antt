@@ -17,13 +17,13 @@ use Rattle.irtext_graph.specs.declared.arena.Ptr.{Ptr}
 use Rattle.irtext_graph.specs.declared.object.Operation.{Operation}
 use Rattle.irtext_graph.specs.declared.object.Object.TheVariants.{TheOperation}
 use Rattle.irtext_graph.proofs.Frames.{new_operation}
-use Rattle.irtext_read.specs.AttrTexts.{attr_at}
-use Rattle.irtext_read.specs.Infix.{Reader, ◌▷◌}
-use Rattle.irtext_read.specs.Tokens.{space_at}
-use Rattle.irtext_read.proofs.Steps.{alone}
+use Rattle.irtext_tokens.specs.AttrTexts.{attr_at}
+use Rattle.irtext_tokens.specs.Infix.{Reader, ◌▷◌}
+use Rattle.irtext_tokens.specs.Tokens.{space_at}
+use Rattle.irtext_tokens.proofs.Steps.{alone}
 use Rattle.irtext_scopes.specs.Names.{AreDistinct}
-use Rattle.irtext_state.specs.States.{marks_of}
-use Rattle.irtext_state.specs.declared.parsable.state.StateStream.{StateStream}
+use Rattle.irtext_parse_state.specs.States.{marks_of}
+use Rattle.irtext_parse_state.specs.declared.parsable.state.StateStream.{StateStream}
 use Rattle.irtext_grammar.specs.Contexts.Formats.{format_of, isolated}
 use Rattle.irtext_grammar.specs.Contexts.Held.{whole}
 use Rattle.irtext_grammar.specs.Grammar.Tree as tree
@@ -32,20 +32,20 @@ use Rattle.irtext_grammar.specs.Graphs.Build.{put_all, stored}
 use Rattle.irtext_grammar.specs.Names.Acts.{piece_acts, result_types}
 use Rattle.irtext_grammar.specs.Names.History.{Outcome as Machine, act, going, failed, run}
 use Rattle.irtext_grammar.specs.Names.Script.{Path, ReservedKey}
-use Rattle.irtext_names.specs.Tied.{AreTied}
+use Rattle.irtext_names.specs.Tied.{MatchesGraph}
 use Rattle.irtext_names.proofs.Linked.Interned.{interned}
-use Rattle.irtext_outcomes.specs.Promises.Root.{UnlessMemory}
-use Rattle.irtext_outcomes.specs.Promises.Section.{Moves}
-use Rattle.irtext_outcomes.specs.Readers.Streams.{itself, replaced}
-use Rattle.irtext_outcomes.proofs.Readers.Answered.{Answered, answered}
-use Rattle.irtext_nesting.specs.Grows.{OwnBecame}
-use Rattle.irtext_nesting.specs.Stands.{OwnSoFar, HasOwn, HasUses, Spares}
-use Rattle.irtext_nesting.proofs.Edits.{attributes_written, attributes_written_spares}
-use Rattle.irtext_nesting.specs.Exact.{IsOfStep}
-use Rattle.irtext_nesting.specs.Heads.{Step, piece_at}
-use Rattle.irtext_nesting.specs.Naming.{body_of, single_operands, single_successors}
-use Rattle.irtext_nesting.specs.Reached.{steps_in}
-use Rattle.irtext_nesting.specs.Resume.{Begun, with_steps}
+use Rattle.irtext_parse_spec.specs.Promises.Root.{UnlessMemory}
+use Rattle.irtext_parse_spec.specs.Promises.Section.{Moves}
+use Rattle.irtext_parse_spec.specs.Readers.Streams.{itself, replaced}
+use Rattle.irtext_parse_spec.proofs.Readers.Answered.{Answered, answered}
+use Rattle.irtext_parse_spec.specs.Grows.{OwnBecame}
+use Rattle.irtext_parse_spec.specs.Unchanged.{OwnSoFar, HasOwn, HasUses, ModifiesOnly}
+use Rattle.irtext_parse_spec.proofs.Edits.{attributes_written, attributes_written_spares}
+use Rattle.irtext_parse_spec.specs.Exact.{IsOfStep}
+use Rattle.irtext_parse_spec.specs.Heads.{Step, piece_at}
+use Rattle.irtext_parse_spec.specs.Naming.{body_of, single_operands, single_successors}
+use Rattle.irtext_parse_spec.specs.Reached.{steps_in}
+use Rattle.irtext_parse_spec.specs.Resume.{OpenOperation, with_steps}
 use Rattle.irtext_parse_pieces.specs.declared.pieces.ReadPiece.{ReadPiece}
 use Rattle.irtext_parse_pieces.specs.Named.{NamesRead}
 use Rattle.irtext_parse_pieces.specs.Pieces.{IsPiece, MustPiece}
@@ -54,10 +54,10 @@ use Rattle.irtext_parse_nested.specs.declared.frame.BegunOperation.{BegunOperati
 use Rattle.irtext_parse_nested.specs.declared.operation_parts.NotGathered.{NotGathered}
 use Rattle.irtext_parse_nested.specs.declared.operation_parts.NotGathered.TheVariants as refusal
 use Rattle.irtext_parse_nested.specs.Beginning.{HasBegun, SaysGather}
-use Rattle.irtext_parse_nested.specs.Begun.{IsBegun, HasNoType, ReadNeither}
+use Rattle.irtext_parse_nested.specs.OpenOperation.{IsBegun, HasNoType, ReadNeither}
 use Rattle.irtext_parse_nested.specs.Ends.{WritesAttributes}
 use Rattle.irtext_parse_nested.specs.Gathered.{stored_of}
-use Rattle.irtext_parse_nested.specs.Items.{Names, Pledge, Made, StandsAs, Acts, IsSound, Lasts, doing}
+use Rattle.irtext_parse_nested.specs.Items.{Names, Pledge, Made, StandsAs, Acts, IsSound, KeepsLive, doing}
 use Rattle.irtext_parse_nested.specs.Later.{IsFlatNext, RefusesStored, StoresPiece, NotStored, GoesOn}
 use Rattle.irtext_parse_nested.specs.Located.{IsLocated}
 use Rattle.irtext_parse_nested.specs.Read.{Demands, ReadsPiece, RefusesPiece}
@@ -75,7 +75,7 @@ abbrev pub ReadsNext : {T A : Type 0} → Reader T → Reader (AttrView A) → L
 ReadsNext types_at attr dialects b names old result new = (step : Step) → slice_get (steps_in dialects (id_of b.id)) b.step ≡ Some step → MustPiece itself replaced names (space_at ▷ piece_at types_at attr b.inside step) old result new
 
 -- the names stand where they stood, and what is tied is tied
-tied_on : {T A U : Type 0} (before middle : Names) (s : StateStream T A U) → NamesRead before middle → AreTied before.values before.labels s.state.ctx.now.graph → AreTied middle.values middle.labels s.state.ctx.now.graph
+tied_on : {T A U : Type 0} (before middle : Names) (s : StateStream T A U) → NamesRead before middle → MatchesGraph before.values before.labels s.state.ctx.now.graph → MatchesGraph middle.values middle.labels s.state.ctx.now.graph
 tied_on before middle s read t = rw (read.values, read.labels) t
 
 module _ {T A U : Type 0} (types_at : Reader T) (attr : Reader (AttrView A)) (old : StateStream T A U) (before middle : Names) (b : BegunOperation) where
@@ -83,7 +83,7 @@ module _ {T A U : Type 0} (types_at : Reader T) (attr : Reader (AttrView A)) (ol
   dialects = old.state.ctx.now.dialects
 
   -- ---- the operation that was begun
-  module _ (o : Begun T A) (step : Step) (ss : List Step) (is : IsBegun before.names (whole old.stream) old.state.ctx.now b o) (left : o.steps ≡ step ∷ ss) where
+  module _ (o : OpenOperation T A) (step : Step) (ss : List Step) (is : IsBegun before.names (whole old.stream) old.state.ctx.now b o) (left : o.steps ≡ step ∷ ss) where
     first : (slice_get (steps_in dialects o.id) b.step ≡ Some step) × (ss ≡ drop (suc b.step) (steps_in dialects o.id))
     first = first_left (steps_in dialects o.id) b.step step ss (sym left ∙ is.steps)
 
@@ -112,8 +112,8 @@ module _ {T A U : Type 0} (types_at : Reader T) (attr : Reader (AttrView A)) (ol
 
       -- ---- and stored
       module _ (new : StateStream T A U) (stores : StoresPiece piece old.state.ctx.now new.state.ctx.now b.op) (same : new.stream ≡ mid) (marks : marks_of new.state ≡ marks_of old.state)
-          (tied : AreTied before.values before.labels old.state.ctx.now.graph) where
-        lasts : Lasts old.state.ctx.now new.state.ctx.now
+          (tied : MatchesGraph before.values before.labels old.state.ctx.now.graph) where
+        lasts : KeepsLive old.state.ctx.now new.state.ctx.now
         lasts = edited_lasts old.state.ctx.now new.state.ctx.now b.op (with_attributes stores.left) stores.edits
 
         piece_acts_done : Acts (λ path. (doing {T = T} {A = A} dialects path).late o.place o.id meant) before old.state [] middle new.state []
@@ -227,7 +227,7 @@ module _ {T A U : Type 0} (types_at : Reader T) (attr : Reader (AttrView A)) (ol
   -- ---- the turn
   -- no piece could be read
   pub next_missing : {names : List Text} {fault : ParseFault A} {mid : StreamView} → old.stream.failed ≡ false → Sincere types_at → (reading : Text → Outcome A) → attr ≡ attr_at reading → Sincere reading
-      → ReadsNext types_at attr dialects b names old.stream (Err fault) mid → (o : Begun T A) (step : Step) (ss : List Step) → IsBegun before.names (whole old.stream) old.state.ctx.now b o → o.steps ≡ step ∷ ss
+      → ReadsNext types_at attr dialects b names old.stream (Err fault) mid → (o : OpenOperation T A) (step : Step) (ss : List Step) → IsBegun before.names (whole old.stream) old.state.ctx.now b o → o.steps ≡ step ∷ ss
       → UnlessMemory (RefusesPiece types_at attr o step before old) fault
   next_missing fine sincere_types reading e sincere must o step ss is left = piece_missing o step ss is left fine sincere_types reading e sincere (must step (next_there o step ss is left))
 
@@ -251,7 +251,7 @@ module _ {T A U : Type 0} (types_at : Reader T) (attr : Reader (AttrView A)) (ol
     next_whole flat = let m = next_answered flat in takes_whole alone old.stream mid m.taken mid.rest m.takes
 
     -- the operation goes on behind the piece
-    pub next_goes_on : (new : StateStream T A U) (next : BegunOperation) → next ≡ record b { coming = None; step = b.step + 1 } → new.stream ≡ mid → marks_of new.state ≡ marks_of old.state → AreTied before.values before.labels old.state.ctx.now.graph
+    pub next_goes_on : (new : StateStream T A U) (next : BegunOperation) → next ≡ record b { coming = None; step = b.step + 1 } → new.stream ≡ mid → marks_of new.state ≡ marks_of old.state → MatchesGraph before.values before.labels old.state.ctx.now.graph
         → StoresPiece piece old.state.ctx.now new.state.ctx.now b.op → GoesOn types_at attr before old b next middle new
     unfolding reads_piece
     next_goes_on new next e same marks tied stores = subst (λ n. GoesOn types_at attr before old b n middle new) (sym e) (record {
@@ -270,7 +270,7 @@ module _ {T A U : Type 0} (types_at : Reader T) (attr : Reader (AttrView A)) (ol
     })
 
     -- the piece was not stored
-    pub next_unstored : (fault : ParseFault A) → NotStored piece middle.names (whole old.stream) fault → (o : Begun T A) (step : Step) (ss : List Step) → IsBegun before.names (whole old.stream) old.state.ctx.now b o → o.steps ≡ step ∷ ss
+    pub next_unstored : (fault : ParseFault A) → NotStored piece middle.names (whole old.stream) fault → (o : OpenOperation T A) (step : Step) (ss : List Step) → IsBegun before.names (whole old.stream) old.state.ctx.now b o → o.steps ≡ step ∷ ss
         → UnlessMemory (RefusesPiece types_at attr o step before old) fault
     next_unstored fault n o step ss is left = why_refused o step ss is left read distinct piece mid (must step (next_there o step ss is left)) fault n.why n.refuses n.says
 
@@ -284,10 +284,10 @@ unstored_commits {T} {A} piece names text fault n = go n.why n.refuses n.says
     go (refusal.NoActiveScope m) r s = absurd (never_outside piece m r)
 
 module _ {T A : Type 0} (old new : ContextView T A) (op : Ptr Operation) (w : WritesAttributes old new op) where
-  pub piece_lasts : Lasts old new
+  pub piece_lasts : KeepsLive old new
   piece_lasts = edited_lasts old new op (with_attributes w.left) w.edits
 
-  pub piece_spares : Spares (TheOperation op ∷ []) old new
+  pub piece_spares : ModifiesOnly (TheOperation op ∷ []) old new
   piece_spares = attributes_written_spares (λ n l. Unit {0}) old new op w.left w.edits
 
   pub piece_keeps : (m : ℕ) → IsNew m old.graph (TheOperation op) → KeepsOlder m old new

@@ -13,15 +13,15 @@ use Rattle.irtext_graph.specs.declared.object.Defined.{Defined}
 use Rattle.irtext_graph.specs.declared.object.Defined.TheVariants.{OfValue, OfBlock}
 use Rattle.irtext_graph.specs.Content.{Typed, Node, Content, Content.{AnOperation, ABlock, ARegion}, OperationContent}
 use Rattle.irtext_graph.specs.Erasing.{without_uses, owner}
-use Rattle.irtext_graph.specs.Graph.{GraphView, content, content_of, parent, Stands, IsNew}
+use Rattle.irtext_graph.specs.Graph.{GraphView, content, content_of, parent, IsLive, IsNew}
 use Rattle.irtext_graph.specs.Objects.{is_older}
 use Rattle.irtext_graph.specs.Parts.{operation_at, results, results_of}
 use Rattle.irtext_graph.specs.Store.{get}
 use Rattle.irtext_graph.specs.Used.{IsDefined}
 use Rattle.irtext_graph.proofs.Nests.{told, some_eq}
 use Rattle.irtext_graph.proofs.Same.{object_tells}
-use Rattle.irtext_nesting.specs.Stands.{UsesAsMany}
-use Rattle.irtext_nesting.proofs.Edits.{replaced_as_many, erased_as_many, as_many_then}
+use Rattle.irtext_parse_spec.specs.Unchanged.{UsesAsMany}
+use Rattle.irtext_parse_spec.proofs.Edits.{replaced_as_many, erased_as_many, as_many_then}
 use Rattle.irtext_scopes.specs.Scopes.{Scope, find, innermost, placeholder_of}
 use Rattle.irtext_names.specs.Placeholders.{IsPlaceholder, SettlesIfAny, Defines}
 use Rattle.irtext_names.specs.Tied.{Tied}
@@ -54,7 +54,7 @@ module _ {O B T : Type 0} where
       go None = refl
       go (Some e) = refl
 
-  stands_same : (g k : GraphView O B T) (q : Object) → option_map without_uses (content k q) ≡ option_map without_uses (content g q) → Stands g q → Stands k q
+  stands_same : (g k : GraphView O B T) (q : Object) → option_map without_uses (content k q) ≡ option_map without_uses (content g q) → IsLive g q → IsLive k q
   stands_same g k q e s = mapped_some without_uses (content k q) (subst IsSome (sym e) (some_mapped without_uses (content g q) s))
 
 -- ---- operations without data

@@ -38,19 +38,19 @@ use Rattle.irtext_grammar.specs.Names.Script.{Path, Place as Spot, result}
 use Rattle.irtext_names.specs.Linked.{Known, StandsAt}
 use Rattle.irtext_names.proofs.Linked.Interned.{interned}
 use Rattle.irtext_scopes.specs.Names.{AreDistinct}
-use Rattle.irtext_state.specs.States.{LocatesAt, marks_of}
-use Rattle.irtext_state.specs.declared.parsable.state.State as code
-use Rattle.irtext_state.specs.declared.parsable.state.StateStream.{StateStream}
-use Rattle.irtext_outcomes.specs.Promises.Root.{UnlessMemory, position_behind}
-use Rattle.irtext_outcomes.specs.Promises.Section.{Moves, indices_of}
-use Rattle.irtext_nesting.specs.Heads.{steps_of, front_steps, region_steps}
-use Rattle.irtext_nesting.specs.Naming.{body_of, unmarked, single_operands, single_successors}
-use Rattle.irtext_nesting.specs.Reached.{steps_in}
-use Rattle.irtext_nesting.specs.Resume.{begun, front_at}
+use Rattle.irtext_parse_state.specs.States.{LocatesAt, marks_of}
+use Rattle.irtext_parse_state.specs.declared.parsable.state.State as code
+use Rattle.irtext_parse_state.specs.declared.parsable.state.StateStream.{StateStream}
+use Rattle.irtext_parse_spec.specs.Promises.Root.{UnlessMemory, position_behind}
+use Rattle.irtext_parse_spec.specs.Promises.Section.{Moves, indices_of}
+use Rattle.irtext_parse_spec.specs.Heads.{steps_of, front_steps, region_steps}
+use Rattle.irtext_parse_spec.specs.Naming.{body_of, unmarked, single_operands, single_successors}
+use Rattle.irtext_parse_spec.specs.Reached.{steps_in}
+use Rattle.irtext_parse_spec.specs.Resume.{begun, front_at}
 use Rattle.irtext_names.specs.Rows.{made_results, with_operation}
 use Rattle.irtext_names.proofs.Made.{made_stands}
-use Rattle.irtext_nesting.specs.Stands.{OwnSoFar, IsThere}
-use Rattle.irtext_nesting.proofs.Edits.{made_own}
+use Rattle.irtext_parse_spec.specs.Unchanged.{OwnSoFar, IsThere}
+use Rattle.irtext_parse_spec.proofs.Edits.{made_own}
 use Rattle.irtext_parse_pieces.specs.declared.names.ReadName.{ReadName}
 use Rattle.irtext_parse_pieces.specs.declared.pieces.ReadPiece.{ReadPiece}
 use Rattle.irtext_parse_pieces.specs.Fronts.{IsPart}
@@ -61,7 +61,7 @@ use Rattle.irtext_parse_nested.specs.declared.frame.BegunOperation.{BegunOperati
 use Rattle.irtext_parse_nested.specs.declared.operation_parts.NotGathered.{NotGathered}
 use Rattle.irtext_parse_nested.specs.declared.operation_parts.NotGathered.TheVariants as refusal
 use Rattle.irtext_parse_nested.specs.Beginning.{FrontStands, LacksFront, lacks_lead, lacks_piece, SaysGather, NotGatheredAs, starved, refused, types_made, PlacedIn, MakesOf, ArePartsOf, HasBegun, ComesInto}
-use Rattle.irtext_parse_nested.specs.Begun.{HasNoType, ReadNeither, IsBegun, pledge_of}
+use Rattle.irtext_parse_nested.specs.OpenOperation.{HasNoType, ReadNeither, IsBegun, pledge_of}
 use Rattle.irtext_parse_nested.specs.Coming.{IsStep}
 use Rattle.irtext_parse_nested.specs.Gathered.{FailsUses, operand_place, operand_list, successor_place, successor_list, placed_type, type_list, stored_of, last_list, CanGather, RefusesGathering, FailsAt}
 use Rattle.irtext_parse_nested.specs.Items.{Names, Pledge, Made, AreMadeAt, StandsAs, IsFailure, ActsWith, ActFails}

@@ -11,30 +11,30 @@ use Rattle.irtext_graph.specs.declared.object.Operation.{Operation}
 use Rattle.irtext_graph.specs.declared.object.Object.TheVariants.{TheOperation}
 use Rattle.irtext_graph.specs.Graph.{IsNew}
 use Rattle.irtext_graph.proofs.Frames.{new_operation}
-use Rattle.irtext_state.specs.States.{marks_of, same_index}
-use Rattle.irtext_state.specs.declared.parsable.state.State as code
+use Rattle.irtext_parse_state.specs.States.{marks_of, same_index}
+use Rattle.irtext_parse_state.specs.declared.parsable.state.State as code
 use Rattle.irtext_grammar.specs.Grammar.Tree.{Name, Mark}
 use Rattle.irtext_grammar.specs.Graphs.Build.{put_all, read_names}
-use Rattle.irtext_nesting.specs.Grows.{OwnBecame}
-use Rattle.irtext_nesting.specs.Stands.{OwnSoFar, HasOwn, HasUses, Spares}
-use Rattle.irtext_nesting.proofs.Edits.{spares_then, spares_fewer, attributes_written, attributes_written_spares}
-use Rattle.irtext_nesting.proofs.Kept.{uses_kept}
-use Rattle.irtext_names.specs.Tied.{AreTied}
-use Rattle.irtext_nesting.specs.Resume.{Begun}
+use Rattle.irtext_parse_spec.specs.Grows.{OwnBecame}
+use Rattle.irtext_parse_spec.specs.Unchanged.{OwnSoFar, HasOwn, HasUses, ModifiesOnly}
+use Rattle.irtext_parse_spec.proofs.Edits.{spares_then, spares_fewer, attributes_written, attributes_written_spares}
+use Rattle.irtext_parse_spec.proofs.Kept.{uses_kept}
+use Rattle.irtext_names.specs.Tied.{MatchesGraph}
+use Rattle.irtext_parse_spec.specs.Resume.{OpenOperation}
 use Rattle.irtext_parse_pieces.specs.declared.marks.ReadMark.{ReadMark}
 use Rattle.irtext_parse_pieces.specs.declared.names.ReadName.{ReadName}
 use Rattle.irtext_parse_pieces.specs.Marks.{IsMarkIf}
 use Rattle.irtext_parse_pieces.specs.Named.{StandsFor, Each}
 use Rattle.irtext_parse_nested.specs.declared.frame.BegunOperation.{BegunOperation}
-use Rattle.irtext_parse_nested.specs.Begun.{pledge_of}
+use Rattle.irtext_parse_nested.specs.OpenOperation.{pledge_of}
 use Rattle.irtext_parse_nested.specs.Ends.{closes_at, NotesMark, noted_as, WritesAttributes, GivesNames, BecomesNamed}
-use Rattle.irtext_parse_nested.specs.Items.{Names, Acts, Lasts, IsSound}
+use Rattle.irtext_parse_nested.specs.Items.{Names, Acts, KeepsLive, IsSound}
 use Rattle.irtext_parse_nested.proofs.Edited.{edited_lasts, edited_sound, edited_stands}
 use Rattle.irtext_parse_nested.proofs.Faults.{named_each}
 
 module _ {T A : Type 0} where
   -- what is open lasts, twice
-  pub lasts_more : {a b c : ContextView T A} → Lasts a b → Lasts b c → Lasts a c
+  pub lasts_more : {a b c : ContextView T A} → KeepsLive a b → KeepsLive b c → KeepsLive a c
   lasts_more {a} {b} {c} l m = record {
     operations = λ p h. m.operations p (l.operations p h);
     results = λ p h. m.results p (l.operations p h) ∙ l.results p h;
@@ -45,9 +45,9 @@ module _ {T A : Type 0} where
     dialects = m.dialects ∙ l.dialects;
   }
 
-  module _ (old mid new : ContextView T A) (op : Ptr Operation) (spares : Spares [] old mid) where
+  module _ (old mid new : ContextView T A) (op : Ptr Operation) (spares : ModifiesOnly [] old mid) where
     -- all else is spared
-    pub close_spares : WritesAttributes mid new op → Spares (TheOperation op ∷ []) old new
+    pub close_spares : WritesAttributes mid new op → ModifiesOnly (TheOperation op ∷ []) old new
     close_spares w = spares_then old mid new (TheOperation op ∷ []) (spares_fewer old mid (TheOperation op ∷ []) spares) (attributes_written_spares (λ n l. Unit {0}) mid new op w.left w.edits)
 
     -- what is older stays
@@ -76,8 +76,8 @@ module _ {T A : Type 0} where
             }
 
 -- where the results were defined, and the attributes written, the machine stands behind the operation's end
-pub close_acts : {T A U : Type 0} (names new : Names) (s m z : code.State T A U) (b : BegunOperation) (o : Begun T A) → Acts (closes_at o s) names s (pledge_of b o.place ∷ []) new m []
-    → WritesAttributes m.ctx.now z.ctx.now b.op → marks_of z ≡ marks_of m → AreTied new.values new.labels m.ctx.now.graph → Acts (closes_at o s) names s (pledge_of b o.place ∷ []) new z []
+pub close_acts : {T A U : Type 0} (names new : Names) (s m z : code.State T A U) (b : BegunOperation) (o : OpenOperation T A) → Acts (closes_at o s) names s (pledge_of b o.place ∷ []) new m []
+    → WritesAttributes m.ctx.now z.ctx.now b.op → marks_of z ≡ marks_of m → MatchesGraph new.values new.labels m.ctx.now.graph → Acts (closes_at o s) names s (pledge_of b o.place ∷ []) new z []
 close_acts names new s m z b o acts w same tied = record {
   so = λ path items more x h. edited_stands m.ctx.now z.ctx.now b.op (with_attributes w.left) w.edits new m z refl refl same tied (acts.so path items more x h);
 }
@@ -85,7 +85,7 @@ close_acts names new s m z b o acts w same tied = record {
 pub close_sound : {T A U : Type 0} (names : Names) (m z : code.State T A U) (op : Ptr Operation) → WritesAttributes m.ctx.now z.ctx.now op → (n : ℕ) → IsSound n names m → IsSound n names z
 close_sound names m z op w n h = edited_sound m.ctx.now z.ctx.now op (with_attributes w.left) w.edits names m z refl refl n h
 
-pub close_lasts : {T A : Type 0} (old mid new : ContextView T A) (op : Ptr Operation) → Lasts old mid → WritesAttributes mid new op → Lasts old new
+pub close_lasts : {T A : Type 0} (old mid new : ContextView T A) (op : Ptr Operation) → KeepsLive old mid → WritesAttributes mid new op → KeepsLive old new
 close_lasts old mid new op l w = lasts_more l (edited_lasts mid new op (with_attributes w.left) w.edits)
 
 -- the mark that was noted is that of the text

@@ -20,18 +20,18 @@ use Rattle.irtext_graph.specs.declared.object.BasicBlock.{BasicBlock}
 use Rattle.irtext_graph.specs.declared.object.Object.{Object}
 use Rattle.irtext_graph.specs.declared.object.Object.TheVariants.{TheOperation, TheBlock}
 use Rattle.irtext_grammar.specs.Grammar.Tree.{in_order}
-use Rattle.irtext_names.specs.Tied.{AreTied, AreWaiting}
+use Rattle.irtext_names.specs.Tied.{MatchesGraph, ArePending}
 use Rattle.irtext_names.proofs.Added.{added_ties, operation_waits}
 use Rattle.irtext_names.proofs.Gained.{operation_added}
-use Rattle.irtext_nesting.specs.Grows.{with_last_operation, OperationCame}
-use Rattle.irtext_nesting.specs.Stands.{OwnSoFar, HasOwn, HasUses, IsThere, Spares}
-use Rattle.irtext_nesting.proofs.Edits.{operation_made, operation_made_spares, operation_came, operation_came_last, operation_came_spares, operation_placed_spares, spares_then, spares_wider}
-use Rattle.irtext_nesting.proofs.Kept.{there_still}
-use Rattle.irtext_state.specs.declared.parsable.state.State as code
+use Rattle.irtext_parse_spec.specs.Grows.{with_last_operation, OperationCame}
+use Rattle.irtext_parse_spec.specs.Unchanged.{OwnSoFar, HasOwn, HasUses, IsThere, ModifiesOnly}
+use Rattle.irtext_parse_spec.proofs.Edits.{operation_made, operation_made_spares, operation_came, operation_came_last, operation_came_spares, operation_placed_spares, spares_then, spares_wider}
+use Rattle.irtext_parse_spec.proofs.Kept.{there_still}
+use Rattle.irtext_parse_state.specs.declared.parsable.state.State as code
 use Rattle.irtext_parse_nested.specs.declared.beginning.ReadFront.{ReadFront}
 use Rattle.irtext_parse_nested.specs.declared.frame.BegunOperation.{BegunOperation}
 use Rattle.irtext_parse_nested.specs.Beginning.{types_made, PlacedIn, MakesOf, ComesInto}
-use Rattle.irtext_parse_nested.specs.Items.{Names, Lasts, BlanksDefine}
+use Rattle.irtext_parse_nested.specs.Items.{Names, KeepsLive, BlanksDefine}
 use Rattle.irtext_parse_nested.specs.Definitions.{BlanksHaveResults}
 use Rattle.irtext_parse_nested.proofs.Blanks.{blanks_on}
 use Rattle.irtext_parse_nested.proofs.Losing.{blanks_by}
@@ -60,21 +60,21 @@ module _ {T A : Type 0} (blk : Option (Ptr BasicBlock)) (front : ReadFront T A) 
   dialects_used : m.used.dialects ≡ old.dialects
   dialects_used = ap (λ c. c.dialects) m.used_is
 
-  spares_used : Spares [] old m.used
+  spares_used : ModifiesOnly [] old m.used
   spares_used = used_spares old m.used all_older m.steady.kept m.steady.brings dialects_used
 
-  lasts_used : Lasts old m.used
+  lasts_used : KeepsLive old m.used
   lasts_used = used_lasts old m.used all_older m.steady.kept m.steady.brings dialects_used
 
-  lasts_made : Lasts old m.made
+  lasts_made : KeepsLive old m.made
   lasts_made = lasts_then old m.used m.made lasts_used (made_lasts m.used m.made b.op held types m.makes)
 
-  placed_on : (o : Option (Ptr BasicBlock)) → PlacedIn o m.made new b.op → Lasts m.made new
-  placed_on None p = subst (Lasts m.made) (sym p) (lasts_itself m.made)
+  placed_on : (o : Option (Ptr BasicBlock)) → PlacedIn o m.made new b.op → KeepsLive m.made new
+  placed_on None p = subst (KeepsLive m.made) (sym p) (lasts_itself m.made)
   placed_on (Some k) p = placed_lasts m.made new k b.op p.0 p.2
 
   -- what is open lasts
-  pub begun_lasts : Lasts old new
+  pub begun_lasts : KeepsLive old new
   begun_lasts = lasts_then old m.made new lasts_made (placed_on blk m.placed)
 
   -- it is no older than a mark that what was made reached
@@ -101,29 +101,29 @@ module _ {T A : Type 0} (blk : Option (Ptr BasicBlock)) (front : ReadFront T A) 
 
   -- ---- names
   module _ where
-    ties_made : AreTied names.values names.labels m.made.graph
+    ties_made : MatchesGraph names.values names.labels m.made.graph
     ties_made = added_ties (operation_added b.op m.makes.graph) names.values names.labels m.steady.tied
 
     -- the block stands where it stood
     pub inside_made : (k : Ptr BasicBlock) → IsThere old (TheBlock k) → IsSome (parent m.made.graph (TheBlock k))
     inside_made k there = subst IsSome (sym (lasts_made.blocks k there.0 there.1).1) there.1
 
-    ties_on : (o : Option (Ptr BasicBlock)) → IfSome o (λ k. IsThere old (TheBlock k)) → PlacedIn o m.made new b.op → AreTied names.values names.labels new.graph
-    ties_on None there p = subst (λ c. AreTied names.values names.labels c.graph) (sym p) ties_made
+    ties_on : (o : Option (Ptr BasicBlock)) → IfSome o (λ k. IsThere old (TheBlock k)) → PlacedIn o m.made new b.op → MatchesGraph names.values names.labels new.graph
+    ties_on None there p = subst (λ c. MatchesGraph names.values names.labels c.graph) (sym p) ties_made
     ties_on (Some k) there p = let x = data_there m.made b.op (subst IsSome (sym made_is) refl) in operation_placed_ties k b.op p.0 x.0 x.1 (inside_made k there) names.values names.labels ties_made
 
-    waits_made : (n : ℕ) → n ≤ old.graph.made → AreWaiting n [] before.values before.labels old.graph → AreWaiting n [] names.values names.labels m.made.graph
+    waits_made : (n : ℕ) → n ≤ old.graph.made → ArePending n [] before.values before.labels old.graph → ArePending n [] names.values names.labels m.made.graph
     waits_made n le w = operation_waits b.op held (known types) (in_order m.gathered.operands.single.items ++ m.gathered.operands.list.items) (in_order m.gathered.successors.single.items ++ m.gathered.successors.list.items)
         m.makes.graph n [] names.values names.labels m.steady.tied (m.steady.waiting n [] le w)
 
-    waits_on : (n : ℕ) (o : Option (Ptr BasicBlock)) → IfSome o (λ k. IsThere old (TheBlock k)) → PlacedIn o m.made new b.op → AreWaiting n [] names.values names.labels m.made.graph → AreWaiting n [] names.values names.labels new.graph
-    waits_on n None there p w = subst (λ c. AreWaiting n [] names.values names.labels c.graph) (sym p) w
+    waits_on : (n : ℕ) (o : Option (Ptr BasicBlock)) → IfSome o (λ k. IsThere old (TheBlock k)) → PlacedIn o m.made new b.op → ArePending n [] names.values names.labels m.made.graph → ArePending n [] names.values names.labels new.graph
+    waits_on n None there p w = subst (λ c. ArePending n [] names.values names.labels c.graph) (sym p) w
     waits_on n (Some k) there p w = let x = data_there m.made b.op (subst IsSome (sym made_is) refl) in operation_placed_waits k b.op p.0 x.0 x.1 (inside_made k there) n [] names.values names.labels w
 
-  pub begun_ties : IfSome blk (λ k. IsThere old (TheBlock k)) → AreTied names.values names.labels new.graph
+  pub begun_ties : IfSome blk (λ k. IsThere old (TheBlock k)) → MatchesGraph names.values names.labels new.graph
   begun_ties there = ties_on blk there m.placed
 
-  pub begun_waits : IfSome blk (λ k. IsThere old (TheBlock k)) → (n : ℕ) → n ≤ old.graph.made → AreWaiting n [] before.values before.labels old.graph → AreWaiting n [] names.values names.labels new.graph
+  pub begun_waits : IfSome blk (λ k. IsThere old (TheBlock k)) → (n : ℕ) → n ≤ old.graph.made → ArePending n [] before.values before.labels old.graph → ArePending n [] names.values names.labels new.graph
   begun_waits there n le w = waits_on n blk there m.placed (waits_made n le w)
 
   -- it has data, and each other operation was there
@@ -154,13 +154,13 @@ module _ {T A : Type 0} (blk : Option (Ptr BasicBlock)) (front : ReadFront T A) 
     came : HasUses new b.op own → OperationCame old new IsLocation b.op own
     came uses = record { is_new = is_new; view = made_view held types; is = begun_is; has = has; uses = uses; regions = refl }
 
-    wider_used : (but : List Object) → Spares but old m.used
+    wider_used : (but : List Object) → ModifiesOnly but old m.used
     wider_used but = spares_wider old m.used [] but (λ q i. absurd i) spares_used
 
     came_on : (o : Option (Ptr BasicBlock)) → IfSome o (λ k. IsThere old (TheBlock k)) → PlacedIn o m.made new b.op → ComesInto IsLocation old new b.op own o
     came_on None there p = (
       came (subst (λ c. HasUses c b.op own) (sym p) there_made.uses),
-      subst (Spares (TheOperation b.op ∷ []) old) (sym p) (spares_then old m.used m.made (TheOperation b.op ∷ []) (wider_used (TheOperation b.op ∷ [])) (operation_made_spares m.used m.made b.op held types m.makes)),
+      subst (ModifiesOnly (TheOperation b.op ∷ []) old) (sym p) (spares_then old m.used m.made (TheOperation b.op ∷ []) (wider_used (TheOperation b.op ∷ [])) (operation_made_spares m.used m.made b.op held types m.makes)),
     )
     came_on (Some k) there p =
         let last = operation_came_last IsLocation m.used m.made new k b.op held types m.makes p.0 in

@@ -26,7 +26,7 @@ use Rattle.irtext_graph.proofs.Same.{ptr_tells}
 use Rattle.irtext_scopes.specs.Scopes.{Scope}
 use Rattle.irtext_names.specs.Linked.{IsInPlace}
 use Rattle.irtext_names.specs.Placeholders.{IsBlank}
-use Rattle.irtext_names.specs.Tied.{AreTied, AreWaiting}
+use Rattle.irtext_names.specs.Tied.{MatchesGraph, ArePending}
 use Rattle.irtext_names.proofs.Loses.{Loses}
 use Rattle.irtext_names.proofs.Ties.{tied_kept, waiting_kept}
 
@@ -137,10 +137,10 @@ module _ {O B T : Type 0} (g k : GraphView (Option O) B T) (op : Ptr Operation) 
       ages = λ m d i. ap (is_older m) (content_same d);
     }
 
-    pub region_ties : (vs : List (Scope Value)) (ls : List (Scope (Ptr BasicBlock))) → AreTied vs ls g → AreTied vs ls k
+    pub region_ties : (vs : List (Scope Value)) (ls : List (Scope (Ptr BasicBlock))) → MatchesGraph vs ls g → MatchesGraph vs ls k
     region_ties vs ls t = record { value_ties = tied_kept OfValue vs t.value_ties region_loses (λ v i e. cc); label_ties = tied_kept OfBlock ls t.label_ties region_loses (λ v i e. cc) }
 
-    pub region_waits : (m : ℕ) (own : List (Ptr BasicBlock)) (vs : List (Scope Value)) (ls : List (Scope (Ptr BasicBlock))) → AreTied vs ls g → AreWaiting m own vs ls g → AreWaiting m own vs ls k
+    pub region_waits : (m : ℕ) (own : List (Ptr BasicBlock)) (vs : List (Scope Value)) (ls : List (Scope (Ptr BasicBlock))) → MatchesGraph vs ls g → ArePending m own vs ls g → ArePending m own vs ls k
     region_waits m own vs ls t w = record {
       value_waits = waiting_kept OfValue m [] vs t.value_ties w.value_waits region_loses (λ v i e. cc);
       label_waits = waiting_kept OfBlock m own ls t.label_ties w.label_waits region_loses (λ v i e. cc);

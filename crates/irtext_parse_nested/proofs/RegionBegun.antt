@@ -11,22 +11,22 @@ use Rattle.irtext_graph.specs.declared.object.Object.{Object}
 use Rattle.irtext_graph.specs.declared.object.Object.TheVariants.{TheOperation, TheBlock, TheRegion}
 use Rattle.irtext_graph.specs.Content.{ABlock, ARegion}
 use Rattle.irtext_graph.specs.Erasing.{without_uses}
-use Rattle.irtext_graph.specs.Graph.{content, content_of, parent_of, Stands, IsNew}
+use Rattle.irtext_graph.specs.Graph.{content, content_of, parent_of, IsLive, IsNew}
 use Rattle.irtext_graph.specs.Objects.{is_older}
 use Rattle.irtext_graph.specs.Parts.{results_of}
 use Rattle.irtext_graph.specs.Store.{get}
 use Rattle.irtext_graph.proofs.Nests.{told}
 use Rattle.irtext_graph.proofs.Same.{ptr_tells}
-use Rattle.irtext_state.specs.States.{marks_of}
-use Rattle.irtext_state.specs.declared.parsable.state.State as code
+use Rattle.irtext_parse_state.specs.States.{marks_of}
+use Rattle.irtext_parse_state.specs.declared.parsable.state.State as code
 use Rattle.irtext_grammar.specs.Names.History.{Outcome}
 use Rattle.irtext_grammar.specs.Names.Script.{Path}
 use Rattle.irtext_graph.specs.Used.{IsDefined}
 use Rattle.irtext_scopes.specs.Scopes.{Scope, is_open}
 use Rattle.irtext_scopes.specs.Tracker.{entered}
 use Rattle.irtext_names.specs.Linked.{IsInPlace}
-use Rattle.irtext_names.specs.Tied.{AreTied, AreWaiting}
-use Rattle.irtext_parse_nested.specs.Items.{Made, Names, Pledge, StandsAs, Lasts, IsSound, BlanksDefine}
+use Rattle.irtext_names.specs.Tied.{MatchesGraph, ArePending}
+use Rattle.irtext_parse_nested.specs.Items.{Made, Names, Pledge, StandsAs, KeepsLive, IsSound, BlanksDefine}
 use Rattle.irtext_parse_nested.proofs.Blanks.{blanks_on}
 use Rattle.irtext_parse_nested.proofs.Lasting.{data_there, there_data}
 use Rattle.irtext_parse_nested.proofs.Losing.{blanks_by}
@@ -55,7 +55,7 @@ module _ {T A : Type 0} (old new : ContextView T A) (op : Ptr Operation) (r : Pt
   ]
 
   -- what is open lasts
-  pub region_lasts : Lasts old new
+  pub region_lasts : KeepsLive old new
   region_lasts = record {
     operations = λ p h. let x = data_there old p h in there_data new p x.0 (ap (option_map (λ c. c.data_of)) (operation_same old.graph new.graph op r adds.graph p) ∙ x.1);
     results = λ p h. ap (λ c. length (results_of c)) (operation_same old.graph new.graph op r adds.graph p);
@@ -73,7 +73,7 @@ module _ {T A : Type 0} (old new : ContextView T A) (op : Ptr Operation) (r : Pt
   }
 
   -- the region is there
-  pub region_there : Stands new.graph (TheRegion r)
+  pub region_there : IsLive new.graph (TheRegion r)
   region_there = elim (region_is r) [
     | inl e ↦ subst IsSome (sym (ap (λ z. option_map (λ d. ARegion d.0 d.1) (content_of z)) adds.graph.regions.updates.changed)) refl
     | inr (e, f) ↦ subst IsSome (sym f) refl
@@ -84,22 +84,22 @@ module _ {T A : Type 0} (old new : ContextView T A) (op : Ptr Operation) (r : Pt
       pub region_sound : {U : Type 0} (m : ℕ) (s z : code.State T A U) → s.ctx.now ≡ old → z.ctx.now ≡ new → IsSound m names s → IsSound m names z
       region_sound m s z e f h =
           let x = data_there old op has in
-          let tied = subst (λ c. AreTied names.values names.labels c.graph) e h.tied in
+          let tied = subst (λ c. MatchesGraph names.values names.labels c.graph) e h.tied in
           record {
-            tied = subst (λ c. AreTied names.values names.labels c.graph) (sym f) (region_ties old.graph new.graph op r adds.graph x.0 x.1 names.values names.labels tied);
-            waiting = subst (λ c. AreWaiting m [] names.values names.labels c.graph) (sym f) (region_waits old.graph new.graph op r adds.graph x.0 x.1 m [] names.values names.labels tied
-                (subst (λ c. AreWaiting m [] names.values names.labels c.graph) e h.waiting));
+            tied = subst (λ c. MatchesGraph names.values names.labels c.graph) (sym f) (region_ties old.graph new.graph op r adds.graph x.0 x.1 names.values names.labels tied);
+            waiting = subst (λ c. ArePending m [] names.values names.labels c.graph) (sym f) (region_waits old.graph new.graph op r adds.graph x.0 x.1 m [] names.values names.labels tied
+                (subst (λ c. ArePending m [] names.values names.labels c.graph) e h.waiting));
             blanks = subst (BlanksDefine m) (sym f) (blanks_on old new (blanks_by old.graph new.graph (λ p. inl (ap (option_map without_uses) (object_same old.graph new.graph op r adds.graph p)))) m (subst (BlanksDefine m) e h.blanks));
           }
 
-      pub region_stands : {U : Type 0} {path : ℕ → Path} {items : Made} {pledges : List Pledge} {o : Outcome} (s z : code.State T A U) → s.ctx.now ≡ old → z.ctx.now ≡ new → marks_of z ≡ marks_of s → AreTied names.values names.labels old.graph
+      pub region_stands : {U : Type 0} {path : ℕ → Path} {items : Made} {pledges : List Pledge} {o : Outcome} (s z : code.State T A U) → s.ctx.now ≡ old → z.ctx.now ≡ new → marks_of z ≡ marks_of s → MatchesGraph names.values names.labels old.graph
           → StandsAs path items pledges names s o → StandsAs path items pledges names z o
       region_stands s z e f same tied h =
           let x = data_there old op has in
           stands_edited names s z
           (λ d i. subst (λ c. IsDefined c.graph d) (sym f) (still_there old.graph new.graph op r adds.graph d (subst (λ c. IsDefined c.graph d) e i)))
           (λ u d i. subst (λ c. IsInPlace c.graph d u) (sym f) (in_place_still old.graph new.graph op r adds.graph u d (subst (λ c. IsInPlace c.graph d u) e i)))
-          (subst (λ c. AreTied names.values names.labels c.graph) (sym f) (region_ties old.graph new.graph op r adds.graph x.0 x.1 names.values names.labels tied)) same h
+          (subst (λ c. MatchesGraph names.values names.labels c.graph) (sym f) (region_ties old.graph new.graph op r adds.graph x.0 x.1 names.values names.labels tied)) same h
 
 -- a scope of values is open behind a region's beginning that is not refused
 pub opens : {V : Type 0} (iso : Bool) (old new : List (Scope V)) → new ≡ entered iso old → ((iso ≡ false) × (is_open old ≡ false) → ⊥) → is_open new ≡ true

@@ -11,11 +11,11 @@ use Rattle.irtext_graph.specs.declared.object.Region.{Region}
 use Rattle.irtext_graph.specs.declared.object.Object.{Object}
 use Rattle.irtext_graph.specs.declared.object.Object.TheVariants.{TheOperation, TheBlock, TheRegion}
 use Rattle.irtext_graph.specs.Content.{Node, Content, Content.{ARegion}, RegionContent}
-use Rattle.irtext_graph.specs.Graph.{GraphView, content_of, Stands}
+use Rattle.irtext_graph.specs.Graph.{GraphView, content_of, IsLive}
 use Rattle.irtext_graph.specs.Store.{get}
-use Rattle.irtext_nesting.specs.Stands.{IsThere, Spares}
-use Rattle.irtext_nesting.proofs.Edits as edits
-use Rattle.irtext_nesting.proofs.Edits.{alike_as}
+use Rattle.irtext_parse_spec.specs.Unchanged.{IsThere, ModifiesOnly}
+use Rattle.irtext_parse_spec.proofs.Edits as edits
+use Rattle.irtext_parse_spec.proofs.Edits.{alike_as}
 use Rattle.irtext_parse_nested.specs.Definitions.{IsPlaced, HasAsMany, LosesPlaceholders}
 use Rattle.irtext_parse_nested.proofs.Lasting.{data_there, there_data, block_stands, stands_block}
 
@@ -25,14 +25,14 @@ module _ {T A : Type 0} where
   a_region d = ARegion d.0 d.1
 
   -- a region that stands is seen, and the other way
-  pub stands_region : (c : ContextView T A) (r : Ptr Region) → Stands c.graph (TheRegion r) → IsSome (region c r)
+  pub stands_region : (c : ContextView T A) (r : Ptr Region) → IsLive c.graph (TheRegion r) → IsSome (region c r)
   stands_region c r h = go (get c.graph.regions r) h
     where
       go : (e : Option (Entry (Node Operation BasicBlock RegionContent))) → IsSome (option_map a_region (content_of e)) → IsSome (option_map region_of e)
       go None s = absurd (cc)
       go (Some e) s = refl
 
-  pub region_stands : (c : ContextView T A) (r : Ptr Region) → IsSome (region c r) → Stands c.graph (TheRegion r)
+  pub region_stands : (c : ContextView T A) (r : Ptr Region) → IsSome (region c r) → IsLive c.graph (TheRegion r)
   region_stands c r h = go (get c.graph.regions r) h
     where
       go : (e : Option (Entry (Node Operation BasicBlock RegionContent))) → IsSome (option_map region_of e) → IsSome (option_map a_region (content_of e))
@@ -56,7 +56,7 @@ many_as g k (TheOperation p) m = m
 many_as g k (TheBlock b) m = m
 many_as g k (TheRegion r) m = m
 
-pub loses_spares : {T A : Type 0} (old new : ContextView T A) → LosesPlaceholders old.graph new.graph → Spares [] old new
+pub loses_spares : {T A : Type 0} (old new : ContextView T A) → LosesPlaceholders old.graph new.graph → ModifiesOnly [] old new
 loses_spares old new l = record {
   spared = λ q there apart. let a = l.alike q (there_placed old q there) in
       alike_as old new q (record { contents = a.contents; as_many = many_as old.graph new.graph q a.as_many; parents = a.parents; lists = a.lists });

@@ -3,21 +3,21 @@ use Rattle.std.proofs.Common.{◌≡◌, ◌∙◌, ℕ, List, [], sym, ap, subs
 use Rattle.irtext_graph.specs.declared.object.Defined.{Defined}
 use Rattle.irtext_graph.specs.declared.object.Site.{Site}
 use Rattle.irtext_graph.specs.Used.{IsDefined}
-use Rattle.irtext_state.specs.States.{marks_of}
-use Rattle.irtext_state.specs.declared.parsable.state.State as code
+use Rattle.irtext_parse_state.specs.States.{marks_of}
+use Rattle.irtext_parse_state.specs.declared.parsable.state.State as code
 use Rattle.irtext_grammar.specs.Names.History.{State, Event, Outcome, failed, next}
 use Rattle.irtext_grammar.specs.Names.Script.{Path}
 use Rattle.irtext_grammar.specs.Names.TextScopes.{Failure}
 use Rattle.irtext_names.specs.Linked.{IsInPlace, StandsAt, Takes, FailsBy}
-use Rattle.irtext_names.specs.Tied.{AreTied}
+use Rattle.irtext_names.specs.Tied.{MatchesGraph}
 use Rattle.irtext_names.proofs.Linked.Steps.{stands_kept}
-use Rattle.irtext_outcomes.specs.Promises.Section.{indices_of}
+use Rattle.irtext_parse_spec.specs.Promises.Section.{indices_of}
 use Rattle.irtext_parse_nested.specs.Items.{Made, Names, Pledge, StandsAs}
 
 module _ {T A U : Type 0} {path : ℕ → Path} {items : Made} {pledges : List Pledge} {o : Outcome} where
   -- an edit that keeps what is defined and what is in place
   pub stands_edited : (names : Names) (s z : code.State T A U) → ((d : Defined) → IsDefined s.ctx.now.graph d → IsDefined z.ctx.now.graph d)
-      → ((u : Site) (d : Defined) → IsInPlace s.ctx.now.graph d u → IsInPlace z.ctx.now.graph d u) → AreTied names.values names.labels z.ctx.now.graph
+      → ((u : Site) (d : Defined) → IsInPlace s.ctx.now.graph d u → IsInPlace z.ctx.now.graph d u) → MatchesGraph names.values names.labels z.ctx.now.graph
       → marks_of z ≡ marks_of s → StandsAs path items pledges names s o → StandsAs path items pledges names z o
   stands_edited names s z there in_place tied same h = record {
     known = h.known;

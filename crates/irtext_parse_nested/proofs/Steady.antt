@@ -13,7 +13,7 @@ use Rattle.irtext_graph.specs.Erasing.{without_uses}
 use Rattle.irtext_graph.specs.Store.{get}
 use Rattle.irtext_graph.proofs.Nests.{told}
 use Rattle.irtext_graph.proofs.Same.{ptr_tells}
-use Rattle.irtext_graph.specs.Graph.{GraphView, Stands, content, parent_of, content_of}
+use Rattle.irtext_graph.specs.Graph.{GraphView, IsLive, content, parent_of, content_of}
 use Rattle.irtext_graph.specs.Used.{IsDefined}
 use Rattle.irtext_graph.specs.Parts.{ValueStands}
 use Rattle.irtext_graph.proofs.Closed.{older_on}
@@ -23,13 +23,13 @@ use Rattle.irtext_grammar.specs.Names.Script.{User, use_value, use_label}
 use Rattle.irtext_grammar.specs.Names.TextScopes.{Word}
 use Rattle.irtext_names.specs.Linked.{TakesUse}
 use Rattle.irtext_names.specs.Placeholders.{Uses, MakesValue, MakesLabel, StandsAsBefore}
-use Rattle.irtext_names.specs.Tied.{AreTied}
+use Rattle.irtext_names.specs.Tied.{MatchesGraph}
 use Rattle.irtext_names.specs.Rows.{AreKnown}
 use Rattle.irtext_names.proofs.Lists.{older_itself}
 use Rattle.irtext_names.proofs.Rows.{use_there, value_there, label_there}
 use Rattle.irtext_parse_nested.specs.Items.{Names}
 use Rattle.irtext_parse_nested.specs.Definitions.{BlanksHaveResults}
-use Rattle.irtext_parse_nested.specs.Gathered.{BringsNone, IsSteady, TakesName}
+use Rattle.irtext_parse_nested.specs.Gathered.{BringsNone, KeepsScopes, TakesName}
 use Rattle.irtext_parse_nested.proofs.Losing.{blanks_by}
 
 -- what is seen of an operation
@@ -159,10 +159,10 @@ module _ {O B T : Type 0} where
 
 -- ---- calls one after another
 module _ {O B T : Type 0} where
-  pub steady_itself : (names : Names) (g : GraphView (Option O) B T) → AreTied names.values names.labels g → IsSteady names names g g
+  pub steady_itself : (names : Names) (g : GraphView (Option O) B T) → MatchesGraph names.values names.labels g → KeepsScopes names names g g
   steady_itself names g t = record { names = refl; values = refl; labels = refl; tied = t; waiting = λ m own le w. w; kept = λ m le. older_itself m g; brings = brings_itself g; blanks = λ m h. h }
 
-  pub steady_both : {old mid new : Names} {g h k : GraphView (Option O) B T} → IsSteady old mid g h → IsSteady mid new h k → IsSteady old new g k
+  pub steady_both : {old mid new : Names} {g h k : GraphView (Option O) B T} → KeepsScopes old mid g h → KeepsScopes mid new h k → KeepsScopes old new g k
   steady_both {g} {h} {k} s t = record {
     names = t.names ∙ s.names;
     values = t.values ∙ s.values;
@@ -181,7 +181,7 @@ module _ {O B T E : Type 0} (old new : Names) (g h : GraphView (Option O) B (Opt
   value_named (Ok v) u t f = record { still = use_there MakesValue old.values new.values g h n v u (λ d m e. value_there v d m e); there = t; follows = f }
   value_named (Err x) u t f = tt
 
-  pub block_named : (value : B) (r : Result (Ptr BasicBlock) E) → IfOk r (λ b. Uses (MakesLabel value) old.labels new.labels g h n b) → IfOk r (λ b. Stands h (TheBlock b))
+  pub block_named : (value : B) (r : Result (Ptr BasicBlock) E) → IfOk r (λ b. Uses (MakesLabel value) old.labels new.labels g h n b) → IfOk r (λ b. IsLive h (TheBlock b))
       → IfOk r (λ b. (w : Word) (u : User) → slice_get old.names n ≡ Some w.name → TakesUse (use_label w u) old new g h u (OfBlock b)) → IfOk r (TakesName OfBlock use_label n old new g h)
   block_named value (Ok b) u t f = record { still = use_there (MakesLabel value) old.labels new.labels g h n b u (λ d m e. label_there value b d m e); there = t; follows = f }
   block_named value (Err x) u t f = tt

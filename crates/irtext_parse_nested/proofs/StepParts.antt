@@ -7,17 +7,17 @@ use Rattle.irtext_base.specs.Format as format
 use Rattle.irtext_base.specs.Format.{Directive, operand_places, successor_places, Accepted, count, is_any_region, is_operands, is_successors, c1, c2, c3, c4, c5, c6, c7}
 use Rattle.irtext_base.specs.Answers.{Outcome, Read, Missing, Bad, mapped, followed}
 use Rattle.irtext_base.specs.Locations.{AttrView}
-use Rattle.irtext_read.specs.Infix.{Reader, ◌▷◌}
-use Rattle.irtext_read.specs.ListOutcomes.{items_after, or_empty, separated_at}
-use Rattle.irtext_read.specs.Tokens.{space_at, word}
+use Rattle.irtext_tokens.specs.Infix.{Reader, ◌▷◌}
+use Rattle.irtext_tokens.specs.ListOutcomes.{items_after, or_empty, separated_at}
+use Rattle.irtext_tokens.specs.Tokens.{space_at, word}
 use Rattle.irtext_grammar.specs.Grammar.Tree as tree
 use Rattle.irtext_grammar.specs.Grammar.Tree.{Name, Piece, Part, directive_of_piece}
 use Rattle.irtext_grammar.proofs.Graphs.FitsFormat.{and_left}
-use Rattle.irtext_outcomes.proofs.Joins.Answers.{followed_read, mapped_read}
-use Rattle.irtext_nesting.specs.Exact.{IsOfStep, UsesNone}
-use Rattle.irtext_nesting.specs.Heads.{Step, flat, types, one, all, step_of, front_steps, used_at, target_at, symbol_at, dictionary_at, outlined_or_at, piece_at}
-use Rattle.irtext_nesting.specs.Resume.{front_at}
-use Rattle.irtext_nesting.proofs.Exact.Outside.{used_never, target_never}
+use Rattle.irtext_parse_spec.proofs.Joins.Answers.{followed_read, mapped_read}
+use Rattle.irtext_parse_spec.specs.Exact.{IsOfStep, UsesNone}
+use Rattle.irtext_parse_spec.specs.Heads.{Step, flat, types, one, all, step_of, front_steps, used_at, target_at, symbol_at, dictionary_at, outlined_or_at, piece_at}
+use Rattle.irtext_parse_spec.specs.Resume.{front_at}
+use Rattle.irtext_parse_spec.proofs.Exact.Outside.{used_never, target_never}
 
 -- each piece is one that its step reads, and uses no name outside of each region
 abbrev pub AreOfSteps : {T A : Type 0} → Bool → List Step → List (Piece ℕ T A) → Type 0

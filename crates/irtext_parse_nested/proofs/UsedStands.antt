@@ -11,7 +11,7 @@ use Rattle.irtext_graph.specs.Back.{AllOlder}
 use Rattle.irtext_graph.specs.Chained.{Among}
 use Rattle.irtext_graph.specs.Content.{Node, Content, Content.{AnOperation, ABlock, ARegion}, OperationContent, BlockContent, RegionContent, Typed}
 use Rattle.irtext_graph.specs.Graph as graphs
-use Rattle.irtext_graph.specs.Graph.{GraphView, Appends, IsNew, Stands, content, content_of, parent, parent_of}
+use Rattle.irtext_graph.specs.Graph.{GraphView, Appends, IsNew, IsLive, content, content_of, parent, parent_of}
 use Rattle.irtext_graph.specs.Objects.{is_older}
 use Rattle.irtext_graph.specs.Parts.{results, results_of}
 use Rattle.irtext_graph.specs.Store.{Store, get, before}
@@ -30,15 +30,15 @@ use Rattle.irtext_graph.proofs.Nests.{told}
 use Rattle.irtext_graph.proofs.Same.{ptr_tells}
 use Rattle.irtext_names.proofs.Gained.{fresh_place}
 use Rattle.irtext_names.proofs.SameBut.{data_in, data_is}
-use Rattle.irtext_nesting.specs.Stands.{IsThere, IsAsItWas, Spares}
-use Rattle.irtext_nesting.proofs.Edits.{kept_as_many}
+use Rattle.irtext_parse_spec.specs.Unchanged.{IsThere, IsAsItWas, ModifiesOnly}
+use Rattle.irtext_parse_spec.proofs.Edits.{kept_as_many}
 use Rattle.irtext_parse_nested.specs.Gathered.{BringsNone}
-use Rattle.irtext_parse_nested.specs.Items.{Lasts}
+use Rattle.irtext_parse_nested.specs.Items.{KeepsLive}
 use Rattle.irtext_parse_nested.proofs.Steady.{seen_region}
 use Rattle.irtext_parse_nested.proofs.Lasting.{data_there, there_data, block_stands, stands_block}
 
 -- ---- one behind another
-pub lasts_then : {T A : Type 0} (a b c : ContextView T A) → Lasts a b → Lasts b c → Lasts a c
+pub lasts_then : {T A : Type 0} (a b c : ContextView T A) → KeepsLive a b → KeepsLive b c → KeepsLive a c
 lasts_then a b c s t = record {
   operations = λ p h. t.operations p (s.operations p h);
   results = λ p h. t.results p (s.operations p h) ∙ s.results p h;
@@ -49,7 +49,7 @@ lasts_then a b c s t = record {
   dialects = t.dialects ∙ s.dialects;
 }
 
-pub lasts_itself : {T A : Type 0} (a : ContextView T A) → Lasts a a
+pub lasts_itself : {T A : Type 0} (a : ContextView T A) → KeepsLive a a
 lasts_itself a = record {
   operations = λ p h. h;
   results = λ p h. refl;
@@ -109,7 +109,7 @@ module _ {T A : Type 0} (old used : ContextView T A) (all_older : AllOlder old.g
       go None f h = absurd (cc)
       go (Some e) f h = stays old.graph.made old.graph.regions used.graph.regions r e (now.regions r) (all_older.regions r) f ∙ sym f
 
-  region_seen : (r : Ptr Region) → Stands old.graph (TheRegion r) → IsSome (region old r)
+  region_seen : (r : Ptr Region) → IsLive old.graph (TheRegion r) → IsSome (region old r)
   region_seen r h = go (get old.graph.regions r) h
     where
       go : (e : Option (Entry (Node Operation BasicBlock RegionContent))) → IsSome (seen_region (Option (OperationData A)) (BlockData A) (Option T) (content_of e)) → IsSome (option_map region_of e)
@@ -117,7 +117,7 @@ module _ {T A : Type 0} (old used : ContextView T A) (all_older : AllOlder old.g
       go (Some e) h = refl
 
   -- whatever was there is as it was, and nothing came
-  pub used_spares : Spares [] old used
+  pub used_spares : ModifiesOnly [] old used
   used_spares = record { spared = go; brought = λ q there. inl (was q there) }
     where
       go : (q : Object) → IsThere old q → (Among q [] → ⊥) → IsAsItWas old used q
@@ -133,7 +133,7 @@ module _ {T A : Type 0} (old used : ContextView T A) (all_older : AllOlder old.g
           block_of_parent None o f = absurd (cc)
           block_of_parent (Some e) o f = refl
 
-      standing : (c : ContextView T A) (r : Ptr Region) → IsSome (region c r) → Stands c.graph (TheRegion r)
+      standing : (c : ContextView T A) (r : Ptr Region) → IsSome (region c r) → IsLive c.graph (TheRegion r)
       standing c r h = of (get c.graph.regions r) h
         where
           of : (e : Option (Entry (Node Operation BasicBlock RegionContent))) → IsSome (option_map region_of e) → IsSome (seen_region (Option (OperationData A)) (BlockData A) (Option T) (content_of e))
@@ -167,7 +167,7 @@ module _ {T A : Type 0} (old used : ContextView T A) (all_older : AllOlder old.g
       go (Some e) f = young m e f
 
   -- what is open lasts
-  pub used_lasts : Lasts old used
+  pub used_lasts : KeepsLive old used
   used_lasts = record {
     operations = λ p h. subst (λ e. IsSome (option_and_then operation_of e)) (sym (operation_stays p h)) h;
     results = λ p h. ap (λ e. length (results_of (option_map (λ e. e.content.content) e))) (operation_stays p h);
@@ -198,7 +198,7 @@ module _ {T A : Type 0} (old new : ContextView T A) (op : Ptr Operation) (held :
   newer_made m (TheBlock b) le n = ap (λ s. is_older {O = Option (OperationData A)} {B = BlockData A} {T = Option T} m (option_map (λ d. ABlock d.0 d.1) (content_of (get s b)))) makes.graph.blocks ∙ n
   newer_made m (TheRegion r) le n = ap (λ s. is_older {O = Option (OperationData A)} {B = BlockData A} {T = Option T} m (option_map (λ d. ARegion d.0 d.1) (content_of (get s r)))) makes.graph.regions ∙ n
 
-  pub made_lasts : Lasts old new
+  pub made_lasts : KeepsLive old new
   made_lasts = record {
     operations = λ p h. subst (λ e. IsSome (option_and_then operation_of e)) (sym (other p h)) h;
     results = λ p h. ap (λ e. length (results_of (option_map (λ e. e.content.content) e))) (other p h);
@@ -216,7 +216,7 @@ results_seen _ = []
 
 -- ---- it came last into a block
 module _ {T A : Type 0} (old new : ContextView T A) (b : Ptr BasicBlock) (op : Ptr Operation) (a : Appends old.graph new.graph (TheBlock b) (TheOperation op)) (same : new.dialects ≡ old.dialects) where
-  pub placed_lasts : Lasts old new
+  pub placed_lasts : KeepsLive old new
   placed_lasts = record {
     operations = λ p h. let x = data_there old p h in there_data new p x.0 (data_is new.graph p ∙ (ap (λ c. data_in (option_map without_uses c)) (a.objects.contents (TheOperation p)) ∙ (sym (data_is old.graph p) ∙ x.1)));
     results = λ p h. ap length (results_same p);

@@ -20,23 +20,23 @@ use Rattle.irtext_graph.specs.declared.object.BasicBlock.{BasicBlock}
 use Rattle.irtext_graph.specs.declared.object.Operation.{Operation}
 use Rattle.irtext_graph.specs.declared.object.Object.TheVariants.{TheBlock, TheOperation}
 use Rattle.irtext_graph.specs.Graph.{GraphView, Appends}
-use Rattle.irtext_read.specs.Infix.{Reader}
+use Rattle.irtext_tokens.specs.Infix.{Reader}
 use Rattle.irtext_grammar.specs.Contexts.Formats.{format_of}
 use Rattle.irtext_grammar.specs.Contexts.Held.{whole}
 use Rattle.irtext_grammar.specs.Grammar.Tree as tree
 use Rattle.irtext_grammar.specs.Grammar.Tree.{Name, Part, parts_of, views, in_order, operand_names, successor_labels}
 use Rattle.irtext_grammar.specs.Graphs.Build.{put_all, stored}
 use Rattle.irtext_grammar.specs.Names.Acts.{result_types}
-use Rattle.irtext_outcomes.specs.Promises.Root.{UnlessMemory}
-use Rattle.irtext_outcomes.specs.Promises.Section.{Moves, IsStarved}
-use Rattle.irtext_outcomes.specs.Promises.Supported.{is_committed}
-use Rattle.irtext_nesting.specs.Exact.{IsOfStep}
-use Rattle.irtext_nesting.specs.Heads.{Step, one, all, front_steps, led_at}
-use Rattle.irtext_nesting.specs.Naming.{body_of, unmarked}
-use Rattle.irtext_nesting.specs.Reached.{steps_in}
-use Rattle.irtext_nesting.specs.Resume.{Begun, front_at}
-use Rattle.irtext_nesting.specs.Grows.{BlockGains, OperationCame}
-use Rattle.irtext_nesting.specs.Stands.{OwnSoFar, Spares}
+use Rattle.irtext_parse_spec.specs.Promises.Root.{UnlessMemory}
+use Rattle.irtext_parse_spec.specs.Promises.Section.{Moves, IsStarved}
+use Rattle.irtext_parse_spec.specs.Promises.Supported.{is_committed}
+use Rattle.irtext_parse_spec.specs.Exact.{IsOfStep}
+use Rattle.irtext_parse_spec.specs.Heads.{Step, one, all, front_steps, led_at}
+use Rattle.irtext_parse_spec.specs.Naming.{body_of, unmarked}
+use Rattle.irtext_parse_spec.specs.Reached.{steps_in}
+use Rattle.irtext_parse_spec.specs.Resume.{OpenOperation, front_at}
+use Rattle.irtext_parse_spec.specs.Grows.{BlockGains, OperationCame}
+use Rattle.irtext_parse_spec.specs.Unchanged.{OwnSoFar, ModifiesOnly}
 use Rattle.irtext_parse_pieces.specs.declared.names.ReadName.{ReadName}
 use Rattle.irtext_parse_pieces.specs.declared.pieces.ReadPiece.{ReadPiece}
 use Rattle.irtext_parse_pieces.specs.Fronts.{IsPart}
@@ -47,7 +47,7 @@ use Rattle.irtext_parse_nested.specs.declared.operation_parts.Gathered.{Gathered
 use Rattle.irtext_parse_nested.specs.declared.operation_parts.NotGathered.{NotGathered}
 use Rattle.irtext_parse_nested.specs.declared.operation_parts.NotGathered.TheVariants as refusal
 use Rattle.irtext_parse_nested.specs.Definitions.{IsFaultOf}
-use Rattle.irtext_parse_nested.specs.Gathered.{IsNothing, IsSteady, Gathers, RefusesGathering}
+use Rattle.irtext_parse_nested.specs.Gathered.{IsNothing, KeepsScopes, Gathers, RefusesGathering}
 use Rattle.irtext_parse_nested.specs.Items.{Names}
 use Rattle.irtext_parse_nested.specs.Read.{Demands}
 
@@ -118,7 +118,7 @@ module _ {T A : Type 0} where
     pub gathered : Gathered T A
     pub used : ContextView T A
     pub gathers : Gathers front.pieces before old.graph none names used.graph gathered
-    pub steady : IsSteady before names old.graph used.graph
+    pub steady : KeepsScopes before names old.graph used.graph
     pub used_is : used ≡ with_graph old used.graph
     pub made : ContextView T A
     pub makes : MakesOperation used made b.op (record { id = front.id; attributes = gathered.attributes; loc = loc }) (types_made gathered.types.items gathered.listed)
@@ -151,7 +151,7 @@ ArePartsOf _ _ = ⊥
 -- The own parts are those that were parsed of the operation so far. They store what its parsed parts store. Whatever the remaining steps
 -- parse, the operation's body will have these result types and this many operands and successors, and it will store what all of its parts
 -- store.
-pub record HasBegun {T A : Type 0} (formats : Id → Option Format) (o : Begun T A) (own : OwnSoFar T A) : Type 0 where
+pub record HasBegun {T A : Type 0} (formats : Id → Option Format) (o : OpenOperation T A) (own : OwnSoFar T A) : Type 0 where
   pub place : own.place ≡ o.place
   pub id : own.id ≡ o.id
   pub entries : own.entries ≡ put_all [] (views stored o.parts)
@@ -164,5 +164,5 @@ pub record HasBegun {T A : Type 0} (formats : Id → Option Format) (o : Begun T
 module _ {T A : Type 0} (IsLocation : ℕ → Location A → Type 0) (old new : ContextView T A) (p : Ptr Operation) (own : OwnSoFar T A) where
   -- the operation was created, as the last of the block if one is given, and everything else is unchanged
   abbrev pub ComesInto : Option (Ptr BasicBlock) → Type 0
-  ComesInto None = OperationCame old new IsLocation p own × Spares (TheOperation p ∷ []) old new
-  ComesInto (Some b) = OperationCame old new IsLocation p own × BlockGains old new b p × Spares (TheOperation p ∷ TheBlock b ∷ []) old new
+  ComesInto None = OperationCame old new IsLocation p own × ModifiesOnly (TheOperation p ∷ []) old new
+  ComesInto (Some b) = OperationCame old new IsLocation p own × BlockGains old new b p × ModifiesOnly (TheOperation p ∷ TheBlock b ∷ []) old new

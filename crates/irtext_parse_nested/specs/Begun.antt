@@ -3,19 +3,19 @@ use Rattle.std.specs.Prelude.{◌≡◌, ℕ, Bool, List, [], ◌∷◌, ◌++�
 use Rattle.std.specs.List.{All}
 use Rattle.irtext_base.specs.Text.{Text}
 use Rattle.irtext_base.specs.Faults.{id_of}
-use Rattle.irtext_formats.specs.Conditions.{WritesNamesOrType}
+use Rattle.irtext_format_check.specs.Conditions.{WritesNamesOrType}
 use Rattle.irtext_context.specs.Context.{ContextView, operation, block}
 use Rattle.irtext_graph.specs.declared.object.Object.TheVariants.{TheBlock, TheRegion}
-use Rattle.irtext_graph.specs.Graph.{parent, Stands}
+use Rattle.irtext_graph.specs.Graph.{parent, IsLive}
 use Rattle.irtext_graph.specs.Parts.{results}
 use Rattle.irtext_grammar.specs.Contexts.Formats.{format_of, isolated}
 use Rattle.irtext_grammar.specs.Grammar.Tree as tree
 use Rattle.irtext_grammar.specs.Grammar.Tree.{Part}
 use Rattle.irtext_grammar.specs.Names.Acts.{result_types}
-use Rattle.irtext_nesting.specs.Heads.{Step, flat, types}
-use Rattle.irtext_nesting.specs.Naming.{body_of}
-use Rattle.irtext_nesting.specs.Reached.{steps_in}
-use Rattle.irtext_nesting.specs.Resume.{Begun}
+use Rattle.irtext_parse_spec.specs.Heads.{Step, flat, types}
+use Rattle.irtext_parse_spec.specs.Naming.{body_of}
+use Rattle.irtext_parse_spec.specs.Reached.{steps_in}
+use Rattle.irtext_parse_spec.specs.Resume.{OpenOperation}
 use Rattle.irtext_parse_pieces.specs.Named.{Leaves, StandsFor, Each}
 use Rattle.irtext_parse_nested.specs.declared.frame.BegunOperation.{BegunOperation}
 use Rattle.irtext_parse_nested.specs.declared.frame.BegunRegion.{BegunRegion}
@@ -48,7 +48,7 @@ module _ {T A : Type 0} (names : List Text) (text : Text) (ctx : ContextView T A
   -- The begun operation of the code represents this one. They have the same names, place, id and remaining steps, which parse no names
   -- and no types. Whether it is isolated, and what its next step parses where that is recorded, are as its dialect says. The number of
   -- results is that of the types that its parts give, whatever parts without types follow.
-  pub record IsBegun (b : BegunOperation) (o : Begun T A) : Type 0 where
+  pub record IsBegun (b : BegunOperation) (o : OpenOperation T A) : Type 0 where
     pub inside : b.inside ≡ o.inside
     pub place : Leaves text b.at o.place
     pub names_are : Each (StandsFor names text) b.names o.names
@@ -67,7 +67,7 @@ module _ {T A : Type 0} (names : List Text) (text : Text) (ctx : ContextView T A
   pub record IsRegion (r : BegunRegion) (iso : Bool) (place : ℕ) : Type 0 where
     pub is_isolated : r.isolated ≡ iso
     pub placed : Leaves text r.at place
-    pub stands : Stands ctx.graph (TheRegion r.region)
+    pub stands : IsLive ctx.graph (TheRegion r.region)
 
   -- The begun block is live, and is in a region.
   pub record IsBlock (b : BegunBlock) (first : Bool) : Type 0 where

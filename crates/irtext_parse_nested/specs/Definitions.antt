@@ -17,10 +17,10 @@ use Rattle.irtext_graph.specs.declared.object.Value.TheVariants.{Result, Argumen
 use Rattle.irtext_graph.specs.declared.object.Defined.TheVariants.{OfValue}
 use Rattle.irtext_graph.specs.Chained.{Among}
 use Rattle.irtext_graph.specs.Erasing.{without_uses}
-use Rattle.irtext_graph.specs.Graph.{GraphView, Stands, IsNew, content, parent, children}
+use Rattle.irtext_graph.specs.Graph.{GraphView, IsLive, IsNew, content, parent, children}
 use Rattle.irtext_graph.specs.Parts.{operation_at, results}
 use Rattle.irtext_graph.specs.Used.{IsDefined}
-use Rattle.irtext_nesting.specs.Stands.{UsesAsMany}
+use Rattle.irtext_parse_spec.specs.Unchanged.{UsesAsMany}
 use Rattle.irtext_scopes.specs.declared.tracker.NameTracker.{NameTracker}
 use Rattle.irtext_scopes.specs.Scopes.{Scope}
 use Rattle.irtext_grammar.specs.Grammar.Tree.{Name}
@@ -68,8 +68,8 @@ module _ {O B T : Type 0} where
   -- the object is no placeholder: an operation that has data, a block that has a parent, or a region
   abbrev pub IsPlaced : GraphView (Option O) B T → Object → Type 0
   IsPlaced g (TheOperation p) = (x : O) × (option_map (λ c. c.data_of) (operation_at g p) ≡ Some (Some x))
-  IsPlaced g (TheBlock b) = Stands g (TheBlock b) × IsSome (parent g (TheBlock b))
-  IsPlaced g (TheRegion r) = Stands g (TheRegion r)
+  IsPlaced g (TheBlock b) = IsLive g (TheBlock b) × IsSome (parent g (TheBlock b))
+  IsPlaced g (TheRegion r) = IsLive g (TheRegion r)
 
   -- if the object is an operation, it has the same number of operands and successors
   abbrev pub HasAsMany : GraphView (Option O) B T → GraphView (Option O) B T → Object → Type 0
@@ -94,8 +94,8 @@ module _ {O B T : Type 0} where
   pub record LosesPlaceholders (g k : GraphView (Option O) B T) : Type 0 where
     pub operations : (p : Ptr Operation) (x : O) → option_map (λ c. c.data_of) (operation_at g p) ≡ Some (Some x) → option_map (λ c. c.data_of) (operation_at k p) ≡ Some (Some x)
     pub results : (p : Ptr Operation) (x : O) → option_map (λ c. c.data_of) (operation_at g p) ≡ Some (Some x) → length (results k p) ≡ length (results g p)
-    pub blocks : (b : Ptr BasicBlock) (o : Object) → parent g (TheBlock b) ≡ Some o → (parent k (TheBlock b) ≡ Some o) × (Stands g (TheBlock b) → Stands k (TheBlock b))
-    pub regions : (r : Ptr Region) → Stands g (TheRegion r) → Stands k (TheRegion r)
+    pub blocks : (b : Ptr BasicBlock) (o : Object) → parent g (TheBlock b) ≡ Some o → (parent k (TheBlock b) ≡ Some o) × (IsLive g (TheBlock b) → IsLive k (TheBlock b))
+    pub regions : (r : Ptr Region) → IsLive g (TheRegion r) → IsLive k (TheRegion r)
     pub newer : (m : ℕ) (q : Object) → IsNew m g q → IsNew m k q
     pub made : k.made ≡ g.made
     pub alike : (q : Object) → IsPlaced g q → StaysAlike g k q

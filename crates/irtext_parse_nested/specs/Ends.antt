@@ -12,19 +12,19 @@ use Rattle.irtext_graph.specs.Graph.{GraphView}
 use Rattle.irtext_scopes.specs.Scopes.{is_open}
 use Rattle.irtext_scopes.specs.declared.scopes.DefineFault.{DefineFault}
 use Rattle.irtext_names.specs.declared.definitions.UndefinedName.{UndefinedName}
-use Rattle.irtext_state.specs.States.{same_index, Notes}
+use Rattle.irtext_parse_state.specs.States.{same_index, Notes}
 use Rattle.irtext_parse_pieces.specs.declared.marks.ReadMark.{ReadMark}
 use Rattle.irtext_parse_pieces.specs.declared.names.ReadName.{ReadName}
 use Rattle.irtext_parse_nested.specs.declared.frame.BegunOperation.{BegunOperation}
 use Rattle.irtext_parse_nested.specs.Definitions.{FailsRow, IsFaultOf}
-use Rattle.irtext_state.specs.declared.parsable.state.State as code
+use Rattle.irtext_parse_state.specs.declared.parsable.state.State as code
 use Rattle.irtext_grammar.specs.Names.History.{Outcome}
 use Rattle.irtext_grammar.specs.Names.Script.{Path}
 use Rattle.irtext_grammar.specs.Contexts.Held.{entries_of}
 use Rattle.irtext_grammar.specs.Grammar.Tree.{Name, Mark}
 use Rattle.irtext_grammar.specs.Graphs.Build.{put_all, read_names}
-use Rattle.irtext_nesting.specs.Grows.{OwnBecame}
-use Rattle.irtext_nesting.specs.Stands.{OwnSoFar, HasOwn, HasUses}
+use Rattle.irtext_parse_spec.specs.Grows.{OwnBecame}
+use Rattle.irtext_parse_spec.specs.Unchanged.{OwnSoFar, HasOwn, HasUses}
 use Rattle.irtext_names.specs.Rows.{AreNamed}
 use Rattle.irtext_parse_pieces.specs.Named.{StandsFor, Each}
 use Rattle.irtext_context.specs.Context.{ContextView, OperationView, operation, EditsOperation, with_attributes}
@@ -32,7 +32,7 @@ use Rattle.irtext_graph.specs.declared.arena.Ptr.{Ptr}
 use Rattle.irtext_graph.specs.declared.object.Operation.{Operation}
 use Rattle.irtext_base.specs.declared.base.attributes.AttrObj.{AttrObj}
 use Rattle.irtext_base.specs.declared.location.Location.{Location}
-use Rattle.irtext_nesting.specs.Resume.{Begun}
+use Rattle.irtext_parse_spec.specs.Resume.{OpenOperation}
 use Rattle.irtext_parse_nested.specs.Items.{Names, doing}
 
 -- the numbers of the parsed names
@@ -79,7 +79,7 @@ pub record RefusesTwice {A : Type 0} (names : List Text) (text : Text) (defined 
   pub says : IsFaultOf names text causes.MultipleDefinitions read fault
 
 -- what the end of an operation does, before its mark
-abbrev pub closes_at : {T A U : Type 0} → Begun T A → code.State T A U → (ℕ → Path) → Outcome → Outcome
+abbrev pub closes_at : {T A U : Type 0} → OpenOperation T A → code.State T A U → (ℕ → Path) → Outcome → Outcome
 closes_at {T} {A} o s path = (doing {T = T} {A = A} s.ctx.now.dialects path).closes o.place o.names o.id o.parts
 
 module _ {T A : Type 0} where

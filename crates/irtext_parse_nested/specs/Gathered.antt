@@ -19,7 +19,7 @@ use Rattle.irtext_graph.specs.declared.object.Value.{Value}
 use Rattle.irtext_graph.specs.declared.object.Defined.{Defined}
 use Rattle.irtext_graph.specs.declared.object.Defined.TheVariants.{OfValue, OfBlock}
 use Rattle.irtext_graph.specs.Chained.{Among}
-use Rattle.irtext_graph.specs.Graph.{GraphView, KeepsOlder, Stands, parent}
+use Rattle.irtext_graph.specs.Graph.{GraphView, KeepsOlder, IsLive, parent}
 use Rattle.irtext_graph.specs.Parts.{operation_at}
 use Rattle.irtext_graph.specs.Used.{IsDefined}
 use Rattle.irtext_grammar.specs.Contexts.Held.{attribute_of, entries_of}
@@ -30,7 +30,7 @@ use Rattle.irtext_grammar.specs.Names.History.{State, act, going, failed, run}
 use Rattle.irtext_grammar.specs.Names.Script.{Path, User, operand, successor, Cause, ReservedKey, NoActiveScope}
 use Rattle.irtext_grammar.specs.Names.TextScopes.{Act, Word, Failure}
 use Rattle.irtext_names.specs.Linked.{Known, StandsAt, TakesUse}
-use Rattle.irtext_names.specs.Tied.{AreTied, AreWaiting}
+use Rattle.irtext_names.specs.Tied.{MatchesGraph, ArePending}
 use Rattle.irtext_names.specs.Rows.{AreKnown, TakesUses}
 use Rattle.irtext_parse_pieces.specs.declared.entries.Key.{Key}
 use Rattle.irtext_parse_pieces.specs.declared.names.ReadName.{ReadName}
@@ -193,16 +193,16 @@ module _ {O B T : Type 0} where
   pub record BringsNone (g k : GraphView (Option O) B T) : Type 0 where
     pub operations : (p : Ptr Operation) (x : O) → option_map (λ c. c.data_of) (operation_at k p) ≡ Some (Some x) → option_map (λ c. c.data_of) (operation_at g p) ≡ Some (Some x)
     pub blocks : (b : Ptr BasicBlock) (o : Object) → parent k (TheBlock b) ≡ Some o → parent g (TheBlock b) ≡ Some o
-    pub regions : (r : Ptr Region) → Stands k (TheRegion r) → Stands g (TheRegion r)
+    pub regions : (r : Ptr Region) → IsLive k (TheRegion r) → IsLive g (TheRegion r)
 
   -- The names are the same, as many scopes are open, and names and graph are still tied; what is older is unchanged, nothing but
   -- placeholders was added, and each operation without data has a result if that was so before.
-  pub record IsSteady (old new : Names) (g k : GraphView (Option O) B T) : Type 0 where
+  pub record KeepsScopes (old new : Names) (g k : GraphView (Option O) B T) : Type 0 where
     pub names : new.names ≡ old.names
     pub values : length new.values ≡ length old.values
     pub labels : length new.labels ≡ length old.labels
-    pub tied : AreTied new.values new.labels k
-    pub waiting : (m : ℕ) (own : List (Ptr BasicBlock)) → m ≤ g.made → AreWaiting m own old.values old.labels g → AreWaiting m own new.values new.labels k
+    pub tied : MatchesGraph new.values new.labels k
+    pub waiting : (m : ℕ) (own : List (Ptr BasicBlock)) → m ≤ g.made → ArePending m own old.values old.labels g → ArePending m own new.values new.labels k
     pub kept : (m : ℕ) → m ≤ g.made → KeepsOlder m g k
     pub brings : BringsNone g k
     pub blanks : (m : ℕ) → BlanksHaveResults m g → BlanksHaveResults m k

@@ -17,13 +17,13 @@ use Rattle.irtext_graph.specs.declared.object.Value.TheVariants.{Result}
 use Rattle.irtext_graph.specs.declared.object.Defined.TheVariants.{OfValue}
 use Rattle.irtext_graph.specs.Chained.{Among}
 use Rattle.irtext_graph.specs.declared.object.Object.{Object}
-use Rattle.irtext_graph.specs.Graph.{parent, Stands, IsNew}
+use Rattle.irtext_graph.specs.Graph.{parent, IsLive, IsNew}
 use Rattle.irtext_graph.specs.Parts.{results}
 use Rattle.irtext_graph.specs.Store.{get}
 use Rattle.irtext_graph.specs.Used.{IsDefined}
 use Rattle.irtext_scopes.specs.declared.tracker.NameTracker.{NameTracker}
-use Rattle.irtext_state.specs.States.{marks_of}
-use Rattle.irtext_state.specs.declared.parsable.state.State as code
+use Rattle.irtext_parse_state.specs.States.{marks_of}
+use Rattle.irtext_parse_state.specs.declared.parsable.state.State as code
 use Rattle.irtext_grammar.specs.Contexts.Formats.{format_of}
 use Rattle.irtext_grammar.specs.Contexts.Held.{StandsAt as IsPosition}
 use Rattle.irtext_grammar.specs.Names.History.{State, Outcome, going, failed}
@@ -32,18 +32,18 @@ use Rattle.irtext_grammar.specs.Names.Script.{Path, result, Cause}
 use Rattle.irtext_grammar.specs.Names.TextScopes.{Failure}
 use Rattle.irtext_names.specs.Linked.{Known, StandsAt}
 use Rattle.irtext_names.specs.OfItems.{AreOf}
-use Rattle.irtext_names.specs.Tied.{AreTied, AreWaiting}
-use Rattle.irtext_outcomes.specs.Promises.Section.{indices_of}
-use Rattle.irtext_outcomes.specs.Promises.Root.{IsPlace}
-use Rattle.irtext_nesting.specs.Naming.{naming}
-use Rattle.irtext_nesting.specs.Reached.{Doing}
+use Rattle.irtext_names.specs.Tied.{MatchesGraph, ArePending}
+use Rattle.irtext_parse_spec.specs.Promises.Section.{indices_of}
+use Rattle.irtext_parse_spec.specs.Promises.Root.{IsPlace}
+use Rattle.irtext_parse_spec.specs.Naming.{naming}
+use Rattle.irtext_parse_spec.specs.Reached.{Actions}
 
 -- the names of a parse, with the values and blocks that they refer to
 abbrev pub Names : Type 0
 Names = NameTracker Value (Ptr BasicBlock)
 
 -- what items do with names, if the item of each place of the text has this path
-abbrev pub doing : {T A : Type 0} → List (Text × Table) → (ℕ → Path) → Doing T A Outcome
+abbrev pub doing : {T A : Type 0} → List (Text × Table) → (ℕ → Path) → Actions T A Outcome
 doing dialects path = naming (format_of dialects) path
 
 -- An open operation: its place in the text, its pointer, and the number of its results.
@@ -118,18 +118,18 @@ module _ {T A U : Type 0} where
   -- Of what was created since m, the names wait with placeholders alone, and no older name waits; and each operation without data has a
   -- result.
   pub record IsSound (m : ℕ) (names : Names) (s : code.State T A U) : Type 0 where
-    pub tied : AreTied names.values names.labels s.ctx.now.graph
-    pub waiting : AreWaiting m [] names.values names.labels s.ctx.now.graph
+    pub tied : MatchesGraph names.values names.labels s.ctx.now.graph
+    pub waiting : ArePending m [] names.values names.labels s.ctx.now.graph
     pub blanks : BlanksDefine m s.ctx.now
 
 module _ {T A : Type 0} where
   -- What was live and is no placeholder is still live: each operation that has data, with the same number of results; each block that has
   -- a parent, with the same parent; each region. What was created since a count still was, and the dialects are the same.
-  pub record Lasts (old new : ContextView T A) : Type 0 where
+  pub record KeepsLive (old new : ContextView T A) : Type 0 where
     pub operations : (p : Ptr Operation) → IsSome (operation old p) → IsSome (operation new p)
     pub results : (p : Ptr Operation) → IsSome (operation old p) → length (results new.graph p) ≡ length (results old.graph p)
     pub blocks : (b : Ptr BasicBlock) → IsSome (block old b) → IsSome (parent old.graph (TheBlock b)) → IsSome (block new b) × (parent new.graph (TheBlock b) ≡ parent old.graph (TheBlock b))
-    pub regions : (r : Ptr Region) → Stands old.graph (TheRegion r) → Stands new.graph (TheRegion r)
+    pub regions : (r : Ptr Region) → IsLive old.graph (TheRegion r) → IsLive new.graph (TheRegion r)
     pub newer : (m : ℕ) (q : Object) → m ≤ old.graph.made → IsNew m old.graph q → IsNew m new.graph q
     pub made : old.graph.made ≤ new.graph.made
     pub dialects : new.dialects ≡ old.dialects

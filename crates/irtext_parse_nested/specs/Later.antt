@@ -7,24 +7,24 @@ use Rattle.irtext_base.specs.declared.parsable.fault.ParseFault.{ParseFault}
 use Rattle.irtext_context.specs.Context.{ContextView, OperationView, operation, EditsOperation, with_attributes}
 use Rattle.irtext_graph.specs.declared.arena.Ptr.{Ptr}
 use Rattle.irtext_graph.specs.declared.object.Operation.{Operation}
-use Rattle.irtext_read.specs.Infix.{Reader}
-use Rattle.irtext_state.specs.declared.parsable.state.StateStream.{StateStream}
+use Rattle.irtext_tokens.specs.Infix.{Reader}
+use Rattle.irtext_parse_state.specs.declared.parsable.state.StateStream.{StateStream}
 use Rattle.irtext_grammar.specs.Contexts.Formats.{format_of}
 use Rattle.irtext_grammar.specs.Contexts.Held.{attribute_of, entries_of, whole}
 use Rattle.irtext_grammar.specs.Grammar.Tree as tree
 use Rattle.irtext_grammar.specs.Grammar.Tree.{Attribute}
 use Rattle.irtext_grammar.specs.Graphs.Build.{put_all, stored}
-use Rattle.irtext_nesting.specs.Heads.{Step}
-use Rattle.irtext_nesting.specs.Resume.{Begun, is_flat, with_steps}
-use Rattle.irtext_nesting.specs.Grows.{OwnBecame}
-use Rattle.irtext_nesting.specs.Stands.{OwnSoFar, HasOwn, HasUses}
+use Rattle.irtext_parse_spec.specs.Heads.{Step}
+use Rattle.irtext_parse_spec.specs.Resume.{OpenOperation, is_flat, with_steps}
+use Rattle.irtext_parse_spec.specs.Grows.{OwnBecame}
+use Rattle.irtext_parse_spec.specs.Unchanged.{OwnSoFar, HasOwn, HasUses}
 use Rattle.irtext_parse_pieces.specs.declared.pieces.ReadPiece.{ReadPiece}
 use Rattle.irtext_parse_pieces.specs.declared.pieces.ReadPiece.TheVariants as read
 use Rattle.irtext_parse_nested.specs.declared.frame.BegunOperation.{BegunOperation}
 use Rattle.irtext_parse_nested.specs.declared.operation_parts.NotGathered.{NotGathered}
 use Rattle.irtext_parse_nested.specs.declared.operation_parts.NotGathered.TheVariants as refusal
 use Rattle.irtext_parse_nested.specs.Beginning.{HasBegun, SaysGather}
-use Rattle.irtext_parse_nested.specs.Begun.{IsBegun}
+use Rattle.irtext_parse_nested.specs.OpenOperation.{IsBegun}
 use Rattle.irtext_parse_nested.specs.Gathered.{MayAllHold, RefusesEntries, stored_of}
 use Rattle.irtext_parse_nested.specs.Items.{Names}
 use Rattle.irtext_parse_nested.specs.Located.{IsLocated}
@@ -73,7 +73,7 @@ module _ {T A U : Type 0} (types_at : Reader T) (attr : Reader (AttrView A)) (be
     pub op : next.op ≡ b.op
     pub results : next.results ≡ b.results
     pub inside : next.inside ≡ b.inside
-    pub reads : (o : Begun T A) (step : Step) (ss : List Step) → IsBegun before.names (whole old.stream) old.state.ctx.now b o → o.steps ≡ step ∷ ss
+    pub reads : (o : OpenOperation T A) (step : Step) (ss : List Step) → IsBegun before.names (whole old.stream) old.state.ctx.now b o → o.steps ≡ step ∷ ss
         → (r : ReadsPiece types_at attr o step b before old names new)
         × IsBegun names.names (whole old.stream) new.state.ctx.now next (with_steps o ss (o.parts ++ tree.piece r.piece ∷ []))
         × ((own : OwnSoFar T A) → HasBegun (format_of old.state.ctx.now.dialects) o own

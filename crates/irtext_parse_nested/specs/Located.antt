@@ -7,7 +7,7 @@ use Rattle.irtext_base.specs.declared.location.Source.{Source}
 use Rattle.irtext_stream.specs.Places.{AtOffset}
 use Rattle.irtext_stream.specs.declared.position.Place.{Place}
 use Rattle.irtext_stream.specs.declared.position.SourcePosition.{SourcePosition}
-use Rattle.irtext_outcomes.specs.Promises.Root.{position_behind}
+use Rattle.irtext_parse_spec.specs.Promises.Root.{position_behind}
 
 -- the location is this place of the text, in a source
 abbrev pub IsLocated : {A : Type 0} → Source → Text → ℕ → Location A → Type 0

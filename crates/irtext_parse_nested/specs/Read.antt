@@ -6,23 +6,23 @@ use Rattle.irtext_base.specs.Faults.{Fault}
 use Rattle.irtext_base.specs.Answers.{Outcome, Read, Bad, demanded}
 use Rattle.irtext_base.specs.Locations.{AttrView}
 use Rattle.irtext_base.specs.declared.parsable.fault.ParseFault.{ParseFault}
-use Rattle.irtext_read.specs.Infix.{Reader, ◌▷◌}
-use Rattle.irtext_read.specs.Tokens.{space_at, word}
-use Rattle.irtext_state.specs.declared.parsable.state.StateStream.{StateStream}
+use Rattle.irtext_tokens.specs.Infix.{Reader, ◌▷◌}
+use Rattle.irtext_tokens.specs.Tokens.{space_at, word}
+use Rattle.irtext_parse_state.specs.declared.parsable.state.StateStream.{StateStream}
 use Rattle.irtext_graph.specs.declared.object.Object.TheVariants.{TheOperation, TheBlock}
 use Rattle.irtext_grammar.specs.Contexts.Held.{whole}
 use Rattle.irtext_grammar.specs.Grammar.Tree.{Name, Mark, Piece, Part, Head}
 use Rattle.irtext_grammar.specs.Names.History.{Outcome as Machine}
 use Rattle.irtext_grammar.specs.Names.Script.{Path}
-use Rattle.irtext_outcomes.specs.Promises.Section.{Moves}
-use Rattle.irtext_outcomes.specs.Promises.Supported.{is_committed}
-use Rattle.irtext_nesting.specs.Heads.{Step, front_steps, piece_at, head_at, led_at, mark_if_at}
-use Rattle.irtext_nesting.specs.Reached.{steps_in}
-use Rattle.irtext_nesting.specs.Resume.{Begun, begun, front_at}
+use Rattle.irtext_parse_spec.specs.Promises.Section.{Moves}
+use Rattle.irtext_parse_spec.specs.Promises.Supported.{is_committed}
+use Rattle.irtext_parse_spec.specs.Heads.{Step, front_steps, piece_at, head_at, led_at, mark_if_at}
+use Rattle.irtext_parse_spec.specs.Reached.{steps_in}
+use Rattle.irtext_parse_spec.specs.Resume.{OpenOperation, begun, front_at}
 use Rattle.irtext_parse_nested.specs.declared.frame.BegunOperation.{BegunOperation}
 use Rattle.irtext_parse_nested.specs.declared.frame.BegunRegion.{BegunRegion}
 use Rattle.irtext_parse_nested.specs.declared.frame.BegunBlock.{BegunBlock}
-use Rattle.irtext_parse_nested.specs.Begun.{IsBegun, IsRegion, IsBlock, pledge_of}
+use Rattle.irtext_parse_nested.specs.OpenOperation.{IsBegun, IsRegion, IsBlock, pledge_of}
 use Rattle.irtext_parse_nested.specs.Items.{Names, doing, Acts, ActsWith, ActFails, IsTextFault}
 
 -- the fault of a parser that starts at `rest`, which is the end of the whole text, if what it parses is required
@@ -47,7 +47,7 @@ module _ {T A U : Type 0} (types_at : Reader T) (attr : Reader (AttrView A)) whe
     pub front : front_at types_at attr inside (front_steps (steps_in old.state.ctx.now.dialects id)) [] middle ≡ Read parts taken rest
 
   -- what is begun when these were parsed
-  abbrev pub begun_by : (inside : Bool) (old : StateStream T A U) (rest : Text) → ReadsFront inside old rest → Begun T A
+  abbrev pub begun_by : (inside : Bool) (old : StateStream T A U) (rest : Text) → ReadsFront inside old rest → OpenOperation T A
   begun_by inside old rest r = begun old.state.ctx.now.dialects inside (length old.stream.rest) r.names r.id r.parts
 
   -- what is done with these
@@ -73,7 +73,7 @@ module _ {T A U : Type 0} (types_at : Reader T) (attr : Reader (AttrView A)) whe
   -- ---- a piece after a region
 
   -- the piece of the operation's next step was parsed and done
-  pub record ReadsPiece (o : Begun T A) (step : Step) (b : BegunOperation) (before : Names) (old : StateStream T A U) (names : Names) (new : StateStream T A U) : Type 0 where
+  pub record ReadsPiece (o : OpenOperation T A) (step : Step) (b : BegunOperation) (before : Names) (old : StateStream T A U) (names : Names) (new : StateStream T A U) : Type 0 where
     pub piece : Piece ℕ T A
     pub taken : Text
     pub read : (space_at ▷ piece_at types_at attr o.inside step) old.stream.rest ≡ Read piece taken new.stream.rest
@@ -81,7 +81,7 @@ module _ {T A U : Type 0} (types_at : Reader T) (attr : Reader (AttrView A)) whe
     pub acts : Acts (λ path. (doing old.state.ctx.now.dialects path).late o.place o.id piece) before old.state [] names new.state []
 
   -- no such piece comes next, or what it does fails
-  abbrev pub RefusesPiece : Begun T A → Step → Names → StateStream T A U → ParseFault A → Type 0
+  abbrev pub RefusesPiece : OpenOperation T A → Step → Names → StateStream T A U → ParseFault A → Type 0
   RefusesPiece o step before old fault = Demands (whole old.stream) ((space_at ▷ piece_at types_at attr o.inside step) old.stream.rest) old.stream.rest fault
       ⊎ ((piece : Piece ℕ T A) × (taken : Text) × (rest : Text) × ((space_at ▷ piece_at types_at attr o.inside step) old.stream.rest ≡ Read piece taken rest)
       × ActFails (whole old.stream) (λ path. (doing {T = T} {A = A} old.state.ctx.now.dialects path).late o.place o.id piece) before old.state [] fault)
@@ -89,11 +89,11 @@ module _ {T A U : Type 0} (types_at : Reader T) (attr : Reader (AttrView A)) whe
   -- ---- an operation ends
 
   -- what the end of the operation does, before its mark
-  abbrev pub closes_of : Begun T A → StateStream T A U → (ℕ → Path) → Machine → Machine
+  abbrev pub closes_of : OpenOperation T A → StateStream T A U → (ℕ → Path) → Machine → Machine
   closes_of o old path = (doing {T = T} {A = A} old.state.ctx.now.dialects path).closes o.place o.names o.id o.parts
 
   -- its mark was parsed, if one came next, and the operation was closed and marked
-  pub record EndsOperation (o : Begun T A) (b : BegunOperation) (before : Names) (old : StateStream T A U) (names : Names) (new : StateStream T A U) : Type 0 where
+  pub record EndsOperation (o : OpenOperation T A) (b : BegunOperation) (before : Names) (old : StateStream T A U) (names : Names) (new : StateStream T A U) : Type 0 where
     pub mark : Option (Mark ℕ)
     pub taken : Text
     pub read : (space_at ▷ mark_if_at) old.stream.rest ≡ Read mark taken new.stream.rest
@@ -101,7 +101,7 @@ module _ {T A U : Type 0} (types_at : Reader T) (attr : Reader (AttrView A)) whe
     pub acts : Acts (λ path z. (doing {T = T} {A = A} old.state.ctx.now.dialects path).marks mark (closes_of o old path z)) before old.state (pledge_of b o.place ∷ []) names new.state []
 
   -- what its end does fails; or it was closed, but its mark has an error, or what the mark does fails
-  pub data RefusesEnd (o : Begun T A) (b : BegunOperation) (before : Names) (old : StateStream T A U) (fault : ParseFault A) : Type 0 where
+  pub data RefusesEnd (o : OpenOperation T A) (b : BegunOperation) (before : Names) (old : StateStream T A U) (fault : ParseFault A) : Type 0 where
     no_results : ActFails (whole old.stream) (closes_of o old) before old.state (pledge_of b o.place ∷ []) fault → RefusesEnd o b before old fault
     no_mark : (names : Names) (mid : StateStream T A U) → Acts (closes_of o old) before old.state (pledge_of b o.place ∷ []) names mid.state [] → Demands (whole old.stream) ((space_at ▷ mark_if_at) old.stream.rest) old.stream.rest fault → RefusesEnd o b before old fault
     same_mark : (mark : Option (Mark ℕ)) (taken rest : Text) → (space_at ▷ mark_if_at) old.stream.rest ≡ Read mark taken rest

@@ -7,27 +7,27 @@ ghost use Rattle.irtext_base.specs.Places.{StandsBehind};
 ghost use Rattle.irtext_base.specs.Text.{Text};
 ghost use Rattle.irtext_context.specs.Context as contexts;
 ghost use Rattle.irtext_context.specs.Context.{KeepsOlder, MakesOperation, with_graph};
-ghost use Rattle.irtext_graph.specs.Graph.{IsNew, Stands, Appends, parent, children};
+ghost use Rattle.irtext_graph.specs.Graph.{IsNew, IsLive, Appends, parent, children};
 ghost use Rattle.irtext_graph.specs.declared.object.Object.TheVariants.{TheBlock, TheOperation};
-ghost use Rattle.irtext_read.specs.AttrTexts.{attr_at};
+ghost use Rattle.irtext_tokens.specs.AttrTexts.{attr_at};
 ghost use Rattle.irtext_scopes.specs.Names.{AreDistinct, KeepsNames};
-ghost use Rattle.irtext_state.specs.States.{LocatesAt, marks_of};
+ghost use Rattle.irtext_parse_state.specs.States.{LocatesAt, marks_of};
 ghost use Rattle.irtext_grammar.specs.Contexts.Formats.{format_of, isolated};
 ghost use Rattle.irtext_grammar.specs.Contexts.Held.{whole};
 ghost use Rattle.irtext_grammar.specs.Grammar.Tree.{Part, in_order};
-ghost use Rattle.irtext_names.specs.Tied.{AreTied};
-ghost use Rattle.irtext_outcomes.specs.Readers.Streams.{itself, replaced, KeepsRest};
-ghost use Rattle.irtext_outcomes.specs.Promises.Root.{UnlessMemory};
-ghost use Rattle.irtext_outcomes.specs.Promises.Section.{IsStarved};
-ghost use Rattle.irtext_nesting.specs.Stands.{OwnSoFar};
+ghost use Rattle.irtext_names.specs.Tied.{MatchesGraph};
+ghost use Rattle.irtext_parse_spec.specs.Readers.Streams.{itself, replaced, KeepsRest};
+ghost use Rattle.irtext_parse_spec.specs.Promises.Root.{UnlessMemory};
+ghost use Rattle.irtext_parse_spec.specs.Promises.Section.{IsStarved};
+ghost use Rattle.irtext_parse_spec.specs.Unchanged.{OwnSoFar};
 ghost use Rattle.irtext_parse_pieces.specs.Fronts.{IsPart};
 ghost use Rattle.irtext_parse_pieces.specs.Named.{Each, NamesRead};
 ghost use Rattle.irtext_parse_nested.specs.Beginning.{FrontStands, LacksFront, IsKnownIn, SaysGather, NotGatheredAs, types_made, PlacedIn, MakesOf, HasBegun, ComesInto};
 ghost use Rattle.irtext_parse_nested.specs.Coming.{IsStep};
-ghost use Rattle.irtext_parse_nested.specs.Gathered.{AllStand, CanGather, Gathers, IsNothing, IsSteady};
-ghost use Rattle.irtext_parse_nested.specs.Items.{IsSound, Lasts};
+ghost use Rattle.irtext_parse_nested.specs.Gathered.{AllStand, CanGather, Gathers, IsNothing, KeepsScopes};
+ghost use Rattle.irtext_parse_nested.specs.Items.{IsSound, KeepsLive};
 ghost use Rattle.irtext_base.specs.Faults.{id_of};
-ghost use Rattle.irtext_nesting.specs.Reached.{steps_in};
+ghost use Rattle.irtext_parse_spec.specs.Reached.{steps_in};
 ghost use Rattle.irtext_parse_nested.specs.Located.{IsLocated};
 ghost use Rattle.irtext_parse_nested.specs.Read.{ReadsFront, begun_by, BeginsOperation, RefusesOperation};
 
@@ -52,9 +52,9 @@ use irtext_parse_pieces::fronts::front_parse;
 use irtext_parse_pieces::ids::results_and_id_parse;
 use irtext_parse_pieces::keys::Keys;
 use irtext_parse_pieces::names::ReadName;
-use irtext_read::irfmt::faults::{commit, out_of_memory, refuse_at};
-use irtext_state::parsable::StateStream;
-use irtext_state::parsable::state::StreamLocation;
+use irtext_parse_state::parsable::StateStream;
+use irtext_parse_state::parsable::state::StreamLocation;
+use irtext_tokens::irfmt::faults::{commit, out_of_memory, refuse_at};
 use std::alloc::AllocError;
 
 /// What precedes an operation's first region.
@@ -154,7 +154,7 @@ fn pieces_gathered<T: IrText<A>, A: AttrText<A>, U>(
 ) -> ParseResult<Gathered<T, A>, A>
     requires can { CanGather names.old [] [] pieces }
     requires are { (text : Text) × (parts : List (Part ℕ T A)) × Each (IsPart names.old.names text) pieces parts }
-    requires tied { AreTied names.old.values names.old.labels s.old.state.ctx.now.graph }
+    requires tied { MatchesGraph names.old.values names.old.labels s.old.state.ctx.now.graph }
     requires key { IfSome key.now (λ key. key ≡ sym_name_key) }
     ensures lent { s.new.state.ctx.ghost_name ≡ s.old.state.ctx.ghost_name }
     ensures rest { KeepsRest s.old.state s.new.state }
@@ -163,7 +163,7 @@ fn pieces_gathered<T: IrText<A>, A: AttrText<A>, U>(
     ensures gathers { IfOk result (λ gathered. (none : Gathered T A) × IsNothing none
         × Gathers pieces names.old s.old.state.ctx.now.graph none names.new s.new.state.ctx.now.graph gathered) }
     ensures refused { IfErr result (NotGatheredAs pieces names.old s.old.state.ctx.now.graph (whole s.old.stream)) }
-    ensures steady { IsSteady names.old names.new s.old.state.ctx.now.graph s.new.state.ctx.now.graph }
+    ensures steady { KeepsScopes names.old names.new s.old.state.ctx.now.graph s.new.state.ctx.now.graph }
     ensures ctx { s.new.state.ctx.now ≡ with_graph s.old.state.ctx.now s.new.state.ctx.now.graph }
 {
     let alloc = s.stream.allocator();
@@ -220,8 +220,8 @@ fn put_last<T: IrText<A>, A: AttrText<A>>(
     block: Ptr<BasicBlock>,
     op: Ptr<Operation>,
 ) -> Result<(), AllocError>
-    requires block { Stands ctx.old.graph (TheBlock block) }
-    requires op { Stands ctx.old.graph (TheOperation op) }
+    requires block { IsLive ctx.old.graph (TheBlock block) }
+    requires op { IsLive ctx.old.graph (TheOperation op) }
     requires free { parent ctx.old.graph (TheOperation op) ≡ None }
     requires empty { children ctx.old.graph (TheOperation op) ≡ [] }
     ensures appends { OnOk result (Appends ctx.old.graph ctx.new.graph (TheBlock block) (TheOperation op)) }
@@ -240,8 +240,8 @@ fn placed_here<T: IrText<A>, A: AttrText<A>, U>(
     block: Option<Ptr<BasicBlock>>,
     op: Ptr<Operation>,
 ) -> ParseResult<(), A>
-    requires block { IfSome block (λ b. Stands s.old.state.ctx.now.graph (TheBlock b)) }
-    requires op { Stands s.old.state.ctx.now.graph (TheOperation op) }
+    requires block { IfSome block (λ b. IsLive s.old.state.ctx.now.graph (TheBlock b)) }
+    requires op { IsLive s.old.state.ctx.now.graph (TheOperation op) }
     requires free { parent s.old.state.ctx.now.graph (TheOperation op) ≡ None }
     requires empty { children s.old.state.ctx.now.graph (TheOperation op) ≡ [] }
     ensures lent { s.new.state.ctx.ghost_name ≡ s.old.state.ctx.ghost_name }
@@ -274,7 +274,7 @@ fn begin_read<T: IrText<A>, A: AttrText<A>, U>(
 ) -> ParseResult<BegunOperation, A>
     requires can { CanGather names.old [] [] front.pieces }
     requires are { (text : Text) × (parts : List (Part ℕ T A)) × Each (IsPart names.old.names text) front.pieces parts }
-    requires tied { AreTied names.old.values names.old.labels s.old.state.ctx.now.graph }
+    requires tied { MatchesGraph names.old.values names.old.labels s.old.state.ctx.now.graph }
     requires key { IfSome front.key (λ key. key ≡ sym_name_key) }
     requires block { IfSome block (λ b. IsSome (contexts.block s.old.state.ctx.now b) × IsSome (parent s.old.state.ctx.now.graph (TheBlock b))) }
     ensures lent { s.new.state.ctx.ghost_name ≡ s.old.state.ctx.ghost_name }
@@ -330,7 +330,7 @@ pub fn operation_begin<T: IrText<A>, A: AttrText<A>, U>(
     block: Option<Ptr<BasicBlock>>,
 ) -> ParseResult<BegunOperation, A>
     requires fine { s.old.stream.failed ≡ false }
-    requires tied { AreTied names.old.values names.old.labels s.old.state.ctx.now.graph }
+    requires tied { MatchesGraph names.old.values names.old.labels s.old.state.ctx.now.graph }
     requires block { IfSome block (λ b. IsSome (contexts.block s.old.state.ctx.now b) × IsSome (parent s.old.state.ctx.now.graph (TheBlock b))) }
     ensures lent { s.new.state.ctx.ghost_name ≡ s.old.state.ctx.ghost_name }
     ensures rest { KeepsRest s.old.state s.new.state }
@@ -341,7 +341,7 @@ pub fn operation_begin<T: IrText<A>, A: AttrText<A>, U>(
     ensures came { IfOk result (λ b. (read : ReadsFront T.IrText.reading (attr_at A.IrText.reading) true s.old s.new.stream.rest) → (own : OwnSoFar T A)
         × HasBegun (format_of s.old.state.ctx.now.dialects) (begun_by T.IrText.reading (attr_at A.IrText.reading) true s.old s.new.stream.rest read) own
         × ComesInto (IsLocated s.old.state.src (whole s.old.stream)) s.old.state.ctx.now s.new.state.ctx.now b.op own block) }
-    ensures lasts { OnOk result (Lasts s.old.state.ctx.now s.new.state.ctx.now) }
+    ensures lasts { OnOk result (KeepsLive s.old.state.ctx.now s.new.state.ctx.now) }
     ensures names { KeepsNames names.old.names names.new.names }
     ensures values { length names.new.values ≡ length names.old.values }
     ensures labels { length names.new.labels ≡ length names.old.labels }

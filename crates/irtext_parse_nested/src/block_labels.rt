@@ -2,7 +2,7 @@
 ghost use Rattle.std.specs.Prelude.{◌≡◌, ◌<◌, ℕ, List, length, true, Some, OnOk, IfErr, slice_get};
 ghost use Rattle.irtext_base.specs.Faults as causes;
 ghost use Rattle.irtext_graph.specs.Back.{IsClosedBelow};
-ghost use Rattle.irtext_graph.specs.Graph.{KeepsOlder, Stands};
+ghost use Rattle.irtext_graph.specs.Graph.{KeepsOlder, IsLive};
 ghost use Rattle.irtext_graph.specs.declared.arena.Ptr.{Ptr};
 ghost use Rattle.irtext_graph.specs.declared.object.BasicBlock.{BasicBlock};
 ghost use Rattle.irtext_graph.specs.declared.object.Defined.TheVariants.{OfBlock};
@@ -11,9 +11,9 @@ ghost use Rattle.irtext_scopes.specs.Scopes.{is_open};
 ghost use Rattle.irtext_grammar.specs.Contexts.Held.{whole};
 ghost use Rattle.irtext_grammar.specs.Names.Script.{Place, define_label};
 ghost use Rattle.irtext_grammar.specs.Names.TextScopes.{Word};
-ghost use Rattle.irtext_outcomes.specs.Promises.Root.{UnlessMemory};
+ghost use Rattle.irtext_parse_spec.specs.Promises.Root.{UnlessMemory};
 ghost use Rattle.irtext_names.specs.Linked.{TakesDefinition};
-ghost use Rattle.irtext_names.specs.Tied.{AreTied, AreWaiting, IsNoPlaceholder};
+ghost use Rattle.irtext_names.specs.Tied.{MatchesGraph, ArePending, IsNoPlaceholder};
 ghost use Rattle.irtext_parse_nested.specs.Definitions.{LosesPlaceholders};
 ghost use Rattle.irtext_parse_nested.specs.Placing.{RefusesLabel};
 
@@ -25,8 +25,8 @@ use irtext_graph::graph::Graph;
 use irtext_graph::object::BasicBlock;
 use irtext_names::labels::block_def;
 use irtext_parse_pieces::names::ReadName;
-use irtext_read::irfmt::faults::out_of_memory;
 use irtext_scopes::scopes::DefineFault;
+use irtext_tokens::irfmt::faults::out_of_memory;
 
 /// Defines the label of a block, while a region is open. If the region already defines the label, fails at the label. Every error is
 /// committed, and leaves names and graph unchanged.
@@ -39,8 +39,8 @@ pub fn label_block<O: Drop, B: Drop, T: Drop, A>(
 ) -> ParseResult<(), A>
     requires open { is_open names.old.labels ≡ true }
     requires known { label.name < length names.old.names }
-    requires tied { AreTied names.old.values names.old.labels graph.old }
-    requires there { Stands graph.old (TheBlock block) }
+    requires tied { MatchesGraph names.old.values names.old.labels graph.old }
+    requires there { IsLive graph.old (TheBlock block) }
     requires no_placeholder { IsNoPlaceholder names.old.labels block }
     ensures stream { OnOk result (stream.new ≡ stream.old) }
     ensures follows { OnOk result ((w : Word) (p : Place) → slice_get names.old.names label.name ≡ Some w.name
@@ -49,11 +49,11 @@ pub fn label_block<O: Drop, B: Drop, T: Drop, A>(
     ensures loses { LosesPlaceholders graph.old graph.new }
     ensures labels { length names.new.labels ≡ length names.old.labels }
     ensures rest { (names.new.names ≡ names.old.names) × (names.new.values ≡ names.old.values) }
-    ensures tied { AreTied names.new.values names.new.labels graph.new }
+    ensures tied { MatchesGraph names.new.values names.new.labels graph.new }
     ensures waiting { (m : ℕ) (own : List (Ptr BasicBlock))
-        → AreWaiting m own names.old.values names.old.labels graph.old → AreWaiting m own names.new.values names.new.labels graph.new }
+        → ArePending m own names.old.values names.old.labels graph.old → ArePending m own names.new.values names.new.labels graph.new }
     ensures kept { (m : ℕ) (own : List (Ptr BasicBlock)) → IsClosedBelow m graph.old
-        → AreWaiting m own names.old.values names.old.labels graph.old → KeepsOlder m graph.old graph.new }
+        → ArePending m own names.old.values names.old.labels graph.old → KeepsOlder m graph.old graph.new }
 {
     match block_def(names, graph, label.name, block) {
         Ok(()) => Ok(()),

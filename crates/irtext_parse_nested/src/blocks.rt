@@ -9,33 +9,33 @@ ghost use Rattle.irtext_graph.specs.declared.object.BasicBlock.{BasicBlock};
 ghost use Rattle.irtext_graph.specs.declared.object.Object.TheVariants.{TheBlock, TheRegion};
 ghost use Rattle.irtext_graph.specs.declared.object.Value.TheVariants.{Argument};
 ghost use Rattle.irtext_graph.specs.Back.{IsClosedBelow};
-ghost use Rattle.irtext_graph.specs.Graph.{IsNew, Stands, parent};
+ghost use Rattle.irtext_graph.specs.Graph.{IsNew, IsLive, parent};
 ghost use Rattle.irtext_graph.specs.declared.object.Defined.TheVariants.{OfBlock};
 ghost use Rattle.irtext_names.specs.Linked.{TakesDefinition};
 ghost use Rattle.irtext_parse_nested.specs.Placing.{RefusesLabel, PlacesBlock};
-ghost use Rattle.irtext_read.specs.AttrTexts.{attr_at};
-ghost use Rattle.irtext_state.specs.States.{marks_of};
+ghost use Rattle.irtext_tokens.specs.AttrTexts.{attr_at};
+ghost use Rattle.irtext_parse_state.specs.States.{marks_of};
 ghost use Rattle.irtext_scopes.specs.Names.{KeepsNames, AreDistinct};
 ghost use Rattle.irtext_scopes.specs.Scopes.{is_open};
-ghost use Rattle.irtext_names.specs.Tied.{AreTied, AreWaiting, IsNoPlaceholder};
+ghost use Rattle.irtext_names.specs.Tied.{MatchesGraph, ArePending, IsNoPlaceholder};
 ghost use Rattle.irtext_grammar.specs.Contexts.Held.{whole};
 ghost use Rattle.irtext_grammar.specs.Grammar.Tree.{Head};
 ghost use Rattle.irtext_grammar.specs.Names.Script as script;
 ghost use Rattle.irtext_grammar.specs.Names.Script.{define_label};
 ghost use Rattle.irtext_grammar.specs.Names.TextScopes.{Word};
-ghost use Rattle.irtext_outcomes.specs.Readers.Streams.{itself, replaced, KeepsRest};
-ghost use Rattle.irtext_outcomes.specs.Promises.Root.{UnlessMemory};
-ghost use Rattle.irtext_outcomes.specs.Promises.Section.{IsStarved};
-ghost use Rattle.irtext_nesting.specs.Heads.{head_at};
-ghost use Rattle.irtext_nesting.specs.Grows.{BlockCame, RegionGains};
-ghost use Rattle.irtext_nesting.specs.Stands.{Spares};
+ghost use Rattle.irtext_parse_spec.specs.Readers.Streams.{itself, replaced, KeepsRest};
+ghost use Rattle.irtext_parse_spec.specs.Promises.Root.{UnlessMemory};
+ghost use Rattle.irtext_parse_spec.specs.Promises.Section.{IsStarved};
+ghost use Rattle.irtext_parse_spec.specs.Heads.{head_at};
+ghost use Rattle.irtext_parse_spec.specs.Grows.{BlockCame, RegionGains};
+ghost use Rattle.irtext_parse_spec.specs.Unchanged.{ModifiesOnly};
 ghost use Rattle.irtext_names.specs.Rows.{AreKnown};
 ghost use Rattle.irtext_parse_pieces.specs.Headers.{MustHead};
 ghost use Rattle.irtext_parse_pieces.specs.Named.{AreWords, NamesRead};
 ghost use Rattle.irtext_parse_nested.specs.Blocks.{entries_in, PlacesLabelled, IsOfEntries, IsRefusalFault, RefusesKeys, MakesHead, RefusesArguments, DefinesArguments, NamesHead, RefusesHead};
 ghost use Rattle.irtext_parse_nested.specs.Definitions.{ValuesReady, LosesPlaceholders};
 ghost use Rattle.irtext_parse_nested.specs.Ends.{numbers_of, noted_as, GainsMarks};
-ghost use Rattle.irtext_parse_nested.specs.Items.{IsSound, Lasts};
+ghost use Rattle.irtext_parse_nested.specs.Items.{IsSound, KeepsLive};
 ghost use Rattle.irtext_parse_nested.specs.Located.{IsLocated, IsLocatedAt};
 ghost use Rattle.irtext_parse_nested.specs.Read.{BeginsBlock, RefusesBlock};
 
@@ -59,8 +59,8 @@ use irtext_parse_pieces::entries::ReadEntry;
 use irtext_parse_pieces::headers::{BlockHead, block_head_parse};
 use irtext_parse_pieces::marks::ReadMark;
 use irtext_parse_pieces::names::ReadName;
-use irtext_read::irfmt::faults::{out_of_memory, refuse_at};
-use irtext_state::parsable::StateStream;
+use irtext_parse_state::parsable::StateStream;
+use irtext_tokens::irfmt::faults::{out_of_memory, refuse_at};
 
 /// Parses the header of a block. Its names are stored, and no name has two numbers.
 fn head_parse<T: IrText<A>, A: AttrText<A>>(
@@ -110,7 +110,7 @@ fn block_made<T: IrText<A>, A: AttrText<A>, U>(
     attributes: AttributeDict<A>,
     types: Few<T>,
 ) -> ParseResult<Ptr<BasicBlock>, A>
-    requires region { Stands s.old.state.ctx.now.graph (TheRegion region) }
+    requires region { IsLive s.old.state.ctx.now.graph (TheRegion region) }
     requires known { label.name < length names.now.names }
     ensures lent { s.new.state.ctx.ghost_name ≡ s.old.state.ctx.ghost_name }
     ensures rest { KeepsRest s.old.state s.new.state }
@@ -138,7 +138,7 @@ fn head_made<T: IrText<A>, A: AttrText<A>, U>(
     arguments: Few<(ReadName, T)>,
     entries: Option<Vec<ReadEntry<A>>>,
 ) -> ParseResult<(Ptr<BasicBlock>, Few<ReadName>), A>
-    requires region { Stands s.old.state.ctx.now.graph (TheRegion region) }
+    requires region { IsLive s.old.state.ctx.now.graph (TheRegion region) }
     requires label { label.name < length names.now.names }
     requires known { AreKnown (length names.now.names) (numbers_of (map (λ a. a.0) arguments)) }
     ensures lent { s.new.state.ctx.ghost_name ≡ s.old.state.ctx.ghost_name }
@@ -175,7 +175,7 @@ fn arguments_defined<T: IrText<A>, A: AttrText<A>, U>(
 ) -> ParseResult<(), A>
     requires open { is_open names.old.values ≡ true }
     requires known { AreKnown (length names.old.names) (numbers_of arguments.now) }
-    requires tied { AreTied names.old.values names.old.labels s.old.state.ctx.now.graph }
+    requires tied { MatchesGraph names.old.values names.old.labels s.old.state.ctx.now.graph }
     requires ready { ValuesReady (Argument block) (length arguments.now) names.old.values s.old.state.ctx.now.graph }
     ensures lent { s.new.state.ctx.ghost_name ≡ s.old.state.ctx.ghost_name }
     ensures rest { KeepsRest s.old.state s.new.state }
@@ -190,7 +190,7 @@ fn arguments_defined<T: IrText<A>, A: AttrText<A>, U>(
     ensures values { length names.new.values ≡ length names.old.values }
     ensures names { (names.new.names ≡ names.old.names) × (names.new.labels ≡ names.old.labels) }
     ensures sound { (m : ℕ) → IsSound m names.old s.old.state → IsSound m names.new s.new.state }
-    ensures tied { AreTied names.new.values names.new.labels s.new.state.ctx.now.graph }
+    ensures tied { MatchesGraph names.new.values names.new.labels s.new.state.ctx.now.graph }
     ensures kept { (m : ℕ) → IsClosedBelow m s.old.state.ctx.now.graph → IsSound m names.old s.old.state
         → KeepsOlder m s.old.state.ctx.now s.new.state.ctx.now }
 {
@@ -210,8 +210,8 @@ fn label_defined<T: IrText<A>, A: AttrText<A>, U>(
 ) -> ParseResult<(), A>
     requires open { is_open names.old.labels ≡ true }
     requires known { label.name < length names.old.names }
-    requires tied { AreTied names.old.values names.old.labels s.old.state.ctx.now.graph }
-    requires there { Stands s.old.state.ctx.now.graph (TheBlock block) }
+    requires tied { MatchesGraph names.old.values names.old.labels s.old.state.ctx.now.graph }
+    requires there { IsLive s.old.state.ctx.now.graph (TheBlock block) }
     requires no_placeholder { IsNoPlaceholder names.old.labels block }
     ensures lent { s.new.state.ctx.ghost_name ≡ s.old.state.ctx.ghost_name }
     ensures rest { KeepsRest s.old.state s.new.state }
@@ -248,10 +248,10 @@ fn head_named<T: IrText<A>, A: AttrText<A>, U>(
     requires labels { is_open names.old.labels ≡ true }
     requires known { AreKnown (length names.old.names) (numbers_of arguments.now) }
     requires label { label.name < length names.old.names }
-    requires tied { AreTied names.old.values names.old.labels s.old.state.ctx.now.graph }
+    requires tied { MatchesGraph names.old.values names.old.labels s.old.state.ctx.now.graph }
     requires ready { ValuesReady (Argument block) (length arguments.now) names.old.values s.old.state.ctx.now.graph }
     requires inside { IsSome (parent s.old.state.ctx.now.graph (TheBlock block)) }
-    requires there { Stands s.old.state.ctx.now.graph (TheBlock block) }
+    requires there { IsLive s.old.state.ctx.now.graph (TheBlock block) }
     ensures lent { s.new.state.ctx.ghost_name ≡ s.old.state.ctx.ghost_name }
     ensures rest { KeepsRest s.old.state s.new.state }
     ensures names { OnOk result (NamesHead block label arguments.now mark names.old s.old.state names.new s.new.state) }
@@ -282,25 +282,25 @@ pub fn block_begin<T: IrText<A>, A: AttrText<A>, U>(
     names: &mut Names,
     region: Ptr<Region>,
 ) -> ParseResult<BegunBlock, A>
-    requires region { Stands s.old.state.ctx.now.graph (TheRegion region) }
+    requires region { IsLive s.old.state.ctx.now.graph (TheRegion region) }
     requires values { is_open names.old.values ≡ true }
     requires labels { is_open names.old.labels ≡ true }
     requires fine { s.old.stream.failed ≡ false }
-    requires tied { AreTied names.old.values names.old.labels s.old.state.ctx.now.graph }
+    requires tied { MatchesGraph names.old.values names.old.labels s.old.state.ctx.now.graph }
     ensures lent { s.new.state.ctx.ghost_name ≡ s.old.state.ctx.ghost_name }
     ensures rest { KeepsRest s.old.state s.new.state }
     ensures begins { IfOk result (λ b. BeginsBlock T.IrText.reading (attr_at A.IrText.reading) b names.old s.old names.new s.new) }
     ensures came { IfOk result (λ b. (h : Head ℕ T A) (taken : Text) → head_at T.IrText.reading (attr_at A.IrText.reading) s.old.stream.rest ≡ Read h taken s.new.stream.rest
         → BlockCame s.old.state.ctx.now s.new.state.ctx.now (IsLocated s.old.state.src (whole s.old.stream)) b.block h) }
     ensures gains { IfOk result (λ b. RegionGains s.old.state.ctx.now s.new.state.ctx.now region b.block) }
-    ensures spares { IfOk result (λ b. Spares (TheBlock b.block ∷ TheRegion region ∷ []) s.old.state.ctx.now s.new.state.ctx.now) }
+    ensures spares { IfOk result (λ b. ModifiesOnly (TheBlock b.block ∷ TheRegion region ∷ []) s.old.state.ctx.now s.new.state.ctx.now) }
     ensures new { IfOk result (λ b. (m : ℕ) → m ≤ s.old.state.ctx.now.graph.made → IsNew m s.new.state.ctx.now.graph (TheBlock b.block)) }
     ensures noted { IfOk result (λ b. (h : Head ℕ T A) (taken : Text) → head_at T.IrText.reading (attr_at A.IrText.reading) s.old.stream.rest ≡ Read h taken s.new.stream.rest
         → marks_of s.new.state ≡ marks_of s.old.state ++ noted_as h.mark (item.Block b.block)) }
     ensures unnoted { OnErr result (GainsMarks (marks_of s.old.state) (marks_of s.new.state)) }
     ensures refused { IfErr result (UnlessMemory (RefusesBlock T.IrText.reading (attr_at A.IrText.reading) names.old s.old)) }
     ensures committed { IfErr result (λ fault. fault.committed ≡ true) }
-    ensures lasts { OnOk result (Lasts s.old.state.ctx.now s.new.state.ctx.now) }
+    ensures lasts { OnOk result (KeepsLive s.old.state.ctx.now s.new.state.ctx.now) }
     ensures names { KeepsNames names.old.names names.new.names }
     ensures words { AreWords names.old.names → AreWords names.new.names }
     ensures values { length names.new.values ≡ length names.old.values }

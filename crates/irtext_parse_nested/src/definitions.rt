@@ -8,8 +8,8 @@ ghost use Rattle.irtext_scopes.specs.Scopes.{is_open};
 ghost use Rattle.irtext_scopes.specs.declared.scopes.DefineFault.{DefineFault};
 ghost use Rattle.irtext_base.specs.Faults.{MultipleDefinitions};
 ghost use Rattle.irtext_grammar.specs.Contexts.Held.{whole};
-ghost use Rattle.irtext_outcomes.specs.Promises.Root.{UnlessMemory};
-ghost use Rattle.irtext_names.specs.Tied.{AreTied, AreWaiting};
+ghost use Rattle.irtext_parse_spec.specs.Promises.Root.{UnlessMemory};
+ghost use Rattle.irtext_names.specs.Tied.{MatchesGraph, ArePending};
 ghost use Rattle.irtext_names.specs.Rows.{AreKnown};
 ghost use Rattle.irtext_parse_nested.specs.Definitions.{defined_value, ValuesReady, DefinesRow, FailsRow, LosesPlaceholders};
 ghost use Rattle.irtext_parse_nested.specs.Ends.{numbers_of, RefusesTwice};
@@ -24,8 +24,8 @@ use irtext_graph::object::{BasicBlock, Operation, Value};
 use irtext_names::definitions::UndefinedName;
 use irtext_names::values::ssa_def;
 use irtext_parse_pieces::names::ReadName;
-use irtext_read::irfmt::faults::out_of_memory;
 use irtext_scopes::scopes::DefineFault;
+use irtext_tokens::irfmt::faults::out_of_memory;
 
 /// The values that a list of names defines.
 #[derive(Clone, Copy)]
@@ -64,7 +64,7 @@ pub(crate) fn define_values<O: Drop, B: Drop, T: Drop>(
 ) -> Result<(), UndefinedName>
     requires open { is_open names.old.values ≡ true }
     requires known { AreKnown (length names.old.names) (numbers_of defined.now) }
-    requires tied { AreTied names.old.values names.old.labels graph.old }
+    requires tied { MatchesGraph names.old.values names.old.labels graph.old }
     requires ready { ValuesReady (defined_value row) (length defined.now) names.old.values graph.old }
     ensures defines { OnOk result (DefinesRow (defined_value row) (numbers_of defined.now) names.old names.new graph.old graph.new) }
     ensures fails { IfErr result (λ undefined. undefined.fault ≡ DefineFault.MultipleDefinitions
@@ -73,11 +73,11 @@ pub(crate) fn define_values<O: Drop, B: Drop, T: Drop>(
     ensures loses { LosesPlaceholders graph.old graph.new }
     ensures values { length names.new.values ≡ length names.old.values }
     ensures rest { (names.new.names ≡ names.old.names) × (names.new.labels ≡ names.old.labels) }
-    ensures tied { AreTied names.new.values names.new.labels graph.new }
+    ensures tied { MatchesGraph names.new.values names.new.labels graph.new }
     ensures waiting { (m : ℕ) (own : List (Ptr BasicBlock))
-        → AreWaiting m own names.old.values names.old.labels graph.old → AreWaiting m own names.new.values names.new.labels graph.new }
+        → ArePending m own names.old.values names.old.labels graph.old → ArePending m own names.new.values names.new.labels graph.new }
     ensures kept { (m : ℕ) (own : List (Ptr BasicBlock)) → IsClosedBelow m graph.old
-        → AreWaiting m own names.old.values names.old.labels graph.old → KeepsOlder m graph.old graph.new }
+        → ArePending m own names.old.values names.old.labels graph.old → KeepsOlder m graph.old graph.new }
 {
     for index in 0..defined.len() {
         let name = number_at(defined, index);

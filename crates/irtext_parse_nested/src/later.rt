@@ -3,32 +3,32 @@ ghost use Rattle.std.specs.Prelude.{◌≡◌, ◌≤◌, ◌<◌, ◌+◌, ◌�
 ghost use Rattle.irtext_base.specs.Faults.{id_of};
 ghost use Rattle.irtext_base.specs.Format.{sym_name_key};
 ghost use Rattle.irtext_context.specs.Context.{KeepsOlder, operation};
-ghost use Rattle.irtext_formats.specs.Directives.{format_of};
+ghost use Rattle.irtext_format_check.specs.Directives.{format_of};
 ghost use Rattle.irtext_graph.specs.Graph.{IsNew};
 ghost use Rattle.irtext_graph.specs.declared.object.Object.TheVariants.{TheOperation};
-ghost use Rattle.irtext_read.specs.AttrTexts.{attr_at};
-ghost use Rattle.irtext_read.specs.Infix.{◌▷◌};
-ghost use Rattle.irtext_read.specs.Tokens.{space_at};
+ghost use Rattle.irtext_tokens.specs.AttrTexts.{attr_at};
+ghost use Rattle.irtext_tokens.specs.Infix.{◌▷◌};
+ghost use Rattle.irtext_tokens.specs.Tokens.{space_at};
 ghost use Rattle.irtext_scopes.specs.Names.{KeepsNames};
-ghost use Rattle.irtext_state.specs.States.{marks_of};
+ghost use Rattle.irtext_parse_state.specs.States.{marks_of};
 ghost use Rattle.irtext_grammar.specs.Contexts.Held.{entries_of, whole};
 ghost use Rattle.irtext_grammar.specs.Graphs.Build.{put_all};
 ghost use Rattle.irtext_grammar.specs.Grammar.Tree.{ident};
-ghost use Rattle.irtext_names.specs.Tied.{AreTied};
-ghost use Rattle.irtext_outcomes.specs.Promises.Root.{UnlessMemory};
-ghost use Rattle.irtext_outcomes.specs.Promises.Section.{Moves};
-ghost use Rattle.irtext_outcomes.specs.Readers.Streams.{itself, replaced, KeepsRest};
-ghost use Rattle.irtext_nesting.specs.Stands.{Spares};
-ghost use Rattle.irtext_nesting.specs.Heads.{Step, steps_of, piece_at};
-ghost use Rattle.irtext_nesting.specs.Reached.{steps_in};
-ghost use Rattle.irtext_nesting.specs.Resume.{Begun};
+ghost use Rattle.irtext_names.specs.Tied.{MatchesGraph};
+ghost use Rattle.irtext_parse_spec.specs.Promises.Root.{UnlessMemory};
+ghost use Rattle.irtext_parse_spec.specs.Promises.Section.{Moves};
+ghost use Rattle.irtext_parse_spec.specs.Readers.Streams.{itself, replaced, KeepsRest};
+ghost use Rattle.irtext_parse_spec.specs.Unchanged.{ModifiesOnly};
+ghost use Rattle.irtext_parse_spec.specs.Heads.{Step, steps_of, piece_at};
+ghost use Rattle.irtext_parse_spec.specs.Reached.{steps_in};
+ghost use Rattle.irtext_parse_spec.specs.Resume.{OpenOperation};
 ghost use Rattle.irtext_parse_pieces.specs.Named.{NamesRead};
 ghost use Rattle.irtext_parse_pieces.specs.Pieces.{MustPiece};
 ghost use Rattle.irtext_parse_nested.specs.declared.operation_parts.NotGathered.TheVariants.{Memory};
-ghost use Rattle.irtext_parse_nested.specs.Begun.{IsBegun};
+ghost use Rattle.irtext_parse_nested.specs.OpenOperation.{IsBegun};
 ghost use Rattle.irtext_parse_nested.specs.Ends.{WritesAttributes};
 ghost use Rattle.irtext_parse_nested.specs.Gathered.{stored_of};
-ghost use Rattle.irtext_parse_nested.specs.Items.{IsSound, Lasts};
+ghost use Rattle.irtext_parse_nested.specs.Items.{IsSound, KeepsLive};
 ghost use Rattle.irtext_parse_nested.specs.Later.{given_by, IsFlatNext, MayStore, RefusesStored, StoresPiece, NotStored, GoesOn};
 ghost use Rattle.irtext_parse_nested.specs.Read.{RefusesPiece};
 
@@ -45,8 +45,8 @@ use irtext_parse_pieces::keys::Keys;
 use irtext_parse_pieces::names::Symbol;
 use irtext_parse_pieces::pieces::{ReadPiece, step_parse};
 use irtext_parse_pieces::steps::step_at;
-use irtext_read::irfmt::parsers::skip_white_space;
-use irtext_state::parsable::StateStream;
+use irtext_parse_state::parsable::StateStream;
+use irtext_tokens::irfmt::parsers::skip_white_space;
 use std::alloc::Global;
 
 /// Returns the index after that of a step of a format.
@@ -187,7 +187,7 @@ pub fn operation_piece<T: IrText<A>, A: AttrText<A>, U>(
     begun: &mut BegunOperation,
 ) -> ParseResult<(), A>
     requires fine { s.old.stream.failed ≡ false }
-    requires tied { AreTied names.old.values names.old.labels s.old.state.ctx.now.graph }
+    requires tied { MatchesGraph names.old.values names.old.labels s.old.state.ctx.now.graph }
     requires stands { IsSome (operation s.old.state.ctx.now begun.old.op) }
     requires step { IsFlatNext (slice_get (steps_in s.old.state.ctx.now.dialects (id_of begun.old.id)) begun.old.step) }
     ensures lent { s.new.state.ctx.ghost_name ≡ s.old.state.ctx.ghost_name }
@@ -195,11 +195,11 @@ pub fn operation_piece<T: IrText<A>, A: AttrText<A>, U>(
     ensures marks { marks_of s.new.state ≡ marks_of s.old.state }
     ensures moves { OnOk result (Moves s.old.stream s.new.stream) }
     ensures goes_on { OnOk result (GoesOn T.IrText.reading (attr_at A.IrText.reading) names.old s.old begun.old begun.new names.new s.new) }
-    ensures refused { IfErr result (λ fault. (o : Begun T A) (step : Step) (ss : List Step) → IsBegun names.old.names (whole s.old.stream) s.old.state.ctx.now begun.old o → o.steps ≡ step ∷ ss
+    ensures refused { IfErr result (λ fault. (o : OpenOperation T A) (step : Step) (ss : List Step) → IsBegun names.old.names (whole s.old.stream) s.old.state.ctx.now begun.old o → o.steps ≡ step ∷ ss
         → UnlessMemory (RefusesPiece T.IrText.reading (attr_at A.IrText.reading) o step names.old s.old) fault) }
     ensures committed { IfErr result (λ fault. fault.committed ≡ true) }
-    ensures spares { OnOk result (Spares (TheOperation begun.old.op ∷ []) s.old.state.ctx.now s.new.state.ctx.now) }
-    ensures lasts { OnOk result (Lasts s.old.state.ctx.now s.new.state.ctx.now) }
+    ensures spares { OnOk result (ModifiesOnly (TheOperation begun.old.op ∷ []) s.old.state.ctx.now s.new.state.ctx.now) }
+    ensures lasts { OnOk result (KeepsLive s.old.state.ctx.now s.new.state.ctx.now) }
     ensures names { KeepsNames names.old.names names.new.names }
     ensures values { length names.new.values ≡ length names.old.values }
     ensures labels { length names.new.labels ≡ length names.old.labels }

@@ -2,7 +2,7 @@
 ghost use Rattle.std.specs.Prelude.{◌≡◌, ◌<◌, length, Some, IfSome, slice_get};
 ghost use Rattle.irtext_base.specs.Faults.{NoActiveScope, MultipleDefinitions, Unresolved};
 ghost use Rattle.irtext_grammar.specs.Contexts.Held.{whole};
-ghost use Rattle.irtext_outcomes.specs.Promises.Root.{UnlessMemory};
+ghost use Rattle.irtext_parse_spec.specs.Promises.Root.{UnlessMemory};
 ghost use Rattle.irtext_parse_nested.specs.Definitions.{IsFaultOf};
 
 use crate::frame::Names;
@@ -13,7 +13,7 @@ use irtext_base::parsable::{
 };
 use irtext_base::result::Cause;
 use irtext_parse_pieces::names::ReadName;
-use irtext_read::irfmt::faults::{out_of_memory, refuse_at};
+use irtext_tokens::irfmt::faults::{out_of_memory, refuse_at};
 use std::alloc::Global;
 
 /// Returns a stored name as an identifier; `None` if it is no identifier, or if an allocation fails.

@@ -16,27 +16,27 @@ ghost use Rattle.irtext_graph.specs.Graph.{IsNew};
 ghost use Rattle.irtext_graph.specs.declared.object.Object.TheVariants.{TheOperation};
 ghost use Rattle.irtext_context.specs.declared.base.item.Item.TheVariants as item;
 ghost use Rattle.irtext_graph.specs.Parts.{results};
-ghost use Rattle.irtext_read.specs.AttrTexts.{attr_at};
-ghost use Rattle.irtext_read.specs.Infix.{◌▷◌};
-ghost use Rattle.irtext_read.specs.Tokens.{space_at};
-ghost use Rattle.irtext_state.specs.States.{marks_of};
+ghost use Rattle.irtext_tokens.specs.AttrTexts.{attr_at};
+ghost use Rattle.irtext_tokens.specs.Infix.{◌▷◌};
+ghost use Rattle.irtext_tokens.specs.Tokens.{space_at};
+ghost use Rattle.irtext_parse_state.specs.States.{marks_of};
 ghost use Rattle.irtext_scopes.specs.Names.{KeepsNames};
-ghost use Rattle.irtext_names.specs.Tied.{AreTied, AreWaiting};
+ghost use Rattle.irtext_names.specs.Tied.{MatchesGraph, ArePending};
 ghost use Rattle.irtext_grammar.specs.Contexts.Held.{whole};
-ghost use Rattle.irtext_outcomes.specs.Readers.Streams.{itself, replaced, KeepsRest};
-ghost use Rattle.irtext_outcomes.specs.Promises.Root.{UnlessMemory};
-ghost use Rattle.irtext_outcomes.specs.Promises.Section.{IsStarved};
-ghost use Rattle.irtext_nesting.specs.Stands.{Spares};
+ghost use Rattle.irtext_parse_spec.specs.Readers.Streams.{itself, replaced, KeepsRest};
+ghost use Rattle.irtext_parse_spec.specs.Promises.Root.{UnlessMemory};
+ghost use Rattle.irtext_parse_spec.specs.Promises.Section.{IsStarved};
+ghost use Rattle.irtext_parse_spec.specs.Unchanged.{ModifiesOnly};
 ghost use Rattle.irtext_grammar.specs.Grammar.Tree.{Mark};
-ghost use Rattle.irtext_nesting.specs.Heads.{mark_if_at};
-ghost use Rattle.irtext_nesting.specs.Resume.{Begun};
+ghost use Rattle.irtext_parse_spec.specs.Heads.{mark_if_at};
+ghost use Rattle.irtext_parse_spec.specs.Resume.{OpenOperation};
 ghost use Rattle.irtext_names.specs.Rows.{AreKnown};
 ghost use Rattle.irtext_parse_pieces.specs.Marks.{IsMarkIf};
 ghost use Rattle.irtext_parse_pieces.specs.Named.{MustMean};
-ghost use Rattle.irtext_parse_nested.specs.Begun.{IsBegun, pledge_of};
+ghost use Rattle.irtext_parse_nested.specs.OpenOperation.{IsBegun, pledge_of};
 ghost use Rattle.irtext_parse_nested.specs.Definitions.{ValuesReady, DefinesRow, LosesPlaceholders};
 ghost use Rattle.irtext_parse_nested.specs.Ends.{numbers_of, closes_at, RefusesResults, NotesMark, noted_as, GainsMarks, RefusesMark, WritesAttributes, GivesNames, BecomesNamed};
-ghost use Rattle.irtext_parse_nested.specs.Items.{Acts, ActFails, IsSound, Lasts};
+ghost use Rattle.irtext_parse_nested.specs.Items.{Acts, ActFails, IsSound, KeepsLive};
 ghost use Rattle.irtext_parse_nested.specs.Located.{IsLocated};
 ghost use Rattle.irtext_parse_nested.specs.Read.{EndsOperation, RefusesEnd};
 
@@ -51,10 +51,10 @@ use irtext_context::base::{Context, Item};
 use irtext_graph::graph::Graph;
 use irtext_graph::held::HasGraph;
 use irtext_parse_pieces::marks::{ReadMark, mark_parse};
-use irtext_read::irfmt::faults::{out_of_memory, refuse_at};
-use irtext_read::irfmt::parsers::skip_white_space;
-use irtext_state::parsable::StateStream;
-use irtext_state::parsable::state::Noting;
+use irtext_parse_state::parsable::StateStream;
+use irtext_parse_state::parsable::state::Noting;
+use irtext_tokens::irfmt::faults::{out_of_memory, refuse_at};
+use irtext_tokens::irfmt::parsers::skip_white_space;
 use std::alloc::{AllocError, Global};
 
 /// Returns the error for an operation that does not have as many names as results, at the operation's beginning. Leaves the stream
@@ -84,7 +84,7 @@ fn define_results<O: Drop, B: Drop, T: Drop, A>(
     begun: &BegunOperation,
 ) -> ParseResult<(), A>
     requires known { AreKnown (length names.old.names) (numbers_of begun.now.names) }
-    requires tied { AreTied names.old.values names.old.labels graph.old }
+    requires tied { MatchesGraph names.old.values names.old.labels graph.old }
     requires ready { ValuesReady (λ i. Result begun.now.op i) begun.now.results names.old.values graph.old }
     ensures stream { OnOk result (stream.new ≡ stream.old) }
     ensures counts { OnOk result (length begun.now.names ≡ begun.now.results) }
@@ -94,11 +94,11 @@ fn define_results<O: Drop, B: Drop, T: Drop, A>(
     ensures loses { LosesPlaceholders graph.old graph.new }
     ensures values { length names.new.values ≡ length names.old.values }
     ensures rest { (names.new.names ≡ names.old.names) × (names.new.labels ≡ names.old.labels) }
-    ensures tied { AreTied names.new.values names.new.labels graph.new }
+    ensures tied { MatchesGraph names.new.values names.new.labels graph.new }
     ensures waiting { (m : ℕ) (own : List (Ptr BasicBlock))
-        → AreWaiting m own names.old.values names.old.labels graph.old → AreWaiting m own names.new.values names.new.labels graph.new }
+        → ArePending m own names.old.values names.old.labels graph.old → ArePending m own names.new.values names.new.labels graph.new }
     ensures kept { (m : ℕ) (own : List (Ptr BasicBlock)) → IsClosedBelow m graph.old
-        → AreWaiting m own names.old.values names.old.labels graph.old → graphs.KeepsOlder m graph.old graph.new }
+        → ArePending m own names.old.values names.old.labels graph.old → graphs.KeepsOlder m graph.old graph.new }
 {
     if begun.names.len() != begun.results {
         return Err(count_fault(stream, begun));
@@ -124,20 +124,20 @@ fn results_defined<T: IrText<A>, A: AttrText<A>, U>(
     requires stands { IsSome (operation s.old.state.ctx.now begun.now.op) }
     requires counts { length (results s.old.state.ctx.now.graph begun.now.op) ≡ begun.now.results }
     requires known { AreKnown (length names.old.names) (numbers_of begun.now.names) }
-    requires tied { AreTied names.old.values names.old.labels s.old.state.ctx.now.graph }
+    requires tied { MatchesGraph names.old.values names.old.labels s.old.state.ctx.now.graph }
     ensures lent { s.new.state.ctx.ghost_name ≡ s.old.state.ctx.ghost_name }
     ensures rest { KeepsRest s.old.state s.new.state }
     ensures marks { marks_of s.new.state ≡ marks_of s.old.state }
     ensures stream { OnOk result (s.new.stream ≡ s.old.stream) }
-    ensures closes { OnOk result ((o : Begun T A) → IsBegun names.old.names (whole s.old.stream) s.old.state.ctx.now begun.now o
+    ensures closes { OnOk result ((o : OpenOperation T A) → IsBegun names.old.names (whole s.old.stream) s.old.state.ctx.now begun.now o
         → Acts (closes_at o s.old.state) names.old s.old.state (pledge_of begun.now o.place ∷ []) names.new s.new.state []) }
-    ensures refused { IfErr result (UnlessMemory (λ f. (o : Begun T A) → IsBegun names.old.names (whole s.old.stream) s.old.state.ctx.now begun.now o
+    ensures refused { IfErr result (UnlessMemory (λ f. (o : OpenOperation T A) → IsBegun names.old.names (whole s.old.stream) s.old.state.ctx.now begun.now o
         → ActFails (whole s.old.stream) (closes_at o s.old.state) names.old s.old.state (pledge_of begun.now o.place ∷ []) f)) }
     ensures committed { IfErr result (λ f. f.committed ≡ true) }
-    ensures lasts { Lasts s.old.state.ctx.now s.new.state.ctx.now }
-    ensures spares { Spares [] s.old.state.ctx.now s.new.state.ctx.now }
+    ensures lasts { KeepsLive s.old.state.ctx.now s.new.state.ctx.now }
+    ensures spares { ModifiesOnly [] s.old.state.ctx.now s.new.state.ctx.now }
     ensures newer { (m : ℕ) → IsNew m s.old.state.ctx.now.graph (TheOperation begun.now.op) → IsNew m s.new.state.ctx.now.graph (TheOperation begun.now.op) }
-    ensures tied { AreTied names.new.values names.new.labels s.new.state.ctx.now.graph }
+    ensures tied { MatchesGraph names.new.values names.new.labels s.new.state.ctx.now.graph }
     ensures values { length names.new.values ≡ length names.old.values }
     ensures names { names.new.names ≡ names.old.names }
     ensures labels { names.new.labels ≡ names.old.labels }
@@ -199,20 +199,20 @@ fn close<T: IrText<A>, A: AttrText<A>, U>(
     requires stands { IsSome (operation s.old.state.ctx.now begun.now.op) }
     requires counts { length (results s.old.state.ctx.now.graph begun.now.op) ≡ begun.now.results }
     requires known { AreKnown (length names.old.names) (numbers_of begun.now.names) }
-    requires tied { AreTied names.old.values names.old.labels s.old.state.ctx.now.graph }
+    requires tied { MatchesGraph names.old.values names.old.labels s.old.state.ctx.now.graph }
     ensures lent { s.new.state.ctx.ghost_name ≡ s.old.state.ctx.ghost_name }
     ensures rest { KeepsRest s.old.state s.new.state }
     ensures marks { marks_of s.new.state ≡ marks_of s.old.state }
     ensures stream { OnOk result (s.new.stream ≡ s.old.stream) }
-    ensures closes { OnOk result ((o : Begun T A) → IsBegun names.old.names (whole s.old.stream) s.old.state.ctx.now begun.now o
+    ensures closes { OnOk result ((o : OpenOperation T A) → IsBegun names.old.names (whole s.old.stream) s.old.state.ctx.now begun.now o
         → Acts (closes_at o s.old.state) names.old s.old.state (pledge_of begun.now o.place ∷ []) names.new s.new.state []) }
-    ensures refused { IfErr result (UnlessMemory (λ f. (o : Begun T A) → IsBegun names.old.names (whole s.old.stream) s.old.state.ctx.now begun.now o
+    ensures refused { IfErr result (UnlessMemory (λ f. (o : OpenOperation T A) → IsBegun names.old.names (whole s.old.stream) s.old.state.ctx.now begun.now o
         → ActFails (whole s.old.stream) (closes_at o s.old.state) names.old s.old.state (pledge_of begun.now o.place ∷ []) f)) }
     ensures committed { IfErr result (λ f. f.committed ≡ true) }
-    ensures lasts { Lasts s.old.state.ctx.now s.new.state.ctx.now }
+    ensures lasts { KeepsLive s.old.state.ctx.now s.new.state.ctx.now }
     ensures own { OnOk result (BecomesNamed (IsLocated s.old.state.src (whole s.old.stream)) names.old.names (whole s.old.stream) begun.now.names
         s.old.state.ctx.now s.new.state.ctx.now begun.now.op) }
-    ensures spares { Spares (TheOperation begun.now.op ∷ []) s.old.state.ctx.now s.new.state.ctx.now }
+    ensures spares { ModifiesOnly (TheOperation begun.now.op ∷ []) s.old.state.ctx.now s.new.state.ctx.now }
     ensures values { length names.new.values ≡ length names.old.values }
     ensures names { names.new.names ≡ names.old.names }
     ensures labels { names.new.labels ≡ names.old.labels }
@@ -275,21 +275,21 @@ pub fn operation_end<T: IrText<A>, A: AttrText<A>, U>(
     requires counts { length (results s.old.state.ctx.now.graph begun.now.op) ≡ begun.now.results }
     requires known { AreKnown (length names.old.names) (map (λ n. n.name) begun.now.names) }
     requires fine { s.old.stream.failed ≡ false }
-    requires tied { AreTied names.old.values names.old.labels s.old.state.ctx.now.graph }
+    requires tied { MatchesGraph names.old.values names.old.labels s.old.state.ctx.now.graph }
     ensures lent { s.new.state.ctx.ghost_name ≡ s.old.state.ctx.ghost_name }
     ensures rest { KeepsRest s.old.state s.new.state }
-    ensures ends { OnOk result ((o : Begun T A) → IsBegun names.old.names (whole s.old.stream) s.old.state.ctx.now begun.now o
+    ensures ends { OnOk result ((o : OpenOperation T A) → IsBegun names.old.names (whole s.old.stream) s.old.state.ctx.now begun.now o
         → EndsOperation T.IrText.reading (attr_at A.IrText.reading) o begun.now names.old s.old names.new s.new) }
-    ensures refused { IfErr result (λ fault. (o : Begun T A) → IsBegun names.old.names (whole s.old.stream) s.old.state.ctx.now begun.now o
+    ensures refused { IfErr result (λ fault. (o : OpenOperation T A) → IsBegun names.old.names (whole s.old.stream) s.old.state.ctx.now begun.now o
         → UnlessMemory (RefusesEnd T.IrText.reading (attr_at A.IrText.reading) o begun.now names.old s.old) fault) }
     ensures committed { IfErr result (λ fault. fault.committed ≡ true) }
     ensures own { OnOk result (BecomesNamed (IsLocated s.old.state.src (whole s.old.stream)) names.old.names (whole s.old.stream) begun.now.names
         s.old.state.ctx.now s.new.state.ctx.now begun.now.op) }
-    ensures spares { OnOk result (Spares (TheOperation begun.now.op ∷ []) s.old.state.ctx.now s.new.state.ctx.now) }
+    ensures spares { OnOk result (ModifiesOnly (TheOperation begun.now.op ∷ []) s.old.state.ctx.now s.new.state.ctx.now) }
     ensures noted { OnOk result ((mark : Option (Mark ℕ)) (taken : Text) → (space_at ▷ mark_if_at) s.old.stream.rest ≡ Read mark taken s.new.stream.rest
         → marks_of s.new.state ≡ marks_of s.old.state ++ noted_as mark (item.Operation begun.now.op)) }
     ensures unnoted { OnErr result (GainsMarks (marks_of s.old.state) (marks_of s.new.state)) }
-    ensures lasts { OnOk result (Lasts s.old.state.ctx.now s.new.state.ctx.now) }
+    ensures lasts { OnOk result (KeepsLive s.old.state.ctx.now s.new.state.ctx.now) }
     ensures names { KeepsNames names.old.names names.new.names }
     ensures values { length names.new.values ≡ length names.old.values }
     ensures labels { length names.new.labels ≡ length names.old.labels }

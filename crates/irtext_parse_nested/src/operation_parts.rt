@@ -8,10 +8,10 @@ ghost use Rattle.irtext_grammar.specs.Contexts.Held.{attribute_of, entries_of};
 ghost use Rattle.irtext_grammar.specs.Graphs.Build.{put_all};
 ghost use Rattle.irtext_grammar.specs.Grammar.Tree.{ident};
 ghost use Rattle.irtext_grammar.specs.Names.Acts.{may_hold};
-ghost use Rattle.irtext_names.specs.Tied.{AreTied};
+ghost use Rattle.irtext_names.specs.Tied.{MatchesGraph};
 ghost use Rattle.irtext_parse_pieces.specs.declared.pieces.ReadPiece.TheVariants as read;
 ghost use Rattle.irtext_parse_nested.specs.declared.operation_parts.NotGathered.TheVariants.{Memory};
-ghost use Rattle.irtext_parse_nested.specs.Gathered.{entry_read, refused_at, GathersAlone, RefusesAlone, MayAllHold, RefusesEntries, IsNothing, CanGather, IsSteady, Gathers, RefusesGathering};
+ghost use Rattle.irtext_parse_nested.specs.Gathered.{entry_read, refused_at, GathersAlone, RefusesAlone, MayAllHold, RefusesEntries, IsNothing, CanGather, KeepsScopes, Gathers, RefusesGathering};
 
 use crate::frame::Names;
 use crate::uses::{Placed, block_placed, blocks_used, value_placed, values_used};
@@ -138,10 +138,10 @@ fn operand_gathered<T: Drop, A: Drop>(
     name: ReadName,
 ) -> Result<(), NotGathered>
     requires can { CanGather {T = T} {A = A} names.old gathered.old.operands.list.items gathered.old.successors.list.items (read.Operand index name ∷ []) }
-    requires tied { AreTied names.old.values names.old.labels graph.old }
+    requires tied { MatchesGraph names.old.values names.old.labels graph.old }
     ensures gathers { OnOk result (Gathers (read.Operand index name ∷ []) names.old graph.old gathered.old names.new graph.new gathered.new) }
     ensures refused { IfErr result (RefusesGathering {T = T} {A = A} (read.Operand index name ∷ []) names.old graph.old) }
-    ensures steady { IsSteady names.old names.new graph.old graph.new }
+    ensures steady { KeepsScopes names.old names.new graph.old graph.new }
 {
     if !names.has_value_scope() {
         return Err(NotGathered::NoActiveScope(name));
@@ -162,10 +162,10 @@ fn successor_gathered<T: Drop, A: Drop>(
     name: ReadName,
 ) -> Result<(), NotGathered>
     requires can { CanGather {T = T} {A = A} names.old gathered.old.operands.list.items gathered.old.successors.list.items (read.Successor index name ∷ []) }
-    requires tied { AreTied names.old.values names.old.labels graph.old }
+    requires tied { MatchesGraph names.old.values names.old.labels graph.old }
     ensures gathers { OnOk result (Gathers (read.Successor index name ∷ []) names.old graph.old gathered.old names.new graph.new gathered.new) }
     ensures refused { IfErr result (RefusesGathering {T = T} {A = A} (read.Successor index name ∷ []) names.old graph.old) }
-    ensures steady { IsSteady names.old names.new graph.old graph.new }
+    ensures steady { KeepsScopes names.old names.new graph.old graph.new }
 {
     if !names.has_label_scope() {
         return Err(NotGathered::NoActiveScope(name));
@@ -185,10 +185,10 @@ fn operands_gathered<T: Drop, A: Drop>(
     used: Few<ReadName>,
 ) -> Result<(), NotGathered>
     requires can { CanGather {T = T} {A = A} names.old gathered.old.operands.list.items gathered.old.successors.list.items (read.Operands used ∷ []) }
-    requires tied { AreTied names.old.values names.old.labels graph.old }
+    requires tied { MatchesGraph names.old.values names.old.labels graph.old }
     ensures gathers { OnOk result (Gathers (read.Operands used ∷ []) names.old graph.old gathered.old names.new graph.new gathered.new) }
     ensures refused { IfErr result (RefusesGathering {T = T} {A = A} (read.Operands used ∷ []) names.old graph.old) }
-    ensures steady { IsSteady names.old names.new graph.old graph.new }
+    ensures steady { KeepsScopes names.old names.new graph.old graph.new }
 {
     if used.len() == 0 {
         return Ok(());
@@ -210,10 +210,10 @@ fn successors_gathered<T: Drop, A: Drop>(
     used: Few<ReadName>,
 ) -> Result<(), NotGathered>
     requires can { CanGather {T = T} {A = A} names.old gathered.old.operands.list.items gathered.old.successors.list.items (read.Successors used ∷ []) }
-    requires tied { AreTied names.old.values names.old.labels graph.old }
+    requires tied { MatchesGraph names.old.values names.old.labels graph.old }
     ensures gathers { OnOk result (Gathers (read.Successors used ∷ []) names.old graph.old gathered.old names.new graph.new gathered.new) }
     ensures refused { IfErr result (RefusesGathering {T = T} {A = A} (read.Successors used ∷ []) names.old graph.old) }
-    ensures steady { IsSteady names.old names.new graph.old graph.new }
+    ensures steady { KeepsScopes names.old names.new graph.old graph.new }
 {
     if used.len() == 0 {
         return Ok(());
@@ -328,11 +328,11 @@ fn piece_gathered<T: Drop, A: Drop>(
     piece: ReadPiece<T, A>,
 ) -> Result<(), NotGathered>
     requires can { CanGather names.old gathered.old.operands.list.items gathered.old.successors.list.items (piece ∷ []) }
-    requires tied { AreTied names.old.values names.old.labels graph.old }
+    requires tied { MatchesGraph names.old.values names.old.labels graph.old }
     requires key { IfSome key.now (λ k. k ≡ sym_name_key) }
     ensures gathers { OnOk result (Gathers (piece ∷ []) names.old graph.old gathered.old names.new graph.new gathered.new) }
     ensures refused { IfErr result (RefusesGathering (piece ∷ []) names.old graph.old) }
-    ensures steady { IsSteady names.old names.new graph.old graph.new }
+    ensures steady { KeepsScopes names.old names.new graph.old graph.new }
 {
     match piece {
         ReadPiece::Word => Ok(()),
@@ -365,11 +365,11 @@ pub fn gather<T: Drop, A: Drop>(
     pieces: Pieces<T, A>,
 ) -> Result<(), NotGathered>
     requires can { CanGather names.old gathered.old.operands.list.items gathered.old.successors.list.items pieces }
-    requires tied { AreTied names.old.values names.old.labels graph.old }
+    requires tied { MatchesGraph names.old.values names.old.labels graph.old }
     requires key { IfSome key.now (λ k. k ≡ sym_name_key) }
     ensures gathers { OnOk result (Gathers pieces names.old graph.old gathered.old names.new graph.new gathered.new) }
     ensures refused { IfErr result (RefusesGathering pieces names.old graph.old) }
-    ensures steady { IsSteady names.old names.new graph.old graph.new }
+    ensures steady { KeepsScopes names.old names.new graph.old graph.new }
 {
     for found in pieces.into_found() {
         let (_, piece) = found;

@@ -2,10 +2,10 @@
 ghost use Rattle.std.specs.Prelude.{◌≡◌, ◌≤◌, ℕ, [], None, IfOk, IfErr, OnOk, OnErr};
 ghost use Rattle.irtext_base.specs.Answers.{StarvesHere};
 ghost use Rattle.irtext_context.specs.Context.{KeepsOlder};
-ghost use Rattle.irtext_graph.specs.Graph.{IsNew, Stands, Appends, parent, children};
+ghost use Rattle.irtext_graph.specs.Graph.{IsNew, IsLive, Appends, parent, children};
 ghost use Rattle.irtext_graph.specs.declared.object.Object.TheVariants.{TheBlock, TheRegion};
-ghost use Rattle.irtext_outcomes.specs.Readers.Streams.{itself, replaced, KeepsRest};
-ghost use Rattle.irtext_state.specs.States.{marks_of};
+ghost use Rattle.irtext_parse_spec.specs.Readers.Streams.{itself, replaced, KeepsRest};
+ghost use Rattle.irtext_parse_state.specs.States.{marks_of};
 ghost use Rattle.irtext_parse_nested.specs.Placing.{PlacesBlock};
 
 use irtext_base::base::Identifier;
@@ -17,8 +17,8 @@ use irtext_context::base::{BasicBlock, Context, Ptr, Region};
 use irtext_dict::base::AttributeDict;
 use irtext_few::Few;
 use irtext_graph::held::HasGraph;
-use irtext_read::irfmt::faults::out_of_memory;
-use irtext_state::parsable::StateStream;
+use irtext_parse_state::parsable::StateStream;
+use irtext_tokens::irfmt::faults::out_of_memory;
 use std::alloc::AllocError;
 
 /// Appends a detached and empty block to a region. If an allocation fails, nothing changes.
@@ -27,8 +27,8 @@ fn put_last<T: IrText<A>, A: AttrText<A>>(
     region: Ptr<Region>,
     block: Ptr<BasicBlock>,
 ) -> Result<(), AllocError>
-    requires region { Stands ctx.old.graph (TheRegion region) }
-    requires block { Stands ctx.old.graph (TheBlock block) }
+    requires region { IsLive ctx.old.graph (TheRegion region) }
+    requires block { IsLive ctx.old.graph (TheBlock block) }
     requires free { parent ctx.old.graph (TheBlock block) ≡ None }
     requires empty { children ctx.old.graph (TheBlock block) ≡ [] }
     ensures appends { OnOk result (Appends ctx.old.graph ctx.new.graph (TheRegion region) (TheBlock block)) }
@@ -51,7 +51,7 @@ pub fn place_block<T: IrText<A>, A: AttrText<A>, U>(
     loc: Location<A>,
     types: Few<T>,
 ) -> ParseResult<Ptr<BasicBlock>, A>
-    requires region { Stands s.old.state.ctx.now.graph (TheRegion region) }
+    requires region { IsLive s.old.state.ctx.now.graph (TheRegion region) }
     ensures lent { s.new.state.ctx.ghost_name ≡ s.old.state.ctx.ghost_name }
     ensures rest { KeepsRest s.old.state s.new.state }
     ensures marks { marks_of s.new.state ≡ marks_of s.old.state }

@@ -9,26 +9,26 @@ ghost use Rattle.irtext_graph.specs.Graph.{IsNew};
 ghost use Rattle.irtext_graph.specs.declared.object.Object.TheVariants.{TheOperation, TheRegion};
 ghost use Rattle.irtext_graph.specs.declared.arena.Ptr.{Ptr};
 ghost use Rattle.irtext_graph.specs.declared.object.BasicBlock.{BasicBlock};
-ghost use Rattle.irtext_read.specs.Infix.{◌▷◌};
-ghost use Rattle.irtext_read.specs.MustRead.{MustRead};
-ghost use Rattle.irtext_read.specs.Tokens.{space_at, word};
-ghost use Rattle.irtext_read.specs.AttrTexts.{attr_at};
+ghost use Rattle.irtext_tokens.specs.Infix.{◌▷◌};
+ghost use Rattle.irtext_tokens.specs.MustRead.{MustRead};
+ghost use Rattle.irtext_tokens.specs.Tokens.{space_at, word};
+ghost use Rattle.irtext_tokens.specs.AttrTexts.{attr_at};
 ghost use Rattle.irtext_scopes.specs.Scopes.{is_open, outer};
 ghost use Rattle.irtext_scopes.specs.Tracker.{entered, left};
-ghost use Rattle.irtext_state.specs.States.{marks_of};
+ghost use Rattle.irtext_parse_state.specs.States.{marks_of};
 ghost use Rattle.irtext_grammar.specs.Contexts.Held.{whole};
 ghost use Rattle.irtext_grammar.specs.Names.History.{enter, leave};
 ghost use Rattle.irtext_grammar.specs.Names.History as history;
 ghost use Rattle.irtext_grammar.specs.Names.Script.{NotIsolated};
 ghost use Rattle.irtext_names.specs.Linked.{Takes, FailsBy};
-ghost use Rattle.irtext_names.specs.Tied.{AreTied, AreWaiting};
-ghost use Rattle.irtext_outcomes.specs.Readers.Streams.{itself, replaced, KeepsRest};
-ghost use Rattle.irtext_outcomes.specs.Promises.Root.{UnlessMemory};
-ghost use Rattle.irtext_outcomes.specs.Promises.Section.{IsStarved};
-ghost use Rattle.irtext_nesting.specs.Grows.{RegionCame, OperationGains};
-ghost use Rattle.irtext_nesting.specs.Stands.{Spares};
-ghost use Rattle.irtext_parse_nested.specs.Begun.{IsRegion};
-ghost use Rattle.irtext_parse_nested.specs.Items.{IsSound, Lasts};
+ghost use Rattle.irtext_names.specs.Tied.{MatchesGraph, ArePending};
+ghost use Rattle.irtext_parse_spec.specs.Readers.Streams.{itself, replaced, KeepsRest};
+ghost use Rattle.irtext_parse_spec.specs.Promises.Root.{UnlessMemory};
+ghost use Rattle.irtext_parse_spec.specs.Promises.Section.{IsStarved};
+ghost use Rattle.irtext_parse_spec.specs.Grows.{RegionCame, OperationGains};
+ghost use Rattle.irtext_parse_spec.specs.Unchanged.{ModifiesOnly};
+ghost use Rattle.irtext_parse_nested.specs.OpenOperation.{IsRegion};
+ghost use Rattle.irtext_parse_nested.specs.Items.{IsSound, KeepsLive};
 ghost use Rattle.irtext_parse_nested.specs.Leaving.{IsUnresolved};
 ghost use Rattle.irtext_parse_nested.specs.Read.{BeginsRegion, RefusesRegion, EndsRegion, RefusesRegionEnd};
 
@@ -47,12 +47,12 @@ use irtext_graph::graph::Graph;
 use irtext_graph::held::HasGraph;
 use irtext_names::regions::{enter_region, exit_region};
 use irtext_parse_pieces::names::ReadName;
-use irtext_read::irfmt::demanded::text_demanded;
-use irtext_read::irfmt::faults::out_of_memory;
-use irtext_read::irfmt::parsers::skip_white_space;
+use irtext_parse_state::parsable::StateStream;
+use irtext_parse_state::parsable::state::State;
 use irtext_scopes::tracker::EnterFault;
-use irtext_state::parsable::StateStream;
-use irtext_state::parsable::state::State;
+use irtext_tokens::irfmt::demanded::text_demanded;
+use irtext_tokens::irfmt::faults::out_of_memory;
+use irtext_tokens::irfmt::parsers::skip_white_space;
 use std::alloc::AllocError;
 
 /// Returns the error for a region that is not isolated while no scope of values is open, at the beginning of the text. Leaves the stream
@@ -80,14 +80,14 @@ fn enter<O: Drop, B: Drop, T: Drop, A>(
     graph: &Graph<Option<O>, B, Option<T>>,
     isolated: bool,
 ) -> ParseResult<(), A>
-    requires tied { AreTied names.old.values names.old.labels graph.now }
+    requires tied { MatchesGraph names.old.values names.old.labels graph.now }
     ensures stream { OnOk result (stream.new ≡ stream.old) }
     ensures values { OnOk result (names.new.values ≡ entered isolated names.old.values) }
     ensures labels { OnOk result (names.new.labels ≡ [] ∷ names.old.labels) }
     ensures names { names.new.names ≡ names.old.names }
-    ensures tied { AreTied names.new.values names.new.labels graph.now }
+    ensures tied { MatchesGraph names.new.values names.new.labels graph.now }
     ensures waiting { (m : ℕ) (own : List (Ptr BasicBlock))
-        → AreWaiting m own names.old.values names.old.labels graph.now → AreWaiting m own names.new.values names.new.labels graph.now }
+        → ArePending m own names.old.values names.old.labels graph.now → ArePending m own names.new.values names.new.labels graph.now }
     ensures takes { OnOk result (Takes (enter isolated) (history.entered isolated) names.old names.new graph.now) }
     ensures open { OnOk result (is_open names.new.values ≡ true) }
     ensures refused { IfErr result (λ f. IsStarved f ⊎ ((fault_of f.cause ≡ fault.NotIsolated) × (f.committed ≡ true) × IsAt f.pos.line f.pos.column []
@@ -116,7 +116,7 @@ pub fn enter_here<T: IrText<A>, A: AttrText<A>, U>(
     names: &mut Names,
     isolated: bool,
 ) -> ParseResult<(), A>
-    requires tied { AreTied names.old.values names.old.labels s.old.state.ctx.now.graph }
+    requires tied { MatchesGraph names.old.values names.old.labels s.old.state.ctx.now.graph }
     ensures lent { s.new.state.ctx.ghost_name ≡ s.old.state.ctx.ghost_name }
     ensures ctx { s.new.state.ctx.now ≡ s.old.state.ctx.now }
     ensures rest { KeepsRest s.old.state s.new.state }
@@ -125,9 +125,9 @@ pub fn enter_here<T: IrText<A>, A: AttrText<A>, U>(
     ensures values { OnOk result (names.new.values ≡ entered isolated names.old.values) }
     ensures labels { OnOk result (names.new.labels ≡ [] ∷ names.old.labels) }
     ensures names { names.new.names ≡ names.old.names }
-    ensures tied { AreTied names.new.values names.new.labels s.old.state.ctx.now.graph }
-    ensures waiting { (m : ℕ) (own : List (Ptr BasicBlock)) → AreWaiting m own names.old.values names.old.labels s.old.state.ctx.now.graph
-        → AreWaiting m own names.new.values names.new.labels s.old.state.ctx.now.graph }
+    ensures tied { MatchesGraph names.new.values names.new.labels s.old.state.ctx.now.graph }
+    ensures waiting { (m : ℕ) (own : List (Ptr BasicBlock)) → ArePending m own names.old.values names.old.labels s.old.state.ctx.now.graph
+        → ArePending m own names.new.values names.new.labels s.old.state.ctx.now.graph }
     ensures takes { OnOk result (Takes (enter isolated) (history.entered isolated) names.old names.new s.old.state.ctx.now.graph) }
     ensures open { OnOk result (is_open names.new.values ≡ true) }
     ensures refused { IfErr result (λ f. IsStarved f ⊎ ((fault_of f.cause ≡ fault.NotIsolated) × (f.committed ≡ true) × IsAt f.pos.line f.pos.column []
@@ -178,7 +178,7 @@ pub fn region_begin<T: IrText<A>, A: AttrText<A>, U>(
 ) -> ParseResult<BegunRegion, A>
     requires stands { IsSome (operation s.old.state.ctx.now op) }
     requires fine { s.old.stream.failed ≡ false }
-    requires tied { AreTied names.old.values names.old.labels s.old.state.ctx.now.graph }
+    requires tied { MatchesGraph names.old.values names.old.labels s.old.state.ctx.now.graph }
     ensures lent { s.new.state.ctx.ghost_name ≡ s.old.state.ctx.ghost_name }
     ensures rest { KeepsRest s.old.state s.new.state }
     ensures marks { marks_of s.new.state ≡ marks_of s.old.state }
@@ -192,8 +192,8 @@ pub fn region_begin<T: IrText<A>, A: AttrText<A>, U>(
     ensures new { IfOk result (λ r. (m : ℕ) → m ≤ s.old.state.ctx.now.graph.made → IsNew m s.new.state.ctx.now.graph (TheRegion r.region)) }
     ensures came { IfOk result (λ r. RegionCame s.old.state.ctx.now s.new.state.ctx.now r.region) }
     ensures gains { IfOk result (λ r. OperationGains s.old.state.ctx.now s.new.state.ctx.now op r.region) }
-    ensures spares { IfOk result (λ r. Spares (TheRegion r.region ∷ TheOperation op ∷ []) s.old.state.ctx.now s.new.state.ctx.now) }
-    ensures lasts { OnOk result (Lasts s.old.state.ctx.now s.new.state.ctx.now) }
+    ensures spares { IfOk result (λ r. ModifiesOnly (TheRegion r.region ∷ TheOperation op ∷ []) s.old.state.ctx.now s.new.state.ctx.now) }
+    ensures lasts { OnOk result (KeepsLive s.old.state.ctx.now s.new.state.ctx.now) }
     ensures sound { OnOk result ((m : ℕ) → m ≤ s.old.state.ctx.now.graph.made → IsSound m names.old s.old.state → IsSound m names.new s.new.state) }
     ensures kept { (m : ℕ) → m ≤ s.old.state.ctx.now.graph.made → IsNew m s.old.state.ctx.now.graph (TheOperation op)
         → KeepsOlder m s.old.state.ctx.now s.new.state.ctx.now }
@@ -217,14 +217,14 @@ fn leave<O: Drop, B: Drop, T: Drop, A>(
     graph: &Graph<Option<O>, B, Option<T>>,
     region: BegunRegion,
 ) -> ParseResult<(), A>
-    requires tied { AreTied names.old.values names.old.labels graph.now }
+    requires tied { MatchesGraph names.old.values names.old.labels graph.now }
     ensures stream { OnOk result (stream.new ≡ stream.old) }
     ensures values { names.new.values ≡ left region.isolated names.old.values }
     ensures labels { names.new.labels ≡ outer names.old.labels }
     ensures names { names.new.names ≡ names.old.names }
-    ensures tied { AreTied names.new.values names.new.labels graph.now }
+    ensures tied { MatchesGraph names.new.values names.new.labels graph.now }
     ensures waiting { OnOk result ((m : ℕ) (own : List (Ptr BasicBlock))
-        → AreWaiting m own names.old.values names.old.labels graph.now → AreWaiting m own names.new.values names.new.labels graph.now) }
+        → ArePending m own names.old.values names.old.labels graph.now → ArePending m own names.new.values names.new.labels graph.now) }
     ensures takes { OnOk result ((a : ℕ) → Takes (leave region.isolated a) (history.left region.isolated) names.old names.new graph.now) }
     ensures refused { IfErr result (UnlessMemory (IsUnresolved names.old graph.now (whole stream.old) region)) }
     ensures committed { IfErr result (λ fault. fault.committed ≡ true) }
@@ -247,7 +247,7 @@ pub fn region_end<T: IrText<A>, A: AttrText<A>, U>(
     region: BegunRegion,
 ) -> ParseResult<(), A>
     requires fine { s.old.stream.failed ≡ false }
-    requires tied { AreTied names.old.values names.old.labels s.old.state.ctx.now.graph }
+    requires tied { MatchesGraph names.old.values names.old.labels s.old.state.ctx.now.graph }
     ensures lent { s.new.state.ctx.ghost_name ≡ s.old.state.ctx.ghost_name }
     ensures state { s.new.state ≡ s.old.state }
     ensures ends { OnOk result ((place : ℕ) → IsRegion names.old.names (whole s.old.stream) s.old.state.ctx.now region region.isolated place

@@ -7,9 +7,9 @@ ghost use Rattle.irtext_graph.specs.declared.object.Value.{Value};
 ghost use Rattle.irtext_graph.specs.declared.object.Defined.TheVariants.{OfValue, OfBlock};
 ghost use Rattle.irtext_grammar.specs.Names.Script.{use_value, use_label};
 ghost use Rattle.irtext_scopes.specs.Scopes.{is_open};
-ghost use Rattle.irtext_names.specs.Tied.{AreTied};
+ghost use Rattle.irtext_names.specs.Tied.{MatchesGraph};
 ghost use Rattle.irtext_names.specs.Rows.{AreKnown, UsesRow};
-ghost use Rattle.irtext_parse_nested.specs.Gathered.{IsSteady, TakesName};
+ghost use Rattle.irtext_parse_nested.specs.Gathered.{KeepsScopes, TakesName};
 
 use crate::frame::Names;
 use irtext_context::base::block::BlockData;
@@ -47,9 +47,9 @@ pub(crate) fn value_used<O: Drop, B: Drop, T: Drop>(
 ) -> Result<Value, AllocError>
     requires open { is_open names.old.values ≡ true }
     requires known { name < length names.old.names }
-    requires tied { AreTied names.old.values names.old.labels graph.old }
+    requires tied { MatchesGraph names.old.values names.old.labels graph.old }
     ensures takes { IfOk result (TakesName OfValue use_value name names.old names.new graph.old graph.new) }
-    ensures steady { IsSteady names.old names.new graph.old graph.new }
+    ensures steady { KeepsScopes names.old names.new graph.old graph.new }
 {
     ssa_opd(names, graph, name)
 }
@@ -63,9 +63,9 @@ pub(crate) fn block_used<O: Drop, A: Drop, T: Drop>(
 ) -> Result<Ptr<BasicBlock>, AllocError>
     requires open { is_open names.old.labels ≡ true }
     requires known { name < length names.old.names }
-    requires tied { AreTied names.old.values names.old.labels graph.old }
+    requires tied { MatchesGraph names.old.values names.old.labels graph.old }
     ensures takes { IfOk result (TakesName OfBlock use_label name names.old names.new graph.old graph.new) }
-    ensures steady { IsSteady names.old names.new graph.old graph.new }
+    ensures steady { KeepsScopes names.old names.new graph.old graph.new }
 {
     let value = BlockData::blank(graph.allocator());
     block_opd(names, graph, name, value)
@@ -81,10 +81,10 @@ pub(crate) fn values_used<O: Drop, B: Drop, T: Drop>(
 ) -> Result<(), AllocError>
     requires open { is_open names.old.values ≡ true }
     requires known { AreKnown (length names.old.names) (map (λ n. n.name) used.now) }
-    requires tied { AreTied names.old.values names.old.labels graph.old }
+    requires tied { MatchesGraph names.old.values names.old.labels graph.old }
     ensures uses { OnOk result ((more : List Value) × (values.new.items ≡ values.old.items ++ more)
         × UsesRow OfValue use_value (map (λ n. n.name) used.now) names.old names.new graph.old graph.new more) }
-    ensures steady { IsSteady names.old names.new graph.old graph.new }
+    ensures steady { KeepsScopes names.old names.new graph.old graph.new }
 {
     for index in 0..used.len() {
         let value = value_used(names, graph, number_at(used, index))?;
@@ -103,10 +103,10 @@ pub(crate) fn blocks_used<O: Drop, A: Drop, T: Drop>(
 ) -> Result<(), AllocError>
     requires open { is_open names.old.labels ≡ true }
     requires known { AreKnown (length names.old.names) (map (λ n. n.name) used.now) }
-    requires tied { AreTied names.old.values names.old.labels graph.old }
+    requires tied { MatchesGraph names.old.values names.old.labels graph.old }
     ensures uses { OnOk result ((more : List (Ptr BasicBlock)) × (blocks.new.items ≡ blocks.old.items ++ more)
         × UsesRow OfBlock use_label (map (λ n. n.name) used.now) names.old names.new graph.old graph.new more) }
-    ensures steady { IsSteady names.old names.new graph.old graph.new }
+    ensures steady { KeepsScopes names.old names.new graph.old graph.new }
 {
     for index in 0..used.len() {
         let block = block_used(names, graph, number_at(used, index))?;
@@ -125,10 +125,10 @@ pub(crate) fn value_placed<O: Drop, B: Drop, T: Drop>(
 ) -> Result<(), AllocError>
     requires open { is_open names.old.values ≡ true }
     requires known { name < length names.old.names }
-    requires tied { AreTied names.old.values names.old.labels graph.old }
+    requires tied { MatchesGraph names.old.values names.old.labels graph.old }
     ensures placed { OnOk result ((v : Value) × (single.new.items ≡ single.old.items ++ (index, v) ∷ [])
         × TakesName OfValue use_value name names.old names.new graph.old graph.new v) }
-    ensures steady { IsSteady names.old names.new graph.old graph.new }
+    ensures steady { KeepsScopes names.old names.new graph.old graph.new }
 {
     let value = value_used(names, graph, name)?;
     single.push((index, value))?;
@@ -145,10 +145,10 @@ pub(crate) fn block_placed<O: Drop, A: Drop, T: Drop>(
 ) -> Result<(), AllocError>
     requires open { is_open names.old.labels ≡ true }
     requires known { name < length names.old.names }
-    requires tied { AreTied names.old.values names.old.labels graph.old }
+    requires tied { MatchesGraph names.old.values names.old.labels graph.old }
     ensures placed { OnOk result ((b : Ptr BasicBlock) × (single.new.items ≡ single.old.items ++ (index, b) ∷ [])
         × TakesName OfBlock use_label name names.old names.new graph.old graph.new b) }
-    ensures steady { IsSteady names.old names.new graph.old graph.new }
+    ensures steady { KeepsScopes names.old names.new graph.old graph.new }
 {
     let block = block_used(names, graph, name)?;
     single.push((index, block))?;

@@ -6,11 +6,11 @@ use Rattle.irtext_base.specs.Stream.{first_of}
 use Rattle.irtext_base.specs.Faults.{Fault, Unexpected, AnIdentifier, Word}
 use Rattle.irtext_base.specs.Answers.{Outcome, Missing, followed}
 use Rattle.irtext_base.proofs.Compose.{takes_none}
-use Rattle.irtext_read.specs.ListOutcomes.{separated_at}
-use Rattle.irtext_read.specs.Tokens.{word_at}
-use Rattle.irtext_read.proofs.Steps.{Lens}
+use Rattle.irtext_tokens.specs.ListOutcomes.{separated_at}
+use Rattle.irtext_tokens.specs.Tokens.{word_at}
+use Rattle.irtext_tokens.proofs.Steps.{Lens}
 use Rattle.irtext_grammar.specs.Grammar.Tree.{Name}
-use Rattle.irtext_nesting.specs.Heads.{name_at, target_at, outside}
+use Rattle.irtext_parse_spec.specs.Heads.{name_at, target_at, outside}
 use Rattle.irtext_parse_pieces.specs.declared.lists.NameKind.{NameKind}
 use Rattle.irtext_parse_pieces.specs.declared.lists.NameKind.TheVariants as kind
 use Rattle.irtext_parse_pieces.specs.Kinds.{beginning, named_at}

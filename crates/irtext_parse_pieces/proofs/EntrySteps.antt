@@ -14,14 +14,14 @@ use Rattle.irtext_base.specs.declared.parsable.fault.ParseFault.{ParseFault}
 use Rattle.irtext_base.proofs.Compose.{takes_none, refuses_first_demanded, refuses_mapped_demanded}
 use Rattle.irtext_stream.specs.Places.{StandsBehind}
 use Rattle.irtext_stream.specs.Stream.{Comes}
-use Rattle.irtext_read.specs.ListOutcomes.{items_after, separated_at}
-use Rattle.irtext_read.specs.MustRead.{MustRead}
-use Rattle.irtext_read.specs.Tokens.{word_at}
-use Rattle.irtext_read.proofs.Steps.{Lens, seen_alone}
+use Rattle.irtext_tokens.specs.ListOutcomes.{items_after, separated_at}
+use Rattle.irtext_tokens.specs.MustRead.{MustRead}
+use Rattle.irtext_tokens.specs.Tokens.{word_at}
+use Rattle.irtext_tokens.proofs.Steps.{Lens, seen_alone}
 use Rattle.irtext_grammar.specs.Contexts.Held.{attribute_of}
 use Rattle.irtext_grammar.specs.Grammar.Tree.{Name, Attribute}
 use Rattle.irtext_grammar.specs.Spelling.AttrText.{attr_tree}
-use Rattle.irtext_nesting.specs.Heads.{name_of, name_at, dictionary_at}
+use Rattle.irtext_parse_spec.specs.Heads.{name_of, name_at, dictionary_at}
 use Rattle.irtext_parse_pieces.specs.declared.entries.Key.{Key}
 use Rattle.irtext_parse_pieces.specs.Entries.{IsKey, IsEntry, AreEntries, MustEntries, EntriesBehind, dictionary_if}
 use Rattle.irtext_parse_pieces.specs.Named.{whole, Optional, MayMean, MustMean}

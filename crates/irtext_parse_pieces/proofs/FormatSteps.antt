@@ -7,10 +7,10 @@ use Rattle.irtext_base.specs.Format.{Directive}
 use Rattle.irtext_base.specs.Answers.{Outcome}
 use Rattle.irtext_base.specs.Locations.{AttrView}
 use Rattle.irtext_base.specs.declared.format.Directive as code
-use Rattle.irtext_formats.specs.Directives.{directive_of, directives_of}
-use Rattle.irtext_nesting.specs.Heads.{Step, step_of, front_steps, directive_at, piece_at}
-use Rattle.irtext_nesting.specs.Resume.{is_flat}
-use Rattle.irtext_nesting.proofs.Resume.Front.{in_front, behind_front}
+use Rattle.irtext_format_check.specs.Directives.{directive_of, directives_of}
+use Rattle.irtext_parse_spec.specs.Heads.{Step, step_of, front_steps, directive_at, piece_at}
+use Rattle.irtext_parse_spec.specs.Resume.{is_flat}
+use Rattle.irtext_parse_spec.proofs.Resume.Front.{in_front, behind_front}
 
 -- the step at a place is that of the directive there
 custom_step : (ds : List code.Directive) (i : ℕ) → slice_get (map step_of (directives_of ds)) i ≡ option_map (λ d. step_of (directive_of d)) (slice_get ds i)

@@ -7,16 +7,16 @@ use Rattle.irtext_base.specs.Locations.{AttrView}
 use Rattle.irtext_base.specs.declared.parsable.fault.ParseFault.{ParseFault}
 use Rattle.irtext_scopes.specs.Names.{KeepsNames}
 use Rattle.irtext_stream.specs.Stream.{Comes}
-use Rattle.irtext_read.specs.Tokens.{space_at, text_at}
-use Rattle.irtext_read.specs.Infix.{Reader, ◌⇒◌}
-use Rattle.irtext_read.specs.MustRead.{MustRead}
-use Rattle.irtext_read.proofs.Spelling.{prefixed-prefixed, whole_gives}
-use Rattle.irtext_read.proofs.Steps.{Lens, Passed, starts, first, more, refuses, spaced, turned, ends}
+use Rattle.irtext_tokens.specs.Tokens.{space_at, text_at}
+use Rattle.irtext_tokens.specs.Infix.{Reader, ◌⇒◌}
+use Rattle.irtext_tokens.specs.MustRead.{MustRead}
+use Rattle.irtext_tokens.proofs.Spelling.{prefixed-prefixed, whole_gives}
+use Rattle.irtext_tokens.proofs.Steps.{Lens, Passed, starts, first, more, refuses, spaced, turned, ends}
 use Rattle.irtext_grammar.specs.Grammar.Tree as tree
 use Rattle.irtext_grammar.specs.Grammar.Tree.{Piece, Part}
-use Rattle.irtext_nesting.specs.Heads.{Step, front_steps, piece_at}
-use Rattle.irtext_nesting.specs.Resume.{is_flat, front_at}
-use Rattle.irtext_nesting.proofs.Resume.Front.{in_front}
+use Rattle.irtext_parse_spec.specs.Heads.{Step, front_steps, piece_at}
+use Rattle.irtext_parse_spec.specs.Resume.{is_flat, front_at}
+use Rattle.irtext_parse_spec.proofs.Resume.Front.{in_front}
 use Rattle.irtext_base.proofs.Compose.{starves_behind, answers_demanded}
 use Rattle.irtext_parse_pieces.specs.declared.pieces.ReadPiece.{ReadPiece}
 use Rattle.irtext_parse_pieces.specs.declared.pieces.ReadPiece.TheVariants as read

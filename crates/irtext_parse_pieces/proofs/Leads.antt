@@ -8,7 +8,7 @@ use Rattle.irtext_base.specs.Reading.{the}
 use Rattle.irtext_base.specs.Stream.{advanced}
 use Rattle.irtext_base.specs.Format.{Id}
 use Rattle.irtext_base.specs.Faults.{Fault, UnregisteredOp, UnregisteredDialect, id_of}
-use Rattle.irtext_base.specs.Answers.{Outcome, Read, Missing, Bad, Takes, Gives, Stands, Starves, StarvesHere, Refuses, Commits, Answers, DemandsOf, demanded, followed, mapped, prefixed, unless_failed}
+use Rattle.irtext_base.specs.Answers.{Outcome, Read, Missing, Bad, Takes, Gives, SameStream, Starves, StarvesHere, Refuses, Commits, Answers, DemandsOf, demanded, followed, mapped, prefixed, unless_failed}
 use Rattle.irtext_base.specs.Places.{StandsBehind}
 use Rattle.irtext_base.specs.declared.base.identifier.OpId.{OpId}
 use Rattle.irtext_base.specs.declared.parsable.fault.ParseFault.{ParseFault}
@@ -18,17 +18,17 @@ use Rattle.irtext_context.specs.Dialects.{Table, same_id}
 use Rattle.irtext_context.specs.DialectTable as table
 use Rattle.irtext_context.specs.DialectTable.{dialect_of, registered}
 use Rattle.irtext_context.specs.Named.{id_of_texts}
-use Rattle.irtext_read.specs.Tokens.{id_at, id_with, word_at}
-use Rattle.irtext_read.proofs.SetBack.{set_within}
-use Rattle.irtext_read.proofs.Spelling.{begins_the, takes_next, takes_none_is}
-use Rattle.irtext_read.proofs.Steps.{Lens}
+use Rattle.irtext_tokens.specs.Tokens.{id_at, id_with, word_at}
+use Rattle.irtext_tokens.proofs.SetBack.{set_within}
+use Rattle.irtext_tokens.proofs.Spelling.{begins_the, takes_next, takes_none_is}
+use Rattle.irtext_tokens.proofs.Steps.{Lens}
 use Rattle.irtext_grammar.specs.Contexts.Formats.{op_id}
-use Rattle.irtext_outcomes.specs.Readers.Parts.{behind, is_led}
-use Rattle.irtext_outcomes.specs.Readers.Operations.{registered_behind, Registers, RefusesAt}
+use Rattle.irtext_parse_spec.specs.Readers.Parts.{behind, is_led}
+use Rattle.irtext_parse_spec.specs.Readers.Operations.{registered_behind, Registers, RefusesAt}
 use Rattle.std.specs.Char.{is_whitespace}
-use Rattle.irtext_read.specs.Tokens.{space_at}
+use Rattle.irtext_tokens.specs.Tokens.{space_at}
 use Rattle.irtext_grammar.specs.Grammar.Tree.{Name}
-use Rattle.irtext_nesting.specs.Heads.{lead_at, led_by, led_at}
+use Rattle.irtext_parse_spec.specs.Heads.{lead_at, led_by, led_at}
 use Rattle.irtext_parse_pieces.specs.declared.names.ReadName.{ReadName}
 use Rattle.irtext_parse_pieces.specs.Named.{whole, MayMean, MustMean, MustNames}
 use Rattle.irtext_parse_pieces.specs.Results.{results_if_at}
@@ -61,12 +61,12 @@ module _ {S : Type 0} (l : Lens S) where
       }
 
   -- behind them the stream stands in the same text
-  pub dotted_stands : {old mid new : S} → Dotted old mid → new ≡ mid → Stands l.view l.at (l.view old).failed old new
+  pub dotted_stands : {old mid new : S} → Dotted old mid → new ≡ mid → SameStream l.view l.at (l.view old).failed old new
   dotted_stands {old = old} {mid = mid} d e =
-      subst (λ s. Stands l.view l.at (l.view old).failed old s) (sym e) (takes_stands l.view l.at l.view_at l.at_at old mid (front in_word (l.view old).rest ++ (46 ∷ [])) (l.view mid).rest d.takes)
+      subst (λ s. SameStream l.view l.at (l.view old).failed old s) (sym e) (takes_stands l.view l.at l.view_at l.at_at old mid (front in_word (l.view old).rest ++ (46 ∷ [])) (l.view mid).rest d.takes)
 
   -- and behind one word more
-  pub word_stands : {old mid new : S} → Dotted old mid → Takes l.view l.at (front in_word (l.view mid).rest) (after in_word (l.view mid).rest) mid new → Stands l.view l.at (l.view old).failed old new
+  pub word_stands : {old mid new : S} → Dotted old mid → Takes l.view l.at (front in_word (l.view mid).rest) (after in_word (l.view mid).rest) mid new → SameStream l.view l.at (l.view old).failed old new
   word_stands {old = old} {mid = mid} {new = new} d t =
       let first = front in_word (l.view old).rest ++ (46 ∷ []) in
       let name = (l.view mid).rest in

@@ -7,11 +7,11 @@ use Rattle.irtext_base.specs.Stream.{advanced}
 use Rattle.irtext_base.specs.Answers.{Outcome, Read, Missing, Bad, Takes, Starves, StarvesHere, Refuses, mapped, followed, unless_failed}
 use Rattle.irtext_base.specs.declared.parsable.fault.ParseFault.{ParseFault}
 use Rattle.irtext_base.proofs.Compose.{refuses_first_demanded}
-use Rattle.irtext_read.specs.ListOutcomes.{item_after, items_after, or_empty, separated_at}
-use Rattle.irtext_read.specs.MustRead.{MayRead, MustRead}
-use Rattle.irtext_read.specs.Tokens.{space_at}
-use Rattle.irtext_read.proofs.ListOutcomes.{Found, found_first, found_all, goes_on, falls_behind, behind_separator, behind_space, list_begun, list_empty, separated_stands}
-use Rattle.irtext_read.proofs.Steps.{Lens, Passed, first, more, took, spaced, refuses, starved, last_spaced, begins_with, begins_refused, begun_by, fine_there, never_missing}
+use Rattle.irtext_tokens.specs.ListOutcomes.{item_after, items_after, or_empty, separated_at}
+use Rattle.irtext_tokens.specs.MustRead.{MayRead, MustRead}
+use Rattle.irtext_tokens.specs.Tokens.{space_at}
+use Rattle.irtext_tokens.proofs.ListOutcomes.{Found, found_first, found_all, goes_on, falls_behind, behind_separator, behind_space, list_begun, list_empty, separated_stands}
+use Rattle.irtext_tokens.proofs.Steps.{Lens, Passed, first, more, took, spaced, refuses, starved, last_spaced, begins_with, begins_refused, begun_by, fine_there, never_missing}
 use Rattle.irtext_grammar.specs.Grammar.Tree.{Name}
 use Rattle.irtext_parse_pieces.specs.declared.names.ReadName.{ReadName}
 use Rattle.irtext_parse_pieces.specs.Arguments.{IsArgument, MustArguments, ArgumentsBehind}

@@ -3,18 +3,18 @@ use Rattle.std.proofs.Common.{◌≡◌, ℕ, Bool, true, false, Result, Ok, Err
 use Rattle.std.specs.Char.{is_whitespace}
 use Rattle.irtext_base.specs.Text.{Text, begins, front, after, begins_word, in_word}
 use Rattle.irtext_base.specs.Reading.{the}
-use Rattle.irtext_base.specs.Answers.{Outcome, Read, Missing, Bad, Takes, Gives, Commits, Stands, Starves, StarvesHere, Refuses, demanded, prefixed, mapped, followed, unless_failed}
+use Rattle.irtext_base.specs.Answers.{Outcome, Read, Missing, Bad, Takes, Gives, Commits, SameStream, Starves, StarvesHere, Refuses, demanded, prefixed, mapped, followed, unless_failed}
 use Rattle.irtext_base.specs.declared.parsable.fault.ParseFault.{ParseFault}
 use Rattle.irtext_base.specs.Faults.{Failed}
 use Rattle.irtext_base.proofs.Compose.{starves_after, stands_after, takes_stands, takes_none, seen_after, starves_behind}
-use Rattle.irtext_read.specs.ListOutcomes.{item_after, items_after, or_empty, separated_at}
-use Rattle.irtext_read.specs.MustRead.{MayRead}
-use Rattle.irtext_read.specs.Tokens.{space_at, word_at}
-use Rattle.irtext_read.proofs.ListOutcomes.{behind_space}
-use Rattle.irtext_read.proofs.Spelling.{begins_the}
-use Rattle.irtext_read.proofs.Steps.{Lens, Passed, begins_with, fine_there}
+use Rattle.irtext_tokens.specs.ListOutcomes.{item_after, items_after, or_empty, separated_at}
+use Rattle.irtext_tokens.specs.MustRead.{MayRead}
+use Rattle.irtext_tokens.specs.Tokens.{space_at, word_at}
+use Rattle.irtext_tokens.proofs.ListOutcomes.{behind_space}
+use Rattle.irtext_tokens.proofs.Spelling.{begins_the}
+use Rattle.irtext_tokens.proofs.Steps.{Lens, Passed, begins_with, fine_there}
 use Rattle.irtext_grammar.specs.Grammar.Tree.{Name}
-use Rattle.irtext_nesting.specs.Heads.{name_at, results_at, named}
+use Rattle.irtext_parse_spec.specs.Heads.{name_at, results_at, named}
 use Rattle.irtext_parse_pieces.specs.declared.names.ReadName.{ReadName}
 use Rattle.irtext_parse_pieces.specs.Named.{whole, StandsFor, MayName, MustNames}
 use Rattle.irtext_parse_pieces.specs.Results.{is_read, results_if_at, Looks, LooksBehind}
@@ -64,8 +64,8 @@ module _ {S : Type 0} (l : Lens S) where
   passed_unread {outcome = outcome} {next = next} {old = old} {mid = mid} p e = sym (read_demanded (outcome (l.view old).rest)) ∙ (ap is_read p.so_far ∙ (read_prefixed p.taken (next (l.view mid).rest) ∙ e))
 
   -- the stream stands in its text
-  pub passed_stands : {V : Type 0} {outcome next : Text → Outcome V} {old mid : S} → Passed l outcome next old mid → Stands l.view l.at false old mid
-  passed_stands {old = old} {mid = mid} p = subst (λ b. Stands l.view l.at b old mid) p.fine (takes_stands l.view l.at l.view_at l.at_at old mid p.taken (l.view mid).rest p.takes)
+  pub passed_stands : {V : Type 0} {outcome next : Text → Outcome V} {old mid : S} → Passed l outcome next old mid → SameStream l.view l.at false old mid
+  passed_stands {old = old} {mid = mid} p = subst (λ b. SameStream l.view l.at b old mid) p.fine (takes_stands l.view l.at l.view_at l.at_at old mid p.taken (l.view mid).rest p.takes)
 
   -- a word was taken, and `.` follows
   pub dotted_there : (old mid : S) → begins begins_word (l.view old).rest ≡ true → Takes l.view l.at (front in_word (l.view old).rest) (after in_word (l.view old).rest) old mid → begins (the 46) (l.view mid).rest ≡ true → is_read (results_at (l.view old).rest) ≡ false

@@ -6,11 +6,11 @@ use Rattle.irtext_base.specs.Answers.{mapped}
 use Rattle.irtext_base.specs.declared.parsable.fault.ParseFault.{ParseFault}
 use Rattle.irtext_base.proofs.Compose.{takes_none, refuses_mapped_demanded}
 use Rattle.irtext_stream.specs.Places.{StandsBehind}
-use Rattle.irtext_read.specs.Demanded.{index_at}
-use Rattle.irtext_read.specs.MustRead.{MustRead}
-use Rattle.irtext_read.proofs.Steps.{Lens, seen_alone, mapped_mapped}
+use Rattle.irtext_tokens.specs.Demanded.{index_at}
+use Rattle.irtext_tokens.specs.MustRead.{MustRead}
+use Rattle.irtext_tokens.proofs.Steps.{Lens, seen_alone, mapped_mapped}
 use Rattle.irtext_grammar.specs.Grammar.Tree.{Mark}
-use Rattle.irtext_nesting.specs.Heads.{mark_if_at}
+use Rattle.irtext_parse_spec.specs.Heads.{mark_if_at}
 use Rattle.irtext_parse_pieces.specs.declared.marks.ReadMark.{ReadMark}
 use Rattle.irtext_parse_pieces.specs.Marks.{IsMarkIf}
 use Rattle.irtext_parse_pieces.specs.Named.{whole, MustMean}

@@ -8,8 +8,8 @@ use Rattle.irtext_base.specs.Faults.{Failed}
 use Rattle.irtext_base.proofs.Compose.{seen_after}
 use Rattle.irtext_scopes.specs.Names.{KeepsNames}
 use Rattle.irtext_scopes.specs.declared.tracker.NameTracker.{NameTracker}
-use Rattle.irtext_read.specs.MustRead.{MayRead, MustRead}
-use Rattle.irtext_read.proofs.Steps.{Lens, Passed, insisted, last, begins_with, begun_by}
+use Rattle.irtext_tokens.specs.MustRead.{MayRead, MustRead}
+use Rattle.irtext_tokens.proofs.Steps.{Lens, Passed, insisted, last, begins_with, begun_by}
 use Rattle.irtext_grammar.specs.Grammar.Tree.{Name}
 use Rattle.irtext_parse_pieces.specs.declared.names.ReadName.{ReadName}
 use Rattle.irtext_parse_pieces.specs.Named.{whole, Leaves, StandsFor, NamesRead, MayMean, MustMean, Misses}

@@ -9,12 +9,12 @@ use Rattle.irtext_base.specs.declared.parsable.fault.ParseFault.{ParseFault}
 use Rattle.irtext_base.proofs.Compose.{starves_behind, refuses_first_demanded, refuses_mapped_demanded}
 use Rattle.irtext_stream.specs.Places.{StandsBehind}
 use Rattle.irtext_stream.specs.declared.position.Place.{Place}
-use Rattle.irtext_read.specs.MustRead.{MayRead, MustRead}
-use Rattle.irtext_read.specs.Demanded.{symbol_at as mark_and_name}
-use Rattle.irtext_read.specs.Tokens.{word_at, identifier_at, text_at}
-use Rattle.irtext_read.proofs.Steps.{Lens, first, last_seen, refuses_seen, begins_refused, seen_alone, mapped_followed, mapped_mapped}
+use Rattle.irtext_tokens.specs.MustRead.{MayRead, MustRead}
+use Rattle.irtext_tokens.specs.Demanded.{symbol_at as mark_and_name}
+use Rattle.irtext_tokens.specs.Tokens.{word_at, identifier_at, text_at}
+use Rattle.irtext_tokens.proofs.Steps.{Lens, first, last_seen, refuses_seen, begins_refused, seen_alone, mapped_followed, mapped_mapped}
 use Rattle.irtext_grammar.specs.Grammar.Tree.{Name}
-use Rattle.irtext_nesting.specs.Heads.{name_of, name_at, symbol_at, used_at, target_at}
+use Rattle.irtext_parse_spec.specs.Heads.{name_of, name_at, symbol_at, used_at, target_at}
 use Rattle.irtext_parse_pieces.proofs.Meanings.{behind_may, may_whole, stands_on}
 use Rattle.irtext_parse_pieces.specs.declared.names.ReadName.{ReadName}
 use Rattle.irtext_parse_pieces.specs.declared.names.Symbol.{Symbol}

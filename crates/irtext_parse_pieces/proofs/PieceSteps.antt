@@ -10,19 +10,19 @@ use Rattle.irtext_base.specs.Locations.{AttrView}
 use Rattle.irtext_base.specs.declared.base.attributes.AttrObj.{AttrObj}
 use Rattle.irtext_base.specs.declared.parsable.fault.ParseFault.{ParseFault}
 use Rattle.irtext_base.proofs.Compose.{refuses_mapped_demanded}
-use Rattle.irtext_read.specs.ListOutcomes.{items_after, separated_at}
-use Rattle.irtext_read.specs.MustRead.{MayRead, MustRead}
-use Rattle.irtext_read.specs.Tokens.{text_at}
-use Rattle.irtext_read.proofs.Spelling.{whole_gives}
-use Rattle.irtext_read.proofs.Steps.{Lens, first, seen_alone, starved, mapped_is_followed}
+use Rattle.irtext_tokens.specs.ListOutcomes.{items_after, separated_at}
+use Rattle.irtext_tokens.specs.MustRead.{MayRead, MustRead}
+use Rattle.irtext_tokens.specs.Tokens.{text_at}
+use Rattle.irtext_tokens.proofs.Spelling.{whole_gives}
+use Rattle.irtext_tokens.proofs.Steps.{Lens, first, seen_alone, starved, mapped_is_followed}
 use Rattle.irtext_stream.specs.Stream.{Comes}
 use Rattle.irtext_stream.specs.Text.{BeginsOtherwise}
 use Rattle.irtext_grammar.specs.Contexts.Held.{attribute_of}
 use Rattle.irtext_grammar.specs.Grammar.Tree as tree
 use Rattle.irtext_grammar.specs.Grammar.Tree.{Piece}
-use Rattle.irtext_outcomes.specs.Readers.Directives.{attribute_at}
-use Rattle.irtext_outcomes.specs.Readers.Marker.{marker, starts_with}
-use Rattle.irtext_nesting.specs.Heads.{outlined_or_at}
+use Rattle.irtext_parse_spec.specs.Readers.Directives.{attribute_at}
+use Rattle.irtext_parse_spec.specs.Readers.Marker.{marker, starts_with}
+use Rattle.irtext_parse_spec.specs.Heads.{outlined_or_at}
 use Rattle.irtext_parse_pieces.specs.Pieces.{MustTypes, TypesBehind, seen_attribute}
 use Rattle.irtext_parse_pieces.specs.Named.{Each, MayMean, MustMean}
 use Rattle.irtext_parse_pieces.proofs.Listings.{list_some}

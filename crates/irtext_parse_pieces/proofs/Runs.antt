@@ -11,8 +11,8 @@ use Rattle.irtext_base.proofs.Along.{front_after}
 use Rattle.irtext_stream.specs.Classes.{behind_space}
 use Rattle.irtext_stream.specs.Stream.{Comes}
 use Rattle.irtext_scopes.specs.Names.{KeepsNames}
-use Rattle.irtext_read.proofs.Steps.{Lens, fine_there}
-use Rattle.irtext_nesting.specs.Heads.{Step, flat}
+use Rattle.irtext_tokens.proofs.Steps.{Lens, fine_there}
+use Rattle.irtext_parse_spec.specs.Heads.{Step, flat}
 use Rattle.irtext_parse_pieces.specs.declared.pieces.ReadPiece.{ReadPiece}
 use Rattle.irtext_parse_pieces.specs.declared.pieces.ReadPiece.TheVariants as read
 use Rattle.irtext_parse_pieces.specs.Found.{only_words}

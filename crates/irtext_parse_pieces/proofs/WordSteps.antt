@@ -10,8 +10,8 @@ use Rattle.irtext_base.specs.Text.{Text, begins, front, after, in_word, is_ident
 use Rattle.irtext_base.proofs.Characters.{and_left, and_right, front_all, after_all, identifier_every}
 use Rattle.irtext_base.proofs.Compose.{takes_none, takes_more}
 use Rattle.irtext_stream.specs.Stream.{Comes}
-use Rattle.irtext_read.proofs.Steps.{Lens}
-use Rattle.irtext_read.proofs.Words.{encodes-front_word}
+use Rattle.irtext_tokens.proofs.Steps.{Lens}
+use Rattle.irtext_tokens.proofs.Words.{encodes-front_word}
 use Rattle.irtext_parse_pieces.specs.Entries.{TakesWord}
 
 -- the longest front continues what passes

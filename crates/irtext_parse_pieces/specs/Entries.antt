@@ -9,11 +9,11 @@ use Rattle.irtext_base.specs.Answers.{Outcome, Takes}
 use Rattle.irtext_base.specs.Locations.{AttrView}
 use Rattle.irtext_base.specs.declared.base.attributes.AttrObj.{AttrObj}
 use Rattle.irtext_base.specs.declared.parsable.fault.ParseFault.{ParseFault}
-use Rattle.irtext_read.specs.Infix.{Reader, nothing, either, ◌⇒◌}
-use Rattle.irtext_read.specs.ListOutcomes.{items_after}
+use Rattle.irtext_tokens.specs.Infix.{Reader, nothing, either, ◌⇒◌}
+use Rattle.irtext_tokens.specs.ListOutcomes.{items_after}
 use Rattle.irtext_grammar.specs.Contexts.Held.{attribute_of}
 use Rattle.irtext_grammar.specs.Grammar.Tree.{Name, Attribute}
-use Rattle.irtext_nesting.specs.Heads.{dictionary_at}
+use Rattle.irtext_parse_spec.specs.Heads.{dictionary_at}
 use Rattle.irtext_parse_pieces.specs.declared.entries.Key.{Key}
 use Rattle.irtext_parse_pieces.specs.Named.{whole, Leaves, Each, Optional, MustMean}
 

@@ -8,11 +8,11 @@ use Rattle.irtext_base.specs.Locations.{AttrView}
 use Rattle.irtext_base.specs.declared.parsable.fault.ParseFault.{ParseFault}
 use Rattle.irtext_stream.specs.Classes.{behind_space}
 use Rattle.irtext_stream.specs.Stream.{Comes}
-use Rattle.irtext_read.specs.Infix.{Reader}
+use Rattle.irtext_tokens.specs.Infix.{Reader}
 use Rattle.irtext_grammar.specs.Grammar.Tree as tree
 use Rattle.irtext_grammar.specs.Grammar.Tree.{Piece, Part}
-use Rattle.irtext_nesting.specs.Heads.{Step, flat, front_steps}
-use Rattle.irtext_nesting.specs.Resume.{front_at}
+use Rattle.irtext_parse_spec.specs.Heads.{Step, flat, front_steps}
+use Rattle.irtext_parse_spec.specs.Resume.{front_at}
 use Rattle.irtext_parse_pieces.specs.declared.pieces.ReadPiece.{ReadPiece}
 use Rattle.irtext_parse_pieces.specs.declared.pieces.ReadPiece.TheVariants as read
 use Rattle.irtext_parse_pieces.specs.Found.{only_words}

@@ -6,7 +6,7 @@ use Rattle.irtext_base.specs.Answers.{Outcome}
 use Rattle.irtext_base.specs.Locations.{AttrView}
 use Rattle.irtext_base.specs.declared.parsable.fault.ParseFault.{ParseFault}
 use Rattle.irtext_grammar.specs.Grammar.Tree.{Head}
-use Rattle.irtext_nesting.specs.Heads.{head_at}
+use Rattle.irtext_parse_spec.specs.Heads.{head_at}
 use Rattle.irtext_parse_pieces.specs.declared.headers.BlockHead.{BlockHead}
 use Rattle.irtext_parse_pieces.specs.Arguments.{IsArgument}
 use Rattle.irtext_parse_pieces.specs.Entries.{AreEntries}

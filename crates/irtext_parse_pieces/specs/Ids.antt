@@ -11,12 +11,12 @@ use Rattle.irtext_base.specs.declared.parsable.fault.ParseFault.{ParseFault}
 use Rattle.irtext_stream.specs.declared.position.Place.{Place}
 use Rattle.irtext_context.specs.DialectTable.{registered}
 use Rattle.irtext_context.specs.Dialects.{Table, known_of}
-use Rattle.irtext_formats.specs.Directives.{format_of}
+use Rattle.irtext_format_check.specs.Directives.{format_of}
 use Rattle.irtext_context.specs.declared.dialect.OpInfo.{OpInfo}
-use Rattle.irtext_read.specs.Tokens.{id_at}
+use Rattle.irtext_tokens.specs.Tokens.{id_at}
 use Rattle.irtext_grammar.specs.Grammar.Tree.{Name}
-use Rattle.irtext_outcomes.specs.Readers.Parts.{behind, is_led}
-use Rattle.irtext_outcomes.specs.Readers.Operations.{registered_behind}
+use Rattle.irtext_parse_spec.specs.Readers.Parts.{behind, is_led}
+use Rattle.irtext_parse_spec.specs.Readers.Operations.{registered_behind}
 use Rattle.irtext_parse_pieces.specs.declared.names.ReadName.{ReadName}
 use Rattle.irtext_parse_pieces.specs.Named.{StandsFor, Each}
 

@@ -2,9 +2,9 @@
 use Rattle.std.specs.Prelude.{ℕ, Bool}
 use Rattle.irtext_base.specs.Text.{begins_word}
 use Rattle.irtext_base.specs.Reading.{the}
-use Rattle.irtext_read.specs.Infix.{Reader}
+use Rattle.irtext_tokens.specs.Infix.{Reader}
 use Rattle.irtext_grammar.specs.Grammar.Tree.{Name}
-use Rattle.irtext_nesting.specs.Heads.{used_at, target_at}
+use Rattle.irtext_parse_spec.specs.Heads.{used_at, target_at}
 use Rattle.irtext_parse_pieces.specs.declared.lists.NameKind.{NameKind}
 use Rattle.irtext_parse_pieces.specs.declared.lists.NameKind.TheVariants as kind
 

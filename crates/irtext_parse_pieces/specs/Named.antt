@@ -8,8 +8,8 @@ use Rattle.irtext_stream.specs.Places.{StandsBehind}
 use Rattle.irtext_stream.specs.declared.position.Place.{Place}
 use Rattle.irtext_scopes.specs.Names.{KeepsNames}
 use Rattle.irtext_scopes.specs.declared.tracker.NameTracker.{NameTracker}
-use Rattle.irtext_read.specs.ListOutcomes.{items_after}
-use Rattle.irtext_read.specs.MustRead.{MayRead, MustRead}
+use Rattle.irtext_tokens.specs.ListOutcomes.{items_after}
+use Rattle.irtext_tokens.specs.MustRead.{MayRead, MustRead}
 use Rattle.irtext_grammar.specs.Grammar.Tree.{Name}
 use Rattle.irtext_parse_pieces.specs.declared.names.ReadName.{ReadName}
 use Rattle.irtext_parse_pieces.specs.declared.names.Symbol.{Symbol}

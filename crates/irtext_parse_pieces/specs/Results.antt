@@ -2,12 +2,12 @@
 use Rattle.std.specs.Prelude.{◌≡◌, ℕ, Bool, true, false, List, [], ◌∷◌, length, Option, Some, None, Result, Ok, Err}
 use Rattle.irtext_base.specs.Text.{Text}
 use Rattle.irtext_base.specs.Stream.{StreamView}
-use Rattle.irtext_base.specs.Answers.{Outcome, Read, Missing, Bad, Stands, Starves}
+use Rattle.irtext_base.specs.Answers.{Outcome, Read, Missing, Bad, SameStream, Starves}
 use Rattle.irtext_base.specs.declared.parsable.fault.ParseFault.{ParseFault}
-use Rattle.irtext_read.specs.ListOutcomes.{items_after}
-use Rattle.irtext_read.specs.Infix.{Reader}
+use Rattle.irtext_tokens.specs.ListOutcomes.{items_after}
+use Rattle.irtext_tokens.specs.Infix.{Reader}
 use Rattle.irtext_grammar.specs.Grammar.Tree.{Name}
-use Rattle.irtext_nesting.specs.Heads.{name_at, results_at, named}
+use Rattle.irtext_parse_spec.specs.Heads.{name_at, results_at, named}
 use Rattle.irtext_parse_pieces.specs.declared.names.ReadName.{ReadName}
 use Rattle.irtext_parse_pieces.specs.Named.{whole, StandsFor, MustNames}
 
@@ -25,7 +25,7 @@ module _ {S A : Type 0} (view : S → StreamView) (at : S → StreamView → S) 
   -- The names that come next were found; or there are none, and the position of the stream is unspecified; or an allocation failed.
   abbrev pub Looks : List Text → (Text → Outcome (List (Name ℕ))) → S → Result (Option (List ReadName)) (ParseFault A) → S → Type 0
   Looks names outcome old (Ok (Some found)) new = MustNames {A = A} view at names outcome old (Ok found) new
-  Looks names outcome old (Ok None) new = (is_read (outcome (view old).rest) ≡ false) × Stands view at false old new
+  Looks names outcome old (Ok None) new = (is_read (outcome (view old).rest) ≡ false) × SameStream view at false old new
   Looks names outcome old (Err fault) new = Starves view at old fault new
 
   -- the same after a first name

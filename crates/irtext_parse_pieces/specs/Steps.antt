@@ -1,8 +1,8 @@
 -- Between functions: the steps of the code in the form of the definitions.
 use Rattle.irtext_base.specs.Format as format
 use Rattle.irtext_base.specs.Faults.{characters}
-use Rattle.irtext_formats.specs.Directives.{directive_of}
-use Rattle.irtext_nesting.specs.Heads.{Step, flat, types, all, step_of}
+use Rattle.irtext_format_check.specs.Directives.{directive_of}
+use Rattle.irtext_parse_spec.specs.Heads.{Step, flat, types, all, step_of}
 use Rattle.irtext_parse_pieces.specs.declared.steps.FormatStep.{FormatStep}
 use Rattle.irtext_parse_pieces.specs.declared.steps.FormatStep.TheVariants as step
 

@@ -1,7 +1,7 @@
 //! Parsing of the arguments of a block.
-ghost use Rattle.irtext_read.specs.ListOutcomes.{separated_at};
-ghost use Rattle.irtext_read.specs.AttrTexts.{attr_at};
-ghost use Rattle.irtext_nesting.specs.Heads.{argument_at};
+ghost use Rattle.irtext_tokens.specs.ListOutcomes.{separated_at};
+ghost use Rattle.irtext_tokens.specs.AttrTexts.{attr_at};
+ghost use Rattle.irtext_parse_spec.specs.Heads.{argument_at};
 ghost use Rattle.irtext_parse_pieces.specs.Arguments.{IsArgument, MustArguments, ArgumentsBehind};
 ghost use Rattle.irtext_parse_pieces.specs.Named.{MayMean, NamesRead, whole};
 
@@ -10,11 +10,11 @@ use crate::names::{ReadName, name_parse};
 use irtext_base::parsable::{CharStream, ParseResult};
 use irtext_base::text::{AttrText, IrText};
 use irtext_few::Few;
-use irtext_read::irfmt::demanded::spaced_text_demanded;
-use irtext_read::irfmt::faults::{committed, next_is, out_of_memory};
-use irtext_read::irfmt::parsers::skip_white_space;
-use irtext_read::parsable::OwnStream;
 use irtext_scopes::tracker::NameTracker;
+use irtext_tokens::irfmt::demanded::spaced_text_demanded;
+use irtext_tokens::irfmt::faults::{committed, next_is, out_of_memory};
+use irtext_tokens::irfmt::parsers::skip_white_space;
+use irtext_tokens::parsable::OwnStream;
 use std::alloc::AllocError;
 
 /// Parses an argument of a block: a name, `:` and a type. If no name comes next, the error is uncommitted and the stream is unchanged;

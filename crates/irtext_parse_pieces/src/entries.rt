@@ -1,10 +1,10 @@
 //! Parsing of dictionaries: attributes under keys. Reserved and repeated keys are accepted here.
-ghost use Rattle.irtext_read.specs.AttrTexts.{attr_at};
-ghost use Rattle.irtext_read.specs.ListOutcomes.{separated_at};
-ghost use Rattle.irtext_read.specs.MustRead.{MustRead};
-ghost use Rattle.irtext_outcomes.specs.Readers.Directives.{attribute_at};
+ghost use Rattle.irtext_tokens.specs.AttrTexts.{attr_at};
+ghost use Rattle.irtext_tokens.specs.ListOutcomes.{separated_at};
+ghost use Rattle.irtext_tokens.specs.MustRead.{MustRead};
+ghost use Rattle.irtext_parse_spec.specs.Readers.Directives.{attribute_at};
 ghost use Rattle.irtext_grammar.specs.Contexts.Held.{attribute_of};
-ghost use Rattle.irtext_nesting.specs.Heads.{name_at, pair_at, dictionary_at};
+ghost use Rattle.irtext_parse_spec.specs.Heads.{name_at, pair_at, dictionary_at};
 ghost use Rattle.irtext_parse_pieces.specs.Entries.{IsKey, IsEntry, TakesWord, MustEntries, EntriesBehind, MustDictionaryIf};
 ghost use Rattle.irtext_parse_pieces.specs.Named.{MayMean, whole};
 
@@ -14,10 +14,10 @@ use irtext_base::base::{AttrObj, Identifier};
 use irtext_base::parsable::{CharStream, ParseResult, Place};
 use irtext_base::result::{Cause, Expected};
 use irtext_base::text::AttrText;
-use irtext_read::irfmt::demanded::{spaced_text_demanded, text_demanded};
-use irtext_read::irfmt::faults::{begins, committed, next_is, out_of_memory, refuse, unexpected};
-use irtext_read::irfmt::parsers::{Class, attr_parse, skip_class, skip_white_space};
-use irtext_read::parsable::OwnStream;
+use irtext_tokens::irfmt::demanded::{spaced_text_demanded, text_demanded};
+use irtext_tokens::irfmt::faults::{begins, committed, next_is, out_of_memory, refuse, unexpected};
+use irtext_tokens::irfmt::parsers::{Class, attr_parse, skip_class, skip_white_space};
+use irtext_tokens::parsable::OwnStream;
 
 /// A parsed key, and the position where it begins.
 #[derive(Drop)]

@@ -2,10 +2,10 @@
 ghost use Rattle.std.specs.Prelude.{◌≡◌, ◌+◌, ◌<◌, ◌^◌, ◌∷◌, [], Bool, List, false, length, drop, slice_get, option_map, IfOk, IfSome, MatchBool, Ok};
 ghost use Rattle.irtext_base.specs.Faults.{characters};
 ghost use Rattle.irtext_base.specs.Text.{Text};
-ghost use Rattle.irtext_formats.specs.Directives.{format_of};
+ghost use Rattle.irtext_format_check.specs.Directives.{format_of};
 ghost use Rattle.irtext_stream.specs.Stream.{Comes};
-ghost use Rattle.irtext_read.specs.AttrTexts.{attr_at};
-ghost use Rattle.irtext_nesting.specs.Heads.{canonical_steps, steps_of, front_steps, piece_at};
+ghost use Rattle.irtext_tokens.specs.AttrTexts.{attr_at};
+ghost use Rattle.irtext_parse_spec.specs.Heads.{canonical_steps, steps_of, front_steps, piece_at};
 ghost use Rattle.irtext_parse_pieces.specs.Fronts.{MustFront, MustFind, RanOne, Ran, RunsOn};
 ghost use Rattle.irtext_parse_pieces.specs.Named.{NamesRead};
 ghost use Rattle.irtext_parse_pieces.specs.Steps.{seen_step};
@@ -18,11 +18,11 @@ use irtext_base::format::OpFormat;
 use irtext_base::parsable::{CharStream, ParseResult};
 use irtext_base::result::Cause;
 use irtext_base::text::{AttrText, IrText};
-use irtext_read::irfmt::demanded::text_demanded;
-use irtext_read::irfmt::faults::{out_of_memory, refuse};
-use irtext_read::irfmt::parsers::skip_white_space;
-use irtext_read::parsable::OwnStream;
 use irtext_scopes::tracker::NameTracker;
+use irtext_tokens::irfmt::demanded::text_demanded;
+use irtext_tokens::irfmt::faults::{out_of_memory, refuse};
+use irtext_tokens::irfmt::parsers::skip_white_space;
+use irtext_tokens::parsable::OwnStream;
 use std::alloc::AllocError;
 
 /// Consumes a fixed text if the whole of it comes next, and returns whether it does. Otherwise, and on a stream that has failed, nothing

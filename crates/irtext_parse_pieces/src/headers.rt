@@ -1,5 +1,5 @@
 //! Parsing of the headers of blocks.
-ghost use Rattle.irtext_read.specs.AttrTexts.{attr_at};
+ghost use Rattle.irtext_tokens.specs.AttrTexts.{attr_at};
 ghost use Rattle.irtext_parse_pieces.specs.Headers.{MustHead};
 ghost use Rattle.irtext_parse_pieces.specs.Named.{NamesRead};
 
@@ -11,10 +11,10 @@ use crate::names::{ReadName, label_demanded};
 use irtext_base::parsable::{CharStream, ParseResult};
 use irtext_base::text::{AttrText, IrText};
 use irtext_few::Few;
-use irtext_read::irfmt::demanded::{spaced_text_demanded, text_demanded};
-use irtext_read::irfmt::parsers::skip_white_space;
-use irtext_read::parsable::OwnStream;
 use irtext_scopes::tracker::NameTracker;
+use irtext_tokens::irfmt::demanded::{spaced_text_demanded, text_demanded};
+use irtext_tokens::irfmt::parsers::skip_white_space;
+use irtext_tokens::parsable::OwnStream;
 
 /// A parsed header of a block: its label, its arguments, the entries of its dictionary if it has one, and its mark if it has one.
 #[derive(Drop)]

@@ -1,8 +1,8 @@
 //! The ids of registered operations, looked up by their texts, and what precedes them.
 ghost use Rattle.std.specs.Prelude.{◌≡◌, List, cond, IfOk, IfErr, OnOk, IfSome, IfNone};
-ghost use Rattle.irtext_base.specs.Answers.{Stands, StarvesHere, DemandsOf};
-ghost use Rattle.irtext_nesting.specs.Heads.{lead_at, led_at};
-ghost use Rattle.irtext_outcomes.specs.Readers.Operations.{Registers};
+ghost use Rattle.irtext_base.specs.Answers.{SameStream, StarvesHere, DemandsOf};
+ghost use Rattle.irtext_parse_spec.specs.Heads.{lead_at, led_at};
+ghost use Rattle.irtext_parse_spec.specs.Readers.Operations.{Registers};
 ghost use Rattle.irtext_parse_pieces.specs.Ids.{TakesId, IsKnown, IsLed, id_in, AnswersLed};
 ghost use Rattle.irtext_parse_pieces.specs.Named.{MayMean, MustNames, NamesRead, whole};
 
@@ -15,9 +15,9 @@ use irtext_base::text::{AttrText, IrText};
 use irtext_context::base::Context;
 use irtext_context::dialect::OpInfo;
 use irtext_few::Few;
-use irtext_read::irfmt::faults::{committed, next_is, out_of_memory, refuse, refuse_at};
-use irtext_read::irfmt::parsers::{id_parse, skip_identifier, skip_white_space};
 use irtext_scopes::tracker::NameTracker;
+use irtext_tokens::irfmt::faults::{committed, next_is, out_of_memory, refuse, refuse_at};
+use irtext_tokens::irfmt::parsers::{id_parse, skip_identifier, skip_white_space};
 use std::alloc::AllocError;
 use std::convert::AsStr;
 
@@ -29,7 +29,7 @@ fn look_up<'c, S: CharStream, T: IrText<A>, A: AttrText<A>>(
 ) -> Option<(&'c OpId, &'c OpInfo)>
     ensures read { IfSome result (λ op. TakesId S.view S.at stream.old op.0.now stream.new) }
     ensures known { IfSome result (λ op. IsKnown ctx.now.dialects op.0.now op.1.now) }
-    ensures stands { Stands S.view S.at (S.view stream.old).failed stream.old stream.new }
+    ensures stands { SameStream S.view S.at (S.view stream.old).failed stream.old stream.new }
 {
     let place = stream.position();
     if !skip_identifier(stream) {

@@ -1,16 +1,16 @@
 //! Lists of names, separated by `,`. Up to two names are stored without an allocation.
 ghost use Rattle.std.specs.Prelude.{◌≡◌, ◌++◌, ◌∷◌, [], ◌&&◌, not, IfOk};
 ghost use Rattle.irtext_base.specs.Text.{begins};
-ghost use Rattle.irtext_read.specs.ListOutcomes.{separated_at};
+ghost use Rattle.irtext_tokens.specs.ListOutcomes.{separated_at};
 ghost use Rattle.irtext_parse_pieces.specs.Named.{MayName, MustNames, NamesBehind, NamesRead};
 ghost use Rattle.irtext_parse_pieces.specs.Kinds.{beginning, named_at};
 
 use crate::names::{ReadName, target_parse, used_parse};
 use irtext_base::parsable::{CharStream, ParseResult};
 use irtext_few::{Few, Items};
-use irtext_read::irfmt::faults::{begins, committed, next_is, out_of_memory};
-use irtext_read::irfmt::parsers::{Class, skip_white_space};
 use irtext_scopes::tracker::NameTracker;
+use irtext_tokens::irfmt::faults::{begins, committed, next_is, out_of_memory};
+use irtext_tokens::irfmt::parsers::{Class, skip_white_space};
 use std::alloc::{AllocError, Global};
 
 /// What a name refers to.

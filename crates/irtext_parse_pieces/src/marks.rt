@@ -1,12 +1,12 @@
 //! Parsing of the marks of operations and of blocks.
-ghost use Rattle.irtext_nesting.specs.Heads.{mark_if_at};
+ghost use Rattle.irtext_parse_spec.specs.Heads.{mark_if_at};
 ghost use Rattle.irtext_parse_pieces.specs.Marks.{IsMarkIf};
 ghost use Rattle.irtext_parse_pieces.specs.Named.{MustMean, whole};
 
 use irtext_base::parsable::{CharStream, ParseResult, Place};
 use irtext_base::result::Cause;
-use irtext_read::irfmt::demanded::index_demanded;
-use irtext_read::irfmt::faults::{next_is, refuse};
+use irtext_tokens::irfmt::demanded::index_demanded;
+use irtext_tokens::irfmt::faults::{next_is, refuse};
 
 /// A parsed mark: its index, and the position of its `!`.
 #[derive(Clone, Copy)]

@@ -2,17 +2,19 @@
 ghost use Rattle.std.specs.Prelude.{◌≡◌, List, false, IsErrAnd};
 ghost use Rattle.irtext_base.specs.Answers.{StarvesHere};
 ghost use Rattle.irtext_base.specs.Text.{Text, begins, begins_word};
-ghost use Rattle.irtext_nesting.specs.Heads.{name_at, label_at, symbol_at, used_at, target_at};
+ghost use Rattle.irtext_parse_spec.specs.Heads.{name_at, label_at, symbol_at, used_at, target_at};
 ghost use Rattle.irtext_parse_pieces.specs.Named.{whole, IsSymbol, MustMean, MayName, MustName, NamesRead, Misses};
 
 use irtext_base::base::Identifier;
 use irtext_base::parsable::{CharStream, ParseFault, ParseResult, Place};
 use irtext_base::result::{Cause, Expected};
-use irtext_read::irfmt::demanded;
-use irtext_read::irfmt::demanded::text_demanded;
-use irtext_read::irfmt::faults::{begins, committed, out_of_memory, refuse, refuse_at, unexpected};
-use irtext_read::irfmt::parsers::{Class, identifier_parse, skip_class, text_parse};
 use irtext_scopes::tracker::NameTracker;
+use irtext_tokens::irfmt::demanded;
+use irtext_tokens::irfmt::demanded::text_demanded;
+use irtext_tokens::irfmt::faults::{
+    begins, committed, out_of_memory, refuse, refuse_at, unexpected,
+};
+use irtext_tokens::irfmt::parsers::{Class, identifier_parse, skip_class, text_parse};
 
 /// A parsed name: its number among the names of the parse, and its position.
 #[derive(Clone, Copy)]

@@ -4,14 +4,14 @@ ghost use Rattle.irtext_base.specs.Answers.{Missing};
 ghost use Rattle.irtext_base.specs.Faults.{characters, Unexpected, AnOperation};
 ghost use Rattle.irtext_base.specs.Stream.{first_of};
 ghost use Rattle.irtext_base.specs.Text.{Text};
-ghost use Rattle.irtext_read.specs.AttrTexts.{attr_at};
-ghost use Rattle.irtext_read.specs.Infix.{◌⇒◌};
-ghost use Rattle.irtext_read.specs.ListOutcomes.{separated_at};
-ghost use Rattle.irtext_read.specs.MustRead.{MustRead};
-ghost use Rattle.irtext_read.specs.Tokens.{text_at};
+ghost use Rattle.irtext_tokens.specs.AttrTexts.{attr_at};
+ghost use Rattle.irtext_tokens.specs.Infix.{◌⇒◌};
+ghost use Rattle.irtext_tokens.specs.ListOutcomes.{separated_at};
+ghost use Rattle.irtext_tokens.specs.MustRead.{MustRead};
+ghost use Rattle.irtext_tokens.specs.Tokens.{text_at};
 ghost use Rattle.irtext_grammar.specs.Grammar.Tree.{word, operand, operands, successor, successors, attribute, dictionary, result_type, header, types};
-ghost use Rattle.irtext_formats.specs.Directives.{directive_of};
-ghost use Rattle.irtext_nesting.specs.Heads.{outlined_or_at, used_at, target_at, symbol_at, dictionary_at, directive_at, piece_at};
+ghost use Rattle.irtext_format_check.specs.Directives.{directive_of};
+ghost use Rattle.irtext_parse_spec.specs.Heads.{outlined_or_at, used_at, target_at, symbol_at, dictionary_at, directive_at, piece_at};
 ghost use Rattle.irtext_parse_pieces.specs.Pieces.{seen_attribute, Accepts, MustPiece};
 ghost use Rattle.irtext_parse_pieces.specs.Named.{NamesRead};
 ghost use Rattle.irtext_parse_pieces.specs.Steps.{seen_step};
@@ -28,10 +28,10 @@ use irtext_base::parsable::{CharStream, ParseResult};
 use irtext_base::result::{Cause, Expected};
 use irtext_base::text::{AttrText, IrText};
 use irtext_few::Few;
-use irtext_read::irfmt::demanded::text_demanded;
-use irtext_read::irfmt::faults::{commit_unexpected, committed, out_of_memory, refuse};
-use irtext_read::parsable::OwnStream;
 use irtext_scopes::tracker::NameTracker;
+use irtext_tokens::irfmt::demanded::text_demanded;
+use irtext_tokens::irfmt::faults::{commit_unexpected, committed, out_of_memory, refuse};
+use irtext_tokens::parsable::OwnStream;
 
 /// What one directive of a format parsed, or a list of types of the canonical form.
 #[derive(Drop)]

@@ -1,7 +1,7 @@
 //! Parsing the names of an operation's results, which precede its id.
 ghost use Rattle.std.specs.Prelude.{◌≡◌, true, false};
-ghost use Rattle.irtext_read.specs.ListOutcomes.{separated_at};
-ghost use Rattle.irtext_nesting.specs.Heads.{name_at, results_at};
+ghost use Rattle.irtext_tokens.specs.ListOutcomes.{separated_at};
+ghost use Rattle.irtext_parse_spec.specs.Heads.{name_at, results_at};
 ghost use Rattle.irtext_parse_pieces.specs.Named.{MustNames, NamesRead};
 ghost use Rattle.irtext_parse_pieces.specs.Results.{is_read, results_if_at, Looks, LooksBehind};
 
@@ -10,9 +10,9 @@ use crate::names::{ReadName, name_parse};
 use irtext_base::parsable::{CharStream, ParseResult};
 use irtext_base::result::Cause;
 use irtext_few::Few;
-use irtext_read::irfmt::faults::{next_is, out_of_memory, refuse};
-use irtext_read::irfmt::parsers::{skip_identifier, skip_white_space};
 use irtext_scopes::tracker::NameTracker;
+use irtext_tokens::irfmt::faults::{next_is, out_of_memory, refuse};
+use irtext_tokens::irfmt::parsers::{skip_identifier, skip_white_space};
 use std::alloc::AllocError;
 
 /// Whether a word followed by `.` comes next, with which an operation's id begins. Nothing is consumed.

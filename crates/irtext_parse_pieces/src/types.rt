@@ -1,6 +1,6 @@
 //! Lists of types, separated by `,`. Up to two types are stored without an allocation.
 ghost use Rattle.std.specs.Prelude.{◌≡◌};
-ghost use Rattle.irtext_read.specs.ListOutcomes.{separated_at};
+ghost use Rattle.irtext_tokens.specs.ListOutcomes.{separated_at};
 ghost use Rattle.irtext_parse_pieces.specs.Pieces.{MustTypes, TypesBehind};
 ghost use Rattle.irtext_parse_pieces.specs.Named.{MayMean};
 
@@ -8,9 +8,9 @@ use crate::lists::with_item;
 use irtext_base::parsable::{CharStream, ParseResult};
 use irtext_base::text::IrText;
 use irtext_few::Few;
-use irtext_read::irfmt::faults::{committed, next_is, out_of_memory};
-use irtext_read::irfmt::parsers::skip_white_space;
-use irtext_read::parsable::OwnStream;
+use irtext_tokens::irfmt::faults::{committed, next_is, out_of_memory};
+use irtext_tokens::irfmt::parsers::skip_white_space;
+use irtext_tokens::parsable::OwnStream;
 use std::alloc::AllocError;
 
 /// Parses a type with the type's own parser, and returns its errors unchanged.

@@ -15,25 +15,25 @@ use Rattle.irtext_base.specs.declared.parsable.fault.ParseFault.{ParseFault}
 use Rattle.irtext_base.proofs.Compose.{starves_here}
 use Rattle.irtext_base.proofs.Sincere.{Of}
 use Rattle.irtext_stream.specs.Places.{AtOffset}
-use Rattle.irtext_read.specs.AttrTexts.{attr_at}
-use Rattle.irtext_read.specs.Infix.{◌▷◌}
-use Rattle.irtext_read.specs.Tokens.{word, spelled_at, identifier_at}
-use Rattle.irtext_read.proofs.Honest.{never_failed}
-use Rattle.irtext_state.specs.States.{same_index}
+use Rattle.irtext_tokens.specs.AttrTexts.{attr_at}
+use Rattle.irtext_tokens.specs.Infix.{◌▷◌}
+use Rattle.irtext_tokens.specs.Tokens.{word, spelled_at, identifier_at}
+use Rattle.irtext_tokens.proofs.Honest.{never_failed}
+use Rattle.irtext_parse_state.specs.States.{same_index}
 use Rattle.irtext_grammar.specs.Contexts.Held.{whole, attribute_of}
 use Rattle.irtext_grammar.specs.Grammar.Tree.{Name, Mark, Attribute, Head}
 use Rattle.irtext_grammar.specs.Names.Acts.{key_act, block_may_hold, argument_definitions, mark_acts, entries_if, header_acts, word_of}
 use Rattle.irtext_grammar.specs.Names.Scopes.{is_among, failures}
 use Rattle.irtext_grammar.specs.Names.Script as script
 use Rattle.irtext_grammar.specs.Names.Script.{Act, Cause, Failure, define_label, block_at, done, does_all}
-use Rattle.irtext_outcomes.specs.Promises.Root.{UnlessMemory}
-use Rattle.irtext_outcomes.specs.Promises.Section.{indices_of}
-use Rattle.irtext_outcomes.specs.Readers.Refusals.{Refusal}
-use Rattle.irtext_outcomes.specs.Readers.Streams.{itself, replaced}
-use Rattle.irtext_outcomes.proofs.Readers.EntryIndices.{refusal}
-use Rattle.irtext_outcomes.proofs.Readers.FirstMissing.{FirstMissing}
-use Rattle.irtext_outcomes.proofs.Readers.PlainStream.{alone}
-use Rattle.irtext_nesting.specs.Heads.{name_of, label_at, head_at}
+use Rattle.irtext_parse_spec.specs.Promises.Root.{UnlessMemory}
+use Rattle.irtext_parse_spec.specs.Promises.Section.{indices_of}
+use Rattle.irtext_parse_spec.specs.Readers.Refusals.{Refusal}
+use Rattle.irtext_parse_spec.specs.Readers.Streams.{itself, replaced}
+use Rattle.irtext_parse_spec.proofs.Readers.EntryIndices.{refusal}
+use Rattle.irtext_parse_spec.proofs.Readers.FirstMissing.{FirstMissing}
+use Rattle.irtext_parse_spec.proofs.Readers.PlainStream.{alone}
+use Rattle.irtext_parse_spec.specs.Heads.{name_of, label_at, head_at}
 use Rattle.irtext_parse_pieces.specs.declared.entries.Key.{Key}
 use Rattle.irtext_parse_pieces.specs.declared.headers.BlockHead.{BlockHead}
 use Rattle.irtext_parse_pieces.specs.declared.marks.ReadMark.{ReadMark}

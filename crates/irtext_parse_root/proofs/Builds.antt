@@ -16,15 +16,15 @@ use Rattle.irtext_grammar.specs.Grammar.Forest as forest
 use Rattle.irtext_grammar.specs.Grammar.Forest.{Blocks, no_regions, Operations}
 use Rattle.irtext_grammar.specs.Grammar.Tree as tree
 use Rattle.irtext_grammar.specs.Grammar.Tree.{Name, Mark, Piece, Part, Op, Head, Brace, shown}
-use Rattle.irtext_nesting.specs.Naming.{body_of, unmarked}
-use Rattle.irtext_nesting.specs.Building.{Unfinished, operation_so_far, region_so_far, but_its_mark, Building, building, whole_blocks}
-use Rattle.irtext_nesting.specs.Grows.{RegionCame, OperationGains, RegionGains, BlockGains, OperationCame, BlockCame, OwnBecame}
-use Rattle.irtext_nesting.specs.Stands.{OwnSoFar, own_of, OpenAt, operation_under, ended_under, region_under, HasOwn, HasUses, RegionsHold, BlocksHold, RegionIsOpen, AreOpenAt, IsThere, IsAsItWas, Spares}
-use Rattle.irtext_nesting.specs.Tracks as tracks
-use Rattle.irtext_nesting.specs.Tracks.{Made, noted, HoldsMade}
-use Rattle.irtext_nesting.proofs.Acts.{block_ended}
-use Rattle.irtext_nesting.proofs.Tracked.{uses_in_block, enters_operation, heads_first, heads_next, late_operation, closes_operation, marks_root, marks_in_block, block_ends, leaves_empty, leaves_with_block}
-use Rattle.irtext_nesting.proofs.Kept.{region_kept}
+use Rattle.irtext_parse_spec.specs.Naming.{body_of, unmarked}
+use Rattle.irtext_parse_spec.specs.Building.{Unfinished, operation_so_far, region_so_far, but_its_mark, Building, building, whole_blocks}
+use Rattle.irtext_parse_spec.specs.Grows.{RegionCame, OperationGains, RegionGains, BlockGains, OperationCame, BlockCame, OwnBecame}
+use Rattle.irtext_parse_spec.specs.Unchanged.{OwnSoFar, own_of, OpenAt, operation_under, ended_under, region_under, HasOwn, HasUses, RegionsHold, BlocksHold, RegionIsOpen, AreOpenAt, IsThere, IsAsItWas, ModifiesOnly}
+use Rattle.irtext_parse_spec.specs.Tracks as tracks
+use Rattle.irtext_parse_spec.specs.Tracks.{Made, noted, HoldsMade}
+use Rattle.irtext_parse_spec.proofs.Acts.{block_ended}
+use Rattle.irtext_parse_spec.proofs.Tracked.{uses_in_block, enters_operation, heads_first, heads_next, late_operation, closes_operation, marks_root, marks_in_block, block_ends, leaves_empty, leaves_with_block}
+use Rattle.irtext_parse_spec.proofs.Kept.{region_kept}
 use Rattle.irtext_parse_nested.specs.Ends.{noted_as}
 use Rattle.irtext_parse_root.specs.Built.{built, IsHeld, RegionTracks, HoldsRegion}
 use Rattle.irtext_parse_root.specs.Carried.{marks_in_blocks, marks_so_far, AreCarried}
@@ -47,7 +47,7 @@ module _ {T A : Type 0} (formats : Id → Option Format) (L : ℕ → Location A
 
   -- an operation begins in a block
   pub begins_in_block : (r : Ptr Region) (k : Ptr BasicBlock) (last : Option (Ptr BasicBlock)) (ats : List (OpenAt T A)) (p : Ptr Operation) (own : OwnSoFar T A) (place : ℕ) (id : Id) (parts : List (Part ℕ T A)) (ds : List (Did T A))
-      → last ≡ Some k → own.place ≡ place → own.id ≡ id → OperationCame old new L p own → BlockGains old new k p → Spares (TheOperation p ∷ TheBlock k ∷ []) old new
+      → last ≡ Some k → own.place ≡ place → own.id ≡ id → OperationCame old new L p own → BlockGains old new k p → ModifiesOnly (TheOperation p ∷ TheBlock k ∷ []) old new
       → IsHeld formats L base start old items marks (region_under r last ∷ ats) None ds
       → IsHeld formats L base start new ((place, TheOperation p) ∷ items) (marks ++ []) (operation_under p own ∷ region_under r last ∷ ats) None (did_use place id parts ∷ ds)
   begins_in_block r k last ats p own place id parts ds e at as_id came gains spares h = record {
@@ -60,13 +60,13 @@ module _ {T A : Type 0} (formats : Id → Option Format) (L : ℕ → Location A
   }
 
   -- a region begins
-  pub region_enters : (iso : Bool) (r : Ptr Region) (p : Ptr Operation) (own : OwnSoFar T A) (ats : List (OpenAt T A)) (ds : List (Did T A)) → RegionCame old new r → OperationGains old new p r → Spares (TheRegion r ∷ TheOperation p ∷ []) old new
+  pub region_enters : (iso : Bool) (r : Ptr Region) (p : Ptr Operation) (own : OwnSoFar T A) (ats : List (OpenAt T A)) (ds : List (Did T A)) → RegionCame old new r → OperationGains old new p r → ModifiesOnly (TheRegion r ∷ TheOperation p ∷ []) old new
       → IsHeld formats L base start old items marks (operation_under p own ∷ ats) None ds → IsHeld formats L base start new items (marks ++ []) (region_under r None ∷ operation_under p own ∷ ats) None (did_enter iso ∷ ds)
   region_enters iso r p own ats ds came gains spares h = record { whole = h.whole; holds = enters_operation L start old new items h.whole None formats iso p own ats r (built_of ds) h.holds came gains spares; carried = carried_still items (marks_so_far (built_of ds)) (marks_so_far ((building formats).enters iso (built_of ds))) marks (enters_carry formats (noted items L) old h.whole iso (built_of ds)) h.carried }
 
   -- a piece behind a region
   pub piece_comes : (place : ℕ) (id : Id) (piece : Piece ℕ T A) (p : Ptr Operation) (own next : OwnSoFar T A) (ats : List (OpenAt T A)) (ds : List (Did T A)) → next.place ≡ own.place → next.id ≡ own.id
-      → ((view : OperationView T A) → operation old p ≡ Some view → HasOwn L view own → HasUses old p own → OwnBecame old new L p next) → Spares (TheOperation p ∷ []) old new
+      → ((view : OperationView T A) → operation old p ≡ Some view → HasOwn L view own → HasUses old p own → OwnBecame old new L p next) → ModifiesOnly (TheOperation p ∷ []) old new
       → IsHeld formats L base start old items marks (operation_under p own ∷ ats) None ds → IsHeld formats L base start new items (marks ++ []) (operation_under p next ∷ ats) None (did_late place id piece ∷ ds)
   piece_comes place id piece p own next ats ds at as_id became spares h =
       let v = own_there L items old h.whole p own ats (built_of ds).unfinished h.holds.so_far.are_open in
@@ -75,7 +75,7 @@ module _ {T A : Type 0} (formats : Id → Option Format) (L : ℕ → Location A
   -- an operation ends, up to its mark
   closes : (place : ℕ) (names : List (Name ℕ)) (id : Id) (parts : List (Part ℕ T A)) (p : Ptr Operation) (own next : OwnSoFar T A) (ats : List (OpenAt T A)) (ds : List (Did T A)) → next.place ≡ own.place → next.id ≡ own.id
       → next.place ≡ place → next.id ≡ id → own_of (unmarked place names id (body_of (formats id) parts)) ≡ next
-      → ((view : OperationView T A) → operation old p ≡ Some view → HasOwn L view own → HasUses old p own → OwnBecame old new L p next) → Spares (TheOperation p ∷ []) old new
+      → ((view : OperationView T A) → operation old p ≡ Some view → HasOwn L view own → HasUses old p own → OwnBecame old new L p next) → ModifiesOnly (TheOperation p ∷ []) old new
       → (h : IsHeld formats L base start old items marks (operation_under p own ∷ ats) None ds) → HoldsMade L start new items h.whole (ended_under p ∷ ats) None ((building formats).closes place names id parts (built_of ds))
   closes place names id parts p own next ats ds at as_id here with_id is became spares h =
       let v = own_there L items old h.whole p own ats (built_of ds).unfinished h.holds.so_far.are_open in
@@ -87,7 +87,7 @@ module _ {T A : Type 0} (formats : Id → Option Format) (L : ℕ → Location A
 
   module _ (place : ℕ) (names : List (Name ℕ)) (id : Id) (parts : List (Part ℕ T A)) (mark : Option (Mark ℕ)) (p : Ptr Operation) (own next : OwnSoFar T A) (ds : List (Did T A)) (at : next.place ≡ own.place) (as_id : next.id ≡ own.id)
       (here : next.place ≡ place) (with_id : next.id ≡ id) (is : own_of (unmarked place names id (body_of (formats id) parts)) ≡ next)
-      (became : (view : OperationView T A) → operation old p ≡ Some view → HasOwn L view own → HasUses old p own → OwnBecame old new L p next) (spares : Spares (TheOperation p ∷ []) old new) where
+      (became : (view : OperationView T A) → operation old p ≡ Some view → HasOwn L view own → HasUses old p own → OwnBecame old new L p next) (spares : ModifiesOnly (TheOperation p ∷ []) old new) where
     -- an operation ends that stands outside of each region
     pub root_ends : IsHeld formats L base start old items marks (operation_under p own ∷ []) None ds → IsHeld formats L base start new items (marks ++ noted_as mark (item.Operation p)) [] (Some p) (did_mark mark ∷ did_close place names id parts ∷ ds)
     root_ends h =
@@ -124,7 +124,7 @@ module _ {T A : Type 0} (formats : Id → Option Format) (L : ℕ → Location A
 
   -- a block begins, the first of its region or behind another
   pub block_comes : (r : Ptr Region) (k : Ptr BasicBlock) (head : Head ℕ T A) (last : Option (Ptr BasicBlock)) (ats : List (OpenAt T A)) (ds : List (Did T A)) → BlockCame old new L k head → RegionGains old new r k
-      → Spares (TheBlock k ∷ TheRegion r ∷ []) old new
+      → ModifiesOnly (TheBlock k ∷ TheRegion r ∷ []) old new
       → IsHeld formats L base start old items marks (region_under r last ∷ ats) None ds → IsHeld formats L base start new ((head.label.place, TheBlock k) ∷ items) (marks ++ noted_as head.mark (item.Block k)) (region_under r (Some k) ∷ ats) None (did_head head ∷ ds)
   block_comes r k head None ats ds came gains spares h =
       record { whole = h.whole; holds = heads_first L start old new items h.whole None formats r ats k head (built_of ds) h.holds came gains spares; carried = head_carried r k head None ats ds h }

@@ -7,25 +7,25 @@ use Rattle.irtext_base.specs.declared.parsable.fault.ParseFault.{ParseFault}
 use Rattle.irtext_base.specs.declared.location.Source.{Source}
 use Rattle.irtext_context.specs.Context.{ContextView}
 use Rattle.irtext_context.specs.Dialects.{Table}
-use Rattle.irtext_read.specs.Infix.{Reader}
-use Rattle.irtext_read.proofs.Steps.{alone}
-use Rattle.irtext_state.specs.States.{marks_of}
-use Rattle.irtext_state.specs.declared.parsable.state.State as code
-use Rattle.irtext_state.specs.declared.parsable.state.StateStream.{StateStream}
+use Rattle.irtext_tokens.specs.Infix.{Reader}
+use Rattle.irtext_tokens.proofs.Steps.{alone}
+use Rattle.irtext_parse_state.specs.States.{marks_of}
+use Rattle.irtext_parse_state.specs.declared.parsable.state.State as code
+use Rattle.irtext_parse_state.specs.declared.parsable.state.StateStream.{StateStream}
 use Rattle.irtext_grammar.specs.Contexts.Formats.{format_of}
 use Rattle.irtext_grammar.specs.Contexts.Held.{whole}
 use Rattle.irtext_grammar.specs.Names.History.{Outcome, failed}
 use Rattle.irtext_grammar.specs.Names.Script.{Path}
-use Rattle.irtext_outcomes.specs.Promises.Root.{UnlessMemory}
-use Rattle.irtext_outcomes.specs.Promises.Section.{Moves}
-use Rattle.irtext_outcomes.proofs.Readers.Answered.{moves_none, moves_more}
-use Rattle.irtext_nesting.specs.Resume as theory
-use Rattle.irtext_nesting.specs.Resume.{EndsIn}
-use Rattle.irtext_nesting.proofs.Resume.Frames.{goes_trans, stuck_at}
+use Rattle.irtext_parse_spec.specs.Promises.Root.{UnlessMemory}
+use Rattle.irtext_parse_spec.specs.Promises.Section.{Moves}
+use Rattle.irtext_parse_spec.proofs.Readers.Answered.{moves_none, moves_more}
+use Rattle.irtext_parse_spec.specs.Resume as theory
+use Rattle.irtext_parse_spec.specs.Resume.{EndsIn}
+use Rattle.irtext_parse_spec.proofs.Resume.Frames.{goes_trans, stuck_at}
 use Rattle.irtext_parse_pieces.proofs.Meanings.{takes_whole}
 use Rattle.irtext_parse_nested.proofs.Marking.{gains_nothing}
 use Rattle.irtext_parse_nested.specs.Ends.{GainsMarks}
-use Rattle.irtext_parse_nested.specs.Items.{Names, Made, Pledge, StandsAs, Acts, ActsWith, ActFails, IsFailure, IsTextFault, Lasts, doing}
+use Rattle.irtext_parse_nested.specs.Items.{Names, Made, Pledge, StandsAs, Acts, ActsWith, ActFails, IsFailure, IsTextFault, KeepsLive, doing}
 use Rattle.irtext_parse_nested.specs.Located.{IsLocated}
 use Rattle.irtext_parse_root.specs.Built.{Built}
 use Rattle.irtext_parse_root.specs.Here.{Base}
@@ -91,7 +91,7 @@ pub gains_both : {X : Type 0} (a b c : List (ℕ × X)) → GainsMarks a b → G
 gains_both a b c h k = (h.0 ++ k.0, k.1 ∙ (ap (λ z. z ++ k.0) h.1 ∙ append_assoc a h.0 k.0))
 
 module _ {T A : Type 0} where
-  pub lasts_both : (a b c : ContextView T A) → Lasts a b → Lasts b c → Lasts a c
+  pub lasts_both : (a b c : ContextView T A) → KeepsLive a b → KeepsLive b c → KeepsLive a c
   lasts_both a b c h k = record {
     operations = λ p there. k.operations p (h.operations p there);
     results = λ p there. k.results p (h.operations p there) ∙ h.results p there;
@@ -102,7 +102,7 @@ module _ {T A : Type 0} where
     dialects = k.dialects ∙ h.dialects;
   }
 
-  pub lasts_still : (a : ContextView T A) → Lasts a a
+  pub lasts_still : (a : ContextView T A) → KeepsLive a a
   lasts_still a = record {
     operations = λ p there. there;
     results = λ p there. refl;

@@ -14,11 +14,11 @@ use Rattle.irtext_graph.specs.declared.arena.Ptr.{Ptr}
 use Rattle.irtext_graph.specs.declared.object.Operation.{Operation}
 use Rattle.irtext_graph.specs.declared.object.Object.{Object}
 use Rattle.irtext_graph.specs.Back.{AllOlder}
-use Rattle.irtext_graph.specs.Graph.{GraphView, children, parent, Stands}
+use Rattle.irtext_graph.specs.Graph.{GraphView, children, parent, IsLive}
 use Rattle.irtext_graph.specs.Nested as graphs
-use Rattle.irtext_read.specs.AttrTexts.{attr_at}
-use Rattle.irtext_state.specs.States.{marks_of}
-use Rattle.irtext_state.specs.declared.parsable.state.StateStream.{StateStream}
+use Rattle.irtext_tokens.specs.AttrTexts.{attr_at}
+use Rattle.irtext_parse_state.specs.States.{marks_of}
+use Rattle.irtext_parse_state.specs.declared.parsable.state.StateStream.{StateStream}
 use Rattle.irtext_grammar.specs.Contexts.Formats.{format_of, isolated, IsAccepted}
 use Rattle.irtext_grammar.specs.Contexts.Held.{whole}
 use Rattle.irtext_grammar.specs.Grammar.Reads as grammar
@@ -34,20 +34,20 @@ use Rattle.irtext_grammar.proofs.Grammar.WholeTree as trees
 use Rattle.irtext_grammar.proofs.Names.InScripts.{WholeOperations}
 use Rattle.irtext_grammar.proofs.Names.TreeClaims.{root_entryless}
 use Rattle.irtext_grammar.proofs.Names.TreeLists.{marks_in_root}
-use Rattle.irtext_outcomes.specs.Promises.Root.{location_of}
-use Rattle.irtext_outcomes.specs.Promises.Section.{indices_of}
-use Rattle.irtext_outcomes.proofs.Joins.Answers.{Splits}
-use Rattle.irtext_nesting.specs.Exact.{NeedsWord}
-use Rattle.irtext_nesting.specs.Naming.{naming}
-use Rattle.irtext_nesting.specs.Naming as paths
-use Rattle.irtext_nesting.specs.Reached.{Came}
-use Rattle.irtext_nesting.proofs.Knot.Whole as knot
-use Rattle.irtext_nesting.proofs.Naming.Places.{names_exist}
-use Rattle.irtext_nesting.proofs.Naming.Scripts.{read_runs}
-use Rattle.irtext_nesting.proofs.Naming.Shorter.{Shortens}
-use Rattle.irtext_nesting.specs.Building.{building, nothing_open, finished}
-use Rattle.irtext_nesting.proofs.Built.{tree_finished}
-use Rattle.irtext_nesting.proofs.Whole.{whole_read}
+use Rattle.irtext_parse_spec.specs.Promises.Root.{location_of}
+use Rattle.irtext_parse_spec.specs.Promises.Section.{indices_of}
+use Rattle.irtext_parse_spec.proofs.Joins.Answers.{Splits}
+use Rattle.irtext_parse_spec.specs.Exact.{NeedsWord}
+use Rattle.irtext_parse_spec.specs.Naming.{naming}
+use Rattle.irtext_parse_spec.specs.Naming as paths
+use Rattle.irtext_parse_spec.specs.Reached.{Advanced}
+use Rattle.irtext_parse_spec.proofs.Knot.Whole as knot
+use Rattle.irtext_parse_spec.proofs.Naming.Places.{names_exist}
+use Rattle.irtext_parse_spec.proofs.Naming.Scripts.{read_runs}
+use Rattle.irtext_parse_spec.proofs.Naming.Shorter.{Shortens}
+use Rattle.irtext_parse_spec.specs.Building.{building, nothing_open, finished}
+use Rattle.irtext_parse_spec.proofs.Built.{tree_finished}
+use Rattle.irtext_parse_spec.proofs.Whole.{whole_read}
 use Rattle.irtext_names.specs.Linked.{Known, StandsAt}
 use Rattle.irtext_names.specs.OfItems.{AreOf}
 use Rattle.irtext_names.proofs.Linked.Passes.{ran_through}
@@ -71,7 +71,7 @@ use Rattle.irtext_parse_root.proofs.Fresh.{fresh_sound}
 use Rattle.irtext_parse_root.proofs.Marks.{indices_carried}
 use Rattle.irtext_parse_root.proofs.NestedWhole.{at_end, leaves_tree}
 
-pub came_to : {X S : Type 0} (x y : X) (s t : S) (a b : Text) → Came x s a ≡ Came y t b → s ≡ t
+pub came_to : {X S : Type 0} (x y : X) (s t : S) (a b : Text) → Advanced x s a ≡ Advanced y t b → s ≡ t
 came_to x y s t a b e = cc
 
 accepts : (o : Option Format) (f : Format) → IfSome o Accepted → o ≡ Some f → Accepted f
@@ -156,7 +156,7 @@ module _ {T A U : Type 0} (types_at : Text → Outcome T) (types_written : T →
   marked = indices_carried r.made (marks_in r.tree) r.marks r.carried ∙ (marks_are (isolated dialects) r.tree ∙ sym (marks_in_root (isolated dialects) r.tree whole_tree))
 
   module _ (older : AllOlder old.state.ctx.now.graph.made old.state.ctx.now.graph) (keeps : KeepsOlder old.state.ctx.now.graph.made old.state.ctx.now new.state.ctx.now) (carries : Carries before old names new)
-      (nest : graphs.Nested (children new.state.ctx.now.graph) (parent new.state.ctx.now.graph)) (holders : (c k : Object) → parent old.state.ctx.now.graph c ≡ Some k → Stands old.state.ctx.now.graph k) where
+      (nest : graphs.Nested (children new.state.ctx.now.graph) (parent new.state.ctx.now.graph)) (holders : (c k : Object) → parent old.state.ctx.now.graph c ≡ Some k → IsLive old.state.ctx.now.graph k) where
     sound : IsSound old.state.ctx.now.graph.made names new.state
     sound = carries.sound old.state.ctx.now.graph.made (le_refl old.state.ctx.now.graph.made) (fresh_sound before old.state no_names no_values no_labels older)
 

@@ -8,21 +8,21 @@ use Rattle.irtext_context.specs.Context.{with_graph}
 use Rattle.irtext_graph.specs.Graph.{MakesRegion}
 use Rattle.irtext_graph.specs.declared.arena.Ptr.{Ptr}
 use Rattle.irtext_graph.specs.declared.object.Region.{Region}
-use Rattle.irtext_read.specs.Infix.{Reader, ◌▷◌}
-use Rattle.irtext_read.specs.MustRead.{MustRead}
-use Rattle.irtext_read.specs.Tokens.{space_at, word}
-use Rattle.irtext_read.proofs.Honest.{◌then◌, honest_word, honest_space}
-use Rattle.irtext_read.proofs.Steps.{alone}
-use Rattle.irtext_state.specs.States.{marks_of}
-use Rattle.irtext_state.specs.declared.parsable.state.StateStream.{StateStream}
+use Rattle.irtext_tokens.specs.Infix.{Reader, ◌▷◌}
+use Rattle.irtext_tokens.specs.MustRead.{MustRead}
+use Rattle.irtext_tokens.specs.Tokens.{space_at, word}
+use Rattle.irtext_tokens.proofs.Honest.{◌then◌, honest_word, honest_space}
+use Rattle.irtext_tokens.proofs.Steps.{alone}
+use Rattle.irtext_parse_state.specs.States.{marks_of}
+use Rattle.irtext_parse_state.specs.declared.parsable.state.StateStream.{StateStream}
 use Rattle.irtext_grammar.specs.Contexts.Held.{whole}
 use Rattle.irtext_grammar.specs.Names.History as history
 use Rattle.irtext_grammar.specs.Names.History.{State, enter}
 use Rattle.irtext_names.specs.Linked.{Takes}
-use Rattle.irtext_names.specs.Tied.{AreTied}
-use Rattle.irtext_outcomes.specs.Promises.Root.{UnlessMemory}
-use Rattle.irtext_outcomes.specs.Readers.Streams.{itself, replaced}
-use Rattle.irtext_outcomes.proofs.Readers.Answered.{answered}
+use Rattle.irtext_names.specs.Tied.{MatchesGraph}
+use Rattle.irtext_parse_spec.specs.Promises.Root.{UnlessMemory}
+use Rattle.irtext_parse_spec.specs.Readers.Streams.{itself, replaced}
+use Rattle.irtext_parse_spec.proofs.Readers.Answered.{answered}
 use Rattle.irtext_parse_pieces.specs.Named.{Leaves}
 use Rattle.irtext_parse_nested.specs.Items.{Names, Acts}
 use Rattle.irtext_parse_nested.specs.Read.{enters_of, Demands, BeginsRegion, RefusesRegion, no_brace}
@@ -42,7 +42,7 @@ marks_same false st = refl
 
 module _ {T A U : Type 0} (types_at : Reader T) (attr : Reader (AttrView A)) (iso : Bool) (before : Names) (old : StateStream T A U) where
   module _ (names : Names) (mid : StateStream T A U) (r : Ptr Region) (takes : Takes (enter iso) (history.entered iso) before names old.state.ctx.now.graph)
-      (makes : MakesRegion old.state.ctx.now.graph mid.state.ctx.now.graph r) (with_it : mid.state.ctx.now ≡ with_graph old.state.ctx.now mid.state.ctx.now.graph) (tied : AreTied names.values names.labels old.state.ctx.now.graph)
+      (makes : MakesRegion old.state.ctx.now.graph mid.state.ctx.now.graph r) (with_it : mid.state.ctx.now ≡ with_graph old.state.ctx.now mid.state.ctx.now.graph) (tied : MatchesGraph names.values names.labels old.state.ctx.now.graph)
       (marks : marks_of mid.state ≡ marks_of old.state) (same : mid.stream ≡ old.stream) where
     -- it is entered, and made
     acts_entered : Acts (enters_of types_at attr iso old) before old.state [] names mid.state []

@@ -11,36 +11,36 @@ use Rattle.irtext_base.specs.Locations.{AttrView}
 use Rattle.irtext_base.proofs.Sincere.{Of, of_read, of_missing, of_mapped, of_sincere}
 use Rattle.irtext_context.specs.Dialects.{Table}
 use Rattle.irtext_context.specs.DialectTable.{dialect_of, registered}
-use Rattle.irtext_read.specs.AttrTexts.{attr_at}
-use Rattle.irtext_read.specs.Infix.{◌▷◌}
-use Rattle.irtext_read.specs.Tokens.{space_at, word, identifier_at, id_at}
-use Rattle.irtext_read.proofs.Honest.{Honest, ◌then◌, ◌kept◌, ◌so◌, seen, honest_either, honest_word, honest_space, honest_id, honest_index, honest_name, honest_separated, honest_spaced, honest_attr}
+use Rattle.irtext_tokens.specs.AttrTexts.{attr_at}
+use Rattle.irtext_tokens.specs.Infix.{◌▷◌}
+use Rattle.irtext_tokens.specs.Tokens.{space_at, word, identifier_at, id_at}
+use Rattle.irtext_tokens.proofs.Honest.{Honest, ◌then◌, ◌kept◌, ◌so◌, seen, honest_either, honest_word, honest_space, honest_id, honest_index, honest_name, honest_separated, honest_spaced, honest_attr}
 use Rattle.irtext_grammar.specs.Contexts.Formats.{op_id, isolated}
 use Rattle.irtext_grammar.specs.Grammar.Tree as tree
 use Rattle.irtext_grammar.specs.Grammar.Tree.{Name, Part}
-use Rattle.irtext_outcomes.specs.Readers.Parts.{behind, without_first}
-use Rattle.irtext_outcomes.specs.Readers.Operations.{registered_behind}
-use Rattle.irtext_outcomes.specs.Readers.Marker.{marker, starts_with}
+use Rattle.irtext_parse_spec.specs.Readers.Parts.{behind, without_first}
+use Rattle.irtext_parse_spec.specs.Readers.Operations.{registered_behind}
+use Rattle.irtext_parse_spec.specs.Readers.Marker.{marker, starts_with}
 use Rattle.irtext_grammar.specs.Spelling.AttrText.{attr_tree}
-use Rattle.irtext_read.specs.Demanded.{index_at}
-use Rattle.irtext_outcomes.specs.Promises.Supported.{is_committed}
-use Rattle.irtext_outcomes.proofs.Readers.Honest.{honest_nothing}
-use Rattle.irtext_outcomes.proofs.Readers.NeverFailed.{NotFailed, Fine, fine_honest, fine_missing, fine_bad, fine_either, fine_behind, fine_mapped}
-use Rattle.irtext_nesting.specs.Heads.{Step, flat, types, one, all, name_at, name_of, label_at, symbol_at, used_at, target_at, pair_at, dictionary_at, outlined_or_at, directive_at, argument_at, mark_at, mark_if_at, head_at, piece_at, front_steps, region_steps, results_at, named, lead_at, led_by, led_at}
-use Rattle.irtext_nesting.specs.Reached.{Reached, Came, Stuck, came, tells, Doing, Reads, begins_operation, begins_region, begins_block, steps_in, regions_by, more_by, operations_by, blocks_by, front_by, steps_by, end_by, body_by, operation_by, block_by, region_by, region_within, region_at, operation_at}
+use Rattle.irtext_tokens.specs.Demanded.{index_at}
+use Rattle.irtext_parse_spec.specs.Promises.Supported.{is_committed}
+use Rattle.irtext_parse_spec.proofs.Readers.Honest.{honest_nothing}
+use Rattle.irtext_parse_spec.proofs.Readers.NeverFailed.{NotFailed, Fine, fine_honest, fine_missing, fine_bad, fine_either, fine_behind, fine_mapped}
+use Rattle.irtext_parse_spec.specs.Heads.{Step, flat, types, one, all, name_at, name_of, label_at, symbol_at, used_at, target_at, pair_at, dictionary_at, outlined_or_at, directive_at, argument_at, mark_at, mark_if_at, head_at, piece_at, front_steps, region_steps, results_at, named, lead_at, led_by, led_at}
+use Rattle.irtext_parse_spec.specs.Reached.{Reached, Advanced, Stopped, came, tells, Actions, Reads, begins_operation, begins_region, begins_block, steps_in, regions_by, more_by, operations_by, blocks_by, front_by, steps_by, end_by, body_by, operation_by, block_by, region_by, region_within, region_at, operation_at}
 
 -- ---- what is stuck
 abbrev StuckFine : {X S : Type 0} → Reached X S → Type 0
-StuckFine (Came x s rest) = Unit {0}
-StuckFine (Stuck s cause place) = NotFailed cause
+StuckFine (Advanced x s rest) = Unit {0}
+StuckFine (Stopped s cause place) = NotFailed cause
 
 -- it is stuck at no such cause
 record Never {X S : Type 0} (o : Reached X S) : Type 0 where
   pub says : StuckFine o
 
 never_came : {X Y S : Type 0} (o : Reached X S) (next : X → S → Text → Reached Y S) → Never o → ((x : X) (s : S) (rest : Text) → Never (next x s rest)) → Never (came o next)
-never_came (Came x s rest) next h k = k x s rest
-never_came (Stuck s cause place) next h k = record { says = h.says }
+never_came (Advanced x s rest) next h k = k x s rest
+never_came (Stopped s cause place) next h k = record { says = h.says }
 
 never_tells : {X Y S : Type 0} (o : Outcome X) (text : Text) (s : S) (next : X → Text → Reached Y S) → Fine o → ((x : X) (rest : Text) → Never (next x rest)) → Never (tells o text s next)
 never_tells (Read x taken rest) text s next h k = k x rest
@@ -51,7 +51,7 @@ never_if : {X S : Type 0} (b : Bool) (o p : Reached X S) → Never o → Never p
 never_if true o p h k = h
 never_if false o p h k = k
 
-there : {X S : Type 0} (x : X) (s : S) (rest : Text) → Never (Came x s rest)
+there : {X S : Type 0} (x : X) (s : S) (rest : Text) → Never (Advanced x s rest)
 there x s rest = record { says = tt }
 
 module _ {S : Type 0} where
@@ -202,7 +202,7 @@ module _ {T A : Type 0} (types_at : Text → Outcome T) (reading : Text → Outc
       (◌so◌ mark_if_honest (λ mark. ◌then◌ honest_space (seen (λ _. record { label = label; arguments = arguments; attributes = attributes; mark = mark }) (honest_word (codes ":")))))))))))
 
   -- ---- the readers of what nests
-  module _ {S : Type 0} (dialects : List (Text × Table)) (does : Doing T A S) where
+  module _ {S : Type 0} (dialects : List (Text × Table)) (does : Actions T A S) where
     never_front : (ss : List Step) (found : List (Part ℕ T A)) (text : Text) (s : S) → Never (front_by dialects types_at attr does true ss found text s)
     never_front [] found text s = there found s text
     never_front (step ∷ ss) found text s = never_tells ((space_at ▷ piece_at types_at attr true step) text) text s _ (fine_piece step text) (λ p rest. never_front ss (found ++ tree.piece p ∷ []) rest s)
@@ -244,19 +244,19 @@ module _ {T A : Type 0} (types_at : Text → Outcome T) (reading : Text → Outc
         never_blocks _ (never_block _ (never_operations _ (never_operation (region_within dialects types_at attr does n) (never_within n)))) (length rest) rest t) iso text s
 
     -- a region's reader is stuck at no such cause
-    pub region_never_failed : (iso : Bool) (text : Text) (s t : S) (cause : Fault) (place : ℕ) → region_at dialects types_at attr does iso text s ≡ Stuck t cause place → cause ≡ Failed → ⊥
+    pub region_never_failed : (iso : Bool) (text : Text) (s t : S) (cause : Fault) (place : ℕ) → region_at dialects types_at attr does iso text s ≡ Stopped t cause place → cause ≡ Failed → ⊥
     region_never_failed iso text s t cause place e = (subst Never e (never_within (suc (length text)) iso text s)).says
 
     -- nor is an operation's
-    pub operation_never_failed : (text : Text) (s t : S) (cause : Fault) (place : ℕ) → operation_at dialects types_at attr does true text s ≡ Stuck t cause place → cause ≡ Failed → ⊥
+    pub operation_never_failed : (text : Text) (s t : S) (cause : Fault) (place : ℕ) → operation_at dialects types_at attr does true text s ≡ Stopped t cause place → cause ≡ Failed → ⊥
     operation_never_failed text s t cause place e = (subst Never e (never_operation (region_at dialects types_at attr does) (λ iso rest u. never_within (suc (length rest)) iso rest u) text s)).says
 
     -- where no operation begins, it is stuck for a cause of a text
-    pub operation_first : (text : Text) (s t : S) (cause : Fault) (place : ℕ) → operation_at dialects types_at attr does true text s ≡ Stuck t cause place → is_committed (led_at dialects text) ≡ false → is_first_fault cause ≡ true
+    pub operation_first : (text : Text) (s t : S) (cause : Fault) (place : ℕ) → operation_at dialects types_at attr does true text s ≡ Stopped t cause place → is_committed (led_at dialects text) ≡ false → is_first_fault cause ≡ true
     operation_first text s t cause place e flag = go (led_at dialects text) refl flag e
       where
         go : (o : Outcome (List (Name ℕ) × Id)) → led_at dialects text ≡ o → is_committed o ≡ false
-            → tells o text s (λ lead rest. body_by dialects types_at attr does (region_at dialects types_at attr does (isolated dialects lead.1)) true (length text) lead.0 lead.1 rest s) ≡ Stuck t cause place → is_first_fault cause ≡ true
+            → tells o text s (λ lead rest. body_by dialects types_at attr does (region_at dialects types_at attr does (isolated dialects lead.1)) true (length text) lead.0 lead.1 rest s) ≡ Stopped t cause place → is_first_fault cause ≡ true
         go (Read lead taken rest) is flag e = absurd (cc)
         go (Missing c) is flag e = let same : c ≡ cause = cc e in subst (λ z. is_first_fault z ≡ true) same (led_first dialects text c is)
         go (Bad c u) is flag e = absurd (cc)

@@ -9,33 +9,33 @@ use Rattle.irtext_base.specs.declared.parsable.fault.ParseFault.{ParseFault}
 use Rattle.irtext_context.specs.Dialects.{Table}
 use Rattle.irtext_graph.specs.declared.arena.Ptr.{Ptr}
 use Rattle.irtext_graph.specs.declared.object.BasicBlock.{BasicBlock}
-use Rattle.irtext_read.specs.Infix.{Reader, ◌▷◌}
-use Rattle.irtext_read.specs.Tokens.{space_at, word}
-use Rattle.irtext_state.specs.declared.parsable.state.State as code
-use Rattle.irtext_state.specs.declared.parsable.state.StateStream.{StateStream}
+use Rattle.irtext_tokens.specs.Infix.{Reader, ◌▷◌}
+use Rattle.irtext_tokens.specs.Tokens.{space_at, word}
+use Rattle.irtext_parse_state.specs.declared.parsable.state.State as code
+use Rattle.irtext_parse_state.specs.declared.parsable.state.StateStream.{StateStream}
 use Rattle.irtext_grammar.specs.Contexts.Formats.{format_of, isolated}
 use Rattle.irtext_grammar.specs.Contexts.Held.{whole}
 use Rattle.irtext_grammar.specs.Names.History.{Outcome as Machine, failed}
 use Rattle.irtext_grammar.specs.Names.Script.{Path}
 use Rattle.irtext_grammar.specs.Names.TextScopes.{Failure}
-use Rattle.irtext_outcomes.specs.Promises.Root.{UnlessMemory}
-use Rattle.irtext_outcomes.proofs.Joins.Answers.{Splits}
-use Rattle.irtext_nesting.specs.Heads.{Step, one, all, front_steps, piece_at, head_at}
-use Rattle.irtext_read.proofs.Spelling.{begins_the}
-use Rattle.irtext_nesting.specs.Reached.{Doing, begins_region, begins_block, steps_in}
-use Rattle.irtext_nesting.specs.Resume as theory
-use Rattle.irtext_nesting.specs.Resume.{Begun, is_flat, Open, an_operation, a_region, a_block, EndsIn, Goes, StuckAt}
-use Rattle.irtext_nesting.proofs.Naming.Keeps.{failed_keeps}
-use Rattle.irtext_nesting.proofs.Resume.Failed.{failed_at}
-use Rattle.irtext_nesting.proofs.Resume.Frames.{goes_trans, stuck_at}
-use Rattle.irtext_nesting.proofs.Resume.Front.{front_reads, front_lacks}
-use Rattle.irtext_nesting.proofs.Resume.Turns.{operation_begins, no_lead, no_front, piece_reads, no_piece, operation_ends, no_end, operation_closes, no_region, region_enters, another_enters, block_begins, no_block, region_ends, no_brace}
-use Rattle.irtext_nesting.proofs.Resume.Unbounded.{Unbounded}
-use Rattle.irtext_nesting.specs.Stands.{OwnSoFar}
+use Rattle.irtext_parse_spec.specs.Promises.Root.{UnlessMemory}
+use Rattle.irtext_parse_spec.proofs.Joins.Answers.{Splits}
+use Rattle.irtext_parse_spec.specs.Heads.{Step, one, all, front_steps, piece_at, head_at}
+use Rattle.irtext_tokens.proofs.Spelling.{begins_the}
+use Rattle.irtext_parse_spec.specs.Reached.{Actions, begins_region, begins_block, steps_in}
+use Rattle.irtext_parse_spec.specs.Resume as theory
+use Rattle.irtext_parse_spec.specs.Resume.{OpenOperation, is_flat, Open, an_operation, a_region, a_block, EndsIn, Goes, StoppedAt}
+use Rattle.irtext_parse_spec.proofs.Naming.Keeps.{failed_keeps}
+use Rattle.irtext_parse_spec.proofs.Resume.Failed.{failed_at}
+use Rattle.irtext_parse_spec.proofs.Resume.Frames.{goes_trans, stuck_at}
+use Rattle.irtext_parse_spec.proofs.Resume.Front.{front_reads, front_lacks}
+use Rattle.irtext_parse_spec.proofs.Resume.Turns.{operation_begins, no_lead, no_front, piece_reads, no_piece, operation_ends, no_end, operation_closes, no_region, region_enters, another_enters, block_begins, no_block, region_ends, no_brace}
+use Rattle.irtext_parse_spec.proofs.Resume.Unbounded.{Unbounded}
+use Rattle.irtext_parse_spec.specs.Unchanged.{OwnSoFar}
 use Rattle.irtext_parse_nested.specs.declared.frame.BegunOperation.{BegunOperation}
 use Rattle.irtext_parse_nested.specs.declared.frame.BegunRegion.{BegunRegion}
 use Rattle.irtext_parse_nested.specs.declared.frame.BegunBlock.{BegunBlock}
-use Rattle.irtext_parse_nested.specs.Begun.{pledge_of}
+use Rattle.irtext_parse_nested.specs.OpenOperation.{pledge_of}
 use Rattle.irtext_parse_nested.specs.Items.{Names, Made, Pledge, StandsAs, Acts, ActFails, IsFailure, IsTextFault, doing}
 use Rattle.irtext_parse_nested.specs.Read as read
 use Rattle.irtext_parse_nested.specs.Read.{begun_by, closes_of, RefusesOperation, RefusesPiece, RefusesEnd, RefusesRegion, RefusesRegionEnd, RefusesBlock}
@@ -58,7 +58,7 @@ module _ {T A U : Type 0} (types_at : Reader T) (attr : Reader (AttrView A)) (be
   NoTurn ls = UnlessMemory (Faulted types_at attr dialects ls before old) fault
 
   -- what items do with names
-  abbrev does : (ℕ → Path) → Doing T A Machine
+  abbrev does : (ℕ → Path) → Actions T A Machine
   does path = doing {T = T} {A = A} dialects path
 
   -- what was done fails, where the text leads on
@@ -96,7 +96,7 @@ module _ {T A U : Type 0} (types_at : Reader T) (attr : Reader (AttrView A)) (be
         (λ path items others o st. f.so path items (others ++ pledges_of in_region) o (subst (λ ps. StandsAs path items ps before old.state o) (sym (append-nil (others ++ pledges_of in_region))) st)))
 
   -- ---- an operation
-  module _ (b : BegunOperation) (o : Begun T A) (own : OwnSoFar T A) (more : List (Level T A)) where
+  module _ (b : BegunOperation) (o : OpenOperation T A) (own : OwnSoFar T A) (more : List (Level T A)) where
     abbrev at_it : List (Level T A)
     at_it = at_operation b o own ∷ more
 
@@ -145,7 +145,7 @@ module _ {T A U : Type 0} (types_at : Reader T) (attr : Reader (AttrView A)) (be
       no_region_begins i ss k ks e (inr (read.not_isolated f)) = inr (by_names f.failure (subst (λ t. IsFailure t f.failure fault) same f.is) (λ path items others z st.
           failed_at (failed_keeps {T = T} {A = A} (format_of dialects) path f.failure) (region_enters dialects types_at attr (does path) (ks path) o outside z old.stream.rest i ss e (failed f.failure) (entering f path items others z st) ((failed_keeps {T = T} {A = A} (format_of dialects) path f.failure).enters (isolated dialects o.id)))))
       no_region_begins i ss k ks e (inr (read.no_brace names mid acts d)) = inr (at_text (did_enter (isolated dialects o.id) ∷ []) [] names mid.state (pledges_of at_it) d.cause (length v.rest - length d.upto)
-          (subst (λ t. StuckAt dialects types_at attr told (Some (an_operation o)) outside [] old.stream.rest (did_enter (isolated dialects o.id) ∷ []) d.cause (length t - length d.upto)) (sym at)
+          (subst (λ t. StoppedAt dialects types_at attr told (Some (an_operation o)) outside [] old.stream.rest (did_enter (isolated dialects o.id) ∷ []) d.cause (length t - length d.upto)) (sym at)
           (no_region dialects types_at attr told k o outside [] old.stream.rest i ss e d.cause d.upto (subst (λ t. demanded ((word (codes "{") ▷ space_at) t) ≡ Bad d.cause d.upto) at d.bad)))
           (subst (λ j. Acts (λ path. (does path).enters j) before old.state (pledges_of at_it) names mid.state (pledges_of at_it)) is
           (acts_within [] (λ path. (does path).enters iso) before names old.state mid.state (pledges_of at_it) (record { so = λ path items others z st. acts.so path items others z st })))
@@ -176,7 +176,7 @@ module _ {T A U : Type 0} (types_at : Reader T) (attr : Reader (AttrView A)) (be
     pub no_block_begins : begins_block (after_space old.stream.rest) ≡ true → UnlessMemory (RefusesBlock types_at attr before (with_stream old v)) fault → NoTurn at_region_here
     no_block_begins stands (inl starved) = inl starved
     no_block_begins stands (inr (inl d)) = inr (at_text [] [] before old.state (pledges_of more) d.cause (length v.rest - length d.upto)
-        (subst (λ t. StuckAt dialects types_at attr told (Some (a_region iso place)) (outward (map open_of more)) [] old.stream.rest [] d.cause (length t - length d.upto)) (sym at)
+        (subst (λ t. StoppedAt dialects types_at attr told (Some (a_region iso place)) (outward (map open_of more)) [] old.stream.rest [] d.cause (length t - length d.upto)) (sym at)
         (no_block dialects types_at attr told k iso place (outward (map open_of more)) [] old.stream.rest stands d.cause d.upto (subst (λ t. demanded (head_at types_at attr t) ≡ Bad d.cause d.upto) at d.bad)))
         (acts_none before old.state (pledges_of more)) (subst (λ t. IsTextFault t d.cause (length v.rest - length d.upto) fault) same d.fault_is))
     no_block_begins stands (inr (inr (h, taken, rest, e, f))) = inr (by_names f.failure (subst (λ t. IsFailure t f.failure fault) same f.is)
@@ -186,7 +186,7 @@ module _ {T A U : Type 0} (types_at : Reader T) (attr : Reader (AttrView A)) (be
     pub no_brace_stands : begins_block (after_space old.stream.rest) ≡ false → UnlessMemory (RefusesRegionEnd types_at attr iso place before (with_stream old v)) fault → NoTurn at_region_here
     no_brace_stands none (inl starved) = inl starved
     no_brace_stands none (inr (inl d)) = inr (at_text [] [] before old.state (pledges_of more) d.cause (length v.rest - length d.upto)
-        (subst (λ t. StuckAt dialects types_at attr told (Some (a_region iso place)) (outward (map open_of more)) [] old.stream.rest [] d.cause (length t - length d.upto)) (sym at)
+        (subst (λ t. StoppedAt dialects types_at attr told (Some (a_region iso place)) (outward (map open_of more)) [] old.stream.rest [] d.cause (length t - length d.upto)) (sym at)
         (no_brace dialects types_at attr told k iso place (outward (map open_of more)) [] old.stream.rest none d.cause d.upto (subst (λ t. demanded (word (codes "}") t) ≡ Bad d.cause d.upto) at d.bad)))
         (acts_none before old.state (pledges_of more)) (subst (λ t. IsTextFault t d.cause (length v.rest - length d.upto) fault) same d.fault_is))
     no_brace_stands none (inr (inr (taken, rest, e, f))) = inr (by_names f.failure (subst (λ t. IsFailure t f.failure fault) same f.is)

@@ -5,11 +5,11 @@ use Rattle.irtext_graph.specs.Back.{AllOlder}
 use Rattle.irtext_graph.specs.Store.{get}
 use Rattle.irtext_graph.proofs.Frames.{new_operation}
 use Rattle.irtext_scopes.specs.Names.{AreDistinct}
-use Rattle.irtext_state.specs.States.{marks_of}
-use Rattle.irtext_state.specs.declared.parsable.state.State as code
+use Rattle.irtext_parse_state.specs.States.{marks_of}
+use Rattle.irtext_parse_state.specs.declared.parsable.state.State as code
 use Rattle.irtext_grammar.specs.Names.History.{going, start}
 use Rattle.irtext_grammar.specs.Names.Script.{Path}
-use Rattle.irtext_outcomes.specs.Promises.Section.{indices_of}
+use Rattle.irtext_parse_spec.specs.Promises.Section.{indices_of}
 use Rattle.irtext_names.specs.Linked.{nothing_made}
 use Rattle.irtext_names.proofs.Added.{no_ties, no_waits}
 use Rattle.irtext_names.proofs.Linked.Kept.{stands_by}

@@ -10,29 +10,29 @@ use Rattle.irtext_graph.specs.declared.object.Operation.{Operation}
 use Rattle.irtext_graph.specs.declared.object.Region.{Region}
 use Rattle.irtext_graph.specs.declared.object.Object.TheVariants.{TheOperation, TheBlock, TheRegion}
 use Rattle.irtext_graph.specs.Graph.{IsNew}
-use Rattle.irtext_read.specs.Infix.{Reader, ◌▷◌}
-use Rattle.irtext_read.specs.Tokens.{space_at}
+use Rattle.irtext_tokens.specs.Infix.{Reader, ◌▷◌}
+use Rattle.irtext_tokens.specs.Tokens.{space_at}
 use Rattle.irtext_scopes.specs.Names.{KeepsNames}
 use Rattle.irtext_scopes.specs.Scopes.{is_open, outer}
 use Rattle.irtext_scopes.specs.Tracker.{entered, left}
-use Rattle.irtext_state.specs.States.{marks_of}
-use Rattle.irtext_state.specs.declared.parsable.state.StateStream.{StateStream}
+use Rattle.irtext_parse_state.specs.States.{marks_of}
+use Rattle.irtext_parse_state.specs.declared.parsable.state.StateStream.{StateStream}
 use Rattle.irtext_grammar.specs.Contexts.Formats.{format_of}
 use Rattle.irtext_grammar.specs.Contexts.Held.{whole}
 use Rattle.irtext_grammar.specs.Grammar.Tree.{Mark, Head}
-use Rattle.irtext_outcomes.specs.Promises.Section.{Moves}
-use Rattle.irtext_outcomes.specs.Readers.Streams.{KeepsRest}
-use Rattle.irtext_nesting.specs.Heads.{head_at, mark_if_at}
-use Rattle.irtext_nesting.specs.Resume.{Begun}
-use Rattle.irtext_nesting.specs.Grows.{RegionCame, OperationGains, RegionGains, BlockCame}
-use Rattle.irtext_nesting.specs.Stands.{OwnSoFar, Spares}
+use Rattle.irtext_parse_spec.specs.Promises.Section.{Moves}
+use Rattle.irtext_parse_spec.specs.Readers.Streams.{KeepsRest}
+use Rattle.irtext_parse_spec.specs.Heads.{head_at, mark_if_at}
+use Rattle.irtext_parse_spec.specs.Resume.{OpenOperation}
+use Rattle.irtext_parse_spec.specs.Grows.{RegionCame, OperationGains, RegionGains, BlockCame}
+use Rattle.irtext_parse_spec.specs.Unchanged.{OwnSoFar, ModifiesOnly}
 use Rattle.irtext_parse_nested.specs.declared.frame.BegunOperation.{BegunOperation}
 use Rattle.irtext_parse_nested.specs.declared.frame.BegunRegion.{BegunRegion}
 use Rattle.irtext_parse_nested.specs.declared.frame.BegunBlock.{BegunBlock}
 use Rattle.irtext_parse_nested.specs.Beginning.{HasBegun, ComesInto}
-use Rattle.irtext_parse_nested.specs.Begun.{IsBegun, IsRegion}
+use Rattle.irtext_parse_nested.specs.OpenOperation.{IsBegun, IsRegion}
 use Rattle.irtext_parse_nested.specs.Ends.{noted_as, GainsMarks, BecomesNamed}
-use Rattle.irtext_parse_nested.specs.Items.{Names, IsSound, Lasts}
+use Rattle.irtext_parse_nested.specs.Items.{Names, IsSound, KeepsLive}
 use Rattle.irtext_parse_nested.specs.Later.{GoesOn}
 use Rattle.irtext_parse_nested.proofs.Marking.{gains_nothing}
 use Rattle.irtext_parse_nested.specs.Located.{IsLocated}
@@ -43,7 +43,7 @@ use Rattle.irtext_parse_root.specs.Turns.{Begins, Continues, Ends, Enters, Leave
 module _ {T A U : Type 0} (types_at : Reader T) (attr : Reader (AttrView A)) (before : Names) (old : StateStream T A U) (names : Names) (new : StateStream T A U) (rest : KeepsRest old.state new.state) where
   -- the claims of all turns
   abbrev Lasting : Type 0
-  Lasting = Lasts old.state.ctx.now new.state.ctx.now
+  Lasting = KeepsLive old.state.ctx.now new.state.ctx.now
 
   abbrev Sounding : Type 0
   Sounding = (m : ℕ) → m ≤ old.state.ctx.now.graph.made → IsSound m before old.state → IsSound m names new.state
@@ -70,7 +70,7 @@ module _ {T A U : Type 0} (types_at : Reader T) (attr : Reader (AttrView A)) (be
 
     pub enters_given : (op : Ptr Operation) (iso : Bool) (r : Result BegunRegion E) → names.names ≡ before.names → marks_of new.state ≡ marks_of old.state → OnOk r (names.values ≡ entered iso before.values) → OnOk r (names.labels ≡ [] ∷ before.labels)
         → IfOk r (λ b. BeginsRegion types_at attr iso b before old names new) → IfOk r (λ b. RegionCame old.state.ctx.now new.state.ctx.now b.region) → IfOk r (λ b. OperationGains old.state.ctx.now new.state.ctx.now op b.region)
-        → IfOk r (λ b. Spares (TheRegion b.region ∷ TheOperation op ∷ []) old.state.ctx.now new.state.ctx.now) → OnOk r Lasting → OnOk r Sounding → OnOk r (is_open names.values ≡ true)
+        → IfOk r (λ b. ModifiesOnly (TheRegion b.region ∷ TheOperation op ∷ []) old.state.ctx.now new.state.ctx.now) → OnOk r Lasting → OnOk r Sounding → OnOk r (is_open names.values ≡ true)
         → IfOk r (λ b. (m : ℕ) → m ≤ old.state.ctx.now.graph.made → IsNew m new.state.ctx.now.graph (TheRegion b.region)) → IfOk r (λ b. Enters types_at attr before old op iso b names new)
     enters_given op iso (Ok b) same marked values labels begins came gains spares lasts sound is_in fresh = record {
       begins = begins;
@@ -89,7 +89,7 @@ module _ {T A U : Type 0} (types_at : Reader T) (attr : Reader (AttrView A)) (be
     pub heads_given : (region : Ptr Region) (r : Result BegunBlock E) → KeepsNames before.names names.names → length names.values ≡ length before.values → length names.labels ≡ length before.labels
         → IfOk r (λ b. BeginsBlock types_at attr b before old names new)
         → IfOk r (λ b. (h : Head ℕ T A) (taken : Text) → head_at types_at attr old.stream.rest ≡ Read h taken new.stream.rest → BlockCame old.state.ctx.now new.state.ctx.now (IsLocated old.state.src (whole old.stream)) b.block h)
-        → IfOk r (λ b. RegionGains old.state.ctx.now new.state.ctx.now region b.block) → IfOk r (λ b. Spares (TheBlock b.block ∷ TheRegion region ∷ []) old.state.ctx.now new.state.ctx.now) → OnOk r Lasting → OnOk r Sounding
+        → IfOk r (λ b. RegionGains old.state.ctx.now new.state.ctx.now region b.block) → IfOk r (λ b. ModifiesOnly (TheBlock b.block ∷ TheRegion region ∷ []) old.state.ctx.now new.state.ctx.now) → OnOk r Lasting → OnOk r Sounding
         → IfOk r (λ b. (m : ℕ) → m ≤ old.state.ctx.now.graph.made → IsNew m new.state.ctx.now.graph (TheBlock b.block))
         → IfOk r (λ b. (h : Head ℕ T A) (taken : Text) → head_at types_at attr old.stream.rest ≡ Read h taken new.stream.rest → marks_of new.state ≡ marks_of old.state ++ noted_as h.mark (item.Block b.block)) → IfOk r (λ b. Heads types_at attr before old region b names new)
     heads_given region (Ok b) keeps values labels begins came gains spares lasts sound fresh note = record {
@@ -112,7 +112,7 @@ module _ {T A U : Type 0} (types_at : Reader T) (attr : Reader (AttrView A)) (be
     pub leaves_given : (g : BegunRegion) (r : Result (Unit {0}) E) → (at : (place : ℕ) × IsRegion before.names (whole old.stream) old.state.ctx.now g g.isolated place) → new.state ≡ old.state → names.names ≡ before.names
         → OnOk r ((place : ℕ) → IsRegion before.names (whole old.stream) old.state.ctx.now g g.isolated place → EndsRegion types_at attr g.isolated place before old names new)
         → OnOk r (names.values ≡ left g.isolated before.values) → OnOk r (names.labels ≡ outer before.labels) → OnOk r ((m : ℕ) → IsSound m before old.state → IsSound m names new.state)
-        → Lasts old.state.ctx.now old.state.ctx.now → OnOk r (Leaves types_at attr before old g names new)
+        → KeepsLive old.state.ctx.now old.state.ctx.now → OnOk r (Leaves types_at attr before old g names new)
     leaves_given g (Ok u) at same names_same ends values labels sound still = record {
       ends = ends;
       state = same;
@@ -120,7 +120,7 @@ module _ {T A U : Type 0} (types_at : Reader T) (attr : Reader (AttrView A)) (be
         rest = rest;
         moves = (ends at.0 at.1).moves;
         keeps = λ i text e. rw names_same e;
-        lasts = subst (λ s. Lasts old.state.ctx.now s.ctx.now) (sym same) still;
+        lasts = subst (λ s. KeepsLive old.state.ctx.now s.ctx.now) (sym same) still;
         sound = λ m le h. sound m h;
         gains = gains_nothing (ap marks_of same);
       };
@@ -129,9 +129,9 @@ module _ {T A U : Type 0} (types_at : Reader T) (attr : Reader (AttrView A)) (be
     }
     leaves_given g (Err f) at same names_same ends values labels sound still = tt
 
-    pub ends_given : (b : BegunOperation) (r : Result (Unit {0}) E) → (o : Begun T A) × IsBegun before.names (whole old.stream) old.state.ctx.now b o → KeepsNames before.names names.names → length names.values ≡ length before.values → length names.labels ≡ length before.labels
-        → OnOk r ((o : Begun T A) → IsBegun before.names (whole old.stream) old.state.ctx.now b o → EndsOperation types_at attr o b before old names new)
-        → OnOk r (BecomesNamed (IsLocated old.state.src (whole old.stream)) before.names (whole old.stream) b.names old.state.ctx.now new.state.ctx.now b.op) → OnOk r (Spares (TheOperation b.op ∷ []) old.state.ctx.now new.state.ctx.now)
+    pub ends_given : (b : BegunOperation) (r : Result (Unit {0}) E) → (o : OpenOperation T A) × IsBegun before.names (whole old.stream) old.state.ctx.now b o → KeepsNames before.names names.names → length names.values ≡ length before.values → length names.labels ≡ length before.labels
+        → OnOk r ((o : OpenOperation T A) → IsBegun before.names (whole old.stream) old.state.ctx.now b o → EndsOperation types_at attr o b before old names new)
+        → OnOk r (BecomesNamed (IsLocated old.state.src (whole old.stream)) before.names (whole old.stream) b.names old.state.ctx.now new.state.ctx.now b.op) → OnOk r (ModifiesOnly (TheOperation b.op ∷ []) old.state.ctx.now new.state.ctx.now)
         → OnOk r ((mark : Option (Mark ℕ)) (taken : Text) → (space_at ▷ mark_if_at) old.stream.rest ≡ Read mark taken new.stream.rest → marks_of new.state ≡ marks_of old.state ++ noted_as mark (item.Operation b.op))
         → OnOk r Lasting → OnOk r Sounding → OnOk r (Ends types_at attr before old b names new)
     ends_given b (Ok u) at keeps values labels ends own spares note lasts sound =
@@ -146,7 +146,7 @@ module _ {T A U : Type 0} (types_at : Reader T) (attr : Reader (AttrView A)) (be
     ends_given b (Err f) at keeps values labels ends own spares note lasts sound = tt
 
     pub goes_given : (b next : BegunOperation) (r : Result (Unit {0}) E) → KeepsNames before.names names.names → length names.values ≡ length before.values → length names.labels ≡ length before.labels → marks_of new.state ≡ marks_of old.state
-        → OnOk r (Moves old.stream new.stream) → OnOk r (GoesOn types_at attr before old b next names new) → OnOk r (Spares (TheOperation b.op ∷ []) old.state.ctx.now new.state.ctx.now) → OnOk r Lasting → OnOk r Sounding
+        → OnOk r (Moves old.stream new.stream) → OnOk r (GoesOn types_at attr before old b next names new) → OnOk r (ModifiesOnly (TheOperation b.op ∷ []) old.state.ctx.now new.state.ctx.now) → OnOk r Lasting → OnOk r Sounding
         → OnOk r (Continues types_at attr before old b next names new)
     goes_given b next (Ok u) keeps values labels same moves goes spares lasts sound = record {
       op = goes.op;

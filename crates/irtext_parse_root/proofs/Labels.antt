@@ -3,13 +3,13 @@ use Rattle.std.proofs.Common.{◌≡◌, ◌∙◌, ℕ, List, Option, codes, le
 use Rattle.irtext_base.specs.Text.{Text}
 use Rattle.irtext_base.specs.Answers.{Read}
 use Rattle.irtext_base.specs.Locations.{AttrView}
-use Rattle.irtext_read.specs.Infix.{Reader, ◌▷◌, ◌▶◌, ◌⇒◌}
-use Rattle.irtext_read.specs.ListOutcomes.{separated_at}
-use Rattle.irtext_read.specs.Tokens.{space_at, word, identifier_at}
-use Rattle.irtext_read.specs.Demanded.{spaced_at}
+use Rattle.irtext_tokens.specs.Infix.{Reader, ◌▷◌, ◌▶◌, ◌⇒◌}
+use Rattle.irtext_tokens.specs.ListOutcomes.{separated_at}
+use Rattle.irtext_tokens.specs.Tokens.{space_at, word, identifier_at}
+use Rattle.irtext_tokens.specs.Demanded.{spaced_at}
 use Rattle.irtext_grammar.specs.Grammar.Tree.{Name, Mark, Attribute, Head}
-use Rattle.irtext_outcomes.proofs.Joins.Answers.{followed_read, mapped_read}
-use Rattle.irtext_nesting.specs.Heads.{name_of, label_at, argument_at, dictionary_if_at, mark_if_at, head_at}
+use Rattle.irtext_parse_spec.proofs.Joins.Answers.{followed_read, mapped_read}
+use Rattle.irtext_parse_spec.specs.Heads.{name_of, label_at, argument_at, dictionary_if_at, mark_if_at, head_at}
 
 -- whatever the reader reads is so
 record Gives {X : Type 0} (P : X → Type 0) (f : Reader X) : Type 0 where

@@ -3,9 +3,9 @@ use Rattle.std.proofs.Common.{◌≡◌, ◌≤◌, ap, arith, length, length-ap
 use Rattle.irtext_base.specs.Text.{Text}
 use Rattle.irtext_base.specs.Answers.{Outcome, Read}
 use Rattle.irtext_base.specs.Own.{texts_of}
-use Rattle.irtext_nesting.proofs.Naming.Scripts.{shortens}
-use Rattle.irtext_nesting.proofs.Naming.Shorter.{Shortens}
-use Rattle.irtext_outcomes.proofs.Joins.Answers.{Splits}
+use Rattle.irtext_parse_spec.proofs.Naming.Scripts.{shortens}
+use Rattle.irtext_parse_spec.proofs.Naming.Shorter.{Shortens}
+use Rattle.irtext_parse_spec.proofs.Joins.Answers.{Splits}
 
 no_longer : {X : Type 0} (reading : Text → Outcome X) → Splits reading → (text : Text) (x : X) (taken rest : Text) → reading text ≡ Read x taken rest → length rest ≤ length text
 no_longer reading h text x taken rest e = omega (arith, ap length (h text x taken rest e), length-append taken rest)

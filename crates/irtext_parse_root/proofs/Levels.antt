@@ -10,18 +10,18 @@ use Rattle.irtext_scopes.specs.Names.{KeepsNames}
 use Rattle.irtext_grammar.specs.Contexts.Formats.{format_of, isolated}
 use Rattle.irtext_grammar.specs.Grammar.Tree.{Name}
 use Rattle.irtext_grammar.specs.Names.Acts.{result_types}
-use Rattle.irtext_nesting.specs.Heads.{Step}
-use Rattle.irtext_nesting.specs.Naming.{body_of}
-use Rattle.irtext_nesting.specs.Reached.{steps_in}
-use Rattle.irtext_nesting.specs.Resume.{Begun, Open, Pops, weight, weights, work, by_character}
+use Rattle.irtext_parse_spec.specs.Heads.{Step}
+use Rattle.irtext_parse_spec.specs.Naming.{body_of}
+use Rattle.irtext_parse_spec.specs.Reached.{steps_in}
+use Rattle.irtext_parse_spec.specs.Resume.{OpenOperation, Open, Pops, weight, weights, work, by_character}
 use Rattle.irtext_parse_pieces.specs.declared.names.ReadName.{ReadName}
 use Rattle.irtext_parse_pieces.specs.Named.{StandsFor, Each}
 use Rattle.irtext_parse_pieces.proofs.Meanings.{stands_on}
 use Rattle.irtext_parse_nested.specs.declared.frame.BegunOperation.{BegunOperation}
 use Rattle.irtext_parse_nested.specs.Beginning.{HasBegun}
-use Rattle.irtext_parse_nested.specs.Begun.{IsBegun}
+use Rattle.irtext_parse_nested.specs.OpenOperation.{IsBegun}
 use Rattle.irtext_parse_nested.specs.Coming.{IsStep}
-use Rattle.irtext_parse_nested.specs.Items.{Lasts}
+use Rattle.irtext_parse_nested.specs.Items.{KeepsLive}
 use Rattle.irtext_parse_root.specs.declared.frames.Frame.{Frame}
 use Rattle.irtext_parse_root.specs.declared.frames.Frame.TheVariants as framed
 use Rattle.irtext_parse_root.specs.Here.{IsLevel, AreLevels}
@@ -35,8 +35,8 @@ each_on names more text [] (x ∷ xs) k h = absurd h
 each_on names more text (n ∷ ns) [] k h = absurd h
 each_on names more text (n ∷ ns) (x ∷ xs) k h = (stands_on names more n x k refl h.0, each_on names more text ns xs k h.1)
 
-module _ {T A : Type 0} (names more : List Text) (text : Text) (old new : ContextView T A) (keeps : KeepsNames names more) (lasts : Lasts old new) where
-  pub begun_lasts : (b : BegunOperation) (o : Begun T A) → IsBegun names text old b o → IsBegun more text new b o
+module _ {T A : Type 0} (names more : List Text) (text : Text) (old new : ContextView T A) (keeps : KeepsNames names more) (lasts : KeepsLive old new) where
+  pub begun_lasts : (b : BegunOperation) (o : OpenOperation T A) → IsBegun names text old b o → IsBegun more text new b o
   begun_lasts b o h = record {
     inside = h.inside;
     place = h.place;
@@ -145,7 +145,7 @@ pub new_taken : {O B T : Type 0} (m : ℕ) (g : GraphView O B T) (old new : List
 new_taken m g old new None t h = tt
 new_taken m g old new (Some f) t h = new_popped m g new f (subst (AreNewFrames m g) t.frames h)
 
-module _ {T A : Type 0} (m : ℕ) (old new : ContextView T A) (lasts : Lasts old new) (le : m ≤ old.graph.made) where
+module _ {T A : Type 0} (m : ℕ) (old new : ContextView T A) (lasts : KeepsLive old new) (le : m ≤ old.graph.made) where
   pub frame_new : (f : Frame) → IsNewFrame m old.graph f → IsNewFrame m new.graph f
   frame_new (framed.Operation b) h = lasts.newer m (TheOperation b.op) le h
   frame_new (framed.Region r) h = lasts.newer m (TheRegion r.region) le h

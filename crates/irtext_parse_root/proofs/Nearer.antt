@@ -6,21 +6,21 @@ use Rattle.irtext_base.specs.Stream.{StreamView}
 use Rattle.irtext_base.specs.Answers.{Outcome, Read, Missing, Bad}
 use Rattle.irtext_base.specs.Locations.{AttrView}
 use Rattle.irtext_context.specs.Dialects.{Table}
-use Rattle.irtext_read.specs.Infix.{Reader, ◌▷◌}
-use Rattle.irtext_read.specs.Tokens as tokens
-use Rattle.irtext_read.specs.Tokens.{space_at, word}
-use Rattle.irtext_read.proofs.Honest.{honest_space}
+use Rattle.irtext_tokens.specs.Infix.{Reader, ◌▷◌}
+use Rattle.irtext_tokens.specs.Tokens as tokens
+use Rattle.irtext_tokens.specs.Tokens.{space_at, word}
+use Rattle.irtext_tokens.proofs.Honest.{honest_space}
 use Rattle.irtext_grammar.specs.Grammar.Tree as tree
 use Rattle.irtext_grammar.specs.Grammar.Tree.{Name, Part, Head}
-use Rattle.irtext_outcomes.specs.Promises.Section.{Moves}
-use Rattle.irtext_outcomes.specs.Readers.RestLengths.{Leaves, LeavesNoMore}
-use Rattle.irtext_outcomes.specs.Readers.Parts.{without_first}
+use Rattle.irtext_parse_spec.specs.Promises.Section.{Moves}
+use Rattle.irtext_parse_spec.specs.Readers.RestLengths.{Leaves, LeavesNoMore}
+use Rattle.irtext_parse_spec.specs.Readers.Parts.{without_first}
 use Rattle.irtext_parse_root.specs.Stands.{one_stands, text_there}
-use Rattle.irtext_read.proofs.Spelling.{begins_the}
-use Rattle.irtext_outcomes.proofs.Locations.RestLengths.{space_bound, Within, within_honest, ◌so◌, ◌then◌, leaves_read}
-use Rattle.irtext_nesting.specs.Heads.{Step, head_at, led_at}
-use Rattle.irtext_nesting.specs.Resume.{front_at}
-use Rattle.irtext_nesting.proofs.Knot.Leaving.{brace_leaves, piece_within, head_leaves, led_leaves}
+use Rattle.irtext_tokens.proofs.Spelling.{begins_the}
+use Rattle.irtext_parse_spec.proofs.Locations.RestLengths.{space_bound, Within, within_honest, ◌so◌, ◌then◌, leaves_read}
+use Rattle.irtext_parse_spec.specs.Heads.{Step, head_at, led_at}
+use Rattle.irtext_parse_spec.specs.Resume.{front_at}
+use Rattle.irtext_parse_spec.proofs.Knot.Leaving.{brace_leaves, piece_within, head_leaves, led_leaves}
 
 -- what was passed is not longer
 pub moves_fewer : (old new : StreamView) → Moves old new → length new.rest ≤ length old.rest

@@ -8,17 +8,17 @@ use Rattle.irtext_base.specs.declared.parsable.fault.ParseFault.{ParseFault}
 use Rattle.irtext_context.specs.Dialects.{Table}
 use Rattle.irtext_graph.specs.declared.arena.Ptr.{Ptr}
 use Rattle.irtext_graph.specs.declared.object.Operation.{Operation}
-use Rattle.irtext_read.specs.Infix.{Reader}
-use Rattle.irtext_state.specs.States.{marks_of}
-use Rattle.irtext_state.specs.declared.parsable.state.StateStream.{StateStream}
+use Rattle.irtext_tokens.specs.Infix.{Reader}
+use Rattle.irtext_parse_state.specs.States.{marks_of}
+use Rattle.irtext_parse_state.specs.declared.parsable.state.StateStream.{StateStream}
 use Rattle.irtext_grammar.specs.Contexts.Held.{whole}
 use Rattle.irtext_grammar.specs.Names.History.{Outcome, going}
 use Rattle.irtext_grammar.specs.Names.Script as script
 use Rattle.irtext_grammar.specs.Names.Script.{Cause, Path}
 use Rattle.irtext_names.specs.OfItems.{AreOf}
-use Rattle.irtext_nesting.specs.Reached.{Came, operation_at}
-use Rattle.irtext_outcomes.specs.Promises.Root.{UnlessMemory}
-use Rattle.irtext_outcomes.specs.Promises.Section.{indices_of}
+use Rattle.irtext_parse_spec.specs.Reached.{Advanced, operation_at}
+use Rattle.irtext_parse_spec.specs.Promises.Root.{UnlessMemory}
+use Rattle.irtext_parse_spec.specs.Promises.Section.{indices_of}
 use Rattle.irtext_promises.specs.Promises.{IsCause}
 use Rattle.irtext_parse_nested.specs.Items.{Names, StandsAs, IsNameCause, doing}
 use Rattle.irtext_parse_nested.specs.Located.{IsLocated}
@@ -51,7 +51,7 @@ module _ {T A U : Type 0} (types_at : Reader T) (attr : Reader (AttrView A)) (be
   module _ (op : Ptr Operation) (names : Names) (new : StateStream T A U) (r : ReadsNested types_at attr before old op names new) where
     -- where the machine stands behind it
     pub at_end : (path : ℕ → Path) → (z : Outcome) × StandsAs path (r.made ++ []) [] names new.state z
-        × (operation_at dialects types_at attr (doing dialects path) true old.stream.rest (going (start_with earlier)) ≡ Came tt z new.stream.rest)
+        × (operation_at dialects types_at attr (doing dialects path) true old.stream.rest (going (start_with earlier)) ≡ Advanced tt z new.stream.rest)
     at_end path = r.runs path [] (going (start_with earlier)) (begun_stands before old.state no_names no_values no_labels path)
 
     abbrev pub leaves_tree : LeavesFrom types_at attr dialects earlier (IsLocated old.state.src (whole old.stream)) op (indices_of (marks_of new.state)) old.state.ctx.now new.state.ctx.now old.stream.rest new.stream.rest
@@ -68,7 +68,7 @@ module _ {T A U : Type 0} (types_at : Reader T) (attr : Reader (AttrView A)) (be
         state = z.1.state;
         stands = z.1.stands;
         marked = z.1.marks;
-        came = z.2 ∙ ap (λ o. Came tt o new.stream.rest) z.1.going;
+        came = z.2 ∙ ap (λ o. Advanced tt o new.stream.rest) z.1.going;
       };
     }
 

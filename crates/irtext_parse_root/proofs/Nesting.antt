@@ -10,35 +10,35 @@ use Rattle.irtext_graph.specs.declared.arena.Ptr.{Ptr}
 use Rattle.irtext_graph.specs.declared.object.Operation.{Operation}
 use Rattle.irtext_graph.specs.declared.object.Object.{Object}
 use Rattle.irtext_graph.specs.declared.object.Object.TheVariants.{TheOperation}
-use Rattle.irtext_read.specs.AttrTexts.{attr_at}
-use Rattle.irtext_read.specs.Infix.{Reader}
-use Rattle.irtext_state.specs.declared.parsable.state.StateStream.{StateStream}
+use Rattle.irtext_tokens.specs.AttrTexts.{attr_at}
+use Rattle.irtext_tokens.specs.Infix.{Reader}
+use Rattle.irtext_parse_state.specs.declared.parsable.state.StateStream.{StateStream}
 use Rattle.irtext_grammar.specs.Contexts.Formats.{format_of}
 use Rattle.irtext_grammar.specs.Contexts.Held.{whole}
 use Rattle.irtext_grammar.specs.Grammar.Tree.{Tree}
 use Rattle.irtext_grammar.specs.Names.History.{Outcome as Machine, going, failed}
 use Rattle.irtext_grammar.specs.Names.Script.{Path}
-use Rattle.irtext_outcomes.specs.Promises.Root.{UnlessMemory}
-use Rattle.irtext_outcomes.specs.Promises.Supported.{is_committed}
-use Rattle.irtext_outcomes.proofs.Joins.Answers.{Splits}
-use Rattle.irtext_outcomes.proofs.Joins.Attributes.{splits_attr}
-use Rattle.irtext_nesting.specs.Heads.{front_steps}
-use Rattle.irtext_nesting.specs.Reached.{Came, Stuck, Doing, steps_in, operation_at}
-use Rattle.irtext_nesting.specs.Resume as theory
-use Rattle.irtext_nesting.specs.Resume.{Begun, to_come, an_operation, EndsIn, Goes}
-use Rattle.irtext_nesting.proofs.Naming.Keeps.{failed_keeps}
-use Rattle.irtext_nesting.proofs.Resume.Failed.{failed_at}
-use Rattle.irtext_nesting.proofs.Resume.Frames.{goes_trans, stuck_at}
-use Rattle.irtext_nesting.proofs.Resume.Front.{splits_piece, front_reads, front_lacks}
-use Rattle.irtext_nesting.proofs.Knot.Whole.{leaves_no_more}
-use Rattle.irtext_nesting.proofs.Resume.Turns.{operation_begins, no_lead, no_front}
-use Rattle.irtext_nesting.specs.Building.{Unfinished, building, nothing_open, finished}
-use Rattle.irtext_nesting.specs.Stands.{operation_under, AreOpenAt, TreeHolds}
-use Rattle.irtext_nesting.specs.Tracks.{Made, noted, HoldsMade}
-use Rattle.irtext_nesting.proofs.Tracked.{holds_nothing, uses_at_root}
+use Rattle.irtext_parse_spec.specs.Promises.Root.{UnlessMemory}
+use Rattle.irtext_parse_spec.specs.Promises.Supported.{is_committed}
+use Rattle.irtext_parse_spec.proofs.Joins.Answers.{Splits}
+use Rattle.irtext_parse_spec.proofs.Joins.Attributes.{splits_attr}
+use Rattle.irtext_parse_spec.specs.Heads.{front_steps}
+use Rattle.irtext_parse_spec.specs.Reached.{Advanced, Stopped, Actions, steps_in, operation_at}
+use Rattle.irtext_parse_spec.specs.Resume as theory
+use Rattle.irtext_parse_spec.specs.Resume.{OpenOperation, to_come, an_operation, EndsIn, Goes}
+use Rattle.irtext_parse_spec.proofs.Naming.Keeps.{failed_keeps}
+use Rattle.irtext_parse_spec.proofs.Resume.Failed.{failed_at}
+use Rattle.irtext_parse_spec.proofs.Resume.Frames.{goes_trans, stuck_at}
+use Rattle.irtext_parse_spec.proofs.Resume.Front.{splits_piece, front_reads, front_lacks}
+use Rattle.irtext_parse_spec.proofs.Knot.Whole.{leaves_no_more}
+use Rattle.irtext_parse_spec.proofs.Resume.Turns.{operation_begins, no_lead, no_front}
+use Rattle.irtext_parse_spec.specs.Building.{Unfinished, building, nothing_open, finished}
+use Rattle.irtext_parse_spec.specs.Unchanged.{operation_under, AreOpenAt, TreeHolds}
+use Rattle.irtext_parse_spec.specs.Tracks.{Made, noted, HoldsMade}
+use Rattle.irtext_parse_spec.proofs.Tracked.{holds_nothing, uses_at_root}
 use Rattle.irtext_parse_nested.specs.declared.frame.BegunOperation.{BegunOperation}
 use Rattle.irtext_parse_nested.specs.Beginning.{HasBegun}
-use Rattle.irtext_parse_nested.specs.Begun.{IsBegun, pledge_of}
+use Rattle.irtext_parse_nested.specs.OpenOperation.{IsBegun, pledge_of}
 use Rattle.irtext_parse_nested.specs.Items.{Names, StandsAs, IsFailure, IsTextFault, doing}
 use Rattle.irtext_parse_nested.specs.Located.{IsLocated}
 use Rattle.irtext_parse_nested.specs.Read as read
@@ -72,11 +72,11 @@ module _ {T A U : Type 0} (types_at : Reader T) (reading : Reader A) (h : Splits
   abbrev dialects : List (Text × Table)
   dialects = old.state.ctx.now.dialects
 
-  abbrev does : (ℕ → Path) → Doing T A Machine
+  abbrev does : (ℕ → Path) → Actions T A Machine
   does path = doing {T = T} {A = A} dialects path
 
   module _ (b : BegunOperation) (n1 : Names) (s1 : StateStream T A U) (bg : Begins types_at attr before old None b n1 s1) where
-    abbrev begun_here : Begun T A
+    abbrev begun_here : OpenOperation T A
     begun_here = begun_by types_at attr true old s1.stream.rest bg.begins.read
 
     abbrev alone : List (Level T A)
@@ -109,7 +109,7 @@ module _ {T A U : Type 0} (types_at : Reader T) (reading : Reader A) (h : Splits
     root_is_here = record { base = outermost b.op; v = length before.values; l = length before.labels; ls = alone; here = root_here }
 
     -- what was read of it so far
-    begun_goes : {S : Type 0} (d : Doing T A S) (s : S) → Goes dialects types_at attr d (Some (to_come true)) [] s old.stream.rest (Some (an_operation begun_here)) [] (d.uses begun_here.place begun_here.id begun_here.parts s) s1.stream.rest
+    begun_goes : {S : Type 0} (d : Actions T A S) (s : S) → Goes dialects types_at attr d (Some (to_come true)) [] s old.stream.rest (Some (an_operation begun_here)) [] (d.uses begun_here.place begun_here.id begun_here.parts s) s1.stream.rest
     begun_goes d s =
         let q = bg.begins.read in
         operation_begins dialects types_at attr d [] true s old.stream.rest q.names q.id q.lead q.middle q.led q.parts s1.stream.rest
@@ -144,7 +144,7 @@ module _ {T A U : Type 0} (types_at : Reader T) (reading : Reader A) (h : Splits
       turned : Turned types_at attr dialects old.state.src (whole old.stream) (outermost b.op) alone n1 s1 [] n2 s2
       turned = turned_over s1.state.ctx.now.dialects dialects s1.state.src old.state.src (whole s1.stream) (whole old.stream) bg.carries.lasts.dialects bg.carries.rest.src same_text turned_raw
 
-      nested_goes : {S : Type 0} (d : Doing T A S) (s : S) → operation_at dialects types_at attr d true old.stream.rest s ≡ Came tt (all_done d (turned.did ++ first) s) s2.stream.rest
+      nested_goes : {S : Type 0} (d : Actions T A S) (s : S) → operation_at dialects types_at attr d true old.stream.rest s ≡ Advanced tt (all_done d (turned.did ++ first) s) s2.stream.rest
       nested_goes d s = (goes_told d (goes_trans (begun_goes told []) (goes_behind turned.goes first)) s).so
 
       nested_held : IsHeld (format_of dialects) (IsLocated old.state.src (whole old.stream)) (outermost b.op) old.state.ctx.now s2.state.ctx.now (turned.made ++ item ∷ []) turned.marks [] (Some b.op) (turned.did ++ first)
@@ -158,7 +158,7 @@ module _ {T A U : Type 0} (types_at : Reader T) (reading : Reader A) (h : Splits
           record {
             tree = t.0;
             moves = (carries_both bg.carries f.carries).moves;
-            builds = nested_goes (building (format_of dialects)) nothing_open ∙ ap (λ z. Came tt z s2.stream.rest) t.1;
+            builds = nested_goes (building (format_of dialects)) nothing_open ∙ ap (λ z. Advanced tt z s2.stream.rest) t.1;
             made = turned.made ++ item ∷ [];
             runs = λ path items o st. (
               all_done (does path) (turned.did ++ first) o,
@@ -182,7 +182,7 @@ module _ {T A U : Type 0} (types_at : Reader T) (reading : Reader A) (h : Splits
       inside_refused (inr (at_text did made names mid still cause place g a f)) = inr (nested.at_text cause place (subst (λ t. IsTextFault t cause place fault) same_text f) (st.committed ∙ sym (ap is_committed bg.begins.read.led))
           (λ path items o stands.
           let z = a.so path (item ∷ items) [] ((does path).uses begun_here.place begun_here.id begun_here.parts o) (begun_stands path items o stands) in
-          (z.state, (stuck_told (does path) (stuck_at (begun_goes told []) (stuck_behind g first)) o).so ∙ ap (λ y. Stuck y cause place) (done_both (does path) did first o ∙ z.going))))
+          (z.state, (stuck_told (does path) (stuck_at (begun_goes told []) (stuck_behind g first)) o).so ∙ ap (λ y. Stopped y cause place) (done_both (does path) did first o ∙ z.going))))
       inside_refused (inr (by_names failure f ends)) = inr (nested.by_names failure (subst (λ t. IsFailure t failure fault) same_text f)
           (λ path items o stands. subst (EndsIn (failed failure)) (sym (begun_goes (does path) o).so)
           (ends path (item ∷ items) [] ((does path).uses begun_here.place begun_here.id begun_here.parts o) (begun_stands path items o stands))))
@@ -194,13 +194,13 @@ module _ {T A U : Type 0} (types_at : Reader T) (reading : Reader A) (h : Splits
   pub none_begins : (fault : ParseFault A) → UnlessMemory (RefusesOperation types_at attr true false before old) fault → UnlessMemory (RefusesNested types_at attr before old) fault
   none_begins fault (inl starved) = inl starved
   none_begins fault (inr (read.no_lead d flag)) = inr (nested.at_text d.cause (length old.stream.rest - length d.upto) d.fault_is flag
-      (λ path items o stands. (stands.state, (no_lead dialects types_at attr (does path) [] true o old.stream.rest d.cause d.upto d.bad).so ∙ ap (λ y. Stuck y d.cause (length old.stream.rest - length d.upto)) stands.going)))
+      (λ path items o stands. (stands.state, (no_lead dialects types_at attr (does path) [] true o old.stream.rest d.cause d.upto d.bad).so ∙ ap (λ y. Stopped y d.cause (length old.stream.rest - length d.upto)) stands.going)))
   none_begins fault (inr (read.no_front names id lead middle e d flag)) = inr (nested.at_text d.cause (length middle - length d.upto) d.fault_is (flag ∙ sym (ap is_committed e))
       (λ path items o stands. (
         stands.state,
         (no_front dialects types_at attr (does path) [] true o old.stream.rest names id lead middle e o d.cause (length middle - length d.upto)
             (front_lacks dialects types_at attr (does path) true (splits_piece types_at reading h k true) (front_steps (steps_in dialects id)) [] middle o d.cause d.upto d.bad)).so
-            ∙ ap (λ y. Stuck y d.cause (length middle - length d.upto)) stands.going,
+            ∙ ap (λ y. Stopped y d.cause (length middle - length d.upto)) stands.going,
       )))
   none_begins fault (inr (read.no_uses rest q f)) = inr (nested.by_names f.failure f.is (λ path items o stands.
       let at : (does path).uses (length old.stream.rest) q.id q.parts o ≡ failed f.failure = f.so path items [] o stands in

@@ -9,16 +9,16 @@ use Rattle.irtext_context.specs.Context.{ContextView}
 use Rattle.irtext_context.specs.Dialects.{Table}
 use Rattle.irtext_graph.specs.declared.arena.Ptr.{Ptr}
 use Rattle.irtext_graph.specs.declared.object.Operation.{Operation}
-use Rattle.irtext_state.specs.States.{marks_of}
-use Rattle.irtext_state.specs.declared.parsable.state.StateStream.{StateStream}
+use Rattle.irtext_parse_state.specs.States.{marks_of}
+use Rattle.irtext_parse_state.specs.declared.parsable.state.StateStream.{StateStream}
 use Rattle.irtext_grammar.specs.Contexts.Formats.{format_of}
 use Rattle.irtext_grammar.specs.Contexts.Held.{whole}
 use Rattle.irtext_grammar.specs.Names.History.{going, failed}
-use Rattle.irtext_outcomes.specs.Promises.Root.{UnlessMemory}
-use Rattle.irtext_outcomes.specs.Promises.Section.{indices_of}
-use Rattle.irtext_nesting.specs.Naming.{naming}
-use Rattle.irtext_nesting.specs.Reached.{Came, Stuck, operation_at}
-use Rattle.irtext_nesting.specs.Resume.{EndsIn}
+use Rattle.irtext_parse_spec.specs.Promises.Root.{UnlessMemory}
+use Rattle.irtext_parse_spec.specs.Promises.Section.{indices_of}
+use Rattle.irtext_parse_spec.specs.Naming.{naming}
+use Rattle.irtext_parse_spec.specs.Reached.{Advanced, Stopped, operation_at}
+use Rattle.irtext_parse_spec.specs.Resume.{EndsIn}
 use Rattle.irtext_promises.specs.Leaves.{LeavesTree}
 use Rattle.irtext_promises.specs.Promises as alone
 use Rattle.irtext_promises.specs.Promises.{HasFault}
@@ -42,14 +42,14 @@ module _ {T A : Type 0} (types_at : Text → Outcome T) (attr : Text → Outcome
       state = s.state;
       stands = s.stands;
       marked = s.marked;
-      came = subst (λ ms. operation_at dialects types_at attr (naming (format_of dialects) path) true text (going (start_with ms)) ≡ Came tt (going s.state) rest) none s.came;
+      came = subst (λ ms. operation_at dialects types_at attr (naming (format_of dialects) path) true text (going (start_with ms)) ≡ Advanced tt (going s.state) rest) none s.came;
     };
   }
 
   pub fault_alone : (text rest : Text) (fault : ParseFault A) → UnlessMemory (HasFaultFrom types_at attr dialects earlier text rest) fault → UnlessMemory (HasFault types_at attr dialects text rest) fault
   fault_alone text rest fault (inl starved) = inl starved
   fault_alone text rest fault (inr (any.at_text cause place because placed flag so)) =
-      inr (alone.at_text cause place because placed (λ path. let s = so path in (s.0, subst (λ ms. operation_at dialects types_at attr (naming (format_of dialects) path) true rest (going (start_with ms)) ≡ Stuck (going s.0) cause place) none s.1)))
+      inr (alone.at_text cause place because placed (λ path. let s = so path in (s.0, subst (λ ms. operation_at dialects types_at attr (naming (format_of dialects) path) true rest (going (start_with ms)) ≡ Stopped (going s.0) cause place) none s.1)))
   fault_alone text rest fault (inr (any.by_names f is flag so)) =
       inr (alone.by_names f is (λ path. subst (λ ms. EndsIn (failed f) (operation_at dialects types_at attr (naming (format_of dialects) path) true rest (going (start_with ms)))) none (so path)))
 

@@ -10,14 +10,14 @@ use Rattle.irtext_base.specs.declared.parsable.fault.ParseFault.{ParseFault}
 use Rattle.irtext_context.specs.Dialects.{Table}
 use Rattle.irtext_graph.specs.declared.arena.Ptr.{Ptr}
 use Rattle.irtext_graph.specs.declared.object.Operation.{Operation}
-use Rattle.irtext_read.specs.AttrTexts.{attr_at}
-use Rattle.irtext_state.specs.declared.parsable.state.StateStream.{StateStream}
+use Rattle.irtext_tokens.specs.AttrTexts.{attr_at}
+use Rattle.irtext_parse_state.specs.declared.parsable.state.StateStream.{StateStream}
 use Rattle.irtext_grammar.specs.Contexts.Held.{whole}
-use Rattle.irtext_outcomes.specs.Promises.Root.{UnlessMemory}
-use Rattle.irtext_outcomes.specs.Promises.Section.{is_noted}
-use Rattle.irtext_outcomes.proofs.Joins.Answers.{Splits}
-use Rattle.irtext_nesting.specs.Exact.{NeedsWord}
-use Rattle.irtext_nesting.proofs.Naming.Shorter.{Shortens}
+use Rattle.irtext_parse_spec.specs.Promises.Root.{UnlessMemory}
+use Rattle.irtext_parse_spec.specs.Promises.Section.{is_noted}
+use Rattle.irtext_parse_spec.proofs.Joins.Answers.{Splits}
+use Rattle.irtext_parse_spec.specs.Exact.{NeedsWord}
+use Rattle.irtext_parse_spec.proofs.Naming.Shorter.{Shortens}
 use Rattle.irtext_promises.specs.Promises.{HasFault, BuildsTree, BuildsRoot, BuildsWith, RefusesRoot, RefusesWith}
 use Rattle.irtext_promises.proofs.Refuses.{refuses_tree}
 use Rattle.irtext_promises.proofs.Root.{root_refused}

@@ -10,14 +10,14 @@ use Rattle.irtext_grammar.specs.Grammar.Tree as tree
 use Rattle.irtext_grammar.specs.Grammar.Tree.{Part, Piece, views, parts_of, operand_names, successor_labels}
 use Rattle.irtext_grammar.specs.Graphs.Build.{put, put_all, stored, read_names}
 use Rattle.irtext_grammar.specs.Names.Acts.{result_types}
-use Rattle.irtext_nesting.specs.Heads.{Step, one, all}
-use Rattle.irtext_nesting.specs.Naming.{body_of, unmarked}
-use Rattle.irtext_nesting.specs.Reached.{steps_in}
-use Rattle.irtext_nesting.specs.Resume.{Begun, with_steps, is_flat}
-use Rattle.irtext_nesting.specs.Stands.{OwnSoFar, own_of}
+use Rattle.irtext_parse_spec.specs.Heads.{Step, one, all}
+use Rattle.irtext_parse_spec.specs.Naming.{body_of, unmarked}
+use Rattle.irtext_parse_spec.specs.Reached.{steps_in}
+use Rattle.irtext_parse_spec.specs.Resume.{OpenOperation, with_steps, is_flat}
+use Rattle.irtext_parse_spec.specs.Unchanged.{OwnSoFar, own_of}
 use Rattle.irtext_parse_nested.specs.declared.frame.BegunOperation.{BegunOperation}
 use Rattle.irtext_parse_nested.specs.Beginning.{IsPartOf, ArePartsOf, HasBegun}
-use Rattle.irtext_parse_nested.specs.Begun.{HasNoType, ReadNeither, IsBegun}
+use Rattle.irtext_parse_nested.specs.OpenOperation.{HasNoType, ReadNeither, IsBegun}
 use Rattle.irtext_parse_nested.specs.declared.coming.Coming.TheVariants as comes
 use Rattle.irtext_parse_nested.specs.Coming.{IsStep}
 
@@ -34,7 +34,7 @@ own_same x y a b c d e f =
     ∙ (ap (λ z. record { place = y.place; id = y.id; operands = y.operands; successors = y.successors; types = z; entries = x.entries }) e
     ∙ ap (λ z. record { place = y.place; id = y.id; operands = y.operands; successors = y.successors; types = y.types; entries = z }) f))))
 
-module _ {T A : Type 0} (formats : Id → Option Format) (o : Begun T A) (own : OwnSoFar T A) where
+module _ {T A : Type 0} (formats : Id → Option Format) (o : OpenOperation T A) (own : OwnSoFar T A) where
   -- all of it was read: its own, with the names of its results
   pub own_whole : o.steps ≡ [] → HasBegun formats o own
       → own_of (unmarked o.place o.names o.id (body_of (formats o.id) o.parts)) ≡ record own { entries = put_all own.entries (read_names (map (λ n. n.text) o.names)) }
@@ -92,7 +92,7 @@ step_none [] (suc n) e = refl
 step_none (y ∷ xs) zero e = absurd (cc e)
 step_none (y ∷ xs) (suc n) e = step_none xs n e
 
-module _ {T A : Type 0} (names : List Text) (text : Text) (ctx : ContextView T A) (b next : BegunOperation) (o : Begun T A) where
+module _ {T A : Type 0} (names : List Text) (text : Text) (ctx : ContextView T A) (b next : BegunOperation) (o : OpenOperation T A) where
   -- a region was read: the operation goes on behind it
   pub begun_region : (step : Step) (ss : List Step) (part : Part ℕ T A) → o.steps ≡ step ∷ ss → next ≡ record b { coming = None; step = b.step + 1 } → HasNoType part → IsBegun names text ctx b o
       → IsBegun names text ctx next (with_steps o ss (o.parts ++ part ∷ []))
@@ -151,7 +151,7 @@ module _ (x : Option Step) where
       go None h = refl
       go (Some s) h = absurd h
 
-module _ {T A : Type 0} (names : List Text) (text : Text) (ctx : ContextView T A) (b : BegunOperation) (o : Begun T A) (h : IsBegun names text ctx b o) where
+module _ {T A : Type 0} (names : List Text) (text : Text) (ctx : ContextView T A) (b : BegunOperation) (o : OpenOperation T A) (h : IsBegun names text ctx b o) where
   -- the steps that are left are those of the code
   steps_are : o.steps ≡ drop b.step (steps_in ctx.dialects (id_of b.id))
   steps_are = h.steps ∙ ap (λ i. drop b.step (steps_in ctx.dialects i)) (sym h.id)

@@ -10,30 +10,30 @@ use Rattle.irtext_graph.specs.declared.arena.Ptr.{Ptr}
 use Rattle.irtext_graph.specs.declared.object.BasicBlock.{BasicBlock}
 use Rattle.irtext_graph.specs.declared.object.Object.TheVariants.{TheOperation}
 use Rattle.irtext_graph.specs.Graph.{IsNew}
-use Rattle.irtext_read.specs.AttrTexts.{attr_at}
-use Rattle.irtext_read.specs.Infix.{Reader}
+use Rattle.irtext_tokens.specs.AttrTexts.{attr_at}
+use Rattle.irtext_tokens.specs.Infix.{Reader}
 use Rattle.irtext_scopes.specs.Scopes.{Scope, is_open, outer}
 use Rattle.irtext_scopes.specs.Tracker.{entered, left}
-use Rattle.irtext_state.specs.declared.parsable.state.StateStream.{StateStream}
+use Rattle.irtext_parse_state.specs.declared.parsable.state.StateStream.{StateStream}
 use Rattle.irtext_grammar.specs.Contexts.Formats.{format_of, isolated}
 use Rattle.irtext_grammar.specs.Contexts.Held.{whole}
 use Rattle.irtext_grammar.specs.Grammar.Tree as tree
 use Rattle.irtext_grammar.specs.Grammar.Tree.{Part}
 use Rattle.irtext_grammar.specs.Graphs.Build.{put_all, stored}
-use Rattle.irtext_outcomes.proofs.Joins.Answers.{Splits}
-use Rattle.irtext_outcomes.proofs.Joins.Attributes.{splits_attr}
-use Rattle.irtext_nesting.specs.Heads.{Step, one, all, front_steps}
-use Rattle.irtext_nesting.specs.Reached.{Doing, begins_region, begins_block, steps_in}
-use Rattle.irtext_nesting.specs.Resume.{Begun, with_steps, Open, to_come, an_operation, a_region, a_block, work, by_character}
-use Rattle.irtext_nesting.proofs.Knot.Whole.{leaves_no_more}
-use Rattle.irtext_nesting.proofs.Resume.Front.{splits_piece}
-use Rattle.irtext_nesting.proofs.Resume.Unbounded.{Unbounded, unbounded}
-use Rattle.irtext_nesting.specs.Stands.{OwnSoFar}
+use Rattle.irtext_parse_spec.proofs.Joins.Answers.{Splits}
+use Rattle.irtext_parse_spec.proofs.Joins.Attributes.{splits_attr}
+use Rattle.irtext_parse_spec.specs.Heads.{Step, one, all, front_steps}
+use Rattle.irtext_parse_spec.specs.Reached.{Actions, begins_region, begins_block, steps_in}
+use Rattle.irtext_parse_spec.specs.Resume.{OpenOperation, with_steps, Open, to_come, an_operation, a_region, a_block, work, by_character}
+use Rattle.irtext_parse_spec.proofs.Knot.Whole.{leaves_no_more}
+use Rattle.irtext_parse_spec.proofs.Resume.Front.{splits_piece}
+use Rattle.irtext_parse_spec.proofs.Resume.Unbounded.{Unbounded, unbounded}
+use Rattle.irtext_parse_spec.specs.Unchanged.{OwnSoFar}
 use Rattle.irtext_parse_nested.specs.declared.frame.BegunOperation.{BegunOperation}
 use Rattle.irtext_parse_nested.specs.declared.frame.BegunRegion.{BegunRegion}
 use Rattle.irtext_parse_nested.specs.declared.frame.BegunBlock.{BegunBlock}
 use Rattle.irtext_parse_nested.specs.Beginning.{HasBegun}
-use Rattle.irtext_parse_nested.specs.Begun.{IsBegun, IsRegion}
+use Rattle.irtext_parse_nested.specs.OpenOperation.{IsBegun, IsRegion}
 use Rattle.irtext_parse_pieces.specs.Named as placing
 use Rattle.irtext_parse_nested.specs.Items.{Names}
 use Rattle.irtext_parse_nested.specs.Read.{begun_by, EndsRegion}
@@ -46,7 +46,7 @@ use Rattle.irtext_parse_root.specs.Told.{told}
 use Rattle.irtext_parse_root.specs.Turned.{Carries, TakesLast, Arrives, Proceeds}
 use Rattle.irtext_parse_root.specs.Stands.{one_stands, text_there, PassesTo}
 use Rattle.irtext_parse_root.specs.Turns.{IsNext, Begins, Continues, Ends, Enters, Leaves, Heads}
-use Rattle.irtext_nesting.proofs.Resume.Weights.{operation_nearer, step_nearer, region_nearer, another_nearer, block_nearer, first_nearer, other_nearer, end_nearer, steps_fewer}
+use Rattle.irtext_parse_spec.proofs.Resume.Weights.{operation_nearer, step_nearer, region_nearer, another_nearer, block_nearer, first_nearer, other_nearer, end_nearer, steps_fewer}
 use Rattle.irtext_parse_root.proofs.Nearer.{moves_fewer, some_stands, front_fewer, head_fewer, led_fewer, led_some, brace_fewer, semicolon_fewer}
 use Rattle.irtext_parse_root.proofs.Labels.{head_place}
 use Rattle.irtext_parse_root.proofs.Owns.{own_region, begun_region, piece_comes, region_comes, regions_come, end_comes, steps_here, no_steps_here}
@@ -57,7 +57,7 @@ use Rattle.irtext_parse_root.proofs.Levels.{begun_lasts, level_lasts, levels_las
 
 -- ---- which level is innermost
 module _ {T A : Type 0} where
-  pub operation_first : (b : BegunOperation) (ls : List (Level T A)) → Some (framed.Operation b) ≡ first_frame ls → (o : Begun T A) × (own : OwnSoFar T A) × (more : List (Level T A)) × (ls ≡ at_operation b o own ∷ more)
+  pub operation_first : (b : BegunOperation) (ls : List (Level T A)) → Some (framed.Operation b) ≡ first_frame ls → (o : OpenOperation T A) × (own : OwnSoFar T A) × (more : List (Level T A)) × (ls ≡ at_operation b o own ∷ more)
   operation_first b [] e = absurd (cc e)
   operation_first b (at_operation c o own ∷ more) e = let f : c ≡ b = cc e in (o, own, more, ap (λ z. at_operation z o own ∷ more) f)
   operation_first b (at_region r iso place last ∷ more) e = absurd (cc e)
@@ -138,7 +138,7 @@ module _ {T A U : Type 0} (types_at : Reader T) (reading : Reader A) (h : Splits
   often = by_character ctx.dialects
 
   -- what nests, without bounds
-  pub loops : {S : Type 0} (does : Doing T A S) → Unbounded ctx.dialects types_at attr does
+  pub loops : {S : Type 0} (does : Actions T A S) → Unbounded ctx.dialects types_at attr does
   loops does = unbounded ctx.dialects types_at attr does (leaves_no_more types_at h) (leaves_no_more attr (splits_attr reading k))
 
   more_often : 3 < often
@@ -154,7 +154,7 @@ module _ {T A U : Type 0} (types_at : Reader T) (reading : Reader A) (h : Splits
     nests_last : (base : Base) (v : ℕ) (ls : List (Level T A)) → Nest base ctx.dialects v ls → Nest base new.state.ctx.now.dialects v ls
     nests_last base v ls n = nest_lasts ctx new.state.ctx.now same_dialects base v ls n
 
-    own_lasts : (o : Begun T A) (own : OwnSoFar T A) → HasBegun (format_of ctx.dialects) o own → HasBegun (format_of new.state.ctx.now.dialects) o own
+    own_lasts : (o : OpenOperation T A) (own : OwnSoFar T A) → HasBegun (format_of ctx.dialects) o own → HasBegun (format_of new.state.ctx.now.dialects) o own
     own_lasts o own has = subst (λ d. HasBegun (format_of d) o own) (sym same_dialects) has
 
     -- what is made is less to do
@@ -166,7 +166,7 @@ module _ {T A U : Type 0} (types_at : Reader T) (reading : Reader A) (h : Splits
 
   -- ---- a piece
   module _ (b next : BegunOperation) (frames : List Frame) (names : Names) (new : StateStream T A U) (c : Continues types_at attr before old b next names new) (is : IsNext ctx.dialects b comes.Piece) where
-    piece_arrives : (base : Base) (v l : ℕ) (o : Begun T A) (own : OwnSoFar T A) (more : List (Level T A)) → IsHere base v l (at_operation b o own ∷ more) before text ctx (Some (framed.Operation b)) frames
+    piece_arrives : (base : Base) (v l : ℕ) (o : OpenOperation T A) (own : OwnSoFar T A) (more : List (Level T A)) → IsHere base v l (at_operation b o own ∷ more) before text ctx (Some (framed.Operation b)) frames
         → (a : Arrives types_at attr base v l (at_operation b o own ∷ more) before old names new (Some (framed.Operation next)) frames)
         × (work often (next_of a.later) (waiting a.later) new.stream.rest < work often (next_of (at_operation b o own ∷ more)) (waiting (at_operation b o own ∷ more)) old.stream.rest)
     piece_arrives base v l o own more here =
@@ -219,7 +219,7 @@ module _ {T A U : Type 0} (types_at : Reader T) (reading : Reader A) (h : Splits
       enters_carries = carries_passed v passes.moves en.carries
 
       -- it is open in its operation
-      module _ (base : Base) (u l : ℕ) (o : Begun T A) (own : OwnSoFar T A) (more : List (Level T A)) (here : IsHere base u l (at_operation b o own ∷ more) before text ctx (Some (framed.Operation b)) frames) where
+      module _ (base : Base) (u l : ℕ) (o : OpenOperation T A) (own : OwnSoFar T A) (more : List (Level T A)) (here : IsHere base u l (at_operation b o own ∷ more) before text ctx (Some (framed.Operation b)) frames) where
         iso_here : iso ≡ isolated ctx.dialects o.id
         iso_here = iso_is ∙ ap (isolated ctx.dialects) here.levels.0.0.id
 
@@ -257,7 +257,7 @@ module _ {T A U : Type 0} (types_at : Reader T) (reading : Reader A) (h : Splits
         same_op : next.op ≡ b.op
         same_op = ap (λ z. z.op) next_is
 
-        region_arrives : (base : Base) (u l : ℕ) (o : Begun T A) (own : OwnSoFar T A) (more : List (Level T A)) → IsHere base u l (at_operation b o own ∷ more) before text ctx (Some (framed.Operation b)) frames
+        region_arrives : (base : Base) (u l : ℕ) (o : OpenOperation T A) (own : OwnSoFar T A) (more : List (Level T A)) → IsHere base u l (at_operation b o own ∷ more) before text ctx (Some (framed.Operation b)) frames
             → (a : Arrives types_at attr base u l (at_operation b o own ∷ more) before old names new (Some (framed.Region r)) waits)
             × (work often (next_of a.later) (waiting a.later) new.stream.rest < work often (next_of (at_operation b o own ∷ more)) (waiting (at_operation b o own ∷ more)) old.stream.rest)
         region_arrives base u l o own more here =
@@ -297,7 +297,7 @@ module _ {T A U : Type 0} (types_at : Reader T) (reading : Reader A) (h : Splits
 
       -- ---- one of all
       module _ (is : IsNext ctx.dialects b comes.Regions) (stands : begins_region (after_space old.stream.rest) ≡ true) (pushed : waits ≡ frames ++ framed.Operation b ∷ []) where
-        another_arrives : (base : Base) (u l : ℕ) (o : Begun T A) (own : OwnSoFar T A) (more : List (Level T A)) → IsHere base u l (at_operation b o own ∷ more) before text ctx (Some (framed.Operation b)) frames
+        another_arrives : (base : Base) (u l : ℕ) (o : OpenOperation T A) (own : OwnSoFar T A) (more : List (Level T A)) → IsHere base u l (at_operation b o own ∷ more) before text ctx (Some (framed.Operation b)) frames
             → (a : Arrives types_at attr base u l (at_operation b o own ∷ more) before old names new (Some (framed.Region r)) waits)
             × (work often (next_of a.later) (waiting a.later) new.stream.rest < work often (next_of (at_operation b o own ∷ more)) (waiting (at_operation b o own ∷ more)) old.stream.rest)
         another_arrives base u l o own more here =
@@ -336,7 +336,7 @@ module _ {T A U : Type 0} (types_at : Reader T) (reading : Reader A) (h : Splits
       over_carries : Carries before old before (with_stream old v)
       over_carries = carries_pass before old v passes.moves
 
-      over_arrives : (base : Base) (u l : ℕ) (o : Begun T A) (own : OwnSoFar T A) (more : List (Level T A)) → IsHere base u l (at_operation b o own ∷ more) before text ctx (Some (framed.Operation b)) frames
+      over_arrives : (base : Base) (u l : ℕ) (o : OpenOperation T A) (own : OwnSoFar T A) (more : List (Level T A)) → IsHere base u l (at_operation b o own ∷ more) before text ctx (Some (framed.Operation b)) frames
           → (a : Arrives types_at attr base u l (at_operation b o own ∷ more) before old before (with_stream old v) (Some (framed.Operation next)) frames)
           × (work often (next_of a.later) (waiting a.later) v.rest < work often (next_of (at_operation b o own ∷ more)) (waiting (at_operation b o own ∷ more)) old.stream.rest)
       over_arrives base u l o own more here =
@@ -507,7 +507,7 @@ module _ {T A U : Type 0} (types_at : Reader T) (reading : Reader A) (h : Splits
 
   -- ---- an operation ends
   module _ (b : BegunOperation) (frames waits : List Frame) (next : Option Frame) (names : Names) (new : StateStream T A U) (en : Ends types_at attr before old b names new) (is : IsNext ctx.dialects b comes.End) (takes : TakesLast frames next waits) where
-    ended_here : (base : Base) (u l : ℕ) (o : Begun T A) (own : OwnSoFar T A) (more : List (Level T A)) → IsHere base u l (at_operation b o own ∷ more) before text ctx (Some (framed.Operation b)) frames → IsHere base u l more names text new.state.ctx.now next waits
+    ended_here : (base : Base) (u l : ℕ) (o : OpenOperation T A) (own : OwnSoFar T A) (more : List (Level T A)) → IsHere base u l (at_operation b o own ∷ more) before text ctx (Some (framed.Operation b)) frames → IsHere base u l more names text new.state.ctx.now next waits
     ended_here base u l o own more here =
         let t = taken_last more frames waits next here.others takes in
         record {
@@ -519,10 +519,10 @@ module _ {T A U : Type 0} (types_at : Reader T) (reading : Reader A) (h : Splits
           labels = en.depth.labels ∙ here.labels;
         }
 
-    ended_nearer : (o : Begun T A) (more : List (Level T A)) → work often (next_of more) (waiting more) new.stream.rest < work often (Some (an_operation o)) (outward (map open_of more)) old.stream.rest
+    ended_nearer : (o : OpenOperation T A) (more : List (Level T A)) → work often (next_of more) (waiting more) new.stream.rest < work often (Some (an_operation o)) (outward (map open_of more)) old.stream.rest
     ended_nearer o more = end_nearer often (outward (map open_of more)) old.stream.rest new.stream.rest (an_operation o) (next_of more) (waiting more) (theory_pops more) (moves_fewer old.stream new.stream en.carries.moves)
 
-    ended_arrives : (base : Base) (u l : ℕ) (o : Begun T A) (own : OwnSoFar T A) (more : List (Level T A)) → IsHere base u l (at_operation b o own ∷ more) before text ctx (Some (framed.Operation b)) frames
+    ended_arrives : (base : Base) (u l : ℕ) (o : OpenOperation T A) (own : OwnSoFar T A) (more : List (Level T A)) → IsHere base u l (at_operation b o own ∷ more) before text ctx (Some (framed.Operation b)) frames
         → (a : Arrives types_at attr base u l (at_operation b o own ∷ more) before old names new next waits)
         × (work often (next_of a.later) (waiting a.later) new.stream.rest < work often (next_of (at_operation b o own ∷ more)) (waiting (at_operation b o own ∷ more)) old.stream.rest)
     ended_arrives base u l o own [] here =
@@ -616,7 +616,7 @@ module _ {T A U : Type 0} (types_at : Reader T) (reading : Reader A) (h : Splits
       begins_carries : Carries before old names new
       begins_carries = carries_passed v passes.moves bg.carries
 
-      abbrev begun_here : Begun T A
+      abbrev begun_here : OpenOperation T A
       begun_here = begun_by types_at attr true (with_stream old v) new.stream.rest bg.begins.read
 
       here_text : whole v ≡ text

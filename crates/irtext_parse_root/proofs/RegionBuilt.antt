@@ -16,7 +16,7 @@ use Rattle.irtext_graph.specs.declared.object.Object.TheVariants.{TheOperation, 
 use Rattle.irtext_graph.specs.declared.object.Value.{Value}
 use Rattle.irtext_graph.specs.Back.{AllOlder}
 use Rattle.irtext_graph.specs.Chained.{Among}
-use Rattle.irtext_graph.specs.Graph.{children, parent, Stands, Appends}
+use Rattle.irtext_graph.specs.Graph.{children, parent, IsLive, Appends}
 use Rattle.irtext_graph.specs.Nested as graphs
 use Rattle.irtext_graph.specs.Store.{get}
 use Rattle.irtext_grammar.specs.Contexts.Formats.{format_of, IsAccepted}
@@ -34,10 +34,10 @@ use Rattle.irtext_grammar.specs.Names.Script.{Path, done}
 use Rattle.irtext_grammar.specs.Spelling.Spellable.{Each}
 use Rattle.irtext_grammar.proofs.Grammar.PartsOfFormats.{FormedRegions, FormedBlocks, FormedOperations}
 use Rattle.irtext_scopes.specs.declared.tracker.NameTracker.{NameTracker}
-use Rattle.irtext_nesting.specs.Naming.{paths_in_blocks}
-use Rattle.irtext_nesting.specs.Stands.{RegionsHold, IsThere}
-use Rattle.irtext_nesting.specs.Tracks.{Made, noted, HasChild}
-use Rattle.irtext_nesting.proofs.Whole.{WholeRegions, WholeBlocks, WholeOperations}
+use Rattle.irtext_parse_spec.specs.Naming.{paths_in_blocks}
+use Rattle.irtext_parse_spec.specs.Unchanged.{RegionsHold, IsThere}
+use Rattle.irtext_parse_spec.specs.Tracks.{Made, noted, HasChild}
+use Rattle.irtext_parse_spec.proofs.Whole.{WholeRegions, WholeBlocks, WholeOperations}
 use Rattle.irtext_names.specs.Linked.{Known, StandsAt}
 use Rattle.irtext_names.specs.OfItems.{AreOf}
 use Rattle.irtext_names.specs.Tied.{NoneIsLeft}
@@ -73,7 +73,7 @@ module _ {T A : Type 0} (dialects : List (Text × Table)) (accepted : (id : Id) 
 module _ {T A : Type 0} (L : ℕ → Location A → Type 0) (start mid now : ContextView T A) (items : Made) (whole : List Object) (op : Ptr Operation) (r : Ptr Region) (place : ℕ) (bs : Blocks (Op ℕ T A) (Head ℕ T A) (Brace ℕ))
     (hold : RegionsHold (noted items L) mid whole (r ∷ []) (forest.region (shown place) bs no_regions)) (there : (o : Object) → Among o whole → IsThere mid o) (tracks : RegionTracks start mid items whole r)
     (a : Appends mid.graph now.graph (TheOperation op) (TheRegion r)) (here : IsSome (operation start op))
-    (m : ℕ) (older : AllOlder m start.graph) (kept : KeepsOlder m start mid) (none : NoneIsLeft m [] mid.graph) (blanks : BlanksDefine m mid) (holders : (o k : Object) → parent start.graph o ≡ Some k → Stands start.graph k)
+    (m : ℕ) (older : AllOlder m start.graph) (kept : KeepsOlder m start mid) (none : NoneIsLeft m [] mid.graph) (blanks : BlanksDefine m mid) (holders : (o k : Object) → parent start.graph o ≡ Some k → IsLive start.graph k)
     (nest : graphs.Nested (children now.graph) (parent now.graph)) (path : ℕ → Path) (said : Each (λ item. path item.0 ≡ item.1) (paths_in_blocks (0 ∷ []) 0 bs))
     (isolated : Id → Bool) (id : Id) (id_closed : isolated id ≡ true) (formed : FormedBlocks bs) (names_at : NameTracker Value (Ptr BasicBlock)) (known : Known) (are : AreOf path items known) (st : State) (stands : StandsAt names_at mid.graph known [] st)
     (ran : run (going history.start) (events (script.within true place (blocks_script isolated (0 ∷ []) 0 bs) done)) ≡ going st)

@@ -9,10 +9,10 @@ use Rattle.irtext_context.specs.declared.base.item.Item.{Item}
 use Rattle.irtext_graph.specs.declared.arena.Ptr.{Ptr}
 use Rattle.irtext_graph.specs.declared.object.Operation.{Operation}
 use Rattle.irtext_graph.specs.declared.object.Region.{Region}
-use Rattle.irtext_read.specs.AttrTexts.{attr_at}
-use Rattle.irtext_read.specs.Infix.{Reader}
-use Rattle.irtext_state.specs.States.{marks_of}
-use Rattle.irtext_state.specs.declared.parsable.state.StateStream.{StateStream}
+use Rattle.irtext_tokens.specs.AttrTexts.{attr_at}
+use Rattle.irtext_tokens.specs.Infix.{Reader}
+use Rattle.irtext_parse_state.specs.States.{marks_of}
+use Rattle.irtext_parse_state.specs.declared.parsable.state.StateStream.{StateStream}
 use Rattle.irtext_grammar.specs.Contexts.Formats.{format_of, isolated, IsAccepted}
 use Rattle.irtext_grammar.specs.Grammar.Forest.{Regions, no_regions, region, Blocks, no_blocks, block, Operations, no_operations, operation}
 use Rattle.irtext_grammar.specs.Grammar.Reads as grammar
@@ -28,25 +28,25 @@ use Rattle.irtext_grammar.specs.Names.TextScopes.{Facts, failures, facts, outwar
 use Rattle.irtext_grammar.proofs.Names.InScripts as enough
 use Rattle.irtext_grammar.proofs.Names.TreeLists.{marks_in_root}
 use Rattle.irtext_grammar.proofs.Grammar.ListReadings.{repeated_used}
-use Rattle.irtext_outcomes.specs.Promises.Root.{IsFresh}
-use Rattle.irtext_outcomes.specs.Promises.Section.{indices_of}
-use Rattle.irtext_outcomes.proofs.Joins.Answers.{Splits}
-use Rattle.irtext_nesting.specs.Exact.{NeedsWord}
-use Rattle.irtext_nesting.specs.Naming.{naming, paths_in_blocks}
-use Rattle.irtext_nesting.specs.Reached.{Came, region_at, do_blocks}
-use Rattle.irtext_nesting.proofs.Knot.Whole as knot
-use Rattle.irtext_nesting.proofs.Naming.Shorter.{Shortens}
-use Rattle.irtext_nesting.specs.Building.{Unfinished, region_so_far, Building, whole_blocks, nothing_open, building}
-use Rattle.irtext_nesting.proofs.Built.{blocks_after, last_after, whole_after, in_region, blocks_build}
-use Rattle.irtext_nesting.proofs.Seen.{shows_blocks}
-use Rattle.irtext_nesting.proofs.Whole.{WholeRegions, WholeBlocks, WholeOperations, blocks_read}
+use Rattle.irtext_parse_spec.specs.Promises.Root.{IsFresh}
+use Rattle.irtext_parse_spec.specs.Promises.Section.{indices_of}
+use Rattle.irtext_parse_spec.proofs.Joins.Answers.{Splits}
+use Rattle.irtext_parse_spec.specs.Exact.{NeedsWord}
+use Rattle.irtext_parse_spec.specs.Naming.{naming, paths_in_blocks}
+use Rattle.irtext_parse_spec.specs.Reached.{Advanced, region_at, do_blocks}
+use Rattle.irtext_parse_spec.proofs.Knot.Whole as knot
+use Rattle.irtext_parse_spec.proofs.Naming.Shorter.{Shortens}
+use Rattle.irtext_parse_spec.specs.Building.{Unfinished, region_so_far, Building, whole_blocks, nothing_open, building}
+use Rattle.irtext_parse_spec.proofs.Built.{blocks_after, last_after, whole_after, in_region, blocks_build}
+use Rattle.irtext_parse_spec.proofs.Seen.{shows_blocks}
+use Rattle.irtext_parse_spec.proofs.Whole.{WholeRegions, WholeBlocks, WholeOperations, blocks_read}
 use Rattle.irtext_names.proofs.Linked.Passes.{ran_through}
 use Rattle.irtext_promises.specs.Alone.{region_alone}
 use Rattle.irtext_parse_nested.specs.Items.{Names, StandsAs, doing}
 use Rattle.irtext_parse_root.specs.Carried.{marks_in_blocks, AreCarried}
 use Rattle.irtext_parse_root.specs.Told.{Did, did_enter, did_leave, told, all_done}
 use Rattle.irtext_parse_root.specs.Under.{ReadsUnder}
-use Rattle.irtext_nesting.specs.Tracks.{Made}
+use Rattle.irtext_parse_spec.specs.Tracks.{Made}
 use Rattle.irtext_parse_root.proofs.Carrying.{marks_are}
 use Rattle.irtext_parse_root.proofs.Telling.{tells_does, done_both}
 use Rattle.irtext_parse_root.proofs.Fresh.{fresh_stands}
@@ -54,11 +54,11 @@ use Rattle.irtext_context.specs.Context as context
 use Rattle.irtext_context.specs.Context.{KeepsOlder}
 use Rattle.irtext_graph.specs.declared.object.Object.{Object}
 use Rattle.irtext_graph.specs.Back.{AllOlder}
-use Rattle.irtext_graph.specs.Graph.{children, parent, Stands}
+use Rattle.irtext_graph.specs.Graph.{children, parent, IsLive}
 use Rattle.irtext_graph.specs.Nested as graphs
 use Rattle.irtext_grammar.specs.Contexts.Held.{whole}
 use Rattle.irtext_grammar.proofs.Grammar.PartsOfFormats.{FormedBlocks}
-use Rattle.irtext_outcomes.specs.Promises.Root.{location_of}
+use Rattle.irtext_parse_spec.specs.Promises.Root.{location_of}
 use Rattle.irtext_names.specs.OfItems.{AreOf}
 use Rattle.irtext_names.specs.Tied.{NoneIsLeft}
 use Rattle.irtext_promises.specs.Alone.{BuildsRegion}
@@ -71,7 +71,7 @@ use Rattle.irtext_parse_root.specs.Region.{GainsRegion}
 use Rattle.irtext_parse_root.proofs.RegionPlaces.{paths_exist}
 use Rattle.irtext_parse_root.proofs.RegionRuns.{region_runs}
 
-came_same : {X S : Type 0} (x y : X) (s t : S) (a b : Text) → Came x s a ≡ Came y t b → s ≡ t
+came_same : {X S : Type 0} (x y : X) (s t : S) (a b : Text) → Advanced x s a ≡ Advanced y t b → s ≡ t
 came_same x y s t a b e = cc
 
 -- ---- what is known of blocks that a text reads as
@@ -176,14 +176,14 @@ module _ {T A U : Type 0} (types_at : Reader T) (types_written : T → Text) (re
   pub named : (path : ℕ → Path) × Each (λ item. path item.0 ≡ item.1) (paths_in_blocks (0 ∷ []) 0 blocks)
   named = paths_exist types owns (format_of ds) short_types short_owns (0 ∷ []) (shown place) blocks old.stream.rest new.stream.rest region_reads
 
-  abbrev at_end : (z : history.Outcome) × StandsAs named.0 (u.made ++ []) [] names u.mid.state z × (region_at ds types_at (attr_at reading) (doing ds named.0) u.iso old.stream.rest (going start) ≡ Came tt z new.stream.rest)
+  abbrev at_end : (z : history.Outcome) × StandsAs named.0 (u.made ++ []) [] names u.mid.state z × (region_at ds types_at (attr_at reading) (doing ds named.0) u.iso old.stream.rest (going start) ≡ Advanced tt z new.stream.rest)
   at_end = u.runs named.0 [] (going start) (fresh_stands before old.state no_names no_values no_labels fresh.marks named.0)
 
   -- the machine came through their script
   pub ran : run (going start) (events (region_alone ds place blocks)) ≡ going at_end.1.state
   ran =
       let found = knot.region_found types_at types_written reading written ds types_split splits (naming (format_of ds) named.0) words true blocks old.stream.rest new.stream.rest (going start) region_reads in
-      let came = subst (λ b. region_at ds types_at (attr_at reading) (doing ds named.0) b old.stream.rest (going start) ≡ Came tt at_end.0 new.stream.rest) closed at_end.2 in
+      let came = subst (λ b. region_at ds types_at (attr_at reading) (doing ds named.0) b old.stream.rest (going start) ≡ Advanced tt at_end.0 new.stream.rest) closed at_end.2 in
       region_runs types owns (format_of ds) named.0 (isolated ds) true (0 ∷ []) place blocks old.stream.rest new.stream.rest region_reads named.1 (going start)
       ∙ (came_same tt tt _ _ new.stream.rest new.stream.rest (sym found ∙ came) ∙ at_end.1.going)
 
@@ -217,7 +217,7 @@ module _ {T A U : Type 0} (types_at : Reader T) (types_written : T → Text) (re
   -- ---- what it built
   module _ (id : Id) (id_closed : isolated ds id ≡ true) (here : IsSome (context.operation old.state.ctx.now op)) (older : AllOlder old.state.ctx.now.graph.made old.state.ctx.now.graph)
       (kept : KeepsOlder old.state.ctx.now.graph.made old.state.ctx.now u.mid.state.ctx.now) (sound : IsSound old.state.ctx.now.graph.made names u.mid.state)
-      (nest : graphs.Nested (children new.state.ctx.now.graph) (parent new.state.ctx.now.graph)) (holders : (c k : Object) → parent old.state.ctx.now.graph c ≡ Some k → Stands old.state.ctx.now.graph k)
+      (nest : graphs.Nested (children new.state.ctx.now.graph) (parent new.state.ctx.now.graph)) (holders : (c k : Object) → parent old.state.ctx.now.graph c ≡ Some k → IsLive old.state.ctx.now.graph k)
       (gains : GainsRegion op r old.state.ctx.now new.state.ctx.now) where
     values_none : names.values ≡ []
     values_none = values_shut names u.mid.state.ctx.now.graph at_end.1.known [] at_end.1.state at_end.1.stands (ap (λ (z : history.State). z.values) region_says)

@@ -16,10 +16,10 @@ use Rattle.irtext_context.specs.Dialects.{Table}
 use Rattle.irtext_graph.specs.declared.arena.Ptr.{Ptr}
 use Rattle.irtext_graph.specs.declared.object.Operation.{Operation}
 use Rattle.irtext_graph.specs.declared.object.Region.{Region}
-use Rattle.irtext_read.specs.AttrTexts.{attr_at}
-use Rattle.irtext_read.specs.Infix.{Reader}
-use Rattle.irtext_state.specs.States.{marks_of}
-use Rattle.irtext_state.specs.declared.parsable.state.StateStream.{StateStream}
+use Rattle.irtext_tokens.specs.AttrTexts.{attr_at}
+use Rattle.irtext_tokens.specs.Infix.{Reader}
+use Rattle.irtext_parse_state.specs.States.{marks_of}
+use Rattle.irtext_parse_state.specs.declared.parsable.state.StateStream.{StateStream}
 use Rattle.irtext_stream.specs.declared.position.SourcePosition.{SourcePosition}
 use Rattle.irtext_grammar.specs.Contexts.Formats.{format_of, isolated}
 use Rattle.irtext_grammar.specs.Contexts.Held.{whole}
@@ -32,16 +32,16 @@ use Rattle.irtext_grammar.specs.Names.Scopes.{no_scope}
 use Rattle.irtext_grammar.specs.Names.Script as script
 use Rattle.irtext_grammar.specs.Names.Script.{Cause, Failure, Path}
 use Rattle.irtext_grammar.specs.Names.TextScopes.{failures}
-use Rattle.irtext_outcomes.specs.Promises.Root.{IsFresh, UnlessMemory}
-use Rattle.irtext_outcomes.specs.Promises.Section.{indices_of}
-use Rattle.irtext_outcomes.specs.Readers.Refusals.{Refusal}
-use Rattle.irtext_outcomes.proofs.Joins.Answers.{Splits}
-use Rattle.irtext_nesting.specs.Exact.{NeedsWord}
-use Rattle.irtext_nesting.specs.Naming.{naming}
-use Rattle.irtext_nesting.specs.Reached.{Reached, Came, Stuck, begins_region, region_at, do_region, do_blocks}
-use Rattle.irtext_nesting.specs.Resume.{EndsIn}
-use Rattle.irtext_nesting.proofs.Knot.Whole as knot
-use Rattle.irtext_nesting.proofs.Naming.Shorter.{Shortens}
+use Rattle.irtext_parse_spec.specs.Promises.Root.{IsFresh, UnlessMemory}
+use Rattle.irtext_parse_spec.specs.Promises.Section.{indices_of}
+use Rattle.irtext_parse_spec.specs.Readers.Refusals.{Refusal}
+use Rattle.irtext_parse_spec.proofs.Joins.Answers.{Splits}
+use Rattle.irtext_parse_spec.specs.Exact.{NeedsWord}
+use Rattle.irtext_parse_spec.specs.Naming.{naming}
+use Rattle.irtext_parse_spec.specs.Reached.{Reached, Advanced, Stopped, begins_region, region_at, do_region, do_blocks}
+use Rattle.irtext_parse_spec.specs.Resume.{EndsIn}
+use Rattle.irtext_parse_spec.proofs.Knot.Whole as knot
+use Rattle.irtext_parse_spec.proofs.Naming.Shorter.{Shortens}
 use Rattle.irtext_names.proofs.Linked.Passes.{ran_into}
 use Rattle.irtext_promises.specs.Alone as alone
 use Rattle.irtext_promises.specs.Alone.{region_alone, RefusesRegion, first}
@@ -197,7 +197,7 @@ module _ {T A U : Type 0} (types_at : Reader T) (attr : Reader (AttrView A)) (be
   fault_missed : (iso : Bool) → iso ≡ true → (fault : ParseFault A) → FaultUnder types_at attr iso before old fault → HasRegionFault types_at attr dialects earlier old.stream fault
   fault_missed iso is fault (under.no_region begins because flag at) = region.no_brace begins because at flag
   fault_missed iso is fault (under.at_text begins cause place f flag so) = region.at_text begins cause place f.because f.placed flag
-      (λ path. subst (λ b. (st : history.State) × (reached b path ≡ Stuck (going st) cause place)) is (so path [] begun (begun_there path)))
+      (λ path. subst (λ b. (st : history.State) × (reached b path ≡ Stopped (going st) cause place)) is (so path [] begun (begun_there path)))
   fault_missed iso is fault (under.by_names begins failure f so) = region.by_names begins failure (same_cause failure.cause (fault_of fault.cause) f.cause, f.place) f.committed
       (λ path. subst (λ b. EndsIn (failed failure) (reached b path)) is (so path [] begun (begun_there path)))
 
@@ -208,7 +208,7 @@ module _ {T A U : Type 0} (types_at : Reader T) (attr : Reader (AttrView A)) (be
     moves = u.moves;
     came = λ path.
         let z = u.runs path [] begun (begun_there path) in
-        (z.1.state, subst (λ b. reached b path ≡ Came tt (going z.1.state) new.stream.rest) (closed_as old.state.ctx.now op here none u.iso u.isolation) (z.2 ∙ ap (λ o. Came tt o new.stream.rest) z.1.going));
+        (z.1.state, subst (λ b. reached b path ≡ Advanced tt (going z.1.state) new.stream.rest) (closed_as old.state.ctx.now op here none u.iso u.isolation) (z.2 ∙ ap (λ o. Advanced tt o new.stream.rest) z.1.going));
   }
 
   -- and where it is refused, the fault is that of the text
@@ -234,7 +234,7 @@ module _ {T A : Type 0} (types_at : Text → Outcome T) (types_written : T → T
   begins_there bs text rest (at, (m, opened, more)) = begins_so text m opened
 
   -- where the text is at fault, it reads as no blocks in braces
-  stuck_unread : (text : Text) (s t : history.Outcome) (cause : Fault) (place : ℕ) (path : ℕ → Path) → region_at dialects types_at (attr_at reading) (doing dialects path) true text s ≡ Stuck t cause place → (bs : Blocks (Op ℕ T A) (Head ℕ T A) (Brace ℕ)) (rest : Text) → IsRead bs text rest → ⊥
+  stuck_unread : (text : Text) (s t : history.Outcome) (cause : Fault) (place : ℕ) (path : ℕ → Path) → region_at dialects types_at (attr_at reading) (doing dialects path) true text s ≡ Stopped t cause place → (bs : Blocks (Op ℕ T A) (Head ℕ T A) (Brace ℕ)) (rest : Text) → IsRead bs text rest → ⊥
   stuck_unread text s t cause place path e bs rest r =
       let f = knot.region_found types_at types_written reading written dialects types_split splits (naming (format_of dialects) path) words true bs text rest s r in cc (e, f)
 
@@ -274,7 +274,7 @@ module _ {T A U : Type 0} (types_at : Reader T) (types_written : T → Text) (re
   refuses_region fault (inr (under.in_text iso of_it opened (under.at_text begins cause place f flag so))) =
       let path : ℕ → Path = λ n. [] in
       let stuck = so path [] (going start) (fresh_stands before old.state no_names no_values no_labels fresh.marks path) in
-      let e = subst (λ b. region_at ds types_at (attr_at reading) (doing ds path) b old.stream.rest (going start) ≡ Stuck (going stuck.0) cause place) (isolated_there iso of_it) stuck.1 in
+      let e = subst (λ b. region_at ds types_at (attr_at reading) (doing ds path) b old.stream.rest (going start) ≡ Stopped (going stuck.0) cause place) (isolated_there iso of_it) stuck.1 in
       inr (first none (λ bs rest r. absurd (stuck_unread types_at types_written reading written ds types_split splits words short_types short_owns old.stream.rest (going start) (going stuck.0) cause place path e bs rest r)))
   refuses_region fault (inr (under.in_text iso of_it opened (under.by_names begins failure f so))) =
       let ends : (path : ℕ → Path) → EndsIn (failed failure) (region_at ds types_at (attr_at reading) (doing ds path) true old.stream.rest (going start)) =

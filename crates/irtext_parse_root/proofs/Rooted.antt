@@ -15,7 +15,7 @@ use Rattle.irtext_grammar.specs.Grammar.Forest as forest
 use Rattle.irtext_grammar.specs.Grammar.Forest.{Regions, no_regions, Blocks, no_blocks, Operations, no_operations, Root}
 use Rattle.irtext_grammar.specs.Grammar.Section.{Entry}
 use Rattle.irtext_grammar.specs.Grammar.Tree.{Mark, Op, Head, Brace, Tree}
-use Rattle.irtext_nesting.specs.Tracks.{Made}
+use Rattle.irtext_parse_spec.specs.Tracks.{Made}
 use Rattle.irtext_promises.specs.Given.{OperationHas, BlockHas, RegionsHave, BlocksHave, OperationsHave, RootHas}
 use Rattle.irtext_promises.specs.Held.{PtrRegions, PtrBlocks, PtrOperations}
 use Rattle.irtext_promises.specs.Placed.{OperationAt, BlockAt, RegionsAre, BlocksAre, OperationsAre, RootIs}

@@ -15,14 +15,14 @@ use Rattle.irtext_graph.specs.declared.object.Region.{Region}
 use Rattle.irtext_graph.specs.declared.object.Object.TheVariants.{TheOperation, TheBlock}
 use Rattle.irtext_graph.specs.Chained.{Among}
 use Rattle.irtext_graph.proofs.Preorders.{among_left, among_right}
-use Rattle.irtext_state.specs.States.{same_index}
+use Rattle.irtext_parse_state.specs.States.{same_index}
 use Rattle.irtext_grammar.specs.Grammar.Forest as forest
 use Rattle.irtext_grammar.specs.Grammar.Forest.{Regions, no_regions, Blocks, no_blocks, Operations, no_operations, Root}
 use Rattle.irtext_grammar.specs.Grammar.Tree.{Mark, Op, Head, Brace, Tree}
 use Rattle.irtext_grammar.specs.Names.Acts.{may_hold, keeps_label_key, marked_as, block_marks_in_regions, block_marks_in_blocks, block_marks_in_operations, rule_of}
 use Rattle.irtext_grammar.specs.Names.Scopes.{is_among}
 use Rattle.irtext_names.proofs.Linked.Moving.{among_split}
-use Rattle.irtext_nesting.specs.Tracks.{Made}
+use Rattle.irtext_parse_spec.specs.Tracks.{Made}
 use Rattle.irtext_promises.specs.Held.{PtrRegions, PtrBlocks, PtrOperations}
 use Rattle.irtext_promises.specs.Placed.{RegionsAre, BlocksAre, OperationsAre, RootIs}
 use Rattle.irtext_parse_nested.specs.Ends.{noted_as}

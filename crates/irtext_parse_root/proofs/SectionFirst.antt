@@ -9,11 +9,11 @@ use Rattle.irtext_base.specs.declared.parsable.fault.ParseFault.{ParseFault}
 use Rattle.irtext_grammar.specs.Contexts.Held.{StandsAt}
 use Rattle.irtext_grammar.specs.Names.Script as script
 use Rattle.irtext_grammar.specs.Names.Script.{Cause, Failure}
-use Rattle.irtext_outcomes.specs.Promises.Root.{IsPlace}
-use Rattle.irtext_outcomes.specs.Promises.Supported.{RefusedAs}
+use Rattle.irtext_parse_spec.specs.Promises.Root.{IsPlace}
+use Rattle.irtext_parse_spec.specs.Promises.Supported.{RefusedAs}
 use Rattle.irtext_promises.specs.Promises.{IsCause, IsFirst}
-use Rattle.irtext_nesting.specs.Agrees.{StopsAt, ReadOrStops}
-use Rattle.irtext_nesting.specs.Readers.{fault_for}
+use Rattle.irtext_parse_spec.specs.Agrees.{StopsAt, ReadOrStops}
+use Rattle.irtext_parse_spec.specs.Entries.{fault_for}
 
 -- a failure's own fault
 is_own : (c : Cause Text) → IsCause c (fault_for c)

@@ -15,9 +15,9 @@ use Rattle.irtext_graph.specs.declared.arena.Ptr.{Ptr}
 use Rattle.irtext_graph.specs.declared.object.Operation.{Operation}
 use Rattle.irtext_graph.specs.Back.{AllOlder}
 use Rattle.irtext_graph.specs.Chained.{Among}
-use Rattle.irtext_read.specs.AttrTexts.{attr_at}
-use Rattle.irtext_state.specs.States.{marks_of}
-use Rattle.irtext_state.specs.declared.parsable.state.StateStream.{StateStream}
+use Rattle.irtext_tokens.specs.AttrTexts.{attr_at}
+use Rattle.irtext_parse_state.specs.States.{marks_of}
+use Rattle.irtext_parse_state.specs.declared.parsable.state.StateStream.{StateStream}
 use Rattle.irtext_grammar.specs.Contexts.Formats.{format_of, isolated, IsAccepted}
 use Rattle.irtext_grammar.specs.Contexts.Held.{location_over, whole}
 use Rattle.irtext_grammar.specs.Contexts.Nested.{pointers}
@@ -35,19 +35,19 @@ use Rattle.irtext_grammar.proofs.Grammar.PartsOfFormats.{Formed}
 use Rattle.irtext_grammar.proofs.Grammar.WholeTree as trees
 use Rattle.irtext_grammar.proofs.Graphs.Links.{all_there}
 use Rattle.irtext_grammar.proofs.Names.ResolvedRoot as resolved
-use Rattle.irtext_outcomes.specs.Promises.Root.{location_of}
-use Rattle.irtext_outcomes.specs.Promises.Section.{Moves, indices_of, is_noted, Faults}
-use Rattle.irtext_outcomes.specs.Promises.Supported.{location_standing, RefusedAs}
-use Rattle.irtext_outcomes.specs.Promises.Root.{UnlessMemory}
-use Rattle.irtext_outcomes.proofs.Joins.Answers.{Splits}
-use Rattle.irtext_outcomes.proofs.Readers.Answered.{moves_more}
-use Rattle.irtext_nesting.specs.Exact.{NeedsWord}
-use Rattle.irtext_nesting.specs.Naming.{naming}
-use Rattle.irtext_nesting.specs.Naming as paths
-use Rattle.irtext_nesting.proofs.Knot.Whole as knot
-use Rattle.irtext_nesting.proofs.Naming.Places.{places_fall}
-use Rattle.irtext_nesting.proofs.Naming.Scripts.{read_runs}
-use Rattle.irtext_nesting.proofs.Naming.Shorter.{Shortens}
+use Rattle.irtext_parse_spec.specs.Promises.Root.{location_of}
+use Rattle.irtext_parse_spec.specs.Promises.Section.{Moves, indices_of, is_noted, Faults}
+use Rattle.irtext_parse_spec.specs.Promises.Supported.{location_standing, RefusedAs}
+use Rattle.irtext_parse_spec.specs.Promises.Root.{UnlessMemory}
+use Rattle.irtext_parse_spec.proofs.Joins.Answers.{Splits}
+use Rattle.irtext_parse_spec.proofs.Readers.Answered.{moves_more}
+use Rattle.irtext_parse_spec.specs.Exact.{NeedsWord}
+use Rattle.irtext_parse_spec.specs.Naming.{naming}
+use Rattle.irtext_parse_spec.specs.Naming as paths
+use Rattle.irtext_parse_spec.proofs.Knot.Whole as knot
+use Rattle.irtext_parse_spec.proofs.Naming.Places.{places_fall}
+use Rattle.irtext_parse_spec.proofs.Naming.Scripts.{read_runs}
+use Rattle.irtext_parse_spec.proofs.Naming.Shorter.{Shortens}
 use Rattle.irtext_promises.specs.Given.{RootHas}
 use Rattle.irtext_promises.specs.Held.{held_root, placed_under, IsWhole}
 use Rattle.irtext_promises.specs.Leaves.{StandsBehind}
@@ -64,13 +64,13 @@ use Rattle.irtext_promises.proofs.Root as root
 use Rattle.irtext_promises.proofs.WithSection.{pointers_same, builds_given, only_still}
 use Rattle.irtext_promises.proofs.Wholes.{root_whole}
 use Rattle.irtext_promises.proofs.Given.{root_has}
-use Rattle.irtext_nesting.specs.Agrees.{refused, ReadOrStops}
-use Rattle.irtext_nesting.specs.Readers.{section_at}
-use Rattle.irtext_nesting.proofs.Lawful.{section_read, section_found}
+use Rattle.irtext_parse_spec.specs.Agrees.{refused, ReadOrStops}
+use Rattle.irtext_parse_spec.specs.Entries.{section_at}
+use Rattle.irtext_parse_spec.proofs.Lawful.{section_read, section_found}
 use Rattle.irtext_parse_root.specs.Carried.{marks_in, object_of}
 use Rattle.irtext_parse_root.proofs.Carrying.{marks_are}
 use Rattle.irtext_parse_pieces.proofs.Meanings.{takes_whole}
-use Rattle.irtext_read.proofs.Steps.{alone}
+use Rattle.irtext_tokens.proofs.Steps.{alone}
 use Rattle.irtext_parse_nested.specs.Located.{IsLocated}
 use Rattle.irtext_parse_section.specs.Said.{rules_of}
 use Rattle.irtext_parse_section.specs.Section.{ReadsSection}

@@ -11,8 +11,8 @@ use Rattle.irtext_graph.specs.declared.object.Object.TheVariants.{TheOperation, 
 use Rattle.irtext_graph.specs.Chained.{Among}
 use Rattle.irtext_graph.proofs.Nests.{told}
 use Rattle.irtext_graph.proofs.Same.{ptr_tells}
-use Rattle.irtext_nesting.specs.Grows.{with_last_block, RegionCame, RegionGains}
-use Rattle.irtext_nesting.specs.Stands.{IsThere, Spares}
+use Rattle.irtext_parse_spec.specs.Grows.{with_last_block, RegionCame, RegionGains}
+use Rattle.irtext_parse_spec.specs.Unchanged.{IsThere, ModifiesOnly}
 use Rattle.irtext_parse_root.specs.Turned.{RegionsStay}
 
 module _ {T A : Type 0} where
@@ -24,22 +24,22 @@ module _ {T A : Type 0} where
 
 module _ {T A : Type 0} (old new : ContextView T A) where
   -- a region that is none of those that changed
-  spared_stays : (but : List Object) → Spares but old new → (r : Ptr Region) (view : RegionView) → region old r ≡ Some view → (Among (TheRegion r) but → ⊥) → (now : RegionView) × (region new r ≡ Some now) × (now.parent ≡ view.parent)
+  spared_stays : (but : List Object) → ModifiesOnly but old new → (r : Ptr Region) (view : RegionView) → region old r ≡ Some view → (Among (TheRegion r) but → ⊥) → (now : RegionView) × (region new r ≡ Some now) × (now.parent ≡ view.parent)
   spared_stays but s r view e n = (view, s.spared (TheRegion r) (subst IsSome (sym e) refl) n ∙ e, refl)
 
   -- no region changed
-  pub stay_spared : (but : List Object) → Spares but old new → ((r : Ptr Region) → Among (TheRegion r) but → ⊥) → RegionsStay old new
+  pub stay_spared : (but : List Object) → ModifiesOnly but old new → ((r : Ptr Region) → Among (TheRegion r) but → ⊥) → RegionsStay old new
   stay_spared but s none = record { stay = λ r view e. spared_stays but s r view e (none r) }
 
   -- an operation changed, or came, or one and its block
-  pub stay_operation : (p : Ptr Operation) → Spares (TheOperation p ∷ []) old new → RegionsStay old new
+  pub stay_operation : (p : Ptr Operation) → ModifiesOnly (TheOperation p ∷ []) old new → RegionsStay old new
   stay_operation p s = stay_spared (TheOperation p ∷ []) s (λ r i. elim i [ inl e ↦ absurd (cc e) | inr j ↦ absurd j ])
 
-  pub stay_placed : (p : Ptr Operation) (b : Ptr BasicBlock) → Spares (TheOperation p ∷ TheBlock b ∷ []) old new → RegionsStay old new
+  pub stay_placed : (p : Ptr Operation) (b : Ptr BasicBlock) → ModifiesOnly (TheOperation p ∷ TheBlock b ∷ []) old new → RegionsStay old new
   stay_placed p b s = stay_spared (TheOperation p ∷ TheBlock b ∷ []) s (λ r i. elim i [ inl e ↦ absurd (cc e) | inr (inl e) ↦ absurd (cc e) | inr (inr j) ↦ absurd j ])
 
   -- a region came, the last of an operation
-  pub stay_entered : (q : Ptr Region) (p : Ptr Operation) → RegionCame old new q → Spares (TheRegion q ∷ TheOperation p ∷ []) old new → RegionsStay old new
+  pub stay_entered : (q : Ptr Region) (p : Ptr Operation) → RegionCame old new q → ModifiesOnly (TheRegion q ∷ TheOperation p ∷ []) old new → RegionsStay old new
   stay_entered q p came s = record {
     stay = λ r view e. spared_stays (TheRegion q ∷ TheOperation p ∷ []) s r view e (λ i. elim i [
       | inl f ↦ absurd (came.is_new (subst (λ o. IsThere old o) f (subst IsSome (sym e) refl)))
@@ -49,7 +49,7 @@ module _ {T A : Type 0} (old new : ContextView T A) where
   }
 
   -- a region has one more block, which came
-  pub stay_gained : (q : Ptr Region) (b : Ptr BasicBlock) → RegionGains old new q b → Spares (TheBlock b ∷ TheRegion q ∷ []) old new → RegionsStay old new
+  pub stay_gained : (q : Ptr Region) (b : Ptr BasicBlock) → RegionGains old new q b → ModifiesOnly (TheBlock b ∷ TheRegion q ∷ []) old new → RegionsStay old new
   stay_gained q b gains s = record { stay = λ r view e. elim (told ptr_tells r q) [ inl f ↦ same r view e f | inr n ↦ other r view e n ] }
     where
       same : (r : Ptr Region) (view : RegionView) → region old r ≡ Some view → r ≡ q → (now : RegionView) × (region new r ≡ Some now) × (now.parent ≡ view.parent)

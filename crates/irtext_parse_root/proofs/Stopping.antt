@@ -6,26 +6,26 @@ use Rattle.irtext_base.specs.Stream.{StreamView}
 use Rattle.irtext_base.specs.Locations.{AttrView}
 use Rattle.irtext_base.specs.declared.parsable.fault.ParseFault.{ParseFault}
 use Rattle.irtext_context.specs.Context.{ContextView}
-use Rattle.irtext_read.specs.AttrTexts.{attr_at}
-use Rattle.irtext_read.specs.Infix.{Reader}
-use Rattle.irtext_state.specs.declared.parsable.state.StateStream.{StateStream}
+use Rattle.irtext_tokens.specs.AttrTexts.{attr_at}
+use Rattle.irtext_tokens.specs.Infix.{Reader}
+use Rattle.irtext_parse_state.specs.declared.parsable.state.StateStream.{StateStream}
 use Rattle.irtext_grammar.specs.Contexts.Formats.{isolated}
 use Rattle.irtext_grammar.specs.Contexts.Held.{whole}
 use Rattle.irtext_grammar.specs.Grammar.Tree.{Name}
-use Rattle.irtext_outcomes.specs.Promises.Root.{UnlessMemory}
-use Rattle.irtext_outcomes.proofs.Joins.Answers.{Splits}
-use Rattle.irtext_nesting.specs.Heads.{Step, one, all}
-use Rattle.irtext_nesting.specs.Reached.{begins_region, begins_block, steps_in}
-use Rattle.irtext_nesting.specs.Resume.{Begun}
-use Rattle.irtext_nesting.proofs.Resume.Front.{splits_piece}
-use Rattle.irtext_nesting.specs.Stands.{OwnSoFar}
+use Rattle.irtext_parse_spec.specs.Promises.Root.{UnlessMemory}
+use Rattle.irtext_parse_spec.proofs.Joins.Answers.{Splits}
+use Rattle.irtext_parse_spec.specs.Heads.{Step, one, all}
+use Rattle.irtext_parse_spec.specs.Reached.{begins_region, begins_block, steps_in}
+use Rattle.irtext_parse_spec.specs.Resume.{OpenOperation}
+use Rattle.irtext_parse_spec.proofs.Resume.Front.{splits_piece}
+use Rattle.irtext_parse_spec.specs.Unchanged.{OwnSoFar}
 use Rattle.irtext_names.specs.Rows.{AreKnown}
 use Rattle.irtext_parse_pieces.specs.declared.names.ReadName.{ReadName}
 use Rattle.irtext_parse_pieces.specs.Named.{Leaves, StandsFor, Each}
 use Rattle.irtext_parse_nested.specs.declared.frame.BegunOperation.{BegunOperation}
 use Rattle.irtext_parse_nested.specs.declared.frame.BegunRegion.{BegunRegion}
 use Rattle.irtext_parse_nested.specs.declared.frame.BegunBlock.{BegunBlock}
-use Rattle.irtext_parse_nested.specs.Begun.{IsBegun, IsRegion}
+use Rattle.irtext_parse_nested.specs.OpenOperation.{IsBegun, IsRegion}
 use Rattle.irtext_parse_nested.specs.Ends.{numbers_of}
 use Rattle.irtext_parse_nested.specs.Items.{Names, doing}
 use Rattle.irtext_parse_nested.specs.Read as read
@@ -80,7 +80,7 @@ module _ {T A U : Type 0} (types_at : Reader T) (reading : Reader A) (h : Splits
 
   module _ (b : BegunOperation) (committed : fault.committed ≡ true) where
     -- wherever the operation is open
-    operation_stops : ((base : Base) (v l : ℕ) (o : Begun T A) (own : OwnSoFar T A) (more : List (Level T A)) → IsHere base v l (at_operation b o own ∷ more) before text ctx (Some (framed.Operation b)) frames → NoTurn (at_operation b o own ∷ more))
+    operation_stops : ((base : Base) (v l : ℕ) (o : OpenOperation T A) (own : OwnSoFar T A) (more : List (Level T A)) → IsHere base v l (at_operation b o own ∷ more) before text ctx (Some (framed.Operation b)) frames → NoTurn (at_operation b o own ∷ more))
         → Stops types_at attr (framed.Operation b) frames before old fault
     operation_stops stops = record {
       committed = committed;
@@ -89,14 +89,14 @@ module _ {T A U : Type 0} (types_at : Reader T) (reading : Reader A) (h : Splits
           subst NoTurn (sym q.3) (stops base v l q.0 q.1 q.2 (subst (λ z. IsHere base v l z before text ctx (Some (framed.Operation b)) frames) q.3 here));
     }
 
-    pub piece_stops : IsNext ctx.dialects b comes.Piece → ((o : Begun T A) (step : Step) (ss : List Step) → IsBegun before.names text ctx b o → o.steps ≡ step ∷ ss → UnlessMemory (RefusesPiece types_at attr o step before old) fault)
+    pub piece_stops : IsNext ctx.dialects b comes.Piece → ((o : OpenOperation T A) (step : Step) (ss : List Step) → IsBegun before.names text ctx b o → o.steps ≡ step ∷ ss → UnlessMemory (RefusesPiece types_at attr o step before old) fault)
         → Stops types_at attr (framed.Operation b) frames before old fault
     piece_stops is refused = operation_stops (λ base v l o own more here.
         let s = piece_comes (slice_get (steps_in ctx.dialects (id_of b.id)) b.step) is in
         let e = steps_here before.names text ctx b o here.levels.0.0 s.0 s.1 in
         no_piece_stands types_at attr before old fault b o own more s.0 (drop (b.step + 1) (steps_in ctx.dialects (id_of b.id))) e s.2 (refused o s.0 (drop (b.step + 1) (steps_in ctx.dialects (id_of b.id))) here.levels.0.0 e))
 
-    pub end_stops : IsNext ctx.dialects b comes.End → ((o : Begun T A) → IsBegun before.names text ctx b o → UnlessMemory (RefusesEnd types_at attr o b before old) fault) → Stops types_at attr (framed.Operation b) frames before old fault
+    pub end_stops : IsNext ctx.dialects b comes.End → ((o : OpenOperation T A) → IsBegun before.names text ctx b o → UnlessMemory (RefusesEnd types_at attr o b before old) fault) → Stops types_at attr (framed.Operation b) frames before old fault
     end_stops is refused = operation_stops (λ base v l o own more here.
         no_end_stands types_at attr before old fault b o own more (no_steps_here before.names text ctx b o here.levels.0.0 (end_comes (slice_get (steps_in ctx.dialects (id_of b.id)) b.step) is)) (refused o here.levels.0.0))
 
@@ -157,14 +157,14 @@ module _ {T A U : Type 0} (types_at : Reader T) (reading : Reader A) (h : Splits
 
 -- ---- what is asked of the turns of what is open
 module _ {T A : Type 0} (text : Text) (ctx : ContextView T A) (names : Names) (frames : List Frame) where
-  pub operation_there : (b : BegunOperation) → AreHere T A text ctx names (Some (framed.Operation b)) frames → (o : Begun T A) × IsBegun names.names text ctx b o
+  pub operation_there : (b : BegunOperation) → AreHere T A text ctx names (Some (framed.Operation b)) frames → (o : OpenOperation T A) × IsBegun names.names text ctx b o
   operation_there b s =
       let q = operation_first b s.ls s.here.next_is in
       let here = subst (λ z. IsHere s.base s.v s.l z names text ctx (Some (framed.Operation b)) frames) q.3 s.here in
       (q.0, here.levels.0.0)
 
   pub piece_there : (b : BegunOperation) → IsNext ctx.dialects b comes.Piece → AreHere T A text ctx names (Some (framed.Operation b)) frames
-      → (o : Begun T A) × (step : Step) × (ss : List Step) × IsBegun names.names text ctx b o × (o.steps ≡ step ∷ ss)
+      → (o : OpenOperation T A) × (step : Step) × (ss : List Step) × IsBegun names.names text ctx b o × (o.steps ≡ step ∷ ss)
   piece_there b is s =
       let at = operation_there b s in
       let p = piece_comes (slice_get (steps_in ctx.dialects (id_of b.id)) b.step) is in

@@ -5,13 +5,13 @@ use Rattle.irtext_base.specs.Faults.{Fault}
 use Rattle.irtext_base.specs.Answers.{Outcome}
 use Rattle.irtext_base.specs.Locations.{AttrView}
 use Rattle.irtext_context.specs.Dialects.{Table}
-use Rattle.irtext_nesting.specs.Reached.{Doing}
-use Rattle.irtext_nesting.specs.Resume.{Open, Goes, StuckAt}
-use Rattle.irtext_nesting.specs.Both.{seen_as}
-use Rattle.irtext_nesting.proofs.Seen.{Shows, seen_whole}
+use Rattle.irtext_parse_spec.specs.Reached.{Actions}
+use Rattle.irtext_parse_spec.specs.Resume.{Open, Goes, StoppedAt}
+use Rattle.irtext_parse_spec.specs.Both.{seen_as}
+use Rattle.irtext_parse_spec.proofs.Seen.{Shows, seen_whole}
 use Rattle.irtext_parse_root.specs.Told.{Did, told, one_done, all_done}
 
-module _ {T A S : Type 0} (does : Doing T A S) where
+module _ {T A S : Type 0} (does : Actions T A S) where
   -- what is told is done
   pub tells_does : (s : S) → Shows (λ ds. all_done does ds s) told does
   tells_does s = record {
@@ -43,15 +43,15 @@ tells_behind es = record {
 
 module _ {T A : Type 0} {dialects : List (Text × Table)} {types_at : Text → Outcome T} {attr : Text → Outcome (AttrView A)} {next : Option (Open T A)} {frames : List (Open T A)} {text : Text} where
   -- where what is told leads, each way of doing leads
-  pub goes_told : {S : Type 0} (does : Doing T A S) {next' : Option (Open T A)} {frames' : List (Open T A)} {text' : Text} {did : List (Did T A)}
+  pub goes_told : {S : Type 0} (does : Actions T A S) {next' : Option (Open T A)} {frames' : List (Open T A)} {text' : Text} {did : List (Did T A)}
       → Goes dialects types_at attr told next frames [] text next' frames' did text' → (s : S) → Goes dialects types_at attr does next frames s text next' frames' (all_done does did s) text'
   goes_told does {next'} {frames'} {text'} {did} g s = record {
     so = sym (seen_whole dialects types_at attr (λ ds. all_done does ds s) told does (tells_does does s) next frames [] text)
         ∙ (ap (seen_as (λ ds. all_done does ds s)) g.so ∙ seen_whole dialects types_at attr (λ ds. all_done does ds s) told does (tells_does does s) next' frames' did text');
   }
 
-  pub stuck_told : {S : Type 0} (does : Doing T A S) {did : List (Did T A)} {cause : Fault} {place : ℕ}
-      → StuckAt dialects types_at attr told next frames [] text did cause place → (s : S) → StuckAt dialects types_at attr does next frames s text (all_done does did s) cause place
+  pub stuck_told : {S : Type 0} (does : Actions T A S) {did : List (Did T A)} {cause : Fault} {place : ℕ}
+      → StoppedAt dialects types_at attr told next frames [] text did cause place → (s : S) → StoppedAt dialects types_at attr does next frames s text (all_done does did s) cause place
   stuck_told does g s = record {
     so = sym (seen_whole dialects types_at attr (λ ds. all_done does ds s) told does (tells_does does s) next frames [] text) ∙ ap (seen_as (λ ds. all_done does ds s)) g.so;
   }
@@ -65,7 +65,7 @@ module _ {T A : Type 0} {dialects : List (Text × Table)} {types_at : Text → O
   }
 
   pub stuck_behind : {did : List (Did T A)} {cause : Fault} {place : ℕ}
-      → StuckAt dialects types_at attr told next frames [] text did cause place → (es : List (Did T A)) → StuckAt dialects types_at attr told next frames es text (did ++ es) cause place
+      → StoppedAt dialects types_at attr told next frames [] text did cause place → (es : List (Did T A)) → StoppedAt dialects types_at attr told next frames es text (did ++ es) cause place
   stuck_behind g es = record {
     so = sym (seen_whole dialects types_at attr (λ ds. ds ++ es) told told (tells_behind es) next frames [] text) ∙ ap (seen_as (λ ds. ds ++ es)) g.so;
   }

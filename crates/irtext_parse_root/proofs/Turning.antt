@@ -10,32 +10,32 @@ use Rattle.irtext_graph.specs.declared.arena.Ptr.{Ptr}
 use Rattle.irtext_graph.specs.declared.object.BasicBlock.{BasicBlock}
 use Rattle.irtext_graph.specs.declared.object.Operation.{Operation}
 use Rattle.irtext_graph.specs.declared.object.Object.TheVariants.{TheOperation, TheBlock, TheRegion}
-use Rattle.irtext_read.specs.Infix.{Reader, ◌▷◌}
-use Rattle.irtext_read.specs.Tokens.{space_at, word}
-use Rattle.irtext_state.specs.States.{marks_of}
-use Rattle.irtext_state.specs.declared.parsable.state.State as code
-use Rattle.irtext_state.specs.declared.parsable.state.StateStream.{StateStream}
+use Rattle.irtext_tokens.specs.Infix.{Reader, ◌▷◌}
+use Rattle.irtext_tokens.specs.Tokens.{space_at, word}
+use Rattle.irtext_parse_state.specs.States.{marks_of}
+use Rattle.irtext_parse_state.specs.declared.parsable.state.State as code
+use Rattle.irtext_parse_state.specs.declared.parsable.state.StateStream.{StateStream}
 use Rattle.irtext_grammar.specs.Contexts.Formats.{format_of, isolated}
 use Rattle.irtext_grammar.specs.Contexts.Held.{whole}
 use Rattle.irtext_grammar.specs.Grammar.Tree as tree
 use Rattle.irtext_grammar.specs.Grammar.Tree.{Part}
 use Rattle.irtext_grammar.specs.Graphs.Build.{put_all, stored, read_names}
-use Rattle.irtext_outcomes.specs.Readers.Parts.{without_first}
-use Rattle.irtext_outcomes.proofs.Joins.Answers.{Splits}
-use Rattle.irtext_nesting.specs.Heads.{Step, one, all, front_steps, piece_at, head_at}
-use Rattle.irtext_nesting.specs.Reached.{begins_region, begins_block, steps_in}
-use Rattle.irtext_nesting.specs.Resume.{Begun, with_steps, is_flat, Open, to_come, an_operation, a_region, a_block, Goes}
-use Rattle.irtext_nesting.proofs.Resume.Frames.{goes_trans}
-use Rattle.irtext_nesting.proofs.Resume.Front.{front_reads}
-use Rattle.irtext_nesting.proofs.Resume.Turns.{operation_begins, piece_reads, operation_ends, first_operation, no_operation, region_begins, no_more_regions, another_region, block_begins, region_ends, another_operation, no_more_operations}
-use Rattle.irtext_nesting.proofs.Resume.Unbounded.{Unbounded}
-use Rattle.irtext_nesting.specs.Grows.{RegionCame, OperationGains, RegionGains, BlockCame, OwnBecame}
-use Rattle.irtext_nesting.specs.Stands.{OwnSoFar, operation_under, region_under, HasOwn, HasUses, Spares}
+use Rattle.irtext_parse_spec.specs.Readers.Parts.{without_first}
+use Rattle.irtext_parse_spec.proofs.Joins.Answers.{Splits}
+use Rattle.irtext_parse_spec.specs.Heads.{Step, one, all, front_steps, piece_at, head_at}
+use Rattle.irtext_parse_spec.specs.Reached.{begins_region, begins_block, steps_in}
+use Rattle.irtext_parse_spec.specs.Resume.{OpenOperation, with_steps, is_flat, Open, to_come, an_operation, a_region, a_block, Goes}
+use Rattle.irtext_parse_spec.proofs.Resume.Frames.{goes_trans}
+use Rattle.irtext_parse_spec.proofs.Resume.Front.{front_reads}
+use Rattle.irtext_parse_spec.proofs.Resume.Turns.{operation_begins, piece_reads, operation_ends, first_operation, no_operation, region_begins, no_more_regions, another_region, block_begins, region_ends, another_operation, no_more_operations}
+use Rattle.irtext_parse_spec.proofs.Resume.Unbounded.{Unbounded}
+use Rattle.irtext_parse_spec.specs.Grows.{RegionCame, OperationGains, RegionGains, BlockCame, OwnBecame}
+use Rattle.irtext_parse_spec.specs.Unchanged.{OwnSoFar, operation_under, region_under, HasOwn, HasUses, ModifiesOnly}
 use Rattle.irtext_parse_nested.specs.declared.frame.BegunOperation.{BegunOperation}
 use Rattle.irtext_parse_nested.specs.declared.frame.BegunRegion.{BegunRegion}
 use Rattle.irtext_parse_nested.specs.declared.frame.BegunBlock.{BegunBlock}
 use Rattle.irtext_parse_nested.specs.Beginning.{HasBegun, ComesInto}
-use Rattle.irtext_parse_nested.specs.Begun.{pledge_of}
+use Rattle.irtext_parse_nested.specs.OpenOperation.{pledge_of}
 use Rattle.irtext_parse_nested.specs.Ends.{noted_as}
 use Rattle.irtext_parse_nested.specs.Items.{Names, Acts, doing}
 use Rattle.irtext_parse_nested.specs.Located.{IsLocated}
@@ -143,11 +143,11 @@ module _ {T A U : Type 0} (types_at : Reader T) (attr : Reader (AttrView A)) (ba
         came = subst (λ t. ComesInto (IsLocated old.state.src t) old.state.ctx.now new.state.ctx.now b.op h.own (Some kb.block)) same h.comes
 
   -- ---- an operation: a piece behind a region
-  module _ (b : BegunOperation) (o : Begun T A) (own : OwnSoFar T A) (more : List (Level T A)) where
+  module _ (b : BegunOperation) (o : OpenOperation T A) (own : OwnSoFar T A) (more : List (Level T A)) where
     pub piece_read : (next : BegunOperation) (step : Step) (ss : List Step) (names : Names) (new : StateStream T A U) → o.steps ≡ step ∷ ss → is_flat step ≡ true → next.op ≡ b.op → next.results ≡ b.results → (r : ReadsPiece types_at attr o step b before old names new)
         → ((view : OperationView T A) → operation old.state.ctx.now b.op ≡ Some view → HasOwn (IsLocated old.state.src text) view own → HasUses old.state.ctx.now b.op own
         → OwnBecame old.state.ctx.now new.state.ctx.now (IsLocated old.state.src text) b.op (record own { entries = put_all own.entries (stored r.piece) }))
-        → Spares (TheOperation b.op ∷ []) old.state.ctx.now new.state.ctx.now → marks_of new.state ≡ marks_of old.state → length new.stream.rest ≤ length old.stream.rest
+        → ModifiesOnly (TheOperation b.op ∷ []) old.state.ctx.now new.state.ctx.now → marks_of new.state ≡ marks_of old.state → length new.stream.rest ≤ length old.stream.rest
         → Makes (at_operation b o own ∷ more) (at_operation next (with_steps o ss (o.parts ++ tree.piece r.piece ∷ [])) (record own { entries = put_all own.entries (stored r.piece) }) ∷ more) names new
     piece_read next step ss names new e f same counts r became spares marked fewer = record {
       did = did_late o.place o.id r.piece ∷ [];
@@ -172,7 +172,7 @@ module _ {T A U : Type 0} (types_at : Reader T) (attr : Reader (AttrView A)) (ba
 
       entered : (next : BegunOperation) (ss : List Step) (ps : List (Part ℕ T A)) (iso : Bool) → next.op ≡ b.op → next.results ≡ b.results → iso ≡ isolated dialects o.id
           → (h : BeginsRegion types_at attr iso r before (with_stream old v) names new) → RegionCame old.state.ctx.now new.state.ctx.now r.region → OperationGains old.state.ctx.now new.state.ctx.now b.op r.region
-          → Spares (TheRegion r.region ∷ TheOperation b.op ∷ []) old.state.ctx.now new.state.ctx.now → marks_of new.state ≡ marks_of old.state → length new.stream.rest ≤ length old.stream.rest
+          → ModifiesOnly (TheRegion r.region ∷ TheOperation b.op ∷ []) old.state.ctx.now new.state.ctx.now → marks_of new.state ≡ marks_of old.state → length new.stream.rest ≤ length old.stream.rest
           → Goes dialects types_at attr told (next_of (at_operation b o own ∷ more)) (waiting (at_operation b o own ∷ more)) [] old.stream.rest (next_of (in_it next ss ps)) (waiting (in_it next ss ps)) (did_enter (isolated dialects o.id) ∷ []) new.stream.rest
           → Makes (at_operation b o own ∷ more) (in_it next ss ps) names new
       entered next ss ps iso same counts is h came gains spares marked fewer g = record {
@@ -194,7 +194,7 @@ module _ {T A U : Type 0} (types_at : Reader T) (attr : Reader (AttrView A)) (ba
       -- one region
       pub region_entered : (i : ℕ) (ss : List Step) (next : BegunOperation) (iso : Bool) → o.steps ≡ one i ∷ ss → next.op ≡ b.op → next.results ≡ b.results → iso ≡ isolated dialects o.id → v.rest ≡ after_space old.stream.rest
           → (h : BeginsRegion types_at attr iso r before (with_stream old v) names new) → RegionCame old.state.ctx.now new.state.ctx.now r.region → OperationGains old.state.ctx.now new.state.ctx.now b.op r.region
-          → Spares (TheRegion r.region ∷ TheOperation b.op ∷ []) old.state.ctx.now new.state.ctx.now → marks_of new.state ≡ marks_of old.state → length new.stream.rest ≤ length old.stream.rest
+          → ModifiesOnly (TheRegion r.region ∷ TheOperation b.op ∷ []) old.state.ctx.now new.state.ctx.now → marks_of new.state ≡ marks_of old.state → length new.stream.rest ≤ length old.stream.rest
           → Makes (at_operation b o own ∷ more) (in_it next ss (o.parts ++ tree.region i ∷ [])) names new
       region_entered i ss next iso e same counts is at h came gains spares marked fewer = entered next ss (o.parts ++ tree.region i ∷ []) iso same counts is h came gains spares marked fewer
           (subst (λ n. Goes dialects types_at attr told (next_of (at_operation b o own ∷ more)) (waiting (at_operation b o own ∷ more)) [] old.stream.rest (Some (a_region (isolated dialects o.id) n)) (waiting (in_it next ss (o.parts ++ tree.region i ∷ []))) (did_enter (isolated dialects o.id) ∷ []) new.stream.rest)
@@ -204,7 +204,7 @@ module _ {T A U : Type 0} (types_at : Reader T) (attr : Reader (AttrView A)) (ba
       -- one of all regions
       pub another_entered : (ss : List Step) (iso : Bool) → o.steps ≡ all ∷ ss → begins_region (after_space old.stream.rest) ≡ true → iso ≡ isolated dialects o.id → v.rest ≡ after_space old.stream.rest
           → (h : BeginsRegion types_at attr iso r before (with_stream old v) names new) → RegionCame old.state.ctx.now new.state.ctx.now r.region → OperationGains old.state.ctx.now new.state.ctx.now b.op r.region
-          → Spares (TheRegion r.region ∷ TheOperation b.op ∷ []) old.state.ctx.now new.state.ctx.now → marks_of new.state ≡ marks_of old.state → length new.stream.rest ≤ length old.stream.rest
+          → ModifiesOnly (TheRegion r.region ∷ TheOperation b.op ∷ []) old.state.ctx.now new.state.ctx.now → marks_of new.state ≡ marks_of old.state → length new.stream.rest ≤ length old.stream.rest
           → Makes (at_operation b o own ∷ more) (in_it b o.steps o.parts) names new
       another_entered ss iso e stands is at h came gains spares marked fewer = entered b o.steps o.parts iso refl refl is h came gains spares marked fewer
           (subst (λ n. Goes dialects types_at attr told (next_of (at_operation b o own ∷ more)) (waiting (at_operation b o own ∷ more)) [] old.stream.rest (Some (a_region (isolated dialects o.id) n)) (waiting (in_it b o.steps o.parts)) (did_enter (isolated dialects o.id) ∷ []) new.stream.rest)
@@ -234,7 +234,7 @@ module _ {T A U : Type 0} (types_at : Reader T) (attr : Reader (AttrView A)) (ba
     module _ (e : o.steps ≡ []) (names : Names) (new : StateStream T A U) (has : HasBegun (format_of dialects) o own) (h : EndsOperation types_at attr o b before old names new)
         (became : (view : OperationView T A) → operation old.state.ctx.now b.op ≡ Some view → HasOwn (IsLocated old.state.src text) view own → HasUses old.state.ctx.now b.op own
         → OwnBecame old.state.ctx.now new.state.ctx.now (IsLocated old.state.src text) b.op (record own { entries = put_all own.entries (read_names (map (λ n. n.text) o.names)) }))
-        (spares : Spares (TheOperation b.op ∷ []) old.state.ctx.now new.state.ctx.now) (note : marks_of new.state ≡ marks_of old.state ++ noted_as h.mark (item.Operation b.op)) (fewer : length new.stream.rest ≤ length old.stream.rest) where
+        (spares : ModifiesOnly (TheOperation b.op ∷ []) old.state.ctx.now new.state.ctx.now) (note : marks_of new.state ≡ marks_of old.state ++ noted_as h.mark (item.Operation b.op)) (fewer : length new.stream.rest ≤ length old.stream.rest) where
       abbrev at_end : List (Did T A)
       at_end = did_mark h.mark ∷ did_close o.place o.names o.id o.parts ∷ []
 
@@ -281,7 +281,7 @@ module _ {T A U : Type 0} (types_at : Reader T) (attr : Reader (AttrView A)) (ba
   module _ (k : Unbounded dialects types_at attr told) (r : BegunRegion) (iso : Bool) (place : ℕ) (last : Option (Ptr BasicBlock)) (more : List (Level T A)) (v : StreamView) (at : v.rest ≡ after_space old.stream.rest) (names : Names) (new : StateStream T A U) where
     -- a block begins in it
     pub block_begun : (kb : BegunBlock) → begins_block (after_space old.stream.rest) ≡ true → kb.first ≡ true → whole v ≡ text → (h : BeginsBlock types_at attr kb before (with_stream old v) names new)
-        → BlockCame old.state.ctx.now new.state.ctx.now (IsLocated old.state.src (whole v)) kb.block h.head → RegionGains old.state.ctx.now new.state.ctx.now r.region kb.block → Spares (TheBlock kb.block ∷ TheRegion r.region ∷ []) old.state.ctx.now new.state.ctx.now
+        → BlockCame old.state.ctx.now new.state.ctx.now (IsLocated old.state.src (whole v)) kb.block h.head → RegionGains old.state.ctx.now new.state.ctx.now r.region kb.block → ModifiesOnly (TheBlock kb.block ∷ TheRegion r.region ∷ []) old.state.ctx.now new.state.ctx.now
         → marks_of new.state ≡ marks_of old.state ++ noted_as h.head.mark (item.Block kb.block) → (length new.stream.rest < h.head.label.place) × (h.head.label.place ≤ length old.stream.rest)
         → Makes (at_region r iso place last ∷ more) (at_block kb ∷ at_region r iso place (Some kb.block) ∷ more) names new
     block_begun kb stands first same h came gains spares note falls = record {
@@ -307,7 +307,7 @@ module _ {T A U : Type 0} (types_at : Reader T) (attr : Reader (AttrView A)) (ba
       left_acts = acts_within [] (λ path. (doing {T = T} {A = A} dialects path).leaves iso place) before names old.state new.state (pledges_of more) (record { so = λ path made others z st. h.acts.so path made others z st })
 
       -- in an operation
-      pub region_over : (b : BegunOperation) (o : Begun T A) (own : OwnSoFar T A) (outside : List (Level T A)) → more ≡ at_operation b o own ∷ outside
+      pub region_over : (b : BegunOperation) (o : OpenOperation T A) (own : OwnSoFar T A) (outside : List (Level T A)) → more ≡ at_operation b o own ∷ outside
           → Makes (at_region r iso place last ∷ at_operation b o own ∷ outside) (at_operation b o own ∷ outside) names new
       region_over b o own outside is = record {
         did = did_leave iso place ∷ [];

@@ -23,37 +23,37 @@ use Rattle.irtext_graph.specs.declared.object.Region.{Region}
 use Rattle.irtext_graph.specs.declared.object.Object.{Object}
 use Rattle.irtext_graph.specs.declared.object.Object.TheVariants.{TheOperation, TheRegion}
 use Rattle.irtext_graph.proofs.Frames.{new_operation}
-use Rattle.irtext_read.specs.AttrTexts.{attr_at}
-use Rattle.irtext_read.specs.Infix.{Reader, ◌▷◌}
-use Rattle.irtext_read.specs.Tokens.{space_at, word}
+use Rattle.irtext_tokens.specs.AttrTexts.{attr_at}
+use Rattle.irtext_tokens.specs.Infix.{Reader, ◌▷◌}
+use Rattle.irtext_tokens.specs.Tokens.{space_at, word}
 use Rattle.irtext_scopes.specs.Scopes.{is_open}
 use Rattle.irtext_scopes.specs.Tracker.{entered}
-use Rattle.irtext_state.specs.States.{marks_of}
-use Rattle.irtext_state.specs.declared.parsable.state.StateStream.{StateStream}
+use Rattle.irtext_parse_state.specs.States.{marks_of}
+use Rattle.irtext_parse_state.specs.declared.parsable.state.StateStream.{StateStream}
 use Rattle.irtext_grammar.specs.Contexts.Formats.{format_of}
 use Rattle.irtext_grammar.specs.Contexts.Held.{whole}
 use Rattle.irtext_grammar.specs.Names.History.{Outcome as Machine, failed}
 use Rattle.irtext_grammar.specs.Names.Script.{Path}
-use Rattle.irtext_outcomes.specs.Promises.Root.{UnlessMemory}
-use Rattle.irtext_outcomes.specs.Promises.Section.{Moves}
-use Rattle.irtext_outcomes.specs.Readers.Streams.{KeepsRest, itself, replaced}
-use Rattle.irtext_outcomes.proofs.Readers.Answered.{moves_more}
-use Rattle.irtext_outcomes.proofs.Joins.Answers.{Splits}
-use Rattle.irtext_nesting.specs.Reached.{Reached, Came, Stuck, came, tells, Doing, blocks_by, begins_region, region_at}
-use Rattle.irtext_nesting.specs.Resume.{a_region, block_at, EndsIn}
-use Rattle.irtext_nesting.specs.Resume as theory
-use Rattle.irtext_nesting.proofs.Knot.Loops.{tells_found}
-use Rattle.irtext_nesting.proofs.Naming.Keeps.{failed_keeps}
-use Rattle.irtext_nesting.proofs.Naming.KeepsReading.{done_in, quiet_region_at}
-use Rattle.irtext_nesting.proofs.Resume.Frames.{tells_bad}
-use Rattle.irtext_nesting.proofs.Resume.Unbounded.{Unbounded}
-use Rattle.irtext_nesting.specs.Grows.{RegionCame}
-use Rattle.irtext_nesting.specs.Stands.{region_under, IsThere, Spares}
-use Rattle.irtext_nesting.specs.Tracks.{Made, HoldsMade, IsHeld as HeldBy}
-use Rattle.irtext_nesting.proofs.Kept.{there_still}
+use Rattle.irtext_parse_spec.specs.Promises.Root.{UnlessMemory}
+use Rattle.irtext_parse_spec.specs.Promises.Section.{Moves}
+use Rattle.irtext_parse_spec.specs.Readers.Streams.{KeepsRest, itself, replaced}
+use Rattle.irtext_parse_spec.proofs.Readers.Answered.{moves_more}
+use Rattle.irtext_parse_spec.proofs.Joins.Answers.{Splits}
+use Rattle.irtext_parse_spec.specs.Reached.{Reached, Advanced, Stopped, came, tells, Actions, blocks_by, begins_region, region_at}
+use Rattle.irtext_parse_spec.specs.Resume.{a_region, block_at, EndsIn}
+use Rattle.irtext_parse_spec.specs.Resume as theory
+use Rattle.irtext_parse_spec.proofs.Knot.Loops.{tells_found}
+use Rattle.irtext_parse_spec.proofs.Naming.Keeps.{failed_keeps}
+use Rattle.irtext_parse_spec.proofs.Naming.KeepsReading.{done_in, quiet_region_at}
+use Rattle.irtext_parse_spec.proofs.Resume.Frames.{tells_bad}
+use Rattle.irtext_parse_spec.proofs.Resume.Unbounded.{Unbounded}
+use Rattle.irtext_parse_spec.specs.Grows.{RegionCame}
+use Rattle.irtext_parse_spec.specs.Unchanged.{region_under, IsThere, ModifiesOnly}
+use Rattle.irtext_parse_spec.specs.Tracks.{Made, HoldsMade, IsHeld as HeldBy}
+use Rattle.irtext_parse_spec.proofs.Kept.{there_still}
 use Rattle.irtext_parse_nested.specs.declared.frame.BegunRegion.{BegunRegion}
 use Rattle.irtext_parse_nested.specs.Items.{Names, StandsAs, IsFailure, IsTextFault, IsSound, doing}
-use Rattle.irtext_parse_nested.specs.Begun.{IsRegion}
+use Rattle.irtext_parse_nested.specs.OpenOperation.{IsRegion}
 use Rattle.irtext_parse_nested.specs.Located.{IsLocated}
 use Rattle.irtext_parse_nested.specs.Read as read
 use Rattle.irtext_parse_nested.specs.Read.{BeginsRegion, RefusesRegion}
@@ -119,10 +119,10 @@ tight (Read y first left) x taken rest e =
 tight (Missing cause) x taken rest e = absurd (cc)
 tight (Bad cause upto) x taken rest e = absurd (cc)
 
-module _ {T A S : Type 0} (dialects : List (Text × Table)) (types_at : Reader T) (attr : Reader (AttrView A)) (does : Doing T A S) (k : Unbounded dialects types_at attr does) where
+module _ {T A S : Type 0} (dialects : List (Text × Table)) (types_at : Reader T) (attr : Reader (AttrView A)) (does : Actions T A S) (k : Unbounded dialects types_at attr does) where
   -- the brace behind a region's blocks
   abbrev and_brace : Bool → ℕ → Reached Unit S → Reached Unit S
-  and_brace iso place o = came o (λ _ z left. tells (word (codes "}") left) left z (λ _ end. Came tt (does.leaves iso place z) end))
+  and_brace iso place o = came o (λ _ z left. tells (word (codes "}") left) left z (λ _ end. Advanced tt (does.leaves iso place z) end))
 
   abbrev behind_brace : Bool → ℕ → S → Unit {0} → Text → Reached Unit S
   behind_brace iso place z x rest = and_brace iso place (blocks_by (block_at dialects types_at attr does) (length rest) rest z)
@@ -135,7 +135,7 @@ module _ {T A S : Type 0} (dialects : List (Text × Table)) (types_at : Reader T
 
   -- no brace stands there
   region_lacks : (iso : Bool) (s : S) (u : Text) (cause : Fault) (upto : Text) → demanded ((word (codes "{") ▷ space_at) u) ≡ Bad cause upto
-      → region_at dialects types_at attr does iso u s ≡ Stuck (does.enters iso s) cause (length u - length upto)
+      → region_at dialects types_at attr does iso u s ≡ Stopped (does.enters iso s) cause (length u - length upto)
   region_lacks iso s u cause upto e = k.region_is iso u s ∙ tells_bad ((word (codes "{") ▷ space_at) u) u (does.enters iso s) (behind_brace iso (length u) (does.enters iso s)) cause upto e
 
   -- it is entered before its brace is read
@@ -144,8 +144,8 @@ module _ {T A S : Type 0} (dialects : List (Text × Table)) (types_at : Reader T
 
 -- a reading ends in what had been done there
 ends_in : {X S : Type 0} (s : S) (o : Reached X S) → done_in o ≡ s → EndsIn s o
-ends_in s (Came x t rest) e = e
-ends_in s (Stuck t cause place) e = e
+ends_in s (Advanced x t rest) e = e
+ends_in s (Stopped t cause place) e = e
 
 -- ---- all of it
 -- less may stand behind the first than behind what stands there
@@ -168,7 +168,7 @@ module _ {T A U : Type 0} (types_at : Reader T) (reading : Reader A) (h : Splits
       let w = doing {T = T} {A = A} old.state.ctx.now.dialects path in (
         z.state,
         region_lacks old.state.ctx.now.dialects types_at (attr_at reading) w (loops types_at reading h k before old w) iso o old.stream.rest d.cause d.upto d.bad
-            ∙ ap (λ y. Stuck y d.cause (length old.stream.rest - length d.upto)) z.going,
+            ∙ ap (λ y. Stopped y d.cause (length old.stream.rest - length d.upto)) z.going,
       ))
 
   pub entry_refused : (op : Ptr Operation) → IsolatedAs old.state.ctx.now op iso → (iso || is_open before.values) ≡ true → begins_region old.stream.rest ≡ true → (fault : ParseFault A) → fault.committed ≡ true
@@ -210,7 +210,7 @@ module _ {T A U : Type 0} (types_at : Reader T) (reading : Reader A) (h : Splits
   abbrev L : ℕ → Location A → Type 0
   L = IsLocated old.state.src (whole old.stream)
 
-  abbrev does : (ℕ → Path) → Doing T A Machine
+  abbrev does : (ℕ → Path) → Actions T A Machine
   does path = doing {T = T} {A = A} dialects path
 
   same_text : whole s1.stream ≡ whole old.stream
@@ -225,7 +225,7 @@ module _ {T A U : Type 0} (types_at : Reader T) (reading : Reader A) (h : Splits
   region_came : RegionCame old.state.ctx.now s1.state.ctx.now b.region
   region_came = alone_came old.state.ctx.now s1.state.ctx.now b.region makes with_it
 
-  spares : Spares (TheRegion b.region ∷ []) old.state.ctx.now s1.state.ctx.now
+  spares : ModifiesOnly (TheRegion b.region ∷ []) old.state.ctx.now s1.state.ctx.now
   spares = alone_spares old.state.ctx.now s1.state.ctx.now b.region makes with_it
 
   -- it is open, and nothing else
@@ -283,7 +283,7 @@ module _ {T A U : Type 0} (types_at : Reader T) (reading : Reader A) (h : Splits
   begun_stands : (path : ℕ → Path) (items : Made) (o : Machine) → StandsAs path items [] before old.state o → StandsAs path items [] n1 s1.state ((does path).enters iso o)
   begun_stands path items o st = bg.acts.so path items [] o st
 
-  begun_goes : {S : Type 0} (d : Doing T A S) (s : S) → region_at dialects types_at attr d iso old.stream.rest s ≡ theory.whole dialects types_at attr d (Some (a_region iso (length old.stream.rest))) [] (d.enters iso s) s1.stream.rest
+  begun_goes : {S : Type 0} (d : Actions T A S) (s : S) → region_at dialects types_at attr d iso old.stream.rest s ≡ theory.whole dialects types_at attr d (Some (a_region iso (length old.stream.rest))) [] (d.enters iso s) s1.stream.rest
   begun_goes d s = region_opens dialects types_at attr d (loops types_at reading h k before old d) iso s old.stream.rest tt bg.taken s1.stream.rest bg.read
 
   module _ (n2 : Names) (s2 : StateStream T A U) (f : Finishes types_at attr (framed.Region b) n1 s1 n2 s2) where
@@ -300,7 +300,7 @@ module _ {T A U : Type 0} (types_at : Reader T) (reading : Reader A) (h : Splits
         (subst (λ z. HoldsRegion (format_of dialects) L (within b.region) old.state.ctx.now s2.state.ctx.now (turned.made ++ []) turned.marks b.region z) (append-nil turned.did)
         (turned.builds old.state.ctx.now [] [] [] held))
 
-    all_done_goes : {S : Type 0} (d : Doing T A S) (s : S) → region_at dialects types_at attr d iso old.stream.rest s ≡ Came tt (all_done d turned.did (d.enters iso s)) s2.stream.rest
+    all_done_goes : {S : Type 0} (d : Actions T A S) (s : S) → region_at dialects types_at attr d iso old.stream.rest s ≡ Advanced tt (all_done d turned.did (d.enters iso s)) s2.stream.rest
     all_done_goes d s = begun_goes d s ∙ (goes_told d turned.goes (d.enters iso s)).so
 
     pub reads_under : (op : Ptr Operation) (new : StateStream T A U) → IsolatedAs old.state.ctx.now op iso → new.stream ≡ s2.stream → marks_of new.state ≡ marks_of s2.state
@@ -313,14 +313,14 @@ module _ {T A U : Type 0} (types_at : Reader T) (reading : Reader A) (h : Splits
       isolation = isolation;
       moves = subst (λ v. Moves old.stream v) (sym stream) (moves_more bg.moves f.carries.moves);
       did = turned.did;
-      tells = subst (λ v. region_at dialects types_at attr told iso old.stream.rest [] ≡ Came tt (turned.did ++ did_enter iso ∷ []) v.rest) (sym stream)
+      tells = subst (λ v. region_at dialects types_at attr told iso old.stream.rest [] ≡ Advanced tt (turned.did ++ did_enter iso ∷ []) v.rest) (sym stream)
           (begun_goes told [] ∙ (goes_behind turned.goes (did_enter iso ∷ [])).so);
       made = turned.made;
       mid = s2;
       runs = λ path items o st. (
         all_done (does path) turned.did ((does path).enters iso o),
         turned.acts.so path items [] ((does path).enters iso o) (begun_stands path items o st),
-        subst (λ v. region_at dialects types_at attr (does path) iso old.stream.rest o ≡ Came tt (all_done (does path) turned.did ((does path).enters iso o)) v.rest) (sym stream) (all_done_goes (does path) o),
+        subst (λ v. region_at dialects types_at attr (does path) iso old.stream.rest o ≡ Advanced tt (all_done (does path) turned.did ((does path).enters iso o)) v.rest) (sym stream) (all_done_goes (does path) o),
       );
       falls = subst (λ v. Falls (length old.stream.rest) turned.made (length v.rest)) (sym stream) (falls_from (length old.stream.rest) (length s1.stream.rest) turned.made (length s2.stream.rest) (moves_fewer old.stream s1.stream bg.moves) turned.falls);
       marks = turned.marks;
@@ -339,7 +339,7 @@ module _ {T A U : Type 0} (types_at : Reader T) (reading : Reader A) (h : Splits
     inside_fails begins (inr (at_text did made names mid still cause place g a f)) = inr (under.at_text begins cause place (subst (λ t. IsTextFault t cause place fault) same_text f) st.committed
         (λ path items o stands.
         let z = a.so path items [] ((does path).enters iso o) (begun_stands path items o stands) in
-        (z.state, begun_goes (does path) o ∙ ((stuck_told (does path) g ((does path).enters iso o)).so ∙ ap (λ y. Stuck y cause place) z.going))))
+        (z.state, begun_goes (does path) o ∙ ((stuck_told (does path) g ((does path).enters iso o)).so ∙ ap (λ y. Stopped y cause place) z.going))))
     inside_fails begins (inr (by_names failure f ends)) = inr (under.by_names begins failure (subst (λ t. IsFailure t failure fault) same_text f)
         (λ path items o stands. subst (EndsIn (failed failure)) (sym (begun_goes (does path) o)) (ends path items [] ((does path).enters iso o) (begun_stands path items o stands))))
 

@@ -18,21 +18,21 @@ use Rattle.irtext_graph.specs.declared.object.Site.TheVariants.{AtOperand, AtSuc
 use Rattle.irtext_graph.specs.Chained.{Among}
 use Rattle.irtext_graph.specs.Content.{AnOperation, ABlock, ARegion}
 use Rattle.irtext_graph.specs.Erasing.{owner, without_uses}
-use Rattle.irtext_graph.specs.Graph.{GraphView, content, content_of, parent, parent_of, children, children_of, Stands, IsNew, MakesRegion}
+use Rattle.irtext_graph.specs.Graph.{GraphView, content, content_of, parent, parent_of, children, children_of, IsLive, IsNew, MakesRegion}
 use Rattle.irtext_graph.specs.Objects.{is_older}
 use Rattle.irtext_graph.specs.Parts.{operation_at, operands_of, successors_of, results_of, arguments_of}
 use Rattle.irtext_graph.specs.Store.{Cell, Store, drawn, object_in, get, Inserts}
 use Rattle.irtext_graph.specs.declared.arena.Entry.{Entry}
-use Rattle.irtext_nesting.specs.Grows.{RegionCame}
-use Rattle.irtext_nesting.specs.Stands.{IsAsItWas, Spares}
-use Rattle.irtext_nesting.proofs.Edits.{spares_by, kept_as_many}
+use Rattle.irtext_parse_spec.specs.Grows.{RegionCame}
+use Rattle.irtext_parse_spec.specs.Unchanged.{IsAsItWas, ModifiesOnly}
+use Rattle.irtext_parse_spec.proofs.Edits.{spares_by, kept_as_many}
 use Rattle.irtext_context.specs.declared.base.block.BlockData.{BlockData}
 use Rattle.irtext_context.specs.declared.base.operation.OperationData.{OperationData}
-use Rattle.irtext_state.specs.States.{marks_of}
-use Rattle.irtext_state.specs.declared.parsable.state.State as code
+use Rattle.irtext_parse_state.specs.States.{marks_of}
+use Rattle.irtext_parse_state.specs.declared.parsable.state.State as code
 use Rattle.irtext_grammar.specs.Names.History.{Outcome}
 use Rattle.irtext_grammar.specs.Names.Script.{Path}
-use Rattle.irtext_parse_nested.specs.Items.{Made, Names, Pledge, StandsAs, Lasts, IsSound, BlanksDefine}
+use Rattle.irtext_parse_nested.specs.Items.{Made, Names, Pledge, StandsAs, KeepsLive, IsSound, BlanksDefine}
 use Rattle.irtext_parse_nested.proofs.Blanks.{blanks_on}
 use Rattle.irtext_parse_nested.proofs.Losing.{blanks_by}
 use Rattle.irtext_parse_nested.proofs.Standing.{stands_edited}
@@ -43,7 +43,7 @@ use Rattle.irtext_graph.proofs.Same.{ptr_tells}
 use Rattle.irtext_scopes.specs.Scopes.{Scope}
 use Rattle.irtext_names.specs.Linked.{IsInPlace}
 use Rattle.irtext_names.specs.Placeholders.{IsBlank}
-use Rattle.irtext_names.specs.Tied.{AreTied, AreWaiting}
+use Rattle.irtext_names.specs.Tied.{MatchesGraph, ArePending}
 use Rattle.irtext_names.proofs.Loses.{Loses}
 use Rattle.irtext_names.proofs.Ties.{tied_kept, waiting_kept}
 
@@ -128,10 +128,10 @@ module _ {O B T : Type 0} (g k : GraphView (Option O) B T) (r : Ptr Region) (mak
     ages = λ m d i. ap (is_older m) (content_same d);
   }
 
-  pub alone_ties : (vs : List (Scope Value)) (ls : List (Scope (Ptr BasicBlock))) → AreTied vs ls g → AreTied vs ls k
+  pub alone_ties : (vs : List (Scope Value)) (ls : List (Scope (Ptr BasicBlock))) → MatchesGraph vs ls g → MatchesGraph vs ls k
   alone_ties vs ls t = record { value_ties = tied_kept OfValue vs t.value_ties alone_loses (λ v i e. cc); label_ties = tied_kept OfBlock ls t.label_ties alone_loses (λ v i e. cc) }
 
-  pub alone_waits : (m : ℕ) (own : List (Ptr BasicBlock)) (vs : List (Scope Value)) (ls : List (Scope (Ptr BasicBlock))) → AreTied vs ls g → AreWaiting m own vs ls g → AreWaiting m own vs ls k
+  pub alone_waits : (m : ℕ) (own : List (Ptr BasicBlock)) (vs : List (Scope Value)) (ls : List (Scope (Ptr BasicBlock))) → MatchesGraph vs ls g → ArePending m own vs ls g → ArePending m own vs ls k
   alone_waits m own vs ls t w = record {
     value_waits = waiting_kept OfValue m [] vs t.value_ties w.value_waits alone_loses (λ v i e. cc);
     label_waits = waiting_kept OfBlock m own ls t.label_ties w.label_waits alone_loses (λ v i e. cc);
@@ -164,7 +164,7 @@ module _ {T A : Type 0} (old new : ContextView T A) (r : Ptr Region) (makes : Ma
   }
 
   -- and all else is spared
-  pub alone_spares : Spares (TheRegion r ∷ []) old new
+  pub alone_spares : ModifiesOnly (TheRegion r ∷ []) old new
   alone_spares = spares_by old new (TheRegion r ∷ []) go
     where
       go : (q : Object) → (Among q (TheRegion r ∷ []) → ⊥) → IsAsItWas old new q
@@ -197,7 +197,7 @@ module _ {T A : Type 0} (old new : ContextView T A) (r : Ptr Region) (makes : Ma
   alone_new m le = ap (λ z. is_older {O = Option (OperationData A)} {B = BlockData A} {T = Option T} m (option_map (λ d. ARegion d.0 d.1) (content_of z))) makes.regions.updates.changed ∙ young m le
 
   -- what is open lasts
-  pub alone_lasts : Lasts old new
+  pub alone_lasts : KeepsLive old new
   alone_lasts = record {
     operations = λ p h. let x = data_there old p h in there_data new p x.0 (ap (option_map (λ c. c.data_of)) (operation_same old.graph new.graph r makes p) ∙ x.1);
     results = λ p h. ap (λ c. length (results_of c)) (operation_same old.graph new.graph r makes p);
@@ -215,26 +215,26 @@ module _ {T A : Type 0} (old new : ContextView T A) (r : Ptr Region) (makes : Ma
   }
 
   -- the region stands
-  pub alone_there : Stands new.graph (TheRegion r)
+  pub alone_there : IsLive new.graph (TheRegion r)
   alone_there = subst IsSome (sym (ap (λ z. option_map (λ d. ARegion d.0 d.1) (content_of z)) makes.regions.updates.changed)) refl
 
   module _ (names : Names) where
     -- names are tied and wait as they did
     pub alone_sound : {U : Type 0} (m : ℕ) (s z : code.State T A U) → s.ctx.now ≡ old → z.ctx.now ≡ new → IsSound m names s → IsSound m names z
     alone_sound m s z e f h =
-        let tied = subst (λ c. AreTied names.values names.labels c.graph) e h.tied in
+        let tied = subst (λ c. MatchesGraph names.values names.labels c.graph) e h.tied in
         record {
-          tied = subst (λ c. AreTied names.values names.labels c.graph) (sym f) (alone_ties old.graph new.graph r makes names.values names.labels tied);
-          waiting = subst (λ c. AreWaiting m [] names.values names.labels c.graph) (sym f) (alone_waits old.graph new.graph r makes m [] names.values names.labels tied
-              (subst (λ c. AreWaiting m [] names.values names.labels c.graph) e h.waiting));
+          tied = subst (λ c. MatchesGraph names.values names.labels c.graph) (sym f) (alone_ties old.graph new.graph r makes names.values names.labels tied);
+          waiting = subst (λ c. ArePending m [] names.values names.labels c.graph) (sym f) (alone_waits old.graph new.graph r makes m [] names.values names.labels tied
+              (subst (λ c. ArePending m [] names.values names.labels c.graph) e h.waiting));
           blanks = subst (BlanksDefine m) (sym f) (blanks_on old new (blanks_by old.graph new.graph (λ p. inl (ap (option_map without_uses) (object_same old.graph new.graph r makes p)))) m (subst (BlanksDefine m) e h.blanks));
         }
 
     -- and stand where they stood
-    pub alone_stands : {U : Type 0} {path : ℕ → Path} {items : Made} {pledges : List Pledge} {o : Outcome} (s z : code.State T A U) → s.ctx.now ≡ old → z.ctx.now ≡ new → marks_of z ≡ marks_of s → AreTied names.values names.labels old.graph
+    pub alone_stands : {U : Type 0} {path : ℕ → Path} {items : Made} {pledges : List Pledge} {o : Outcome} (s z : code.State T A U) → s.ctx.now ≡ old → z.ctx.now ≡ new → marks_of z ≡ marks_of s → MatchesGraph names.values names.labels old.graph
         → StandsAs path items pledges names s o → StandsAs path items pledges names z o
     alone_stands s z e f same tied h =
         stands_edited names s z
         (λ d i. subst (λ c. IsDefined c.graph d) (sym f) (still_there old.graph new.graph r makes d (subst (λ c. IsDefined c.graph d) e i)))
         (λ u d i. subst (λ c. IsInPlace c.graph d u) (sym f) (in_place_still old.graph new.graph r makes u d (subst (λ c. IsInPlace c.graph d u) e i)))
-        (subst (λ c. AreTied names.values names.labels c.graph) (sym f) (alone_ties old.graph new.graph r makes names.values names.labels tied)) same h
+        (subst (λ c. MatchesGraph names.values names.labels c.graph) (sym f) (alone_ties old.graph new.graph r makes names.values names.labels tied)) same h

@@ -10,22 +10,22 @@ use Rattle.irtext_context.specs.declared.base.item.Item.{Item}
 use Rattle.irtext_graph.specs.declared.arena.Ptr.{Ptr}
 use Rattle.irtext_graph.specs.declared.object.Operation.{Operation}
 use Rattle.irtext_graph.specs.Back.{AllOlder}
-use Rattle.irtext_read.specs.AttrTexts.{attr_at}
-use Rattle.irtext_state.specs.States.{marks_of}
-use Rattle.irtext_state.specs.declared.parsable.state.State as code
-use Rattle.irtext_state.specs.declared.parsable.state.StateStream.{StateStream}
+use Rattle.irtext_tokens.specs.AttrTexts.{attr_at}
+use Rattle.irtext_parse_state.specs.States.{marks_of}
+use Rattle.irtext_parse_state.specs.declared.parsable.state.State as code
+use Rattle.irtext_parse_state.specs.declared.parsable.state.StateStream.{StateStream}
 use Rattle.irtext_grammar.specs.Contexts.Formats.{IsAccepted}
 use Rattle.irtext_grammar.specs.Contexts.Held.{whole}
 use Rattle.irtext_grammar.specs.Grammar.Marked.{reads_root}
-use Rattle.irtext_outcomes.specs.Promises.Root.{UnlessMemory}
-use Rattle.irtext_outcomes.specs.Promises.Section.{Moves, is_noted}
-use Rattle.irtext_outcomes.specs.Promises.Supported.{supported, location_standing}
-use Rattle.irtext_outcomes.proofs.Joins.Answers.{Splits}
-use Rattle.irtext_nesting.specs.Exact.{NeedsWord}
-use Rattle.irtext_nesting.proofs.Naming.Shorter.{Shortens}
+use Rattle.irtext_parse_spec.specs.Promises.Root.{UnlessMemory}
+use Rattle.irtext_parse_spec.specs.Promises.Section.{Moves, is_noted}
+use Rattle.irtext_parse_spec.specs.Promises.Supported.{supported, location_standing}
+use Rattle.irtext_parse_spec.proofs.Joins.Answers.{Splits}
+use Rattle.irtext_parse_spec.specs.Exact.{NeedsWord}
+use Rattle.irtext_parse_spec.proofs.Naming.Shorter.{Shortens}
 use Rattle.irtext_promises.specs.Promises.{BuildsRoot}
 use Rattle.irtext_parse_pieces.proofs.Meanings.{takes_whole}
-use Rattle.irtext_read.proofs.Steps.{alone}
+use Rattle.irtext_tokens.proofs.Steps.{alone}
 use Rattle.irtext_parse_section.specs.Section.{ReadsSection}
 use Rattle.irtext_parse_root.specs.Ended.{EndsAny, MissesEnd, wrong_section, not_ended}
 use Rattle.irtext_parse_root.specs.Marked.{LeavesMarked}

@@ -10,16 +10,16 @@ use Rattle.irtext_base.specs.declared.parsable.fault.ParseFault.{ParseFault}
 use Rattle.irtext_context.specs.Dialects.{Table}
 use Rattle.irtext_graph.specs.declared.arena.Ptr.{Ptr}
 use Rattle.irtext_graph.specs.declared.object.Operation.{Operation}
-use Rattle.irtext_state.specs.States.{marks_of}
-use Rattle.irtext_state.specs.declared.parsable.state.StateStream.{StateStream}
+use Rattle.irtext_parse_state.specs.States.{marks_of}
+use Rattle.irtext_parse_state.specs.declared.parsable.state.StateStream.{StateStream}
 use Rattle.irtext_grammar.specs.Contexts.Formats.{format_of}
 use Rattle.irtext_grammar.specs.Contexts.Held.{whole, StandsAt}
 use Rattle.irtext_grammar.specs.Names.History.{State, going, failed}
 use Rattle.irtext_grammar.specs.Names.Script.{Failure, Path}
-use Rattle.irtext_outcomes.specs.Promises.Section.{Moves, indices_of}
-use Rattle.irtext_nesting.specs.Naming.{naming}
-use Rattle.irtext_nesting.specs.Reached.{Came, Stuck, begins_region, region_at}
-use Rattle.irtext_nesting.specs.Resume.{EndsIn}
+use Rattle.irtext_parse_spec.specs.Promises.Section.{Moves, indices_of}
+use Rattle.irtext_parse_spec.specs.Naming.{naming}
+use Rattle.irtext_parse_spec.specs.Reached.{Advanced, Stopped, begins_region, region_at}
+use Rattle.irtext_parse_spec.specs.Resume.{EndsIn}
 use Rattle.irtext_promises.specs.Alone.{IsOutermost}
 use Rattle.irtext_promises.specs.Promises.{IsOf}
 use Rattle.irtext_parse_root.specs.AnyState.{start_with}
@@ -29,7 +29,7 @@ module _ {T A : Type 0} (types_at : Text → Outcome T) (attr : Text → Outcome
   -- The machine of names starts with the earlier indices marked, and gets through the text of a region of an isolated operation, up to
   -- this rest, whatever paths its items have.
   abbrev pub IsRegionText : Text → Text → Type 0
-  IsRegionText text rest = (path : ℕ → Path) → (st : State) × (region_at dialects types_at attr (naming (format_of dialects) path) true text (going (start_with earlier)) ≡ Came tt (going st) rest)
+  IsRegionText text rest = (path : ℕ → Path) → (st : State) × (region_at dialects types_at attr (naming (format_of dialects) path) true text (going (start_with earlier)) ≡ Advanced tt (going st) rest)
 
   -- The fault of a text at which a region of an isolated operation is expected. If `{` does not come next, the fault says so, uncommitted.
   -- If it does, the fault is committed: either it is a fault of the text, and no name had failed before it; or it is the failure of a name
@@ -37,7 +37,7 @@ module _ {T A : Type 0} (types_at : Text → Outcome T) (attr : Text → Outcome
   pub data HasRegionFault (old : StreamView) (fault : ParseFault A) : Type 0 where
     no_brace : begins_region old.rest ≡ false → fault_of fault.cause ≡ Unexpected (first_of old.rest) (Word (codes "{")) → IsAt fault.pos.line fault.pos.column old.passed → fault.committed ≡ false → HasRegionFault old fault
     at_text : begins_region old.rest ≡ true → (cause : Fault) (place : ℕ) → fault_of fault.cause ≡ cause → StandsAt (whole old) place fault.pos → fault.committed ≡ true
-        → ((path : ℕ → Path) → (st : State) × (region_at dialects types_at attr (naming (format_of dialects) path) true old.rest (going (start_with earlier)) ≡ Stuck (going st) cause place)) → HasRegionFault old fault
+        → ((path : ℕ → Path) → (st : State) × (region_at dialects types_at attr (naming (format_of dialects) path) true old.rest (going (start_with earlier)) ≡ Stopped (going st) cause place)) → HasRegionFault old fault
     by_names : begins_region old.rest ≡ true → (f : Failure Text ℕ) → IsOf (whole old) f fault → fault.committed ≡ true
         → ((path : ℕ → Path) → EndsIn (failed f) (region_at dialects types_at attr (naming (format_of dialects) path) true old.rest (going (start_with earlier)))) → HasRegionFault old fault
 

@@ -16,8 +16,8 @@ use Rattle.irtext_graph.specs.declared.object.Object.{Object}
 use Rattle.irtext_graph.specs.declared.object.Operation.{Operation}
 use Rattle.irtext_graph.specs.declared.object.Value.{Value}
 use Rattle.irtext_scopes.specs.declared.tracker.NameTracker.{NameTracker}
-use Rattle.irtext_state.specs.States.{marks_of}
-use Rattle.irtext_state.specs.declared.parsable.state.StateStream.{StateStream}
+use Rattle.irtext_parse_state.specs.States.{marks_of}
+use Rattle.irtext_parse_state.specs.declared.parsable.state.StateStream.{StateStream}
 use Rattle.irtext_grammar.specs.Contexts.Formats.{format_of, isolated, IsAccepted}
 use Rattle.irtext_grammar.specs.Contexts.Held.{whole, StandsAt}
 use Rattle.irtext_grammar.specs.Grammar.Tree.{Tree}
@@ -25,15 +25,15 @@ use Rattle.irtext_grammar.specs.Graphs.Build.{build}
 use Rattle.irtext_grammar.specs.Names.History as history
 use Rattle.irtext_grammar.specs.Names.History.{going, failed, start}
 use Rattle.irtext_grammar.specs.Names.Script.{Failure, Path}
-use Rattle.irtext_outcomes.specs.Promises.Root.{location_of}
-use Rattle.irtext_outcomes.specs.Promises.Section.{Faults, Moves, indices_of, is_noted}
-use Rattle.irtext_outcomes.specs.Promises.Supported.{RefusedAs, is_committed}
-use Rattle.irtext_nesting.specs.Heads.{led_at}
-use Rattle.irtext_nesting.specs.Naming.{naming}
-use Rattle.irtext_nesting.specs.Reached.{Came, Stuck, operation_at}
-use Rattle.irtext_nesting.specs.Resume.{EndsIn}
-use Rattle.irtext_nesting.specs.Building.{building, nothing_open, finished}
-use Rattle.irtext_nesting.specs.Tracks.{Made, HoldsMade}
+use Rattle.irtext_parse_spec.specs.Promises.Root.{location_of}
+use Rattle.irtext_parse_spec.specs.Promises.Section.{Faults, Moves, indices_of, is_noted}
+use Rattle.irtext_parse_spec.specs.Promises.Supported.{RefusedAs, is_committed}
+use Rattle.irtext_parse_spec.specs.Heads.{led_at}
+use Rattle.irtext_parse_spec.specs.Naming.{naming}
+use Rattle.irtext_parse_spec.specs.Reached.{Advanced, Stopped, operation_at}
+use Rattle.irtext_parse_spec.specs.Resume.{EndsIn}
+use Rattle.irtext_parse_spec.specs.Building.{building, nothing_open, finished}
+use Rattle.irtext_parse_spec.specs.Tracks.{Made, HoldsMade}
 use Rattle.irtext_names.specs.Linked as linked
 use Rattle.irtext_names.specs.Linked.{Known}
 use Rattle.irtext_names.specs.OfItems.{AreOf}
@@ -41,7 +41,7 @@ use Rattle.irtext_promises.specs.Held.{held_root}
 use Rattle.irtext_promises.specs.Leaves.{LeavesClosed}
 use Rattle.irtext_promises.specs.OnlyNew.{OnlyNew}
 use Rattle.irtext_promises.specs.Promises.{IsOf, tree_marks}
-use Rattle.irtext_nesting.specs.Readers.{section_at}
+use Rattle.irtext_parse_spec.specs.Entries.{section_at}
 use Rattle.irtext_parse_root.specs.Carried.{marks_in, AreCarried, Falls}
 use Rattle.irtext_parse_nested.specs.Located.{IsLocated}
 use Rattle.irtext_parse_section.specs.Said.{rules_of}
@@ -62,13 +62,13 @@ module _ {T A : Type 0} (types_at : Text → Outcome T) (attr : Text → Outcome
     pub state : history.State
     pub stands : linked.StandsAt names c.graph known [] state
     pub marked : state.marks ≡ marks
-    pub came : operation_at dialects types_at attr (naming (format_of dialects) path) true text (going (start_with earlier)) ≡ Came tt (going state) rest
+    pub came : operation_at dialects types_at attr (naming (format_of dialects) path) true text (going (start_with earlier)) ≡ Advanced tt (going state) rest
 
   -- A tree was built from the text and is held under the pointer, with each item at its place; no frame is open, and nothing else was
   -- created. Whatever paths the items have, the machine of names gets through the text.
   pub record LeavesFrom (IsLocation : ℕ → Location A → Type 0) (op : Ptr Operation) (marks : List ℕ) (old new : ContextView T A) (text rest : Text) : Type 0 where
     pub tree : Tree ℕ T A
-    pub built : operation_at dialects types_at attr (building (format_of dialects)) true text nothing_open ≡ Came tt (finished tree) rest
+    pub built : operation_at dialects types_at attr (building (format_of dialects)) true text nothing_open ≡ Advanced tt (finished tree) rest
     pub items : Made
     pub whole : List Object
     pub held : HoldsMade IsLocation old new items whole [] (Some op) (finished tree)
@@ -79,7 +79,7 @@ module _ {T A : Type 0} (types_at : Text → Outcome T) (attr : Text → Outcome
   -- the text. An index is marked twice also if it was marked earlier.
   pub data HasFaultFrom (text rest : Text) (fault : ParseFault A) : Type 0 where
     at_text : (cause : Fault) (place : ℕ) → fault_of fault.cause ≡ cause → StandsAt text place fault.pos → fault.committed ≡ is_committed (led_at dialects rest)
-        → ((path : ℕ → Path) → (st : history.State) × (operation_at dialects types_at attr (naming (format_of dialects) path) true rest (going (start_with earlier)) ≡ Stuck (going st) cause place)) → HasFaultFrom text rest fault
+        → ((path : ℕ → Path) → (st : history.State) × (operation_at dialects types_at attr (naming (format_of dialects) path) true rest (going (start_with earlier)) ≡ Stopped (going st) cause place)) → HasFaultFrom text rest fault
     by_names : (f : Failure Text ℕ) → IsOf text f fault → fault.committed ≡ true
         → ((path : ℕ → Path) → EndsIn (failed f) (operation_at dialects types_at attr (naming (format_of dialects) path) true rest (going (start_with earlier)))) → HasFaultFrom text rest fault
 

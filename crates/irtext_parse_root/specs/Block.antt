@@ -8,14 +8,14 @@ use Rattle.irtext_base.specs.Stream.{StreamView, behind, after_failure}
 use Rattle.irtext_base.specs.Locations.{AttrView}
 use Rattle.irtext_base.specs.declared.base.attributes.AttrObj.{AttrObj}
 use Rattle.irtext_base.specs.declared.parsable.fault.ParseFault.{ParseFault}
-use Rattle.irtext_state.specs.States.{same_index}
+use Rattle.irtext_parse_state.specs.States.{same_index}
 use Rattle.irtext_grammar.specs.Contexts.Held.{whole, attribute_of}
 use Rattle.irtext_grammar.specs.Grammar.Tree.{Head}
 use Rattle.irtext_grammar.specs.Names.Acts.{block_may_hold, header_acts}
 use Rattle.irtext_grammar.specs.Names.Scopes.{Scopes, no_scope, failures}
 use Rattle.irtext_grammar.specs.Names.Script.{done, does_all}
-use Rattle.irtext_outcomes.specs.Readers.Streams.{itself, replaced}
-use Rattle.irtext_nesting.specs.Heads.{head_at}
+use Rattle.irtext_parse_spec.specs.Readers.Streams.{itself, replaced}
+use Rattle.irtext_parse_spec.specs.Heads.{head_at}
 use Rattle.irtext_parse_pieces.specs.declared.entries.Key.{Key}
 use Rattle.irtext_parse_pieces.specs.declared.headers.BlockHead.{BlockHead}
 use Rattle.irtext_parse_pieces.specs.declared.marks.ReadMark.{ReadMark}

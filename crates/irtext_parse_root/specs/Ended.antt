@@ -4,12 +4,12 @@ use Rattle.irtext_base.specs.Text.{Text}
 use Rattle.irtext_base.specs.Answers.{Outcome}
 use Rattle.irtext_base.specs.Locations.{AttrView}
 use Rattle.irtext_base.specs.declared.parsable.fault.ParseFault.{ParseFault}
-use Rattle.irtext_state.specs.States.{marks_of}
-use Rattle.irtext_state.specs.declared.parsable.state.StateStream.{StateStream}
+use Rattle.irtext_parse_state.specs.States.{marks_of}
+use Rattle.irtext_parse_state.specs.declared.parsable.state.StateStream.{StateStream}
 use Rattle.irtext_grammar.specs.Contexts.Held.{whole}
-use Rattle.irtext_outcomes.specs.Promises.Section.{Faults, indices_of, is_noted}
-use Rattle.irtext_outcomes.specs.Promises.Supported.{RefusedAs}
-use Rattle.irtext_nesting.specs.Readers.{section_at}
+use Rattle.irtext_parse_spec.specs.Promises.Section.{Faults, indices_of, is_noted}
+use Rattle.irtext_parse_spec.specs.Promises.Supported.{RefusedAs}
+use Rattle.irtext_parse_spec.specs.Entries.{section_at}
 use Rattle.irtext_parse_section.specs.Said.{rules_of}
 use Rattle.irtext_parse_section.specs.Section.{ReadsSection}
 use Rattle.irtext_parse_root.specs.Whole.{OnlySpace, ExpectsEnd}

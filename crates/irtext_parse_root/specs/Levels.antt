@@ -7,13 +7,13 @@ use Rattle.irtext_graph.specs.declared.arena.Ptr.{Ptr}
 use Rattle.irtext_graph.specs.declared.object.BasicBlock.{BasicBlock}
 use Rattle.irtext_graph.specs.declared.object.Object.TheVariants.{TheOperation, TheBlock, TheRegion}
 use Rattle.irtext_graph.specs.Graph.{GraphView, IsNew}
-use Rattle.irtext_nesting.specs.Reached.{steps_in}
-use Rattle.irtext_nesting.specs.Resume.{Begun, Open, an_operation, a_region, a_block, work, by_character}
-use Rattle.irtext_nesting.specs.Stands.{OwnSoFar, OpenAt, operation_under, region_under}
+use Rattle.irtext_parse_spec.specs.Reached.{steps_in}
+use Rattle.irtext_parse_spec.specs.Resume.{OpenOperation, Open, an_operation, a_region, a_block, work, by_character}
+use Rattle.irtext_parse_spec.specs.Unchanged.{OwnSoFar, OpenAt, operation_under, region_under}
 use Rattle.irtext_parse_nested.specs.declared.frame.BegunOperation.{BegunOperation}
 use Rattle.irtext_parse_nested.specs.declared.frame.BegunRegion.{BegunRegion}
 use Rattle.irtext_parse_nested.specs.declared.frame.BegunBlock.{BegunBlock}
-use Rattle.irtext_parse_nested.specs.Begun.{pledge_of}
+use Rattle.irtext_parse_nested.specs.OpenOperation.{pledge_of}
 use Rattle.irtext_parse_nested.specs.Items.{Pledge}
 use Rattle.irtext_parse_root.specs.declared.frames.Frame.{Frame}
 use Rattle.irtext_parse_root.specs.declared.frames.Frame.TheVariants.{Operation, Region, Block}
@@ -21,7 +21,7 @@ use Rattle.irtext_parse_root.specs.declared.frames.Frame.TheVariants.{Operation,
 -- One open frame: an operation, with what was parsed of it and its own parts so far; a region, with whether its operation is isolated,
 -- the place of its `{` and its last block so far; a block.
 pub data Level (T A : Type 0) : Type 0 where
-  at_operation : BegunOperation → Begun T A → OwnSoFar T A → Level T A
+  at_operation : BegunOperation → OpenOperation T A → OwnSoFar T A → Level T A
   at_region : BegunRegion → Bool → ℕ → Option (Ptr BasicBlock) → Level T A
   at_block : BegunBlock → Level T A
 

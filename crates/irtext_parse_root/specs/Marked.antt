@@ -5,10 +5,10 @@ use Rattle.irtext_base.specs.Answers.{Outcome}
 use Rattle.irtext_base.specs.Locations.{AttrView}
 use Rattle.irtext_graph.specs.declared.arena.Ptr.{Ptr}
 use Rattle.irtext_graph.specs.declared.object.Operation.{Operation}
-use Rattle.irtext_state.specs.States.{marks_of}
-use Rattle.irtext_state.specs.declared.parsable.state.StateStream.{StateStream}
+use Rattle.irtext_parse_state.specs.States.{marks_of}
+use Rattle.irtext_parse_state.specs.declared.parsable.state.StateStream.{StateStream}
 use Rattle.irtext_grammar.specs.Contexts.Held.{whole}
-use Rattle.irtext_outcomes.specs.Promises.Section.{indices_of}
+use Rattle.irtext_parse_spec.specs.Promises.Section.{indices_of}
 use Rattle.irtext_promises.specs.Leaves.{LeavesTree, LeavesClosed}
 use Rattle.irtext_parse_root.specs.Carried.{marks_in, AreCarried, Falls}
 use Rattle.irtext_parse_nested.specs.Located.{IsLocated}

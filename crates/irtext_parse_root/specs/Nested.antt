@@ -8,22 +8,22 @@ use Rattle.irtext_context.specs.declared.base.item.Item.{Item}
 use Rattle.irtext_graph.specs.declared.arena.Ptr.{Ptr}
 use Rattle.irtext_graph.specs.declared.object.Operation.{Operation}
 use Rattle.irtext_graph.specs.declared.object.Object.{Object}
-use Rattle.irtext_read.specs.Infix.{Reader}
-use Rattle.irtext_state.specs.States.{marks_of}
-use Rattle.irtext_state.specs.declared.parsable.state.StateStream.{StateStream}
+use Rattle.irtext_tokens.specs.Infix.{Reader}
+use Rattle.irtext_parse_state.specs.States.{marks_of}
+use Rattle.irtext_parse_state.specs.declared.parsable.state.StateStream.{StateStream}
 use Rattle.irtext_grammar.specs.Contexts.Formats.{format_of}
 use Rattle.irtext_grammar.specs.Contexts.Held.{whole}
 use Rattle.irtext_grammar.specs.Grammar.Tree.{Tree}
 use Rattle.irtext_grammar.specs.Names.History.{Outcome, State, going, failed}
 use Rattle.irtext_grammar.specs.Names.Script.{Path}
 use Rattle.irtext_grammar.specs.Names.TextScopes.{Failure}
-use Rattle.irtext_outcomes.specs.Promises.Section.{Moves}
-use Rattle.irtext_outcomes.specs.Promises.Supported.{is_committed}
-use Rattle.irtext_nesting.specs.Heads.{led_at}
-use Rattle.irtext_nesting.specs.Reached.{Came, Stuck, operation_at}
-use Rattle.irtext_nesting.specs.Resume.{EndsIn}
-use Rattle.irtext_nesting.specs.Building.{building, nothing_open, finished}
-use Rattle.irtext_nesting.specs.Tracks.{HoldsMade}
+use Rattle.irtext_parse_spec.specs.Promises.Section.{Moves}
+use Rattle.irtext_parse_spec.specs.Promises.Supported.{is_committed}
+use Rattle.irtext_parse_spec.specs.Heads.{led_at}
+use Rattle.irtext_parse_spec.specs.Reached.{Advanced, Stopped, operation_at}
+use Rattle.irtext_parse_spec.specs.Resume.{EndsIn}
+use Rattle.irtext_parse_spec.specs.Building.{building, nothing_open, finished}
+use Rattle.irtext_parse_spec.specs.Tracks.{HoldsMade}
 use Rattle.irtext_parse_nested.specs.Items.{Names, Made, StandsAs, IsFailure, IsTextFault, doing}
 use Rattle.irtext_parse_nested.specs.Located.{IsLocated}
 use Rattle.irtext_parse_root.specs.Carried.{marks_in, AreCarried, Falls}
@@ -35,10 +35,10 @@ module _ {T A U : Type 0} (types_at : Reader T) (attr : Reader (AttrView A)) whe
   pub record ReadsNested (before : Names) (old : StateStream T A U) (p : Ptr Operation) (names : Names) (new : StateStream T A U) : Type 0 where
     pub tree : Tree ℕ T A
     pub moves : Moves old.stream new.stream
-    pub builds : operation_at old.state.ctx.now.dialects types_at attr (building (format_of old.state.ctx.now.dialects)) true old.stream.rest nothing_open ≡ Came tt (finished tree) new.stream.rest
+    pub builds : operation_at old.state.ctx.now.dialects types_at attr (building (format_of old.state.ctx.now.dialects)) true old.stream.rest nothing_open ≡ Advanced tt (finished tree) new.stream.rest
     pub made : Made
     pub runs : (path : ℕ → Path) (items : Made) (o : Outcome) → StandsAs path items [] before old.state o
-        → (z : Outcome) × StandsAs path (made ++ items) [] names new.state z × (operation_at old.state.ctx.now.dialects types_at attr (doing old.state.ctx.now.dialects path) true old.stream.rest o ≡ Came tt z new.stream.rest)
+        → (z : Outcome) × StandsAs path (made ++ items) [] names new.state z × (operation_at old.state.ctx.now.dialects types_at attr (doing old.state.ctx.now.dialects path) true old.stream.rest o ≡ Advanced tt z new.stream.rest)
     pub objects : List Object
     pub holds : HoldsMade (IsLocated old.state.src (whole old.stream)) old.state.ctx.now new.state.ctx.now made objects [] (Some p) (finished tree)
     pub falls : Falls (length old.stream.rest) made (length new.stream.rest)
@@ -51,7 +51,7 @@ module _ {T A U : Type 0} (types_at : Reader T) (attr : Reader (AttrView A)) whe
   pub data RefusesNested (before : Names) (old : StateStream T A U) (fault : ParseFault A) : Type 0 where
     at_text : (cause : Fault) (place : ℕ) → IsTextFault (whole old.stream) cause place fault → fault.committed ≡ is_committed (led_at old.state.ctx.now.dialects old.stream.rest)
         → ((path : ℕ → Path) (items : Made) (o : Outcome) → StandsAs path items [] before old.state o
-        → (st : State) × (operation_at old.state.ctx.now.dialects types_at attr (doing old.state.ctx.now.dialects path) true old.stream.rest o ≡ Stuck (going st) cause place)) → RefusesNested before old fault
+        → (st : State) × (operation_at old.state.ctx.now.dialects types_at attr (doing old.state.ctx.now.dialects path) true old.stream.rest o ≡ Stopped (going st) cause place)) → RefusesNested before old fault
     by_names : (failure : Failure) → IsFailure (whole old.stream) failure fault
         → ((path : ℕ → Path) (items : Made) (o : Outcome) → StandsAs path items [] before old.state o
         → EndsIn (failed failure) (operation_at old.state.ctx.now.dialects types_at attr (doing old.state.ctx.now.dialects path) true old.stream.rest o)) → RefusesNested before old fault

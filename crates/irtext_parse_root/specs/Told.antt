@@ -3,7 +3,7 @@
 use Rattle.std.specs.Prelude.{ℕ, Bool, List, [], ◌∷◌, Option}
 use Rattle.irtext_base.specs.Format.{Id}
 use Rattle.irtext_grammar.specs.Grammar.Tree.{Name, Mark, Piece, Part, Head}
-use Rattle.irtext_nesting.specs.Reached.{Doing}
+use Rattle.irtext_parse_spec.specs.Reached.{Actions}
 
 -- one action: an operation's parts before its first region; a piece after a region; the beginning and the end of a region; the end of an
 -- operation; the mark of an operation; the header of a block
@@ -18,7 +18,7 @@ pub data Did (T A : Type 0) : Type 0 where
 
 module _ {T A : Type 0} where
   -- the actions, each recorded in the list
-  abbrev pub told : Doing T A (List (Did T A))
+  abbrev pub told : Actions T A (List (Did T A))
   told = record {
     uses = λ place id parts ds. did_use place id parts ∷ ds;
     late = λ place id piece ds. did_late place id piece ∷ ds;
@@ -29,7 +29,7 @@ module _ {T A : Type 0} where
     heads = λ head ds. did_head head ∷ ds;
   }
 
-module _ {T A S : Type 0} (does : Doing T A S) where
+module _ {T A S : Type 0} (does : Actions T A S) where
   -- one recorded action, done in another way
   abbrev pub one_done : Did T A → S → S
   one_done (did_use place id parts) s = does.uses place id parts s

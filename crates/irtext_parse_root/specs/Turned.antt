@@ -10,23 +10,23 @@ use Rattle.irtext_context.specs.Dialects.{Table}
 use Rattle.irtext_context.specs.declared.base.item.Item.{Item}
 use Rattle.irtext_graph.specs.declared.arena.Ptr.{Ptr}
 use Rattle.irtext_graph.specs.declared.object.Region.{Region}
-use Rattle.irtext_read.specs.Infix.{Reader}
-use Rattle.irtext_state.specs.States.{marks_of}
-use Rattle.irtext_state.specs.declared.parsable.state.State as code
-use Rattle.irtext_state.specs.declared.parsable.state.StateStream.{StateStream}
+use Rattle.irtext_tokens.specs.Infix.{Reader}
+use Rattle.irtext_parse_state.specs.States.{marks_of}
+use Rattle.irtext_parse_state.specs.declared.parsable.state.State as code
+use Rattle.irtext_parse_state.specs.declared.parsable.state.StateStream.{StateStream}
 use Rattle.irtext_grammar.specs.Contexts.Formats.{format_of}
 use Rattle.irtext_grammar.specs.Contexts.Held.{whole}
 use Rattle.irtext_grammar.specs.Names.History.{Outcome, failed}
 use Rattle.irtext_grammar.specs.Names.Script.{Path}
 use Rattle.irtext_grammar.specs.Names.TextScopes.{Failure}
 use Rattle.irtext_scopes.specs.Names.{KeepsNames}
-use Rattle.irtext_outcomes.specs.Promises.Root.{UnlessMemory}
-use Rattle.irtext_outcomes.specs.Promises.Section.{Moves}
-use Rattle.irtext_outcomes.specs.Readers.Streams.{KeepsRest}
-use Rattle.irtext_nesting.specs.Resume as theory
-use Rattle.irtext_nesting.specs.Resume.{Goes, StuckAt, EndsIn}
+use Rattle.irtext_parse_spec.specs.Promises.Root.{UnlessMemory}
+use Rattle.irtext_parse_spec.specs.Promises.Section.{Moves}
+use Rattle.irtext_parse_spec.specs.Readers.Streams.{KeepsRest}
+use Rattle.irtext_parse_spec.specs.Resume as theory
+use Rattle.irtext_parse_spec.specs.Resume.{Goes, StoppedAt, EndsIn}
 use Rattle.irtext_parse_nested.specs.Ends.{GainsMarks}
-use Rattle.irtext_parse_nested.specs.Items.{Names, Pledge, StandsAs, IsFailure, IsTextFault, IsSound, Lasts, Made, ActsWith, doing}
+use Rattle.irtext_parse_nested.specs.Items.{Names, Pledge, StandsAs, IsFailure, IsTextFault, IsSound, KeepsLive, Made, ActsWith, doing}
 use Rattle.irtext_parse_nested.specs.Located.{IsLocated}
 use Rattle.irtext_parse_root.specs.declared.frames.Frame.{Frame}
 use Rattle.irtext_parse_root.specs.Built.{Built}
@@ -47,7 +47,7 @@ module _ {T A U : Type 0} where
     pub rest : KeepsRest old.state new.state
     pub moves : Moves old.stream new.stream
     pub keeps : KeepsNames before.names names.names
-    pub lasts : Lasts old.state.ctx.now new.state.ctx.now
+    pub lasts : KeepsLive old.state.ctx.now new.state.ctx.now
     pub sound : (m : ℕ) → m ≤ old.state.ctx.now.graph.made → IsSound m before old.state → IsSound m names new.state
     pub gains : GainsMarks (marks_of old.state) (marks_of new.state)
 
@@ -81,7 +81,7 @@ module _ {T A U : Type 0} (types_at : Reader T) (attr : Reader (AttrView A)) (di
 -- text.
 pub data Faulted {T A U : Type 0} (types_at : Reader T) (attr : Reader (AttrView A)) (dialects : List (Text × Table)) (ls : List (Level T A)) (before : Names) (old : StateStream T A U) (fault : ParseFault A) : Type 0 where
   at_text : (did : List (Did T A)) (made : Made) (names : Names) (mid : code.State T A U) (still : List Pledge) (cause : Fault) (place : ℕ)
-      → StuckAt dialects types_at attr told (next_of ls) (waiting ls) [] old.stream.rest did cause place
+      → StoppedAt dialects types_at attr told (next_of ls) (waiting ls) [] old.stream.rest did cause place
       → ActsWith made (λ path. all_done (doing dialects path) did) before old.state (pledges_of ls) names mid still
       → IsTextFault (whole old.stream) cause place fault → Faulted types_at attr dialects ls before old fault
   by_names : (failure : Failure) → IsFailure (whole old.stream) failure fault

@@ -13,28 +13,28 @@ use Rattle.irtext_graph.specs.declared.object.Operation.{Operation}
 use Rattle.irtext_graph.specs.declared.object.Region.{Region}
 use Rattle.irtext_graph.specs.declared.object.Object.TheVariants.{TheOperation, TheBlock, TheRegion}
 use Rattle.irtext_graph.specs.Graph.{IsNew}
-use Rattle.irtext_read.specs.Infix.{Reader, ◌▷◌}
+use Rattle.irtext_tokens.specs.Infix.{Reader, ◌▷◌}
 use Rattle.irtext_scopes.specs.Tracker.{entered, left}
 use Rattle.irtext_scopes.specs.Scopes.{is_open, outer}
-use Rattle.irtext_read.specs.Tokens.{space_at}
-use Rattle.irtext_state.specs.States.{marks_of}
-use Rattle.irtext_state.specs.declared.parsable.state.StateStream.{StateStream}
+use Rattle.irtext_tokens.specs.Tokens.{space_at}
+use Rattle.irtext_parse_state.specs.States.{marks_of}
+use Rattle.irtext_parse_state.specs.declared.parsable.state.StateStream.{StateStream}
 use Rattle.irtext_grammar.specs.Contexts.Formats.{format_of, isolated}
 use Rattle.irtext_grammar.specs.Contexts.Held.{whole}
 use Rattle.irtext_grammar.specs.Grammar.Tree as tree
 use Rattle.irtext_grammar.specs.Grammar.Tree.{Mark, Piece}
 use Rattle.irtext_grammar.specs.Graphs.Build.{put_all, stored, read_names}
-use Rattle.irtext_nesting.specs.Heads.{Step, mark_if_at}
-use Rattle.irtext_nesting.specs.Reached.{steps_in}
-use Rattle.irtext_nesting.specs.Resume.{Begun, with_steps}
-use Rattle.irtext_nesting.specs.Grows.{RegionCame, OperationGains, RegionGains, BlockCame, OwnBecame}
-use Rattle.irtext_nesting.specs.Stands.{OwnSoFar, HasOwn, HasUses, Spares}
+use Rattle.irtext_parse_spec.specs.Heads.{Step, mark_if_at}
+use Rattle.irtext_parse_spec.specs.Reached.{steps_in}
+use Rattle.irtext_parse_spec.specs.Resume.{OpenOperation, with_steps}
+use Rattle.irtext_parse_spec.specs.Grows.{RegionCame, OperationGains, RegionGains, BlockCame, OwnBecame}
+use Rattle.irtext_parse_spec.specs.Unchanged.{OwnSoFar, HasOwn, HasUses, ModifiesOnly}
 use Rattle.irtext_parse_nested.specs.declared.coming.Coming.{Coming}
 use Rattle.irtext_parse_nested.specs.declared.frame.BegunOperation.{BegunOperation}
 use Rattle.irtext_parse_nested.specs.declared.frame.BegunRegion.{BegunRegion}
 use Rattle.irtext_parse_nested.specs.declared.frame.BegunBlock.{BegunBlock}
 use Rattle.irtext_parse_nested.specs.Beginning.{HasBegun, ComesInto}
-use Rattle.irtext_parse_nested.specs.Begun.{IsBegun, IsRegion}
+use Rattle.irtext_parse_nested.specs.OpenOperation.{IsBegun, IsRegion}
 use Rattle.irtext_parse_nested.specs.Coming.{IsStep}
 use Rattle.irtext_parse_nested.specs.Ends.{noted_as}
 use Rattle.irtext_parse_nested.specs.Items.{Names}
@@ -71,25 +71,25 @@ module _ {T A U : Type 0} where
       pub op : next.op ≡ b.op
       pub results : next.results ≡ b.results
       pub inside : next.inside ≡ b.inside
-      pub reads : (o : Begun T A) (step : Step) (ss : List Step) → IsBegun before.names (whole old.stream) old.state.ctx.now b o → o.steps ≡ step ∷ ss
+      pub reads : (o : OpenOperation T A) (step : Step) (ss : List Step) → IsBegun before.names (whole old.stream) old.state.ctx.now b o → o.steps ≡ step ∷ ss
           → (r : ReadsPiece types_at attr o step b before old names new)
           × IsBegun names.names (whole old.stream) new.state.ctx.now next (with_steps o ss (o.parts ++ tree.piece r.piece ∷ []))
           × ((own : OwnSoFar T A) → HasBegun (format_of old.state.ctx.now.dialects) o own
           → HasBegun (format_of old.state.ctx.now.dialects) (with_steps o ss (o.parts ++ tree.piece r.piece ∷ [])) (record own { entries = put_all own.entries (stored r.piece) })
           × ((view : OperationView T A) → operation old.state.ctx.now b.op ≡ Some view → HasOwn (IsLocated old.state.src (whole old.stream)) view own → HasUses old.state.ctx.now b.op own
           → OwnBecame old.state.ctx.now new.state.ctx.now (IsLocated old.state.src (whole old.stream)) b.op (record own { entries = put_all own.entries (stored r.piece) })))
-      pub spares : Spares (TheOperation b.op ∷ []) old.state.ctx.now new.state.ctx.now
+      pub spares : ModifiesOnly (TheOperation b.op ∷ []) old.state.ctx.now new.state.ctx.now
       pub marks : marks_of new.state ≡ marks_of old.state
       pub carries : Carries before old names new
       pub depth : SameDepth before names
 
     -- an operation was ended
     pub record Ends (b : BegunOperation) (names : Names) (new : StateStream T A U) : Type 0 where
-      pub ends : (o : Begun T A) → IsBegun before.names (whole old.stream) old.state.ctx.now b o
+      pub ends : (o : OpenOperation T A) → IsBegun before.names (whole old.stream) old.state.ctx.now b o
           → EndsOperation types_at attr o b before old names new
           × ((own : OwnSoFar T A) (view : OperationView T A) → operation old.state.ctx.now b.op ≡ Some view → HasOwn (IsLocated old.state.src (whole old.stream)) view own → HasUses old.state.ctx.now b.op own
           → OwnBecame old.state.ctx.now new.state.ctx.now (IsLocated old.state.src (whole old.stream)) b.op (record own { entries = put_all own.entries (read_names (map (λ n. n.text) o.names)) }))
-      pub spares : Spares (TheOperation b.op ∷ []) old.state.ctx.now new.state.ctx.now
+      pub spares : ModifiesOnly (TheOperation b.op ∷ []) old.state.ctx.now new.state.ctx.now
       pub noted : (mark : Option (Mark ℕ)) (taken : Text) → (space_at ▷ mark_if_at) old.stream.rest ≡ Read mark taken new.stream.rest
           → marks_of new.state ≡ marks_of old.state ++ noted_as mark (item.Operation b.op)
       pub carries : Carries before old names new
@@ -100,7 +100,7 @@ module _ {T A U : Type 0} where
       pub begins : BeginsRegion types_at attr iso r before old names new
       pub came : RegionCame old.state.ctx.now new.state.ctx.now r.region
       pub gains : OperationGains old.state.ctx.now new.state.ctx.now op r.region
-      pub spares : Spares (TheRegion r.region ∷ TheOperation op ∷ []) old.state.ctx.now new.state.ctx.now
+      pub spares : ModifiesOnly (TheRegion r.region ∷ TheOperation op ∷ []) old.state.ctx.now new.state.ctx.now
       pub marks : marks_of new.state ≡ marks_of old.state
       pub carries : Carries before old names new
       pub values : names.values ≡ entered iso before.values
@@ -121,7 +121,7 @@ module _ {T A U : Type 0} where
       pub begins : BeginsBlock types_at attr b before old names new
       pub came : BlockCame old.state.ctx.now new.state.ctx.now (IsLocated old.state.src (whole old.stream)) b.block begins.head
       pub gains : RegionGains old.state.ctx.now new.state.ctx.now region b.block
-      pub spares : Spares (TheBlock b.block ∷ TheRegion region ∷ []) old.state.ctx.now new.state.ctx.now
+      pub spares : ModifiesOnly (TheBlock b.block ∷ TheRegion region ∷ []) old.state.ctx.now new.state.ctx.now
       pub noted : marks_of new.state ≡ marks_of old.state ++ noted_as begins.head.mark (item.Block b.block)
       pub carries : Carries before old names new
       pub depth : SameDepth before names

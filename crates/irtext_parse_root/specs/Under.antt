@@ -16,18 +16,18 @@ use Rattle.irtext_graph.specs.declared.arena.Ptr.{Ptr}
 use Rattle.irtext_graph.specs.declared.object.Operation.{Operation}
 use Rattle.irtext_graph.specs.declared.object.Region.{Region}
 use Rattle.irtext_graph.specs.declared.object.Object.TheVariants.{TheOperation, TheRegion}
-use Rattle.irtext_read.specs.Infix.{Reader}
+use Rattle.irtext_tokens.specs.Infix.{Reader}
 use Rattle.irtext_scopes.specs.Scopes.{is_open}
-use Rattle.irtext_state.specs.States.{marks_of}
-use Rattle.irtext_state.specs.declared.parsable.state.StateStream.{StateStream}
+use Rattle.irtext_parse_state.specs.States.{marks_of}
+use Rattle.irtext_parse_state.specs.declared.parsable.state.StateStream.{StateStream}
 use Rattle.irtext_grammar.specs.Contexts.Formats.{format_of, isolated}
 use Rattle.irtext_grammar.specs.Contexts.Held.{whole}
 use Rattle.irtext_grammar.specs.Names.History.{Outcome, State, going, failed}
 use Rattle.irtext_grammar.specs.Names.Script.{Path}
 use Rattle.irtext_grammar.specs.Names.TextScopes.{Failure}
-use Rattle.irtext_outcomes.specs.Promises.Section.{Moves}
-use Rattle.irtext_nesting.specs.Reached.{Came, Stuck, begins_region, region_at}
-use Rattle.irtext_nesting.specs.Resume.{EndsIn}
+use Rattle.irtext_parse_spec.specs.Promises.Section.{Moves}
+use Rattle.irtext_parse_spec.specs.Reached.{Advanced, Stopped, begins_region, region_at}
+use Rattle.irtext_parse_spec.specs.Resume.{EndsIn}
 use Rattle.irtext_parse_nested.specs.Items.{Names, Made, StandsAs, IsFailure, IsTextFault, IsSound, doing}
 use Rattle.irtext_parse_nested.specs.Located.{IsLocated}
 use Rattle.irtext_parse_root.specs.Built.{HoldsRegion}
@@ -53,11 +53,11 @@ module _ {T A U : Type 0} (types_at : Reader T) (attr : Reader (AttrView A)) whe
     pub isolation : IsolatedAs old.state.ctx.now op iso
     pub moves : Moves old.stream new.stream
     pub did : List (Did T A)
-    pub tells : region_at old.state.ctx.now.dialects types_at attr told iso old.stream.rest [] ≡ Came tt (did ++ did_enter iso ∷ []) new.stream.rest
+    pub tells : region_at old.state.ctx.now.dialects types_at attr told iso old.stream.rest [] ≡ Advanced tt (did ++ did_enter iso ∷ []) new.stream.rest
     pub made : Made
     pub mid : StateStream T A U
     pub runs : (path : ℕ → Path) (items : Made) (o : Outcome) → StandsAs path items [] before old.state o
-        → (z : Outcome) × StandsAs path (made ++ items) [] names mid.state z × (region_at old.state.ctx.now.dialects types_at attr (doing old.state.ctx.now.dialects path) iso old.stream.rest o ≡ Came tt z new.stream.rest)
+        → (z : Outcome) × StandsAs path (made ++ items) [] names mid.state z × (region_at old.state.ctx.now.dialects types_at attr (doing old.state.ctx.now.dialects path) iso old.stream.rest o ≡ Advanced tt z new.stream.rest)
     pub falls : Falls (length old.stream.rest) made (length new.stream.rest)
     pub marks : List (ℕ × Item)
     pub noted : marks_of new.state ≡ marks_of old.state ++ marks
@@ -75,7 +75,7 @@ module _ {T A U : Type 0} (types_at : Reader T) (attr : Reader (AttrView A)) whe
         → FaultUnder iso before old fault
     at_text : begins_region old.stream.rest ≡ true → (cause : Fault) (place : ℕ) → IsTextFault (whole old.stream) cause place fault → fault.committed ≡ true
         → ((path : ℕ → Path) (items : Made) (o : Outcome) → StandsAs path items [] before old.state o
-        → (st : State) × (region_at old.state.ctx.now.dialects types_at attr (doing old.state.ctx.now.dialects path) iso old.stream.rest o ≡ Stuck (going st) cause place)) → FaultUnder iso before old fault
+        → (st : State) × (region_at old.state.ctx.now.dialects types_at attr (doing old.state.ctx.now.dialects path) iso old.stream.rest o ≡ Stopped (going st) cause place)) → FaultUnder iso before old fault
     by_names : begins_region old.stream.rest ≡ true → (failure : Failure) → IsFailure (whole old.stream) failure fault
         → ((path : ℕ → Path) (items : Made) (o : Outcome) → StandsAs path items [] before old.state o
         → EndsIn (failed failure) (region_at old.state.ctx.now.dialects types_at attr (doing old.state.ctx.now.dialects path) iso old.stream.rest o)) → FaultUnder iso before old fault

@@ -11,15 +11,15 @@ use Rattle.irtext_base.specs.Paths.{Written}
 use Rattle.irtext_base.specs.declared.parsable.fault.ParseFault.{ParseFault}
 use Rattle.irtext_graph.specs.declared.arena.Ptr.{Ptr}
 use Rattle.irtext_graph.specs.declared.object.Operation.{Operation}
-use Rattle.irtext_state.specs.declared.parsable.state.StateStream.{StateStream}
+use Rattle.irtext_parse_state.specs.declared.parsable.state.StateStream.{StateStream}
 use Rattle.irtext_grammar.specs.Contexts.Formats.{isolated}
 use Rattle.irtext_grammar.specs.Contexts.Held.{whole, StandsAt}
 use Rattle.irtext_grammar.specs.Grammar.Marked.{reads_root}
 use Rattle.irtext_grammar.specs.Grammar.Section.{Entry}
 use Rattle.irtext_grammar.specs.Grammar.Tree.{Tree}
 use Rattle.irtext_grammar.specs.Names.Acts.{failures_of}
-use Rattle.irtext_outcomes.specs.Promises.Supported.{supported, location_standing}
-use Rattle.irtext_outcomes.specs.Readers.Streams.{itself, replaced}
+use Rattle.irtext_parse_spec.specs.Promises.Supported.{supported, location_standing}
+use Rattle.irtext_parse_spec.specs.Readers.Streams.{itself, replaced}
 use Rattle.irtext_promises.specs.Promises.{BuildsRoot, RefusesRoot}
 
 -- only white space was left on the stream, and it was consumed

@@ -7,12 +7,12 @@ use Rattle.irtext_base.specs.Paths.{Written}
 use Rattle.irtext_base.specs.declared.parsable.fault.ParseFault.{ParseFault}
 use Rattle.irtext_graph.specs.declared.arena.Ptr.{Ptr}
 use Rattle.irtext_graph.specs.declared.object.Operation.{Operation}
-use Rattle.irtext_state.specs.States.{marks_of}
-use Rattle.irtext_state.specs.declared.parsable.state.StateStream.{StateStream}
+use Rattle.irtext_parse_state.specs.States.{marks_of}
+use Rattle.irtext_parse_state.specs.declared.parsable.state.StateStream.{StateStream}
 use Rattle.irtext_grammar.specs.Contexts.Held.{whole}
 use Rattle.irtext_grammar.specs.Grammar.Section.{Entry}
-use Rattle.irtext_outcomes.specs.Promises.Section.{indices_of, is_noted}
-use Rattle.irtext_nesting.specs.Readers.{section_at}
+use Rattle.irtext_parse_spec.specs.Promises.Section.{indices_of, is_noted}
+use Rattle.irtext_parse_spec.specs.Entries.{section_at}
 use Rattle.irtext_parse_section.specs.Said.{rules_of}
 use Rattle.irtext_parse_root.specs.AnyState.{ReadsTree, ReadsAny, MissesAny}
 use Rattle.irtext_parse_root.specs.Whole.{OnlySpace, ExpectsEnd}

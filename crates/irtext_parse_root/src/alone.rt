@@ -2,16 +2,16 @@
 ghost use Rattle.std.specs.Prelude.{◌≡◌, ◌≤◌, ◌∷◌, ℕ, [], true, false, IfOk, IfErr, OnOk, OnErr};
 ghost use Rattle.irtext_base.specs.Faults.{fault_of};
 ghost use Rattle.irtext_context.specs.Context.{with_graph, KeepsOlder};
-ghost use Rattle.irtext_graph.specs.Graph.{Appends, CanInsert, MakesRegion, Stands};
+ghost use Rattle.irtext_graph.specs.Graph.{Appends, CanInsert, MakesRegion, IsLive};
 ghost use Rattle.irtext_graph.specs.declared.object.Object.TheVariants.{TheOperation, TheRegion};
-ghost use Rattle.irtext_read.specs.AttrTexts.{attr_at};
+ghost use Rattle.irtext_tokens.specs.AttrTexts.{attr_at};
 ghost use Rattle.irtext_scopes.specs.Scopes.{is_open};
 ghost use Rattle.irtext_scopes.specs.Tracker.{entered};
-ghost use Rattle.irtext_state.specs.States.{marks_of};
-ghost use Rattle.irtext_names.specs.Tied.{AreTied};
-ghost use Rattle.irtext_outcomes.specs.Promises.Root.{UnlessMemory};
-ghost use Rattle.irtext_outcomes.specs.Promises.Section.{IsStarved};
-ghost use Rattle.irtext_outcomes.specs.Readers.Streams.{KeepsRest};
+ghost use Rattle.irtext_parse_state.specs.States.{marks_of};
+ghost use Rattle.irtext_names.specs.Tied.{MatchesGraph};
+ghost use Rattle.irtext_parse_spec.specs.Promises.Root.{UnlessMemory};
+ghost use Rattle.irtext_parse_spec.specs.Promises.Section.{IsStarved};
+ghost use Rattle.irtext_parse_spec.specs.Readers.Streams.{KeepsRest};
 ghost use Rattle.irtext_parse_nested.specs.Items.{IsSound};
 ghost use Rattle.irtext_parse_nested.specs.Read.{BeginsRegion, RefusesRegion};
 
@@ -21,8 +21,8 @@ use irtext_context::base::{Operation, Ptr, Region};
 use irtext_graph::held::HasGraph;
 use irtext_parse_nested::frame::{BegunRegion, Names};
 use irtext_parse_nested::regions::{brace_demanded, enter_here};
-use irtext_read::irfmt::faults::out_of_memory;
-use irtext_state::parsable::StateStream;
+use irtext_parse_state::parsable::StateStream;
+use irtext_tokens::irfmt::faults::out_of_memory;
 use std::alloc::AllocError;
 
 /// Creates a detached region in the context of the state. The only error is `Memory`, if an allocation fails.
@@ -54,7 +54,7 @@ pub(crate) fn region_alone<T: IrText<A>, A: AttrText<A>, U>(
     isolated: bool,
 ) -> ParseResult<BegunRegion, A>
     requires fine { s.old.stream.failed ≡ false }
-    requires tied { AreTied names.old.values names.old.labels s.old.state.ctx.now.graph }
+    requires tied { MatchesGraph names.old.values names.old.labels s.old.state.ctx.now.graph }
     ensures lent { s.new.state.ctx.ghost_name ≡ s.old.state.ctx.ghost_name }
     ensures rest { KeepsRest s.old.state s.new.state }
     ensures marks { marks_of s.new.state ≡ marks_of s.old.state }
@@ -87,8 +87,8 @@ pub(crate) fn region_placed<T: IrText<A>, A: AttrText<A>, U>(
     op: Ptr<Operation>,
     region: Ptr<Region>,
 ) -> ParseResult<(), A>
-    requires op { Stands s.old.state.ctx.now.graph (TheOperation op) }
-    requires region { Stands s.old.state.ctx.now.graph (TheRegion region) }
+    requires op { IsLive s.old.state.ctx.now.graph (TheOperation op) }
+    requires region { IsLive s.old.state.ctx.now.graph (TheRegion region) }
     requires can { CanInsert s.old.state.ctx.now.graph (TheOperation op) (TheRegion region) }
     ensures lent { s.new.state.ctx.ghost_name ≡ s.old.state.ctx.ghost_name }
     ensures rest { KeepsRest s.old.state s.new.state }

@@ -5,16 +5,16 @@ ghost use Rattle.irtext_base.specs.Faults.{fault_of};
 ghost use Rattle.irtext_base.specs.Format.{same_text, given_names_key, block_label_key};
 ghost use Rattle.irtext_base.specs.Stream.{IsAt, after_failure};
 ghost use Rattle.irtext_stream.specs.Places.{AtOffset};
-ghost use Rattle.irtext_read.specs.AttrTexts.{attr_at};
-ghost use Rattle.irtext_state.specs.States.{marks_of};
+ghost use Rattle.irtext_tokens.specs.AttrTexts.{attr_at};
+ghost use Rattle.irtext_parse_state.specs.States.{marks_of};
 ghost use Rattle.irtext_grammar.specs.Contexts.Held.{whole, attribute_of};
 ghost use Rattle.irtext_grammar.specs.Grammar.Tree.{Head};
 ghost use Rattle.irtext_grammar.specs.Names.Acts as acts;
-ghost use Rattle.irtext_outcomes.specs.Promises.Root.{IsFresh, UnlessMemory};
-ghost use Rattle.irtext_outcomes.specs.Promises.Section.{indices_of};
-ghost use Rattle.irtext_outcomes.specs.Readers.Refusals.{Refusal, RefusesFailed};
-ghost use Rattle.irtext_outcomes.specs.Readers.Streams.{itself, replaced};
-ghost use Rattle.irtext_nesting.specs.Heads.{head_at};
+ghost use Rattle.irtext_parse_spec.specs.Promises.Root.{IsFresh, UnlessMemory};
+ghost use Rattle.irtext_parse_spec.specs.Promises.Section.{indices_of};
+ghost use Rattle.irtext_parse_spec.specs.Readers.Refusals.{Refusal, RefusesFailed};
+ghost use Rattle.irtext_parse_spec.specs.Readers.Streams.{itself, replaced};
+ghost use Rattle.irtext_parse_spec.specs.Heads.{head_at};
 ghost use Rattle.irtext_parse_pieces.specs.Headers.{IsHead};
 ghost use Rattle.irtext_parse_pieces.specs.Named.{AreWords, NamesRead, MayMean};
 ghost use Rattle.irtext_promises.specs.Alone.{RefusesBlock};
@@ -33,10 +33,10 @@ use irtext_parse_pieces::entries::{Key, ReadEntry};
 use irtext_parse_pieces::headers::{BlockHead, block_head_parse};
 use irtext_parse_pieces::marks::ReadMark;
 use irtext_parse_pieces::names::ReadName;
-use irtext_read::irfmt::faults::{next_is, out_of_memory, refuse_at, unexpected};
-use irtext_read::irfmt::parsers::held;
+use irtext_parse_state::parsable::{State, StateStream};
 use irtext_scopes::tracker::NameTracker;
-use irtext_state::parsable::{State, StateStream};
+use irtext_tokens::irfmt::faults::{next_is, out_of_memory, refuse_at, unexpected};
+use irtext_tokens::irfmt::parsers::held;
 
 fn is_given<A>(attr: &AttrObj<A>) -> bool
     ensures { result ≡ acts.is_given (attribute_of attr.now) }

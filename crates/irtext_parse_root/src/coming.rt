@@ -1,10 +1,10 @@
 //! What comes next in an open operation, according to its format.
 ghost use Rattle.std.specs.Prelude.{◌≡◌, ◌≢◌, ◌+◌, ◌<◌, false, length, slice_get, IsSome, IfSome};
 ghost use Rattle.irtext_base.specs.Faults.{id_of};
-ghost use Rattle.irtext_formats.specs.Directives.{format_of};
+ghost use Rattle.irtext_format_check.specs.Directives.{format_of};
 ghost use Rattle.irtext_grammar.specs.Contexts.Formats.{isolated};
-ghost use Rattle.irtext_nesting.specs.Heads.{steps_of};
-ghost use Rattle.irtext_nesting.specs.Reached.{steps_in};
+ghost use Rattle.irtext_parse_spec.specs.Heads.{steps_of};
+ghost use Rattle.irtext_parse_spec.specs.Reached.{steps_in};
 ghost use Rattle.irtext_parse_nested.specs.Coming.{IsStep};
 ghost use Rattle.irtext_parse_nested.specs.declared.coming.Coming.TheVariants as comes;
 ghost use Rattle.irtext_parse_root.specs.Turns.{IsNext};

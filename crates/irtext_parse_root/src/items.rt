@@ -2,7 +2,7 @@
 ghost use Rattle.std.specs.Prelude.{◌≡◌, ◌≤◌, [], ℕ, false, IfErr, OnOk, OnErr, Some};
 ghost use Rattle.irtext_context.specs.Context.{KeepsOlder};
 ghost use Rattle.irtext_graph.specs.Back.{IsClosedBelow};
-ghost use Rattle.irtext_read.specs.AttrTexts.{attr_at};
+ghost use Rattle.irtext_tokens.specs.AttrTexts.{attr_at};
 ghost use Rattle.irtext_scopes.specs.Names.{KeepsNames};
 ghost use Rattle.irtext_grammar.specs.Contexts.Held.{whole};
 ghost use Rattle.irtext_parse_nested.specs.Items.{IsSound};
@@ -16,7 +16,7 @@ use irtext_base::parsable::ParseResult;
 use irtext_base::text::{AttrText, IrText};
 use irtext_parse_nested::frame::Names;
 use irtext_parse_pieces::keys::Keys;
-use irtext_state::parsable::StateStream;
+use irtext_parse_state::parsable::StateStream;
 
 /// Parses the rest of the text of a frame that is the only open one. Every error is committed. On an error, scopes may be left open.
 pub(crate) fn items_parse<T: IrText<A>, A: AttrText<A>, U>(

@@ -1,13 +1,13 @@
 //! Names that are used outside of every region. No scope of names is open there, so each such name is an error.
 ghost use Rattle.std.specs.Prelude.{false, IfErr, OnOk};
-ghost use Rattle.irtext_nesting.specs.Heads.{used_at, target_at};
+ghost use Rattle.irtext_parse_spec.specs.Heads.{used_at, target_at};
 ghost use Rattle.irtext_parse_pieces.specs.Named.{Misses};
 
 use irtext_base::parsable::{CharStream, ParseFault, ParseResult};
 use irtext_base::result::Cause;
 use irtext_context::base::{BasicBlock, Ptr, Value};
-use irtext_read::irfmt::faults::{commit, refuse_at};
-use irtext_read::irfmt::parsers::{identifier_parse, text_parse};
+use irtext_tokens::irfmt::faults::{commit, refuse_at};
+use irtext_tokens::irfmt::parsers::{identifier_parse, text_parse};
 
 /// Returns the error for a name that is used where no scope is open, at the name. If no name comes next, the error is uncommitted and the
 /// stream is unchanged.

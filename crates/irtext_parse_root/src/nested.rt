@@ -4,12 +4,12 @@ ghost use Rattle.irtext_context.specs.Context.{KeepsOlder};
 ghost use Rattle.irtext_graph.specs.Back.{IsClosedBelow};
 ghost use Rattle.irtext_graph.specs.Graph.{IsNew};
 ghost use Rattle.irtext_graph.specs.declared.object.Object.TheVariants.{TheOperation};
-ghost use Rattle.irtext_read.specs.AttrTexts.{attr_at};
+ghost use Rattle.irtext_tokens.specs.AttrTexts.{attr_at};
 ghost use Rattle.irtext_scopes.specs.Names.{KeepsNames};
-ghost use Rattle.irtext_outcomes.specs.Promises.Root.{UnlessMemory};
-ghost use Rattle.irtext_outcomes.specs.Readers.Streams.{KeepsRest};
+ghost use Rattle.irtext_parse_spec.specs.Promises.Root.{UnlessMemory};
+ghost use Rattle.irtext_parse_spec.specs.Readers.Streams.{KeepsRest};
 ghost use Rattle.irtext_parse_nested.specs.Ends.{GainsMarks};
-ghost use Rattle.irtext_state.specs.States.{marks_of};
+ghost use Rattle.irtext_parse_state.specs.States.{marks_of};
 ghost use Rattle.irtext_parse_nested.specs.Items.{IsSound};
 ghost use Rattle.irtext_parse_root.specs.Nested.{ReadsNested, RefusesNested};
 ghost use Rattle.irtext_parse_root.specs.Turned.{Carries, IsSoundOnce};
@@ -22,7 +22,7 @@ use irtext_base::text::{AttrText, IrText};
 use irtext_context::base::{Operation, Ptr};
 use irtext_parse_nested::frame::Names;
 use irtext_parse_pieces::keys::Keys;
-use irtext_state::parsable::StateStream;
+use irtext_parse_state::parsable::StateStream;
 
 /// Parses an operation outside of every region, with everything nested in it. The error is the first one in the order of the text. It is
 /// committed, unless no operation comes next; then nothing was consumed. On an error, the objects that were created stay in the context,

@@ -4,13 +4,13 @@ ghost use Rattle.irtext_base.specs.Faults as fault;
 ghost use Rattle.irtext_base.specs.Faults.{fault_of, id_of};
 ghost use Rattle.irtext_context.specs.Context.{OperationView, operation, KeepsOlder};
 ghost use Rattle.irtext_graph.specs.Back.{IsClosedBelow};
-ghost use Rattle.irtext_read.specs.AttrTexts.{attr_at};
+ghost use Rattle.irtext_tokens.specs.AttrTexts.{attr_at};
 ghost use Rattle.irtext_scopes.specs.Names.{KeepsNames};
 ghost use Rattle.irtext_scopes.specs.Scopes.{is_open};
-ghost use Rattle.irtext_state.specs.States.{marks_of};
+ghost use Rattle.irtext_parse_state.specs.States.{marks_of};
 ghost use Rattle.irtext_grammar.specs.Contexts.Formats.{isolated};
-ghost use Rattle.irtext_outcomes.specs.Promises.Root.{UnlessMemory};
-ghost use Rattle.irtext_outcomes.specs.Readers.Streams.{KeepsRest};
+ghost use Rattle.irtext_parse_spec.specs.Promises.Root.{UnlessMemory};
+ghost use Rattle.irtext_parse_spec.specs.Readers.Streams.{KeepsRest};
 ghost use Rattle.irtext_parse_nested.specs.Ends.{GainsMarks};
 ghost use Rattle.irtext_parse_nested.specs.Items.{IsSound};
 ghost use Rattle.irtext_parse_root.specs.Under.{IsolatedAs, IsPositionOf, ReadsUnder, RefusesUnder};
@@ -29,9 +29,9 @@ use irtext_context::base::context::making::Making;
 use irtext_context::base::operation::OperationAccess;
 use irtext_context::base::{Context, Operation, Ptr, Region};
 use irtext_parse_nested::frame::Names;
-use irtext_read::irfmt::faults::{next_is, unexpected};
-use irtext_state::parsable::StateStream;
-use irtext_state::parsable::state::State;
+use irtext_parse_state::parsable::StateStream;
+use irtext_parse_state::parsable::state::State;
+use irtext_tokens::irfmt::faults::{next_is, unexpected};
 
 /// Whether operations with this id are isolated from above.
 fn isolated_by<T: IrText<A>, A: AttrText<A>>(ctx: &Context<T, A>, id: &OpId) -> bool

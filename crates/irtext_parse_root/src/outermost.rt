@@ -5,11 +5,11 @@ ghost use Rattle.irtext_context.specs.Context.{KeepsOlder};
 ghost use Rattle.irtext_context.specs.Made.{SameObjects};
 ghost use Rattle.irtext_context.specs.declared.base.item.Item.{Item};
 ghost use Rattle.irtext_graph.specs.Back.{AllOlder, IsClosedBelow};
-ghost use Rattle.irtext_read.specs.AttrTexts.{attr_at};
-ghost use Rattle.irtext_state.specs.States.{marks_of};
-ghost use Rattle.irtext_outcomes.specs.Promises.Root.{IsFresh, UnlessMemory};
-ghost use Rattle.irtext_outcomes.specs.Readers.Refusals.{Refusal, FailedRefusal, RefusesFailed};
-ghost use Rattle.irtext_outcomes.specs.Readers.Streams.{KeepsRest};
+ghost use Rattle.irtext_tokens.specs.AttrTexts.{attr_at};
+ghost use Rattle.irtext_parse_state.specs.States.{marks_of};
+ghost use Rattle.irtext_parse_spec.specs.Promises.Root.{IsFresh, UnlessMemory};
+ghost use Rattle.irtext_parse_spec.specs.Readers.Refusals.{Refusal, FailedRefusal, RefusesFailed};
+ghost use Rattle.irtext_parse_spec.specs.Readers.Streams.{KeepsRest};
 ghost use Rattle.irtext_promises.specs.Promises.{BuildsTree, RefusesTree, BuildsRoot, RefusesRoot, BuildsWith, RefusesWith};
 ghost use Rattle.irtext_parse_root.specs.AnyState.{ReadsAny, MissesAny};
 
@@ -20,9 +20,9 @@ use irtext_base::text::{AttrText, IrText};
 use irtext_context::base::context::making::Making;
 use irtext_context::base::{Operation, Ptr};
 use irtext_parse_section::section::section_parse;
-use irtext_read::irfmt::faults::stands_at;
-use irtext_state::parsable::state::Noting;
-use irtext_state::parsable::{State, StateStream};
+use irtext_parse_state::parsable::state::Noting;
+use irtext_parse_state::parsable::{State, StateStream};
+use irtext_tokens::irfmt::faults::stands_at;
 
 /// Returns the error for a stream that has already failed, at its current position.
 pub(crate) fn failed_fault<S: CharStream, A>(stream: &S) -> ParseFault<A>

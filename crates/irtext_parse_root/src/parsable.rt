@@ -1,7 +1,7 @@
 //! The trait of types that can be parsed. Streams, the state of the parser and the errors of parsers are re-exported from lower crates.
 
 ghost use Rattle.std.specs.Prelude.{⊤};
-ghost use Rattle.irtext_state.specs.declared.parsable.state.StateStream.{StateStream};
+ghost use Rattle.irtext_parse_state.specs.declared.parsable.state.StateStream.{StateStream};
 
 mod locations;
 mod tokens;
@@ -11,10 +11,10 @@ pub use irtext_base::parsable::{
     UnresolvedReference,
 };
 use irtext_base::text::{AttrText, IrText};
-pub use irtext_read::parsable::{IntoParseResult, OwnStream};
-pub use irtext_state::parsable::{
+pub use irtext_parse_state::parsable::{
     State, StateStream, StreamLocation, parse_from_str, state_stream_from_iterator,
 };
+pub use irtext_tokens::parsable::{IntoParseResult, OwnStream};
 
 /// A type that can be parsed from a stream with a context.
 pub trait Parsable<T: IrText<A>, A: AttrText<A>, U> {

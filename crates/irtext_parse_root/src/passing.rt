@@ -4,8 +4,8 @@ ghost use Rattle.irtext_base.specs.Text.{after_space};
 ghost use Rattle.irtext_parse_root.specs.Stands.{one_stands, text_there, PassesTo};
 
 use irtext_base::parsable::{CharStream, Class, TextStream};
-use irtext_read::irfmt::faults::{begins, next_is};
-use irtext_read::irfmt::parsers::skip_white_space;
+use irtext_tokens::irfmt::faults::{begins, next_is};
+use irtext_tokens::irfmt::parsers::skip_white_space;
 
 /// Consumes white space.
 pub(crate) fn space_parse(stream: &mut TextStream)

@@ -6,12 +6,12 @@ ghost use Rattle.irtext_base.specs.Own.{texts_of};
 ghost use Rattle.irtext_base.specs.Stream.{after_failure};
 ghost use Rattle.irtext_context.specs.Context.{operation, KeepsOlder};
 ghost use Rattle.irtext_context.specs.Made.{SameObjects};
-ghost use Rattle.irtext_read.specs.AttrTexts.{attr_at};
-ghost use Rattle.irtext_state.specs.States.{marks_of};
+ghost use Rattle.irtext_tokens.specs.AttrTexts.{attr_at};
+ghost use Rattle.irtext_parse_state.specs.States.{marks_of};
 ghost use Rattle.irtext_grammar.specs.Contexts.Formats.{isolated};
-ghost use Rattle.irtext_outcomes.specs.Promises.Root.{IsFresh, UnlessMemory};
-ghost use Rattle.irtext_outcomes.specs.Readers.Refusals.{Refusal, RefusesFailed};
-ghost use Rattle.irtext_outcomes.specs.Readers.Streams.{KeepsRest};
+ghost use Rattle.irtext_parse_spec.specs.Promises.Root.{IsFresh, UnlessMemory};
+ghost use Rattle.irtext_parse_spec.specs.Readers.Refusals.{Refusal, RefusesFailed};
+ghost use Rattle.irtext_parse_spec.specs.Readers.Streams.{KeepsRest};
 ghost use Rattle.irtext_promises.specs.Alone.{IsOutermost, BuildsRegion, RefusesRegion};
 ghost use Rattle.irtext_parse_nested.specs.Ends.{GainsMarks};
 ghost use Rattle.irtext_parse_root.specs.AnyRegion.{ReadsRegion, MissesRegion};
@@ -30,9 +30,9 @@ use irtext_base::text::{AttrText, IrText};
 use irtext_context::base::context::making::Making;
 use irtext_context::base::operation::OperationAccess;
 use irtext_context::base::{Context, Operation, Ptr, Region};
+use irtext_parse_state::parsable::state::Noting;
+use irtext_parse_state::parsable::{State, StateStream};
 use irtext_scopes::tracker::NameTracker;
-use irtext_state::parsable::state::Noting;
-use irtext_state::parsable::{State, StateStream};
 
 /// Whether operations with this id are isolated from above.
 fn isolated_by<T: IrText<A>, A: AttrText<A>>(ctx: &Context<T, A>, id: &OpId) -> bool

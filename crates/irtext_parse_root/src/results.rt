@@ -5,8 +5,8 @@ ghost use Rattle.irtext_base.specs.Faults.{fault_of};
 ghost use Rattle.irtext_base.specs.Stream.{IsAt};
 ghost use Rattle.irtext_context.specs.Context.{operation};
 ghost use Rattle.irtext_graph.specs.Parts as parts;
-ghost use Rattle.irtext_outcomes.specs.Promises.Root.{UnlessMemory};
-ghost use Rattle.irtext_outcomes.specs.Readers.Refusals.{Refusal, RefusesFailed};
+ghost use Rattle.irtext_parse_spec.specs.Promises.Root.{UnlessMemory};
+ghost use Rattle.irtext_parse_spec.specs.Readers.Refusals.{Refusal, RefusesFailed};
 ghost use Rattle.irtext_promises.specs.Alone.{IsOutermost};
 ghost use Rattle.irtext_parse_root.specs.Results.{RefusesResults};
 
@@ -19,8 +19,8 @@ use irtext_base::result::Cause;
 use irtext_base::text::{AttrText, IrText};
 use irtext_context::base::{Operation, Ptr};
 use irtext_graph::held::HasGraph;
-use irtext_read::irfmt::faults::{out_of_memory, stands_at};
-use irtext_state::parsable::{State, StateStream};
+use irtext_parse_state::parsable::{State, StateStream};
+use irtext_tokens::irfmt::faults::{out_of_memory, stands_at};
 
 /// How many results an operation of the state's context has.
 fn result_count<T: IrText<A>, A: AttrText<A>, U>(

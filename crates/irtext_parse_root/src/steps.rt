@@ -3,11 +3,11 @@ ghost use Rattle.std.specs.Prelude.{◌≡◌, ◌≢◌, ◌≤◌, ◌+◌, �
 ghost use Rattle.irtext_base.specs.Faults.{id_of};
 ghost use Rattle.irtext_context.specs.Context.{KeepsOlder};
 ghost use Rattle.irtext_graph.specs.Back.{IsClosedBelow};
-ghost use Rattle.irtext_read.specs.AttrTexts.{attr_at};
+ghost use Rattle.irtext_tokens.specs.AttrTexts.{attr_at};
 ghost use Rattle.irtext_scopes.specs.Names.{KeepsNames};
 ghost use Rattle.irtext_grammar.specs.Contexts.Formats as formats;
 ghost use Rattle.irtext_grammar.specs.Contexts.Held.{whole};
-ghost use Rattle.irtext_nesting.specs.Reached.{steps_in};
+ghost use Rattle.irtext_parse_spec.specs.Reached.{steps_in};
 ghost use Rattle.irtext_parse_nested.specs.Coming.{IsStep};
 ghost use Rattle.irtext_parse_nested.specs.Items.{IsSound};
 ghost use Rattle.irtext_parse_root.specs.Here.{AreHere};
@@ -26,9 +26,9 @@ use irtext_base::text::{AttrText, IrText};
 use irtext_parse_nested::coming::Coming;
 use irtext_parse_nested::frame::{BegunBlock, BegunOperation, BegunRegion, Names};
 use irtext_parse_pieces::keys::Keys;
-use irtext_read::irfmt::faults::{next_is, out_of_memory};
-use irtext_state::parsable::StateStream;
-use irtext_state::parsable::state::State;
+use irtext_parse_state::parsable::StateStream;
+use irtext_parse_state::parsable::state::State;
+use irtext_tokens::irfmt::faults::{next_is, out_of_memory};
 
 /// What comes next in an open operation.
 fn coming_here<T: IrText<A>, A: AttrText<A>, U>(

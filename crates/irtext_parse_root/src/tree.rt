@@ -5,16 +5,16 @@ ghost use Rattle.irtext_base.specs.Stream.{after_failure};
 ghost use Rattle.irtext_context.specs.Context.{KeepsOlder};
 ghost use Rattle.irtext_context.specs.declared.base.item.Item.{Item};
 ghost use Rattle.irtext_graph.specs.Back.{AllOlder, IsClosedBelow};
-ghost use Rattle.irtext_graph.specs.Graph.{children, parent, Stands};
+ghost use Rattle.irtext_graph.specs.Graph.{children, parent, IsLive};
 ghost use Rattle.irtext_graph.specs.Nested.{Nested};
-ghost use Rattle.irtext_read.specs.AttrTexts.{attr_at};
-ghost use Rattle.irtext_state.specs.States.{marks_of};
+ghost use Rattle.irtext_tokens.specs.AttrTexts.{attr_at};
+ghost use Rattle.irtext_parse_state.specs.States.{marks_of};
 ghost use Rattle.irtext_grammar.specs.Contexts.Formats.{IsAccepted};
 ghost use Rattle.irtext_grammar.specs.Contexts.Held.{whole};
-ghost use Rattle.irtext_outcomes.specs.Promises.Root.{IsFresh, UnlessMemory};
-ghost use Rattle.irtext_outcomes.specs.Promises.Section.{Moves, indices_of};
-ghost use Rattle.irtext_outcomes.specs.Readers.Refusals.{Refusal};
-ghost use Rattle.irtext_outcomes.specs.Readers.Streams.{KeepsRest};
+ghost use Rattle.irtext_parse_spec.specs.Promises.Root.{IsFresh, UnlessMemory};
+ghost use Rattle.irtext_parse_spec.specs.Promises.Section.{Moves, indices_of};
+ghost use Rattle.irtext_parse_spec.specs.Readers.Refusals.{Refusal};
+ghost use Rattle.irtext_parse_spec.specs.Readers.Streams.{KeepsRest};
 ghost use Rattle.irtext_promises.specs.Promises.{HasFault};
 ghost use Rattle.irtext_parse_root.specs.AnyState.{HasFaultFrom, ReadsTree};
 ghost use Rattle.irtext_parse_root.specs.Marked.{LeavesMarked};
@@ -25,14 +25,14 @@ use irtext_base::text::{AttrText, IrText};
 use irtext_context::base::context::making::Making;
 use irtext_context::base::{Operation, Ptr};
 use irtext_graph::held::HasGraph;
+use irtext_parse_state::parsable::{State, StateStream};
 use irtext_scopes::tracker::NameTracker;
-use irtext_state::parsable::{State, StateStream};
 
 /// States, by its contract alone, what always holds of the state's context; the call changes nothing. Each object has at most one parent,
 /// every live object was created before the current count of created objects, and the format of each operation is accepted.
 pub(crate) fn context_keeps<T: IrText<A>, A: AttrText<A>, U>(state: &State<'_, T, A, U>)
     ensures nest { Nested (children state.now.ctx.now.graph) (parent state.now.ctx.now.graph) }
-    ensures holders { (c k : _) → parent state.now.ctx.now.graph c ≡ Some k → Stands state.now.ctx.now.graph k }
+    ensures holders { (c k : _) → parent state.now.ctx.now.graph c ≡ Some k → IsLive state.now.ctx.now.graph k }
     ensures older { AllOlder state.now.ctx.now.graph.made state.now.ctx.now.graph }
     ensures closed { IsClosedBelow state.now.ctx.now.graph.made state.now.ctx.now.graph }
     ensures accepted { (id : Id) → IsAccepted state.now.ctx.now.dialects id }

@@ -2,19 +2,19 @@
 ghost use Rattle.std.specs.Prelude.{◌≡◌, ◌≤◌, ◌∷◌, ℕ, List, false, true, length, is_some, IfOk, IfErr, IfSome, IsSome, OnOk, OnErr};
 ghost use Rattle.irtext_context.specs.Context.{operation, KeepsOlder};
 ghost use Rattle.irtext_graph.specs.Back.{IsClosedBelow};
-ghost use Rattle.irtext_graph.specs.Graph.{IsNew, Stands};
+ghost use Rattle.irtext_graph.specs.Graph.{IsNew, IsLive};
 ghost use Rattle.irtext_graph.specs.Parts.{results};
 ghost use Rattle.irtext_graph.specs.declared.object.Object.TheVariants.{TheOperation, TheBlock, TheRegion};
-ghost use Rattle.irtext_read.specs.AttrTexts.{attr_at};
+ghost use Rattle.irtext_tokens.specs.AttrTexts.{attr_at};
 ghost use Rattle.irtext_scopes.specs.Names.{KeepsNames};
 ghost use Rattle.irtext_scopes.specs.Scopes.{is_open};
 ghost use Rattle.irtext_grammar.specs.Contexts.Held.{whole};
-ghost use Rattle.irtext_outcomes.specs.Promises.Root.{UnlessMemory};
-ghost use Rattle.irtext_nesting.specs.Heads.{Step};
-ghost use Rattle.irtext_nesting.specs.Resume.{Begun};
-ghost use Rattle.irtext_nesting.specs.Stands.{IsThere};
+ghost use Rattle.irtext_parse_spec.specs.Promises.Root.{UnlessMemory};
+ghost use Rattle.irtext_parse_spec.specs.Heads.{Step};
+ghost use Rattle.irtext_parse_spec.specs.Resume.{OpenOperation};
+ghost use Rattle.irtext_parse_spec.specs.Unchanged.{IsThere};
 ghost use Rattle.irtext_names.specs.Rows.{AreKnown};
-ghost use Rattle.irtext_parse_nested.specs.Begun.{IsBegun, IsRegion};
+ghost use Rattle.irtext_parse_nested.specs.OpenOperation.{IsBegun, IsRegion};
 ghost use Rattle.irtext_parse_nested.specs.Ends.{numbers_of};
 ghost use Rattle.irtext_parse_nested.specs.Items.{IsSound};
 ghost use Rattle.irtext_parse_nested.specs.Read.{RefusesOperation, RefusesPiece, RefusesEnd, RefusesRegion, RefusesRegionEnd, RefusesBlock};
@@ -32,7 +32,7 @@ use irtext_parse_nested::later::operation_piece;
 use irtext_parse_nested::operation_end::operation_end;
 use irtext_parse_nested::regions::{region_begin, region_end};
 use irtext_parse_pieces::keys::Keys;
-use irtext_state::parsable::StateStream;
+use irtext_parse_state::parsable::StateStream;
 
 /// Begins an operation: the last of a block, or one outside of every region.
 pub(crate) fn begin<T: IrText<A>, A: AttrText<A>, U>(
@@ -68,12 +68,12 @@ pub(crate) fn go_on<T: IrText<A>, A: AttrText<A>, U>(
     requires sound { IsSoundOnce names.old s.old.state }
     requires stands { IsSome (operation s.old.state.ctx.now begun.old.op) }
     requires step { IsNext s.old.state.ctx.now.dialects begun.old comes.Piece }
-    requires begun { (o : Begun T A) × (step : Step) × (ss : List Step) × IsBegun names.old.names (whole s.old.stream)
+    requires begun { (o : OpenOperation T A) × (step : Step) × (ss : List Step) × IsBegun names.old.names (whole s.old.stream)
         s.old.state.ctx.now begun.old o × (o.steps ≡ step ∷ ss) }
     ensures lent { s.new.state.ctx.ghost_name ≡ s.old.state.ctx.ghost_name }
     ensures goes_on { OnOk result (Continues T.IrText.reading (attr_at A.IrText.reading) names.old s.old begun.old begun.new
         names.new s.new) }
-    ensures refused { IfErr result (λ fault. (o : Begun T A) (step : Step) (ss : List Step) →
+    ensures refused { IfErr result (λ fault. (o : OpenOperation T A) (step : Step) (ss : List Step) →
         IsBegun names.old.names (whole s.old.stream) s.old.state.ctx.now begun.old o → o.steps ≡ step ∷ ss
         → UnlessMemory (RefusesPiece T.IrText.reading (attr_at A.IrText.reading) o step names.old s.old) fault) }
     ensures committed { IfErr result (λ fault. fault.committed ≡ true) }
@@ -97,10 +97,10 @@ pub(crate) fn end<T: IrText<A>, A: AttrText<A>, U>(
     requires stands { IsSome (operation s.old.state.ctx.now begun.now.op) }
     requires counts { length (results s.old.state.ctx.now.graph begun.now.op) ≡ begun.now.results }
     requires known { AreKnown (length names.old.names) (numbers_of begun.now.names) }
-    requires begun { (o : Begun T A) × IsBegun names.old.names (whole s.old.stream) s.old.state.ctx.now begun.now o }
+    requires begun { (o : OpenOperation T A) × IsBegun names.old.names (whole s.old.stream) s.old.state.ctx.now begun.now o }
     ensures lent { s.new.state.ctx.ghost_name ≡ s.old.state.ctx.ghost_name }
     ensures ends { OnOk result (Ends T.IrText.reading (attr_at A.IrText.reading) names.old s.old begun.now names.new s.new) }
-    ensures refused { IfErr result (λ fault. (o : Begun T A) → IsBegun names.old.names (whole s.old.stream) s.old.state.ctx.now begun.now o
+    ensures refused { IfErr result (λ fault. (o : OpenOperation T A) → IsBegun names.old.names (whole s.old.stream) s.old.state.ctx.now begun.now o
         → UnlessMemory (RefusesEnd T.IrText.reading (attr_at A.IrText.reading) o begun.now names.old s.old) fault) }
     ensures committed { IfErr result (λ fault. fault.committed ≡ true) }
     ensures remains { OnErr result (Remains s.old.state s.new.state) }
@@ -167,7 +167,7 @@ pub(crate) fn head<T: IrText<A>, A: AttrText<A>, U>(
 ) -> ParseResult<BegunBlock, A>
     requires fine { s.old.stream.failed ≡ false }
     requires sound { IsSoundOnce names.old s.old.state }
-    requires region { Stands s.old.state.ctx.now.graph (TheRegion region) }
+    requires region { IsLive s.old.state.ctx.now.graph (TheRegion region) }
     requires open { (is_open names.old.values ≡ true) × (is_open names.old.labels ≡ true) }
     ensures lent { s.new.state.ctx.ghost_name ≡ s.old.state.ctx.ghost_name }
     ensures first { IfOk result (λ b. b.first ≡ true) }

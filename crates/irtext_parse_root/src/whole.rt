@@ -4,12 +4,12 @@ ghost use Rattle.irtext_base.specs.Own.{texts_of};
 ghost use Rattle.irtext_context.specs.Context.{KeepsOlder};
 ghost use Rattle.irtext_context.specs.Made.{SameObjects};
 ghost use Rattle.irtext_context.specs.declared.base.item.Item.{Item};
-ghost use Rattle.irtext_read.specs.AttrTexts.{attr_at};
-ghost use Rattle.irtext_state.specs.States.{marks_of};
+ghost use Rattle.irtext_tokens.specs.AttrTexts.{attr_at};
+ghost use Rattle.irtext_parse_state.specs.States.{marks_of};
 ghost use Rattle.irtext_grammar.specs.Contexts.Held.{whole};
-ghost use Rattle.irtext_outcomes.specs.Readers.Refusals.{Refusal, CommittedRefusal, RefusesFailed};
-ghost use Rattle.irtext_outcomes.specs.Readers.Streams.{KeepsRest};
-ghost use Rattle.irtext_outcomes.specs.Promises.Root.{IsFresh, UnlessMemory};
+ghost use Rattle.irtext_parse_spec.specs.Readers.Refusals.{Refusal, CommittedRefusal, RefusesFailed};
+ghost use Rattle.irtext_parse_spec.specs.Readers.Streams.{KeepsRest};
+ghost use Rattle.irtext_parse_spec.specs.Promises.Root.{IsFresh, UnlessMemory};
 ghost use Rattle.irtext_parse_section.specs.Applied.{AreNewer};
 ghost use Rattle.irtext_parse_root.specs.Ended.{EndsAny, MissesEnd};
 ghost use Rattle.irtext_parse_root.specs.Whole.{OnlySpace, ExpectsEnd, BuildsWhole, RefusesWhole};
@@ -23,10 +23,10 @@ use irtext_base::text::{AttrText, IrText};
 use irtext_context::base::context::making::Making;
 use irtext_context::base::{Operation, Ptr};
 use irtext_parse_section::section::{section_checked, section_given};
-use irtext_read::irfmt::faults::commit_unexpected;
-use irtext_read::irfmt::parsers::skip_white_space;
-use irtext_state::parsable::StateStream;
-use irtext_state::parsable::state::Noting;
+use irtext_parse_state::parsable::StateStream;
+use irtext_parse_state::parsable::state::Noting;
+use irtext_tokens::irfmt::faults::commit_unexpected;
+use irtext_tokens::irfmt::parsers::skip_white_space;
 
 /// Skips white space, after which nothing may be left. Otherwise the error is `Unexpected` at the first other character, and committed.
 fn end_demanded<A>(stream: &mut TextStream) -> ParseResult<(), A>

@@ -8,7 +8,7 @@ use Rattle.irtext_base.specs.Paths.{Written}
 use Rattle.irtext_base.specs.declared.base.attributes.AttrObj.{AttrObj}
 use Rattle.irtext_context.specs.Context.{ContextView, KeepsOlder}
 use Rattle.irtext_context.specs.declared.base.item.Item.{Item}
-use Rattle.irtext_state.specs.States.{same_index}
+use Rattle.irtext_parse_state.specs.States.{same_index}
 use Rattle.irtext_grammar.specs.Contexts.Held.{attribute_of}
 use Rattle.irtext_grammar.specs.Grammar.Section as section
 use Rattle.irtext_grammar.specs.Grammar.Section.{Entry, of_item, of_once, direct, reference}

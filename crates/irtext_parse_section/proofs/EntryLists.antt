@@ -13,7 +13,7 @@ use Rattle.irtext_base.specs.declared.base.attributes.AttrObj.{AttrObj}
 use Rattle.irtext_base.specs.declared.location.Location.{Location}
 use Rattle.irtext_base.proofs.PathKeys.{stays_known, written_same}
 use Rattle.irtext_context.specs.declared.base.item.Item.{Item}
-use Rattle.irtext_state.specs.States.{same_index}
+use Rattle.irtext_parse_state.specs.States.{same_index}
 use Rattle.irtext_grammar.specs.Contexts.Held.{attribute_of}
 use Rattle.irtext_grammar.specs.Grammar.Section as section
 use Rattle.irtext_grammar.specs.Grammar.Section.{Entry, of_item, of_once}
@@ -22,11 +22,11 @@ use Rattle.irtext_grammar.specs.Names.Acts.{Rule, shared_attribute}
 use Rattle.irtext_grammar.specs.Names.Resolves.{indices}
 use Rattle.irtext_grammar.specs.Names.Scopes.{is_among}
 use Rattle.irtext_grammar.proofs.Names.ResolvedSection.{flat_both}
-use Rattle.irtext_outcomes.specs.Promises.Section.{indices_of, known_given, given_over, given_kept}
-use Rattle.irtext_outcomes.specs.Readers.Directives.{attribute_at}
-use Rattle.irtext_outcomes.specs.Readers.Marks.{may_follow}
-use Rattle.irtext_outcomes.proofs.Joins.Answers.{followed_read, mapped_read}
-use Rattle.irtext_nesting.specs.Readers.{begins_given, tested, entry_head_at, given_at, entry_at, may_have}
+use Rattle.irtext_parse_spec.specs.Promises.Section.{indices_of, known_given, given_over, given_kept}
+use Rattle.irtext_parse_spec.specs.Readers.Directives.{attribute_at}
+use Rattle.irtext_parse_spec.specs.Readers.Marks.{may_follow}
+use Rattle.irtext_parse_spec.proofs.Joins.Answers.{followed_read, mapped_read}
+use Rattle.irtext_parse_spec.specs.Entries.{begins_given, tested, entry_head_at, given_at, entry_at, may_have}
 use Rattle.irtext_parse_section.specs.Entries.{IsItemEntry, IsEntry, AreItems, AreSeen, AreOnce, Noted, AreNoted, entry_kept, all_entries_kept, Notes}
 use Rattle.irtext_parse_section.specs.declared.said.ItemEntry.{ItemEntry}
 use Rattle.irtext_parse_section.specs.declared.said.ReadEntry.{ReadEntry}

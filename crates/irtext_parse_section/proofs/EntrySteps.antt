@@ -12,20 +12,20 @@ use Rattle.irtext_base.specs.declared.base.attributes.AttrObj.{AttrObj}
 use Rattle.irtext_base.specs.declared.location.Location.{Location}
 use Rattle.irtext_base.specs.declared.parsable.fault.ParseFault.{ParseFault}
 use Rattle.irtext_context.specs.declared.base.item.Item.{Item}
-use Rattle.irtext_state.specs.States.{same_index}
-use Rattle.irtext_read.specs.MustRead.{MustRead}
-use Rattle.irtext_read.proofs.Steps.{alone, Passed, first, turned, refuses_seen, last_seen}
+use Rattle.irtext_parse_state.specs.States.{same_index}
+use Rattle.irtext_tokens.specs.MustRead.{MustRead}
+use Rattle.irtext_tokens.proofs.Steps.{alone, Passed, first, turned, refuses_seen, last_seen}
 use Rattle.irtext_grammar.specs.Contexts.Held.{attribute_of}
 use Rattle.irtext_grammar.specs.Grammar.Section.{Entry, of_item, of_once}
 use Rattle.irtext_grammar.specs.Grammar.Tree.{Mark, ident}
 use Rattle.irtext_grammar.specs.Names.Acts.{Rule}
-use Rattle.irtext_outcomes.specs.Readers.Directives.{attribute_at}
-use Rattle.irtext_outcomes.specs.Readers.Streams.{itself, replaced}
+use Rattle.irtext_parse_spec.specs.Readers.Directives.{attribute_at}
+use Rattle.irtext_parse_spec.specs.Readers.Streams.{itself, replaced}
 use Rattle.irtext_parse_pieces.specs.Named.{whole, MustMean}
 use Rattle.irtext_parse_pieces.specs.declared.entries.Key.{Key}
 use Rattle.irtext_parse_pieces.proofs.EntrySteps.{first_refused}
 use Rattle.irtext_parse_pieces.proofs.Meanings.{must_refuse, must_whole}
-use Rattle.irtext_nesting.specs.Readers.{begins_given, tested, entry_head_at, given_at, entry_at}
+use Rattle.irtext_parse_spec.specs.Entries.{begins_given, tested, entry_head_at, given_at, entry_at}
 use Rattle.irtext_parse_section.specs.Said.{rule_for, rules_of, rule_of_item, is_block, ArePairs}
 use Rattle.irtext_parse_section.specs.Entries.{IsHead, IsGivenOver, IsEntry}
 use Rattle.irtext_parse_section.specs.declared.entry.EntryHead.{EntryHead}

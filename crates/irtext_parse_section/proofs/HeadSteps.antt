@@ -10,20 +10,20 @@ use Rattle.irtext_base.proofs.Compose.{takes_stands, stands_failed, refuses_mapp
 use Rattle.irtext_stream.specs.Places.{StandsBehind}
 use Rattle.irtext_stream.specs.declared.position.Place.{Place}
 use Rattle.irtext_context.specs.declared.base.item.Item.{Item}
-use Rattle.irtext_state.specs.States.{same_index}
-use Rattle.irtext_read.specs.Demanded.{index_at}
-use Rattle.irtext_read.specs.MustRead.{MustRead}
-use Rattle.irtext_read.proofs.SetBack.{set_within}
-use Rattle.irtext_read.proofs.Steps.{alone, seen_alone}
-use Rattle.irtext_nesting.specs.Heads.{mark_at}
+use Rattle.irtext_parse_state.specs.States.{same_index}
+use Rattle.irtext_tokens.specs.Demanded.{index_at}
+use Rattle.irtext_tokens.specs.MustRead.{MustRead}
+use Rattle.irtext_tokens.proofs.SetBack.{set_within}
+use Rattle.irtext_tokens.proofs.Steps.{alone, seen_alone}
+use Rattle.irtext_parse_spec.specs.Heads.{mark_at}
 use Rattle.irtext_grammar.specs.Grammar.Tree.{Mark}
-use Rattle.irtext_outcomes.specs.Readers.Marks.{may_follow}
-use Rattle.irtext_outcomes.specs.Readers.Operations.{RefusesAt}
-use Rattle.irtext_outcomes.specs.Readers.Streams.{itself, replaced}
+use Rattle.irtext_parse_spec.specs.Readers.Marks.{may_follow}
+use Rattle.irtext_parse_spec.specs.Readers.Operations.{RefusesAt}
+use Rattle.irtext_parse_spec.specs.Readers.Streams.{itself, replaced}
 use Rattle.irtext_parse_pieces.specs.Marks.{IsMark}
 use Rattle.irtext_parse_pieces.specs.Named.{whole, MustMean}
 use Rattle.irtext_parse_pieces.specs.declared.marks.ReadMark.{ReadMark}
-use Rattle.irtext_nesting.specs.Readers.{begins_given, tested, entry_head_at}
+use Rattle.irtext_parse_spec.specs.Entries.{begins_given, tested, entry_head_at}
 use Rattle.irtext_parse_section.specs.Entries.{IsHead, next_item}
 use Rattle.irtext_parse_section.specs.declared.entry.EntryHead.{EntryHead}
 

@@ -18,8 +18,8 @@ use Rattle.irtext_graph.specs.Store.{get}
 use Rattle.irtext_graph.specs.declared.arena.Ptr.{Ptr}
 use Rattle.irtext_graph.specs.declared.object.BasicBlock.{BasicBlock}
 use Rattle.irtext_graph.specs.declared.object.Operation.{Operation}
-use Rattle.irtext_state.specs.States.{same_index, marks_of}
-use Rattle.irtext_state.specs.declared.parsable.state.StateStream.{StateStream}
+use Rattle.irtext_parse_state.specs.States.{same_index, marks_of}
+use Rattle.irtext_parse_state.specs.declared.parsable.state.StateStream.{StateStream}
 use Rattle.irtext_grammar.specs.Contexts.Held.{entries_of, location_over}
 use Rattle.irtext_grammar.specs.Grammar.Section as section
 use Rattle.irtext_grammar.specs.Grammar.Section.{Entry, of_item, of_once}
@@ -28,10 +28,10 @@ use Rattle.irtext_grammar.specs.Graphs.Build.{content_in, content, located, labe
 use Rattle.irtext_grammar.specs.Names.Acts.{Rule}
 use Rattle.irtext_grammar.specs.Names.Script.{Failure, UnknownIndex}
 use Rattle.irtext_grammar.specs.Names.Scopes.{is_among}
-use Rattle.irtext_outcomes.specs.Promises.Section.{indices_of, given_over}
-use Rattle.irtext_nesting.specs.Agrees.{refused}
-use Rattle.irtext_nesting.specs.Readers.{wrong_references}
-use Rattle.irtext_nesting.proofs.Claims.{wrong_index, wrong_pairs, wrong_entries, refused_parts}
+use Rattle.irtext_parse_spec.specs.Promises.Section.{indices_of, given_over}
+use Rattle.irtext_parse_spec.specs.Agrees.{refused}
+use Rattle.irtext_parse_spec.specs.Entries.{wrong_references}
+use Rattle.irtext_parse_spec.proofs.Claims.{wrong_index, wrong_pairs, wrong_entries, refused_parts}
 use Rattle.irtext_parse_section.specs.Applied.{no_label, label_by, label_in, LocatesOperation, StoresOperation, LocatesBlock, StoresBlock, LabelsBlock, Gives, AppliesAll}
 use Rattle.irtext_parse_section.specs.Items.{CarriesOnly, OperationGiven, BlockGiven}
 use Rattle.irtext_parse_section.specs.Section.{ReadsSection}

@@ -22,3 +22,8 @@ pub mod TakenBack
 pub mod AllOrNone
 mod PlainEntries
 pub mod OnlyEntry
+-- The loop of the parser of locations
+pub mod FrameOutcomes
+pub mod FrameSteps
+pub mod Places
+pub mod Plain

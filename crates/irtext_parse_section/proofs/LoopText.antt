@@ -8,15 +8,15 @@ use Rattle.irtext_base.specs.Answers.{Outcome, Read, Takes, StarvesHere, followe
 use Rattle.irtext_base.specs.Locations.{AttrView}
 use Rattle.irtext_base.specs.Paths.{Written}
 use Rattle.irtext_base.specs.declared.parsable.fault.ParseFault.{ParseFault}
-use Rattle.irtext_read.specs.MustRead.{MustRead}
-use Rattle.irtext_read.specs.Tokens.{space_at}
-use Rattle.irtext_read.proofs.Steps.{alone, Passed, starts, turned, more, spaced, ends, refuses, starved}
+use Rattle.irtext_tokens.specs.MustRead.{MustRead}
+use Rattle.irtext_tokens.specs.Tokens.{space_at}
+use Rattle.irtext_tokens.proofs.Steps.{alone, Passed, starts, turned, more, spaced, ends, refuses, starved}
 use Rattle.irtext_grammar.specs.Grammar.Section.{Entry}
 use Rattle.irtext_grammar.specs.Names.Acts.{Rule}
-use Rattle.irtext_outcomes.specs.Readers.Streams.{itself, replaced}
-use Rattle.irtext_outcomes.proofs.Readers.Answered.{answered}
-use Rattle.irtext_nesting.specs.Readers.{entry_at, may_have, entries_after}
-use Rattle.irtext_nesting.proofs.Grows.{grows_entry, less_left}
+use Rattle.irtext_parse_spec.specs.Readers.Streams.{itself, replaced}
+use Rattle.irtext_parse_spec.proofs.Readers.Answered.{answered}
+use Rattle.irtext_parse_spec.specs.Entries.{entry_at, may_have, entries_after}
+use Rattle.irtext_parse_spec.proofs.Grows.{grows_entry, less_left}
 use Rattle.irtext_parse_section.specs.Entries.{TextSoFar}
 
 some_left : (n : ℕ) (text : Text) → begins (the 33) text ≡ true → length text ≤ n → (k : ℕ) × (n ≡ suc k)

@@ -13,22 +13,22 @@ use Rattle.irtext_base.specs.declared.parsable.fault.ParseFault.{ParseFault}
 use Rattle.irtext_base.proofs.Compose.{refuses_mapped_demanded}
 use Rattle.irtext_stream.specs.Places.{StandsBehind}
 use Rattle.irtext_stream.specs.declared.position.Place.{Place}
-use Rattle.irtext_read.specs.Demanded.{index_at}
-use Rattle.irtext_read.specs.ListOutcomes.{items_after, separated_at}
-use Rattle.irtext_read.specs.MustRead.{MustRead}
-use Rattle.irtext_read.proofs.Steps.{alone, seen_alone, mapped_mapped}
+use Rattle.irtext_tokens.specs.Demanded.{index_at}
+use Rattle.irtext_tokens.specs.ListOutcomes.{items_after, separated_at}
+use Rattle.irtext_tokens.specs.MustRead.{MustRead}
+use Rattle.irtext_tokens.proofs.Steps.{alone, seen_alone, mapped_mapped}
 use Rattle.irtext_grammar.specs.Contexts.Held.{attribute_of}
 use Rattle.irtext_grammar.specs.Grammar.Section.{Item, direct, reference}
 use Rattle.irtext_grammar.specs.Grammar.Tree.{Name}
 use Rattle.irtext_grammar.specs.Names.Acts.{Rule}
-use Rattle.irtext_outcomes.specs.Readers.Directives.{attribute_at}
-use Rattle.irtext_outcomes.specs.Readers.Streams.{itself, replaced}
+use Rattle.irtext_parse_spec.specs.Readers.Directives.{attribute_at}
+use Rattle.irtext_parse_spec.specs.Readers.Streams.{itself, replaced}
 use Rattle.irtext_parse_pieces.specs.Named.{whole, Each, MayMean, MustMean}
 use Rattle.irtext_parse_pieces.specs.declared.entries.Key.{Key}
 use Rattle.irtext_parse_pieces.specs.declared.marks.ReadMark.{ReadMark}
 use Rattle.irtext_parse_pieces.proofs.Listings.{list_some}
 use Rattle.irtext_parse_pieces.proofs.Meanings.{takes_whole, may_whole}
-use Rattle.irtext_nesting.specs.Readers.{item_at, pair_at, may_stand, kept}
+use Rattle.irtext_parse_spec.specs.Entries.{item_at, pair_at, may_stand, kept}
 use Rattle.irtext_parse_section.proofs.HeadSteps.{refused_there}
 use Rattle.irtext_parse_section.specs.Said.{stands_under, IsGiven, IsPair, Allows, MustPairs, PairsBehind}
 use Rattle.irtext_parse_section.specs.declared.said.GivenAttr.{GivenAttr}

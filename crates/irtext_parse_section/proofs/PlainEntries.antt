@@ -8,15 +8,15 @@ use Rattle.irtext_base.specs.Stream.{StreamView, behind}
 use Rattle.irtext_stream.specs.Stream.{Comes}
 use Rattle.irtext_base.specs.Answers.{Outcome, Read, Missing, Bad, Takes, Gives, prefixed, mapped, followed}
 use Rattle.irtext_base.specs.Locations.{AttrView}
-use Rattle.irtext_read.specs.Demanded.{spaced_at, index_at}
-use Rattle.irtext_read.specs.Tokens.{word_at, text_at, space_at}
-use Rattle.irtext_read.proofs.Steps.{mapped_followed, mapped_prefixed}
-use Rattle.irtext_outcomes.specs.Readers.Streams.{itself, replaced}
+use Rattle.irtext_tokens.specs.Demanded.{spaced_at, index_at}
+use Rattle.irtext_tokens.specs.Tokens.{word_at, text_at, space_at}
+use Rattle.irtext_tokens.proofs.Steps.{mapped_followed, mapped_prefixed}
+use Rattle.irtext_parse_spec.specs.Readers.Streams.{itself, replaced}
 use Rattle.irtext_grammar.specs.Names.Acts.{Rule}
 use Rattle.irtext_parse_pieces.specs.declared.entries.Key.{Key}
-use Rattle.irtext_nesting.specs.Readers.{pairs_at}
-use Rattle.irtext_parse_locations.specs.Plain.{TakesDigits, Looks, Gets}
-use Rattle.irtext_parse_locations.proofs.Plain.{number_taken, behind_label, further, gets_must}
+use Rattle.irtext_parse_spec.specs.Entries.{pairs_at}
+use Rattle.irtext_parse_section.specs.Plain.{TakesDigits, Looks, Gets}
+use Rattle.irtext_parse_section.proofs.Plain.{number_taken, behind_label, further, gets_must}
 use Rattle.irtext_parse_section.specs.Entries.{location_end_at}
 use Rattle.irtext_parse_section.specs.Said.{MustPairs}
 use Rattle.irtext_parse_section.specs.declared.said.GivenAttr.{GivenAttr}

@@ -18,10 +18,10 @@ use Rattle.irtext_base.proofs.Compose.{takes_stands, stands_failed, starves_behi
 use Rattle.irtext_stream.specs.Places.{StandsBehind}
 use Rattle.irtext_stream.specs.declared.position.Place.{Place}
 use Rattle.irtext_context.specs.declared.base.item.Item.{Item}
-use Rattle.irtext_read.specs.AttrTexts.{attr_at}
-use Rattle.irtext_read.specs.Demanded.{spaced_at}
-use Rattle.irtext_read.proofs.SetBack.{set_within}
-use Rattle.irtext_read.proofs.Steps.{alone}
+use Rattle.irtext_tokens.specs.AttrTexts.{attr_at}
+use Rattle.irtext_tokens.specs.Demanded.{spaced_at}
+use Rattle.irtext_tokens.proofs.SetBack.{set_within}
+use Rattle.irtext_tokens.proofs.Steps.{alone}
 use Rattle.irtext_grammar.specs.Contexts.Held.{attribute_of}
 use Rattle.irtext_grammar.specs.Grammar.Section as section
 use Rattle.irtext_grammar.specs.Grammar.Section.{Entry, of_item, of_once, direct, reference}
@@ -30,21 +30,21 @@ use Rattle.irtext_grammar.specs.Names.Acts.{Rule, shared_attribute, keeps_if, re
 use Rattle.irtext_grammar.specs.Names.Script.{Failure, Act, claim, UnknownPrintOnce, ReservedKey}
 use Rattle.irtext_grammar.specs.Spelling.Spellable as single
 use Rattle.irtext_grammar.proofs.Names.ResolvedSection.{flat_both}
-use Rattle.irtext_outcomes.specs.Readers.Operations.{RefusesAt}
-use Rattle.irtext_outcomes.specs.Readers.Streams.{itself, replaced}
-use Rattle.irtext_outcomes.proofs.Joins.Answers.{followed_read}
-use Rattle.irtext_outcomes.proofs.Readers.Answered.{Answered, answered}
-use Rattle.irtext_nesting.proofs.Exact.Attributes.{lawful_needs_word}
+use Rattle.irtext_parse_spec.specs.Readers.Operations.{RefusesAt}
+use Rattle.irtext_parse_spec.specs.Readers.Streams.{itself, replaced}
+use Rattle.irtext_parse_spec.proofs.Joins.Answers.{followed_read}
+use Rattle.irtext_parse_spec.proofs.Readers.Answered.{Answered, answered}
+use Rattle.irtext_parse_spec.proofs.Exact.Attributes.{lawful_needs_word}
 use Rattle.irtext_parse_pieces.specs.Entries.{IsKey}
 use Rattle.irtext_parse_pieces.specs.Named.{whole, Leaves, Each, MustMean}
 use Rattle.irtext_parse_pieces.specs.declared.entries.Key.{Key}
 use Rattle.irtext_parse_pieces.proofs.Meanings.{must_refuse}
-use Rattle.irtext_nesting.specs.Readers.{fault_for, upto, wrong_references, unless_wrong, referred, entries_after, entries_at, section_at}
-use Rattle.irtext_nesting.proofs.Claims.{wrong, wrongs, references_fail}
-use Rattle.irtext_nesting.proofs.Entries.{entries_read}
-use Rattle.irtext_nesting.proofs.Given.{splits_spaced}
-use Rattle.irtext_nesting.proofs.Lawful.{splits_attr}
-use Rattle.irtext_nesting.proofs.Places.{EntryNear, StandsNear, late_near, entries_near}
+use Rattle.irtext_parse_spec.specs.Entries.{fault_for, upto, wrong_references, unless_wrong, referred, entries_after, entries_at, section_at}
+use Rattle.irtext_parse_spec.proofs.Claims.{wrong, wrongs, references_fail}
+use Rattle.irtext_parse_spec.proofs.Entries.{entries_read}
+use Rattle.irtext_parse_spec.proofs.Given.{splits_spaced}
+use Rattle.irtext_parse_spec.proofs.Lawful.{splits_attr}
+use Rattle.irtext_parse_spec.proofs.Places.{EntryNear, StandsNear, late_near, entries_near}
 use Rattle.irtext_parse_section.specs.Checked.{Wrong, reference_wrong, pair_wrong, pairs_wrong, items_wrong, RefusesFirst}
 use Rattle.irtext_parse_section.specs.Entries.{AreItems, AreOnce}
 use Rattle.irtext_parse_section.specs.Said.{rule_for, rule_of_item, rules_of, is_block, IsPair}

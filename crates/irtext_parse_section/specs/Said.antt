@@ -10,15 +10,15 @@ use Rattle.irtext_base.specs.declared.parsable.fault.ParseFault.{ParseFault}
 use Rattle.irtext_stream.specs.declared.position.Place.{Place}
 use Rattle.irtext_context.specs.declared.base.item.Item.{Item}
 use Rattle.irtext_context.specs.declared.base.item.Item.TheVariants as item
-use Rattle.irtext_state.specs.States.{same_index}
-use Rattle.irtext_read.specs.ListOutcomes.{items_after}
+use Rattle.irtext_parse_state.specs.States.{same_index}
+use Rattle.irtext_tokens.specs.ListOutcomes.{items_after}
 use Rattle.irtext_grammar.specs.Contexts.Held.{attribute_of}
 use Rattle.irtext_grammar.specs.Grammar.Tree.{Name}
 use Rattle.irtext_grammar.specs.Grammar.Section as section
 use Rattle.irtext_grammar.specs.Grammar.Section.{direct, reference}
 use Rattle.irtext_grammar.specs.Names.Acts.{Rule, may_hold, keeps_label_key}
-use Rattle.irtext_outcomes.specs.Readers.Operations.{RefusesAt}
-use Rattle.irtext_outcomes.specs.Readers.Streams.{itself, replaced}
+use Rattle.irtext_parse_spec.specs.Readers.Operations.{RefusesAt}
+use Rattle.irtext_parse_spec.specs.Readers.Streams.{itself, replaced}
 use Rattle.irtext_parse_pieces.specs.Entries.{IsKey}
 use Rattle.irtext_parse_pieces.specs.Marks.{IsMark}
 use Rattle.irtext_parse_pieces.specs.Named.{whole, Each, MustMean}

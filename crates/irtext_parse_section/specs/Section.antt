@@ -6,12 +6,12 @@ use Rattle.irtext_base.specs.Answers.{Outcome, Read}
 use Rattle.irtext_base.specs.Locations.{AttrView}
 use Rattle.irtext_base.specs.Paths.{Written}
 use Rattle.irtext_context.specs.Context.{ContextView}
-use Rattle.irtext_state.specs.States.{marks_of}
-use Rattle.irtext_state.specs.declared.parsable.state.StateStream.{StateStream}
+use Rattle.irtext_parse_state.specs.States.{marks_of}
+use Rattle.irtext_parse_state.specs.declared.parsable.state.StateStream.{StateStream}
 use Rattle.irtext_grammar.specs.Grammar.Section.{Entry}
-use Rattle.irtext_outcomes.specs.Promises.Section.{indices_of, Moves}
-use Rattle.irtext_outcomes.specs.Readers.NewPaths.{AddsPaths}
-use Rattle.irtext_nesting.specs.Readers.{section_at}
+use Rattle.irtext_parse_spec.specs.Promises.Section.{indices_of, Moves}
+use Rattle.irtext_parse_spec.specs.Readers.NewPaths.{AddsPaths}
+use Rattle.irtext_parse_spec.specs.Entries.{section_at}
 use Rattle.irtext_parse_section.specs.Applied.{AppliesAll}
 use Rattle.irtext_parse_section.specs.Entries.{all_entries_kept}
 use Rattle.irtext_parse_section.specs.Said.{rules_of}

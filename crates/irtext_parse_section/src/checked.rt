@@ -9,7 +9,7 @@ use irtext_base::base::AttrObj;
 use irtext_base::parsable::{CharStream, ParseFault, ParseResult, TextStream};
 use irtext_base::result::Cause;
 use irtext_parse_pieces::entries::Key;
-use irtext_read::irfmt::faults::{out_of_memory, refuse_at};
+use irtext_tokens::irfmt::faults::{out_of_memory, refuse_at};
 
 /// Returns the print-once attribute with this index.
 pub(crate) fn written_once<A>(once: &Once<A>, index: usize) -> Option<&AttrObj<A>>

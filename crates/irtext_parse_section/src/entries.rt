@@ -1,12 +1,12 @@
 //! Parsing of all entries of a section.
 ghost use Rattle.std.specs.Prelude.{◌≡◌, false, IfOk, OnOk, length, []};
-ghost use Rattle.irtext_read.specs.AttrTexts.{attr_at};
-ghost use Rattle.irtext_state.specs.States.{marks_of};
-ghost use Rattle.irtext_outcomes.specs.Promises.Section.{indices_of};
-ghost use Rattle.irtext_outcomes.specs.Readers.NewPaths.{AddsPaths};
-ghost use Rattle.irtext_outcomes.specs.Readers.Streams.{itself, replaced, KeepsRest};
+ghost use Rattle.irtext_tokens.specs.AttrTexts.{attr_at};
+ghost use Rattle.irtext_parse_state.specs.States.{marks_of};
+ghost use Rattle.irtext_parse_spec.specs.Promises.Section.{indices_of};
+ghost use Rattle.irtext_parse_spec.specs.Readers.NewPaths.{AddsPaths};
+ghost use Rattle.irtext_parse_spec.specs.Readers.Streams.{itself, replaced, KeepsRest};
 ghost use Rattle.irtext_parse_pieces.specs.Named.{MustMean, whole};
-ghost use Rattle.irtext_nesting.specs.Readers.{entries_after};
+ghost use Rattle.irtext_parse_spec.specs.Entries.{entries_after};
 ghost use Rattle.irtext_parse_section.specs.Said.{rules_of};
 ghost use Rattle.irtext_parse_section.specs.Entries.{AreEntriesOver, Notes, noted, nothing, one_noted, MustGoOn};
 
@@ -16,10 +16,10 @@ use indexmap::IndexMap;
 use irtext_base::parsable::{CharStream, ParseResult};
 use irtext_base::text::{AttrText, IrText};
 use irtext_parse_pieces::keys::Keys;
-use irtext_read::irfmt::faults::{next_is, out_of_memory};
-use irtext_read::irfmt::parsers::skip_white_space;
-use irtext_state::parsable::StateStream;
-use irtext_state::parsable::numbered::Numbered;
+use irtext_parse_state::parsable::StateStream;
+use irtext_parse_state::parsable::numbered::Numbered;
+use irtext_tokens::irfmt::faults::{next_is, out_of_memory};
+use irtext_tokens::irfmt::parsers::skip_white_space;
 use std::alloc::{AllocError, Global};
 
 /// Returns an empty list of entries. Allocates nothing.

@@ -1,37 +1,37 @@
 //! Parsing of one entry: of an item, or of a print-once attribute. An item is an operation or a block that carries a mark.
 ghost use Rattle.std.specs.Prelude.{◌≡◌, IfOk, is_some, codes, option_copied};
 ghost use Rattle.std.specs.Map.{lookup};
-ghost use Rattle.irtext_read.specs.AttrTexts.{attr_at};
-ghost use Rattle.irtext_read.specs.Demanded.{spaced_at, index_at};
-ghost use Rattle.irtext_read.specs.MustRead.{MustRead};
+ghost use Rattle.irtext_tokens.specs.AttrTexts.{attr_at};
+ghost use Rattle.irtext_tokens.specs.Demanded.{spaced_at, index_at};
+ghost use Rattle.irtext_tokens.specs.MustRead.{MustRead};
 ghost use Rattle.irtext_stream.specs.Places.{StandsBehind};
-ghost use Rattle.irtext_state.specs.States.{same_index, marks_of};
-ghost use Rattle.irtext_outcomes.specs.Readers.Marks.{may_follow};
-ghost use Rattle.irtext_outcomes.specs.Readers.NewPaths.{AddsPaths};
-ghost use Rattle.irtext_outcomes.specs.Readers.Streams.{itself, replaced, KeepsRest};
+ghost use Rattle.irtext_parse_state.specs.States.{same_index, marks_of};
+ghost use Rattle.irtext_parse_spec.specs.Readers.Marks.{may_follow};
+ghost use Rattle.irtext_parse_spec.specs.Readers.NewPaths.{AddsPaths};
+ghost use Rattle.irtext_parse_spec.specs.Readers.Streams.{itself, replaced, KeepsRest};
 ghost use Rattle.irtext_parse_pieces.specs.Marks.{IsMark};
 ghost use Rattle.irtext_parse_pieces.specs.Named.{MustMean, whole};
-ghost use Rattle.irtext_parse_locations.specs.Plain.{Looks, Sees, Gets};
-ghost use Rattle.irtext_nesting.specs.Readers.{begins_given, tested, entry_head_at, entry_at};
+ghost use Rattle.irtext_parse_section.specs.Plain.{Looks, Sees, Gets};
+ghost use Rattle.irtext_parse_spec.specs.Entries.{begins_given, tested, entry_head_at, entry_at};
 ghost use Rattle.irtext_parse_section.specs.Said.{rules_of};
 ghost use Rattle.irtext_parse_section.specs.Entries.{IsHead, GoesOn, IsEntry, entry_kept, next_item, earlier_indices};
 
 use crate::given::given_parse;
+use crate::location::plain::digits_there;
 use crate::rules::is_block;
 use crate::said::{ItemEntry, ReadEntry};
 use irtext_base::parsable::{CharStream, ParseResult, TextStream};
 use irtext_base::result::Cause;
 use irtext_base::text::{AttrText, IrText};
 use irtext_context::base::Item;
-use irtext_parse_locations::location::plain::digits_there;
 use irtext_parse_pieces::entries::attr_demanded;
 use irtext_parse_pieces::keys::Keys;
 use irtext_parse_pieces::marks::ReadMark;
-use irtext_read::irfmt::demanded::{index_demanded, spaced_text_demanded};
-use irtext_read::irfmt::faults::refuse_at;
-use irtext_read::irfmt::parsers::skip_white_space;
-use irtext_state::parsable::StateStream;
-use irtext_state::parsable::numbered::Numbered;
+use irtext_parse_state::parsable::StateStream;
+use irtext_parse_state::parsable::numbered::Numbered;
+use irtext_tokens::irfmt::demanded::{index_demanded, spaced_text_demanded};
+use irtext_tokens::irfmt::faults::refuse_at;
+use irtext_tokens::irfmt::parsers::skip_white_space;
 
 /// The head of an entry: its index and, if the entry continues as an item's, the item that carries the mark of this index.
 #[derive(Clone, Copy)]

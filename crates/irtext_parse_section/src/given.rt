@@ -1,16 +1,17 @@
 //! Parsing of what an item's entry gives: a location, if there is one, and pairs.
 ghost use Rattle.std.specs.Prelude.{◌≡◌, IfOk};
-ghost use Rattle.irtext_read.specs.AttrTexts.{attr_at};
-ghost use Rattle.irtext_read.specs.MustRead.{MustRead};
-ghost use Rattle.irtext_outcomes.specs.Promises.Section.{known_given, given_over, given_kept};
-ghost use Rattle.irtext_outcomes.specs.Readers.NewPaths.{AddsPaths, MustReadOver};
-ghost use Rattle.irtext_outcomes.specs.Readers.Section.{entry_location_at};
-ghost use Rattle.irtext_outcomes.specs.Readers.Streams.{itself, replaced};
+ghost use Rattle.irtext_tokens.specs.AttrTexts.{attr_at};
+ghost use Rattle.irtext_tokens.specs.MustRead.{MustRead};
+ghost use Rattle.irtext_parse_spec.specs.Promises.Section.{known_given, given_over, given_kept};
+ghost use Rattle.irtext_parse_spec.specs.Readers.NewPaths.{AddsPaths, MustReadOver};
+ghost use Rattle.irtext_parse_spec.specs.Readers.Section.{entry_location_at};
+ghost use Rattle.irtext_parse_spec.specs.Readers.Streams.{itself, replaced};
 ghost use Rattle.irtext_parse_pieces.specs.Named.{MustMean, whole};
-ghost use Rattle.irtext_nesting.specs.Readers.{given_at};
+ghost use Rattle.irtext_parse_spec.specs.Entries.{given_at};
 ghost use Rattle.irtext_parse_section.specs.Said.{rule_for};
 ghost use Rattle.irtext_parse_section.specs.Entries.{IsGivenOver, location_end_at};
 
+use crate::location::nested::location_demanded;
 use crate::pairs::pairs_parse;
 use crate::said::ReadPair;
 use irtext_base::location::Location;
@@ -18,11 +19,10 @@ use irtext_base::parsable::{CharStream, ParseResult, TextStream};
 use irtext_base::result::Cause;
 use irtext_base::text::{AttrText, IrText};
 use irtext_context::base::Context;
-use irtext_parse_locations::location::nested::location_demanded;
 use irtext_parse_pieces::keys::Keys;
-use irtext_read::irfmt::demanded::{spaced_text_demanded, text_demanded};
-use irtext_read::irfmt::faults::{next_is, refuse};
-use irtext_read::irfmt::parsers::skip_white_space;
+use irtext_tokens::irfmt::demanded::{spaced_text_demanded, text_demanded};
+use irtext_tokens::irfmt::faults::{next_is, refuse};
+use irtext_tokens::irfmt::parsers::skip_white_space;
 
 /// What an item's entry gives: a location or none, and pairs.
 pub(crate) type Given<A> = (Option<Location<A>>, Vec<ReadPair<A>>);

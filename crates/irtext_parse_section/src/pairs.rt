@@ -1,10 +1,10 @@
 //! Parsing of the pairs of an item's entry: what it gives under keys.
 ghost use Rattle.std.specs.Prelude.{◌≡◌, ◌++◌, ◌∷◌, [], IfOk};
-ghost use Rattle.irtext_read.specs.AttrTexts.{attr_at};
-ghost use Rattle.irtext_read.specs.ListOutcomes.{separated_at};
-ghost use Rattle.irtext_outcomes.specs.Readers.Streams.{itself, replaced};
+ghost use Rattle.irtext_tokens.specs.AttrTexts.{attr_at};
+ghost use Rattle.irtext_tokens.specs.ListOutcomes.{separated_at};
+ghost use Rattle.irtext_parse_spec.specs.Readers.Streams.{itself, replaced};
 ghost use Rattle.irtext_parse_pieces.specs.Named.{MayMean, MustMean, whole};
-ghost use Rattle.irtext_nesting.specs.Readers.{item_at, pair_at, kept, pairs_at};
+ghost use Rattle.irtext_parse_spec.specs.Entries.{item_at, pair_at, kept, pairs_at};
 ghost use Rattle.irtext_parse_section.specs.Said.{rule_for, IsGiven, IsPair, Allows, MustPairs, PairsBehind};
 
 use crate::rules::stands_under;
@@ -15,9 +15,9 @@ use irtext_base::text::AttrText;
 use irtext_parse_pieces::entries::{attr_demanded, key_parse};
 use irtext_parse_pieces::keys::Keys;
 use irtext_parse_pieces::marks::ReadMark;
-use irtext_read::irfmt::demanded::{index_demanded, spaced_text_demanded, text_demanded};
-use irtext_read::irfmt::faults::{committed, next_is, out_of_memory, refuse, refuse_at};
-use irtext_read::irfmt::parsers::skip_white_space;
+use irtext_tokens::irfmt::demanded::{index_demanded, spaced_text_demanded, text_demanded};
+use irtext_tokens::irfmt::faults::{committed, next_is, out_of_memory, refuse, refuse_at};
+use irtext_tokens::irfmt::parsers::skip_white_space;
 use std::alloc::AllocError;
 
 /// Parses what follows `=`: an attribute, or `!` and the index of a print-once attribute. Every error is committed.

@@ -6,7 +6,7 @@ use irtext_base::location::Location;
 use irtext_context::base::Item;
 use irtext_parse_pieces::entries::Key;
 use irtext_parse_pieces::marks::ReadMark;
-use irtext_state::parsable::numbered::Numbered;
+use irtext_parse_state::parsable::numbered::Numbered;
 
 /// What an entry gives under a key: an attribute, or a reference to a print-once attribute.
 #[derive(Drop)]

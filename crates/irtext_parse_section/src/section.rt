@@ -3,15 +3,15 @@ ghost use Rattle.std.specs.Prelude.{◌≡◌, ◌⊎◌, ℕ, true, false, [], 
 ghost use Rattle.irtext_base.specs.Answers.{StarvesHere};
 ghost use Rattle.irtext_context.specs.Context.{KeepsOlder};
 ghost use Rattle.irtext_graph.specs.Back.{IsClosedBelow};
-ghost use Rattle.irtext_read.specs.AttrTexts.{attr_at};
-ghost use Rattle.irtext_state.specs.States.{marks_of};
-ghost use Rattle.irtext_outcomes.specs.Promises.Section.{indices_of, IsStarved, Faults};
-ghost use Rattle.irtext_outcomes.specs.Promises.Supported.{RefusedAs};
-ghost use Rattle.irtext_outcomes.specs.Readers.NewPaths.{AddsPaths};
-ghost use Rattle.irtext_outcomes.specs.Readers.Refusals.{CommittedRefusal};
-ghost use Rattle.irtext_outcomes.specs.Readers.Streams.{itself, replaced, KeepsRest};
+ghost use Rattle.irtext_tokens.specs.AttrTexts.{attr_at};
+ghost use Rattle.irtext_parse_state.specs.States.{marks_of};
+ghost use Rattle.irtext_parse_spec.specs.Promises.Section.{indices_of, IsStarved, Faults};
+ghost use Rattle.irtext_parse_spec.specs.Promises.Supported.{RefusedAs};
+ghost use Rattle.irtext_parse_spec.specs.Readers.NewPaths.{AddsPaths};
+ghost use Rattle.irtext_parse_spec.specs.Readers.Refusals.{CommittedRefusal};
+ghost use Rattle.irtext_parse_spec.specs.Readers.Streams.{itself, replaced, KeepsRest};
 ghost use Rattle.irtext_parse_pieces.specs.Named.{MustMean, whole};
-ghost use Rattle.irtext_nesting.specs.Readers.{entries_at, section_at};
+ghost use Rattle.irtext_parse_spec.specs.Entries.{entries_at, section_at};
 ghost use Rattle.irtext_parse_section.specs.Applied.{GivesAll, ItemsAreNewer, AreNewer};
 ghost use Rattle.irtext_parse_section.specs.Entries.{AreEntriesOver, items_of, once_of};
 ghost use Rattle.irtext_parse_section.specs.Said.{rules_of};
@@ -22,10 +22,10 @@ use crate::said::Entries;
 use crate::whole::{all_given, entries_checked};
 use irtext_base::parsable::{CharStream, ParseResult};
 use irtext_base::text::{AttrText, IrText};
-use irtext_read::irfmt::demanded::spaced_text_demanded;
-use irtext_read::irfmt::faults::out_of_memory;
-use irtext_state::parsable::StateStream;
-use irtext_state::parsable::state::Noting;
+use irtext_parse_state::parsable::StateStream;
+use irtext_parse_state::parsable::state::Noting;
+use irtext_tokens::irfmt::demanded::spaced_text_demanded;
+use irtext_tokens::irfmt::faults::out_of_memory;
 use std::alloc::AllocError;
 
 /// Parses the section's first word, and all entries. Every error is committed.

@@ -24,7 +24,7 @@ pub mod plain;
 
 pub use displayable::{Disp, Displayable};
 pub use indented::{IndentedNl, indented_nl};
-pub use irtext_read::printable::fmt_quoted;
+pub use irtext_tokens::printable::fmt_quoted;
 pub use items::fmt_iter;
 
 /// A value with a text, which may depend on a context and a printing state.

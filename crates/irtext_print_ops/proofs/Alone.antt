@@ -19,7 +19,7 @@ use Rattle.irtext_graph.specs.declared.arena.Ptr.{Ptr}
 use Rattle.irtext_graph.specs.declared.object.BasicBlock.{BasicBlock}
 use Rattle.irtext_graph.specs.declared.object.Object.TheVariants.{TheRegion}
 use Rattle.irtext_graph.specs.declared.object.Region.{Region}
-use Rattle.irtext_graph.specs.Graph.{Stands}
+use Rattle.irtext_graph.specs.Graph.{IsLive}
 use Rattle.irtext_grammar.specs.Contexts.Nested.{seen_blocks, seen_operations, seen_head}
 use Rattle.irtext_grammar.specs.Grammar.Forest.{Blocks, Operations, no_regions, region}
 use Rattle.irtext_grammar.specs.Grammar.Tree.{shown}
@@ -80,7 +80,7 @@ module _ {T A : Type 0} (C : Printing T A) (L : Language ⊤ T A) (ctx : Context
     region_items (Max zero) = refl
     region_items (Max (suc m)) = refl
 
-    pub region_fits : (limit : RegionPrintDepthLimit) → Stands ctx.graph (TheRegion r) → AllFit C L ctx (region_frames r i limit)
+    pub region_fits : (limit : RegionPrintDepthLimit) → IsLive ctx.graph (TheRegion r) → AllFit C L ctx (region_frames r i limit)
     region_fits Unlimited stands = (stands, tt)
     region_fits (Max zero) stands = tt
     region_fits (Max (suc m)) stands = (stands, tt)

@@ -6,7 +6,7 @@ use Rattle.irtext_context.proofs.Contexts.{BlockEntry}
 use Rattle.irtext_context.specs.declared.base.block.BlockData.{BlockData}
 use Rattle.irtext_context.specs.declared.base.operation.OperationData.{OperationData}
 use Rattle.irtext_graph.specs.Content.{Content, Content.{ABlock}}
-use Rattle.irtext_graph.specs.Graph.{Stands, content_of}
+use Rattle.irtext_graph.specs.Graph.{IsLive, content_of}
 use Rattle.irtext_graph.specs.Store.{get}
 use Rattle.irtext_graph.specs.declared.arena.Ptr.{Ptr}
 use Rattle.irtext_graph.specs.declared.object.BasicBlock.{BasicBlock}
@@ -19,7 +19,7 @@ for_seen (Some x) see Q h = h x refl
 
 module _ {T A : Type 0} (ctx : ContextView T A) (b : Ptr BasicBlock) where
   -- a block of the graph is seen
-  pub block_there : Stands ctx.graph (TheBlock b) → IsSome (block ctx b)
+  pub block_there : IsLive ctx.graph (TheBlock b) → IsSome (block ctx b)
   block_there h = go (get ctx.graph.blocks b) h
     where
       go : (o : Option (BlockEntry T A)) → IsSome {T = Content (Option (OperationData A)) (BlockData A) (Option T)} (option_map (λ d. ABlock d.0 d.1) (content_of o)) → IsSome (option_map block_of o)
@@ -27,7 +27,7 @@ module _ {T A : Type 0} (ctx : ContextView T A) (b : Ptr BasicBlock) where
       go (Some e) h = refl
 
   -- a block that is seen stands in the graph
-  pub block_stands : IsSome (block ctx b) → Stands ctx.graph (TheBlock b)
+  pub block_stands : IsSome (block ctx b) → IsLive ctx.graph (TheBlock b)
   block_stands h = go (get ctx.graph.blocks b) h
     where
       go : (o : Option (BlockEntry T A)) → IsSome (option_map block_of o) → IsSome {T = Content (Option (OperationData A)) (BlockData A) (Option T)} (option_map (λ d. ABlock d.0 d.1) (content_of o))

@@ -13,7 +13,7 @@ use Rattle.irtext_graph.specs.declared.object.BasicBlock.{BasicBlock}
 use Rattle.irtext_graph.specs.declared.object.Object.TheVariants.{TheOperation, TheBlock, TheRegion}
 use Rattle.irtext_graph.specs.declared.object.Operation.{Operation}
 use Rattle.irtext_graph.specs.declared.object.Region.{Region}
-use Rattle.irtext_graph.specs.Graph.{Stands, children, parent, parent_of, content_of}
+use Rattle.irtext_graph.specs.Graph.{IsLive, children, parent, parent_of, content_of}
 use Rattle.irtext_graph.specs.Content.{Content, Content.{ABlock, ARegion}}
 use Rattle.irtext_context.specs.declared.base.block.BlockData.{BlockData}
 use Rattle.irtext_context.specs.declared.base.operation.OperationData.{OperationData}
@@ -115,7 +115,7 @@ module _ {T A : Type 0} (C : Printing T A) (L : Language ⊤ T A) (ctx : Context
 
     -- the next is a placeholder, and is left out
     pub block_skips : (p : Ptr Operation) (old : List ℕ) (frames' : List Frame) → drop f.operation (operations_in ctx.graph f.block) ≡ p ∷ drop (f.operation + 1) (operations_in ctx.graph f.block) → operation ctx p ≡ None →
-        Stands ctx.graph (TheBlock f.block) → frames' ≡ frames ++ frame.Block (record f { operation = f.operation + 1 }) ∷ [] →
+        IsLive ctx.graph (TheBlock f.block) → frames' ≡ frames ++ frame.Block (record f { operation = f.operation + 1 }) ∷ [] →
         Steps C L ctx width (frame.Block f) items items frames frames' old old
     block_skips p old frames' e none stands k =
         let ops = operations_in ctx.graph f.block in
@@ -146,7 +146,7 @@ module _ {T A : Type 0} (C : Printing T A) (L : Language ⊤ T A) (ctx : Context
 
     -- the next is begun
     pub block_begins : (p : Ptr Operation) (op : OperationView T A) (known : Option (Bor (List code.Directive))) (indent : ℕ) (old mid new : List ℕ) (frames' : List Frame) → drop f.operation (operations_in ctx.graph f.block) ≡ p ∷ drop (f.operation + 1) (operations_in ctx.graph f.block) →
-        operation ctx p ≡ Some op → Nested (children ctx.graph) (parent ctx.graph) → Stands ctx.graph (TheBlock f.block) → indent ≡ f.indent + width →
+        operation ctx p ≡ Some op → Nested (children ctx.graph) (parent ctx.graph) → IsLive ctx.graph (TheBlock f.block) → indent ≡ f.indent + width →
         AreDirectives C (seen_at C L ctx p) known → FitsFormat C (isolated ctx.dialects) (C.format_of (seen_at C L ctx p).id) (seen_at C L ctx p) (length (regions ctx.graph p)) →
         mid ≡ old ++ encode_utf8_all (unless_first f.first (between_operations indent)) → new ≡ mid ++ encode_utf8_all (operation_front L (tree_op C 0 (seen_at C L ctx p))) →
         frames' ≡ (frames ++ frame.Block (record f { operation = f.operation + 1; first = false }) ∷ [])
@@ -222,10 +222,10 @@ module _ {T A : Type 0} (C : Printing T A) (L : Language ⊤ T A) (ctx : Context
   pub block_stands : Nested (children ctx.graph) (parent ctx.graph) → (r : Ptr Region) (b : Ptr BasicBlock) (i : ℕ) → slice_get (blocks ctx.graph r) i ≡ Some b → IsSome (block ctx b)
   block_stands nested r b i h = let at = block_there nested r b i h in subst (λ (z : Option (BlockView T A)). IsSome z) (sym (ap (option_map block_of) at.1)) refl
 
-  block_stands_there : Nested (children ctx.graph) (parent ctx.graph) → (r : Ptr Region) (b : Ptr BasicBlock) (i : ℕ) → slice_get (blocks ctx.graph r) i ≡ Some b → Stands ctx.graph (TheBlock b)
+  block_stands_there : Nested (children ctx.graph) (parent ctx.graph) → (r : Ptr Region) (b : Ptr BasicBlock) (i : ℕ) → slice_get (blocks ctx.graph r) i ≡ Some b → IsLive ctx.graph (TheBlock b)
   block_stands_there nested r b i h = let at = block_there nested r b i h in subst (λ o. IsSome {T = Content (Option (OperationData A)) (BlockData A) (Option T)} (option_map (λ d. ABlock d.0 d.1) (content_of o))) (sym at.1) refl
 
-  pub region_stands : Nested (children ctx.graph) (parent ctx.graph) → (p : Ptr Operation) (r : Ptr Region) (i : ℕ) → slice_get (regions ctx.graph p) i ≡ Some r → Stands ctx.graph (TheRegion r)
+  pub region_stands : Nested (children ctx.graph) (parent ctx.graph) → (p : Ptr Operation) (r : Ptr Region) (i : ℕ) → slice_get (regions ctx.graph p) i ≡ Some r → IsLive ctx.graph (TheRegion r)
   region_stands nested p r i h = elim (seen (get ctx.graph.regions r)) [
     | inl none ↦ absurd (let k : option_map TheOperation (parent_of (get ctx.graph.regions r)) ≡ None = ap (λ o. option_map TheOperation (parent_of o)) none in
         let m : option_map TheOperation (parent_of (get ctx.graph.regions r)) ≡ Some (TheOperation p) = nested.down (TheOperation p) i (TheRegion r) (slice_get-map TheRegion (regions ctx.graph p) i ∙ ap (option_map TheRegion) h) in cc)
@@ -253,7 +253,7 @@ module _ {T A : Type 0} (C : Printing T A) (L : Language ⊤ T A) (ctx : Context
     -- the next block's head is written
     pub region_begins : (b : Ptr BasicBlock) (indent inner : ℕ) (items' : List Item) (old f1 f2 f3 new : List ℕ) (frames' : List Frame) →
         slice_get (blocks ctx.graph f.region) f.block ≡ Some b → drop f.block (blocks ctx.graph f.region) ≡ b ∷ drop (f.block + 1) (blocks ctx.graph f.region) →
-        Nested (children ctx.graph) (parent ctx.graph) → Stands ctx.graph (TheRegion f.region) → indent ≡ f.indent + width → inner ≡ indent + width →
+        Nested (children ctx.graph) (parent ctx.graph) → IsLive ctx.graph (TheRegion f.region) → indent ≡ f.indent + width → inner ≡ indent + width →
         f1 ≡ old ++ encode_utf8_all (unless_first f.first (between_blocks indent)) →
         f2 ≡ f1 ++ encode_utf8_all (block_head L (tree_head C 0 (or_no_block (seen_head L.owns.written ctx b)))) →
         f3 ≡ f2 ++ encode_utf8_all (mark_if L (mark_at C (length items) (or_no_block (seen_head L.owns.written ctx b)).location (block_outlined C (or_no_block (seen_head L.owns.written ctx b))))) →
@@ -414,7 +414,7 @@ module _ {T A : Type 0} (C : Printing T A) (L : Language ⊤ T A) (ctx : Context
   frames_open r i (Max zero) = refl
   frames_open r i (Max (suc m)) = refl
 
-  frames_fit : (r : Ptr Region) (i : ℕ) (limit : RegionPrintDepthLimit) → Stands ctx.graph (TheRegion r) → AllFit C L ctx (region_frames r i limit)
+  frames_fit : (r : Ptr Region) (i : ℕ) (limit : RegionPrintDepthLimit) → IsLive ctx.graph (TheRegion r) → AllFit C L ctx (region_frames r i limit)
   frames_fit r i Unlimited h = (h, tt)
   frames_fit r i (Max zero) h = tt
   frames_fit r i (Max (suc m)) h = (h, tt)
@@ -460,7 +460,7 @@ module _ {T A : Type 0} (C : Printing T A) (L : Language ⊤ T A) (ctx : Context
 
     -- one of all regions is begun
     pub repeat_begins : (r : Ptr Region) (old new : List ℕ) (frames' : List Frame) → f.repeats ≡ true → drop f.region (regions ctx.graph f.op) ≡ r ∷ drop (f.region + 1) (regions ctx.graph f.op) →
-        IsBegun C L ctx f.op f.directives → Stands ctx.graph (TheRegion r) → new ≡ old ++ encode_utf8_all (region_front width f.indent f.limit) →
+        IsBegun C L ctx f.op f.directives → IsLive ctx.graph (TheRegion r) → new ≡ old ++ encode_utf8_all (region_front width f.indent f.limit) →
         frames' ≡ frames ++ frame.Operation (record f { region = f.region + 1 }) ∷ region_frames r f.indent f.limit → Steps C L ctx width (frame.Operation f) items items frames frames' old new
     repeat_begins r old new frames' all_left e stands there w s =
         let ps = parts_left C (seen_at C L ctx f.op) f.directive in
@@ -537,7 +537,7 @@ module _ {T A : Type 0} (C : Printing T A) (L : Language ⊤ T A) (ctx : Context
     pub single_begins : (k j : ℕ) (r : Ptr Region) (old mid new : List ℕ) (frames' : List Frame) → f.repeats ≡ false → behind_pieces (parts_left C (seen_at C L ctx f.op) f.directive) ≡ tree.region j ∷ parts_left C (seen_at C L ctx f.op) k →
         f.directive < k → k ≤ directive_count C L ctx f.op → drop f.region (regions ctx.graph f.op) ≡ r ∷ drop (f.region + 1) (regions ctx.graph f.op) →
         covers (parts_left C (seen_at C L ctx f.op) f.directive) (seen_regions L.owns.written ctx (regions_left C L ctx f.op f.region)) ≡ true →
-        IsBegun C L ctx f.op f.directives → Stands ctx.graph (TheRegion r) →
+        IsBegun C L ctx f.op f.directives → IsLive ctx.graph (TheRegion r) →
         mid ≡ old ++ encode_utf8_all (pieces_text L (parts_left C (seen_at C L ctx f.op) f.directive)) → new ≡ mid ++ encode_utf8_all (codes " " ++ region_front width f.indent f.limit) →
         frames' ≡ frames ++ frame.Operation (record f { directive = k; region = f.region + 1 }) ∷ region_frames r f.indent f.limit → Steps C L ctx width (frame.Operation f) items items frames frames' old new
     single_begins k j r old mid new frames' once b low high e cov stands there w v s =

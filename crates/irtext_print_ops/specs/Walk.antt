@@ -9,13 +9,13 @@ use Rattle.irtext_base.specs.Own.{Language}
 use Rattle.irtext_base.specs.Text.{Text}
 use Rattle.irtext_base.specs.declared.format.Directive as code
 use Rattle.irtext_context.specs.Context.{ContextView, operation, block}
-use Rattle.irtext_formats.specs.Directives.{directives_of}
+use Rattle.irtext_format_check.specs.Directives.{directives_of}
 use Rattle.irtext_graph.specs.declared.arena.Ptr.{Ptr}
 use Rattle.irtext_graph.specs.declared.object.BasicBlock.{BasicBlock}
 use Rattle.irtext_graph.specs.declared.object.Object.TheVariants.{TheBlock, TheRegion}
 use Rattle.irtext_graph.specs.declared.object.Operation.{Operation}
 use Rattle.irtext_graph.specs.declared.object.Region.{Region}
-use Rattle.irtext_graph.specs.Graph.{Stands}
+use Rattle.irtext_graph.specs.Graph.{IsLive}
 use Rattle.irtext_graph.specs.Parts.{regions, blocks, operations_in}
 use Rattle.irtext_grammar.specs.Contexts.Formats.{isolated}
 use Rattle.irtext_grammar.specs.Contexts.Nested.{operations_by, blocks_by, regions_by, within, seen_regions, seen_blocks, seen_operations, seen_operation, seen_block, seen_own}
@@ -141,8 +141,8 @@ module _ {T A : Type 0} (C : Printing T A) where
     abbrev pub FrameFits : Frame → Type 0
     FrameFits (frame.Operation f) = IsBegun f.op f.directives
         × ((f.repeats || covers (parts_left (seen_at f.op) f.directive) (seen_regions L.owns.written ctx (regions_left f.op f.region))) ≡ true)
-    FrameFits (frame.Region f) = Stands ctx.graph (TheRegion f.region)
-    FrameFits (frame.Block f) = Stands ctx.graph (TheBlock f.block)
+    FrameFits (frame.Region f) = IsLive ctx.graph (TheRegion f.region)
+    FrameFits (frame.Block f) = IsLive ctx.graph (TheBlock f.block)
 
     -- the same for all frames
     abbrev pub AllFit : List Frame → Type 0

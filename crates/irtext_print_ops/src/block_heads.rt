@@ -1,7 +1,7 @@
 //! What comes before a block's operations: its label, its arguments and its dictionary.
 ghost use Rattle.std.specs.Prelude.{◌≡◌, ◌++◌, IsSome, IfSome, IfErr, OnOk, codes};
 ghost use Rattle.irtext_context.specs.Context as context;
-ghost use Rattle.irtext_graph.specs.Graph.{Stands};
+ghost use Rattle.irtext_graph.specs.Graph.{IsLive};
 ghost use Rattle.irtext_graph.specs.declared.object.Object.TheVariants.{TheBlock};
 ghost use Rattle.irtext_grammar.specs.Contexts.Held.{entries_of};
 ghost use Rattle.irtext_grammar.specs.Contexts.Nested.{seen_head};
@@ -53,7 +53,7 @@ fn fmt_arguments<T: IrText<A>, A: AttrText<A>>(
     block: Ptr<BasicBlock>,
     f: &mut String,
 ) -> fmt::Result
-    requires { Stands ctx.now.graph (TheBlock block) }
+    requires { IsLive ctx.now.graph (TheBlock block) }
     ensures { OnOk result (AppendsText f.old (codes "(" ++ (list_text T.IrText.written ctx.now (Arguments block) 0 ++ codes ")")) f.new) }
 {
     f.push_str("(")?;

@@ -2,7 +2,7 @@
 ghost use Rattle.std.specs.Prelude.{◌≡◌, ◌++◌, Some, IsSome, IfSome, IfErr, OnOk, codes};
 ghost use Rattle.irtext_base.specs.Format as format;
 ghost use Rattle.irtext_context.specs.Context.{operation};
-ghost use Rattle.irtext_graph.specs.Graph.{Stands};
+ghost use Rattle.irtext_graph.specs.Graph.{IsLive};
 ghost use Rattle.irtext_graph.specs.declared.object.Object.TheVariants.{TheOperation};
 ghost use Rattle.irtext_grammar.specs.Contexts.Nested.{seen_own};
 ghost use Rattle.irtext_grammar.specs.Graphs.Graph.{body_of};
@@ -28,7 +28,7 @@ fn fmt_uses<T: IrText<A>, A: AttrText<A>>(
     op: Ptr<Operation>,
     f: &mut String,
 ) -> fmt::Result
-    requires { Stands ctx.now.graph (TheOperation op) }
+    requires { IsLive ctx.now.graph (TheOperation op) }
     ensures { OnOk result (AppendsText f.old (codes " (" ++ (list_text T.IrText.written ctx.now (Operands op) 0
         ++ (codes ") [" ++ (list_text T.IrText.written ctx.now (Successors op) 0 ++ codes "]")))) f.new) }
 {
@@ -46,7 +46,7 @@ fn fmt_types<T: IrText<A>, A: AttrText<A>>(
     op: Ptr<Operation>,
     f: &mut String,
 ) -> fmt::Result
-    requires { Stands ctx.now.graph (TheOperation op) }
+    requires { IsLive ctx.now.graph (TheOperation op) }
     ensures { OnOk result (AppendsText f.old (codes ": <(" ++ (list_text T.IrText.written ctx.now (OperandTypes op) 0
         ++ (codes ") -> (" ++ (list_text T.IrText.written ctx.now (ResultTypes op) 0 ++ codes ")>")))) f.new) }
 {

@@ -1,8 +1,8 @@
 //! Whether an operation fits its format, and why not.
 ghost use Rattle.std.specs.Prelude.{◌≡◌, not, ◌||◌, ◌==◌, nat_lt, cond, length, option_copied, option_map, Some, None, IsSome, IfSome, IfOk, IfErr, OnOk};
 ghost use Rattle.irtext_context.specs.Context.{operation};
-ghost use Rattle.irtext_formats.specs.Directives.{directive_of, directives_of};
-ghost use Rattle.irtext_graph.specs.Graph.{Stands};
+ghost use Rattle.irtext_format_check.specs.Directives.{directive_of, directives_of};
+ghost use Rattle.irtext_graph.specs.Graph.{IsLive};
 ghost use Rattle.irtext_graph.specs.Parts.{regions};
 ghost use Rattle.irtext_graph.specs.declared.object.Object.TheVariants.{TheOperation};
 ghost use Rattle.irtext_grammar.specs.Contexts.Formats.{format_of, isolated};
@@ -266,7 +266,7 @@ fn check_parts<'c, A: AttrText<A>>(
 
 /// Counts the results of an operation with known types.
 fn count_typed<T: IrText<A>, A: AttrText<A>>(ctx: &Context<T, A>, op: Ptr<Operation>) -> usize
-    requires { Stands ctx.now.graph (TheOperation op) }
+    requires { IsLive ctx.now.graph (TheOperation op) }
     ensures { result ≡ length (known_types (texts.texts_of T.IrText.written ctx.now (listed.ResultTypes op))) }
 {
     let mut typed = 0;

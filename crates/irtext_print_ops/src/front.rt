@@ -1,7 +1,7 @@
 //! What is printed of an operation itself by its format: what comes before its parts, and what a directive prints.
 ghost use Rattle.std.specs.Prelude.{◌≡◌, ◌≢◌, OnOk, IfOk, IfErr, IsSome, is_none};
 ghost use Rattle.irtext_context.specs.Context.{operation};
-ghost use Rattle.irtext_formats.specs.Directives.{directive_of, directives_of};
+ghost use Rattle.irtext_format_check.specs.Directives.{directive_of, directives_of};
 ghost use Rattle.irtext_print.specs.Printers.Appended.{AppendsText};
 ghost use Rattle.irtext_print.specs.declared.printable.refusal.Refusal.TheVariants as refusal;
 ghost use Rattle.irtext_print_ops.specs.Heads as heads;

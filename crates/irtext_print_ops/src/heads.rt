@@ -3,7 +3,7 @@ ghost use Rattle.std.specs.Prelude.{◌≡◌, ◌≢◌, OnOk, IfOk, IfErr, IsS
 ghost use Rattle.irtext_base.specs.Format.{is_any_region};
 ghost use Rattle.irtext_context.specs.Context.{operation};
 ghost use Rattle.irtext_context.specs.Context as context;
-ghost use Rattle.irtext_formats.specs.Directives.{directive_of, directives_of};
+ghost use Rattle.irtext_format_check.specs.Directives.{directive_of, directives_of};
 ghost use Rattle.irtext_print.specs.Printers.Appended.{AppendsText};
 ghost use Rattle.irtext_print.specs.declared.printable.refusal.Refusal.TheVariants as refusal;
 ghost use Rattle.irtext_print_ops.specs.Heads as heads;

@@ -1,7 +1,7 @@
 //! The lists of operations and blocks, as they are printed: with `, ` between the items, and without the items that have no text.
 ghost use Rattle.std.specs.Prelude.{◌≡◌, ◌<◌, ◌&&◌, not, [], cond, drop, is_some, length, slice_get, option_and_then, option_map, Some, IsSome, IfOk, IfSome, OnOk};
 ghost use Rattle.irtext_context.specs.Context.{block};
-ghost use Rattle.irtext_graph.specs.Graph.{Stands};
+ghost use Rattle.irtext_graph.specs.Graph.{IsLive};
 ghost use Rattle.irtext_graph.specs.Parts.{operands, successors, value_at, ValueStands};
 ghost use Rattle.irtext_graph.specs.declared.object.Object.TheVariants.{TheOperation};
 ghost use Rattle.irtext_grammar.specs.Contexts.Held.{known_types};
@@ -62,7 +62,7 @@ pub(crate) fn operand<T: IrText<A>, A: AttrText<A>>(
     op: Ptr<Operation>,
     index: usize,
 ) -> Value
-    requires stands { Stands ctx.now.graph (TheOperation op) }
+    requires stands { IsLive ctx.now.graph (TheOperation op) }
     requires within { index < length (operands ctx.now.graph op) }
     ensures value { slice_get (operands ctx.now.graph op) index ≡ Some result }
     ensures there { ValueStands ctx.now.graph result }
@@ -79,7 +79,7 @@ pub(crate) fn successor<T: IrText<A>, A: AttrText<A>>(
     op: Ptr<Operation>,
     index: usize,
 ) -> Ptr<BasicBlock>
-    requires stands { Stands ctx.now.graph (TheOperation op) }
+    requires stands { IsLive ctx.now.graph (TheOperation op) }
     requires within { index < length (successors ctx.now.graph op) }
     ensures value { slice_get (successors ctx.now.graph op) index ≡ Some result }
     ensures there { IsSome (block ctx.now result) }
@@ -185,7 +185,7 @@ fn fmt_operand_type<T: IrText<A>, A: AttrText<A>>(
 /// Returns the number of items.
 #[inline(always)]
 pub(crate) fn count<T: IrText<A>, A: AttrText<A>>(ctx: &Context<T, A>, listed: Listed) -> usize
-    requires { Stands ctx.now.graph (owner listed) }
+    requires { IsLive ctx.now.graph (owner listed) }
     ensures { result ≡ length (texts.texts_of T.IrText.written ctx.now listed) }
 {
     let graph = ctx.graph();
@@ -206,7 +206,7 @@ fn fmt_item<T: IrText<A>, A: AttrText<A>>(
     first: bool,
     f: &mut String,
 ) -> Result<bool, fmt::Error>
-    requires stands { Stands ctx.now.graph (owner listed) }
+    requires stands { IsLive ctx.now.graph (owner listed) }
     requires within { index < length (texts.texts_of T.IrText.written ctx.now listed) }
     ensures text { OnOk result (AppendsText f.old (texts.next_text first (texts.text_at T.IrText.written ctx.now listed index)) f.new) }
     ensures left { IfOk result (λ left. left ≡ (first && not (is_some (texts.text_at T.IrText.written ctx.now listed index)))) }
@@ -237,7 +237,7 @@ pub(crate) fn fmt_listed<T: IrText<A>, A: AttrText<A>>(
     from: usize,
     f: &mut String,
 ) -> Result<bool, fmt::Error>
-    requires { Stands ctx.now.graph (owner listed) }
+    requires { IsLive ctx.now.graph (owner listed) }
     ensures text { OnOk result (AppendsText f.old (texts.list_text T.IrText.written ctx.now listed from) f.new) }
     ensures none { IfOk result (λ none. none ≡ texts.are_none (known_types (drop from (texts.texts_of T.IrText.written ctx.now listed)))) }
 {

@@ -2,7 +2,7 @@
 ghost use Rattle.std.specs.Prelude.{◌≡◌, ◌++◌, OnOk, IfErr, IsSome, length, true};
 ghost use Rattle.irtext_context.specs.Context.{operation};
 ghost use Rattle.irtext_context.specs.Context as context;
-ghost use Rattle.irtext_graph.specs.Graph.{Stands};
+ghost use Rattle.irtext_graph.specs.Graph.{IsLive};
 ghost use Rattle.irtext_graph.specs.declared.object.Object.TheVariants.{TheRegion};
 ghost use Rattle.irtext_print.specs.Printers.Appended.{AppendsText};
 ghost use Rattle.irtext_print.specs.declared.printable.refusal.Refusal.TheVariants as refusal;
@@ -79,7 +79,7 @@ pub fn print_nested_region<T: IrText<A>, A: AttrText<A>, U>(
     items: &mut Vec<Item>,
     f: &mut String,
 ) -> Result<(), Refusal>
-    requires live { Stands ctx.now.graph (TheRegion region) }
+    requires live { IsLive ctx.now.graph (TheRegion region) }
     ensures text { OnOk result (AppendsText f.old (heads.region_text_under T.IrText.own A.IrText.own A.AttrText.own A.eq ctx.now region
         state.now (length items.old.items)) f.new) }
     ensures items { OnOk result (items.new.items ≡ items.old.items ++

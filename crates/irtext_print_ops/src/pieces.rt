@@ -3,8 +3,8 @@ ghost use Rattle.std.specs.Prelude.{◌≡◌, ℕ, is_some, option_map, option_
 ghost use Rattle.irtext_base.specs.Format as format;
 ghost use Rattle.irtext_base.specs.Format.{operand_places, successor_places};
 ghost use Rattle.irtext_context.specs.Context.{operation};
-ghost use Rattle.irtext_formats.specs.Directives.{directive_of, directives_of};
-ghost use Rattle.irtext_graph.specs.Graph.{Stands};
+ghost use Rattle.irtext_format_check.specs.Directives.{directive_of, directives_of};
+ghost use Rattle.irtext_graph.specs.Graph.{IsLive};
 ghost use Rattle.irtext_graph.specs.Parts.{operands, value_at, ValueStands};
 ghost use Rattle.irtext_graph.specs.declared.object.Value as code;
 ghost use Rattle.irtext_graph.specs.declared.object.Object.TheVariants.{TheOperation};
@@ -47,7 +47,7 @@ fn fmt_operand_at<T: IrText<A>, A: AttrText<A>>(
     index: usize,
     f: &mut String,
 ) -> fmt::Result
-    requires { Stands ctx.now.graph (TheOperation op) }
+    requires { IsLive ctx.now.graph (TheOperation op) }
     ensures { OnOk result (AppendsText f.old (spaced_if (texts.text_at T.IrText.written ctx.now (listed.Operands op) index)) f.new) }
 {
     if index >= ctx.graph().num_operands(op) {
@@ -65,7 +65,7 @@ fn fmt_successor_at<T: IrText<A>, A: AttrText<A>>(
     index: usize,
     f: &mut String,
 ) -> fmt::Result
-    requires { Stands ctx.now.graph (TheOperation op) }
+    requires { IsLive ctx.now.graph (TheOperation op) }
     ensures { OnOk result (AppendsText f.old (spaced_if (texts.text_at T.IrText.written ctx.now (listed.Successors op) index)) f.new) }
 {
     if index >= ctx.graph().num_successors(op) {
@@ -98,7 +98,7 @@ fn fmt_result_type_at<T: IrText<A>, A: AttrText<A>>(
     index: usize,
     f: &mut String,
 ) -> fmt::Result
-    requires { Stands ctx.now.graph (TheOperation op) }
+    requires { IsLive ctx.now.graph (TheOperation op) }
     ensures { OnOk result (AppendsText f.old (spaced_if
         (slice_get (known_types (texts.texts_of T.IrText.written ctx.now (listed.ResultTypes op))) index)) f.new) }
 {
@@ -123,7 +123,7 @@ fn fmt_spaced<T: IrText<A>, A: AttrText<A>>(
     from: usize,
     f: &mut String,
 ) -> fmt::Result
-    requires { Stands ctx.now.graph (owner list) }
+    requires { IsLive ctx.now.graph (owner list) }
     ensures { OnOk result (AppendsText f.old (spaced (texts.list_text T.IrText.written ctx.now list from)) f.new) }
 {
     f.push_str(" ")?;

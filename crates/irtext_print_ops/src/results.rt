@@ -1,7 +1,7 @@
 //! The names of an operation's results, which come before its id.
 ghost use Rattle.std.specs.Prelude.{◌≡◌, map, IsSome, IfSome, IfErr, OnOk};
 ghost use Rattle.irtext_context.specs.Context.{operation};
-ghost use Rattle.irtext_graph.specs.Graph.{Stands};
+ghost use Rattle.irtext_graph.specs.Graph.{IsLive};
 ghost use Rattle.irtext_graph.specs.declared.object.Object.TheVariants.{TheOperation};
 ghost use Rattle.irtext_grammar.specs.Contexts.Held.{known_types};
 ghost use Rattle.irtext_grammar.specs.Contexts.Nested.{seen_own};
@@ -27,7 +27,7 @@ fn fmt_defined<T: IrText<A>, A: AttrText<A>>(
     op: Ptr<Operation>,
     f: &mut String,
 ) -> fmt::Result
-    requires { Stands ctx.now.graph (TheOperation op) }
+    requires { IsLive ctx.now.graph (TheOperation op) }
     ensures { OnOk result (AppendsText f.old (defined_text (known_types (texts_of T.IrText.written ctx.now (Results op)))) f.new) }
 {
     let none = fmt_listed(ctx, Listed::Results(op), 0, f)?;

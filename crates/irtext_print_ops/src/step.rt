@@ -2,7 +2,7 @@
 ghost use Rattle.std.specs.Prelude.{◌≡◌, ◌≢◌, ◌++◌, ◌∷◌, [], OnOk, IfOk, IfErr, IsSome, length, true};
 ghost use Rattle.irtext_context.specs.Context.{operation};
 ghost use Rattle.irtext_context.specs.Context as context;
-ghost use Rattle.irtext_graph.specs.Graph.{Stands};
+ghost use Rattle.irtext_graph.specs.Graph.{IsLive};
 ghost use Rattle.irtext_graph.specs.declared.object.Object.TheVariants.{TheBlock, TheRegion};
 ghost use Rattle.irtext_print.specs.Printers.Appended.{AppendsText};
 ghost use Rattle.irtext_print.specs.declared.printable.refusal.Refusal.TheVariants as refusal;

@@ -11,7 +11,7 @@ use Rattle.irtext_graph.specs.declared.object.Object.TheVariants.{TheOperation, 
 use Rattle.irtext_graph.specs.Arena.{older}
 use Rattle.irtext_graph.specs.Back.{AllOlder}
 use Rattle.irtext_graph.specs.Content.{Node, Content, Content.{AnOperation, ABlock, ARegion}, OperationContent, BlockContent, RegionContent}
-use Rattle.irtext_graph.specs.Graph.{GraphView, content, content_of, parent_of, parent, Stands, IsNew, KeepsOlder}
+use Rattle.irtext_graph.specs.Graph.{GraphView, content, content_of, parent_of, parent, IsLive, IsNew, KeepsOlder}
 use Rattle.irtext_graph.specs.Objects.{is_older}
 use Rattle.irtext_graph.specs.Store.{Store, get, before}
 
@@ -81,7 +81,7 @@ module _ {O B T : Type 0} where
   abbrev a_region : ℕ × RegionContent → Content O B T
   a_region d = ARegion d.0 d.1
 
-  pub here_stands : (g : GraphView O B T) (q : Object) → IsHere g q → Stands g q
+  pub here_stands : (g : GraphView O B T) (q : Object) → IsHere g q → IsLive g q
   here_stands g (TheOperation p) h = go (get g.operations p) h
     where
       go : (x : Option (Entry (Node BasicBlock Region (OperationContent O T)))) → IsSome x → IsSome (option_map an_operation (content_of x))
@@ -98,7 +98,7 @@ module _ {O B T : Type 0} where
       go None h = absurd (cc)
       go (Some x) h = refl
 
-  pub stands_here : (g : GraphView O B T) (q : Object) → Stands g q → IsHere g q
+  pub stands_here : (g : GraphView O B T) (q : Object) → IsLive g q → IsHere g q
   stands_here g (TheOperation p) h = go (get g.operations p) h
     where
       go : (x : Option (Entry (Node BasicBlock Region (OperationContent O T)))) → IsSome (option_map an_operation (content_of x)) → IsSome x
@@ -116,7 +116,7 @@ module _ {O B T : Type 0} where
       go (Some x) h = refl
 
   -- what stands stood, or is new
-  pub stood_or_new : (m : ℕ) (g k : GraphView O B T) → KeepsOlder m g k → (q : Object) → Stands k q → Stands g q ⊎ IsNew m k q
+  pub stood_or_new : (m : ℕ) (g k : GraphView O B T) → KeepsOlder m g k → (q : Object) → IsLive k q → IsLive g q ⊎ IsNew m k q
   stood_or_new m g k kept q s = go (is_older m (content k q)) refl
     where
       older_here : (q : Object) → is_older m (content k q) ≡ true → IsHere g q
@@ -124,12 +124,12 @@ module _ {O B T : Type 0} where
       older_here (TheBlock b) e = stood_block m g k kept (get k.blocks b) b refl e
       older_here (TheRegion r) e = stood_region m g k kept (get k.regions r) r refl e
 
-      go : (b : Bool) → is_older m (content k q) ≡ b → Stands g q ⊎ IsNew m k q
+      go : (b : Bool) → is_older m (content k q) ≡ b → IsLive g q ⊎ IsNew m k q
       go true e = inl (here_stands g q (older_here q e))
       go false e = inr e
 
   -- what stood has the parent that it had
-  pub same_parent : (m : ℕ) (g k : GraphView O B T) → AllOlder m g → KeepsOlder m g k → (q : Object) → Stands g q → parent k q ≡ parent g q
+  pub same_parent : (m : ℕ) (g k : GraphView O B T) → AllOlder m g → KeepsOlder m g k → (q : Object) → IsLive g q → parent k q ≡ parent g q
   same_parent m g k all kept q s = go q (stands_here g q s)
     where
       go : (q : Object) → IsHere g q → parent k q ≡ parent g q

@@ -40,9 +40,9 @@ use Rattle.irtext_grammar.proofs.Graphs.Links.{bound_linked, all_there}
 use Rattle.irtext_grammar.proofs.Lists.Sets.{in_right}
 use Rattle.irtext_grammar.proofs.Names.Building.{bound_same}
 use Rattle.irtext_scopes.specs.declared.tracker.NameTracker.{NameTracker}
-use Rattle.irtext_nesting.specs.Naming.{paths_in_blocks}
-use Rattle.irtext_nesting.specs.Stands.{RegionsHold}
-use Rattle.irtext_nesting.specs.Tracks.{Made, noted, HasChild}
+use Rattle.irtext_parse_spec.specs.Naming.{paths_in_blocks}
+use Rattle.irtext_parse_spec.specs.Unchanged.{RegionsHold}
+use Rattle.irtext_parse_spec.specs.Tracks.{Made, noted, HasChild}
 use Rattle.irtext_names.specs.Linked.{Known, StandsAt}
 use Rattle.irtext_names.specs.OfItems.{AreOf}
 use Rattle.irtext_names.proofs.Linked.Passes.{ran_through}

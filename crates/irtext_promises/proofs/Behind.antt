@@ -16,12 +16,12 @@ use Rattle.irtext_grammar.specs.Contexts.Held.{location_over}
 use Rattle.irtext_grammar.specs.Names.History.{State}
 use Rattle.irtext_grammar.specs.Names.Script.{Place, User}
 use Rattle.irtext_grammar.specs.Names.TextScopes.{Fact}
-use Rattle.irtext_outcomes.specs.Promises.Root.{position_behind, location_of}
+use Rattle.irtext_parse_spec.specs.Promises.Root.{position_behind, location_of}
 use Rattle.irtext_scopes.specs.Scopes.{Scope}
 use Rattle.irtext_scopes.specs.declared.tracker.NameTracker.{NameTracker}
 use Rattle.irtext_scopes.specs.declared.scopes.Entry.TheVariants.{Pending}
 use Rattle.irtext_names.specs.Linked.{Known, AreLinked, StandsAt}
-use Rattle.irtext_names.specs.Tied.{entry_at, Waiting, AreWaiting, NoneIsLeft}
+use Rattle.irtext_names.specs.Tied.{entry_at, Waiting, ArePending, NoneIsLeft}
 
 -- no scope binds nothing
 nothing_there : {V : Type 0} (k n : ℕ) (v : V) → entry_at k n [] ≡ Some (Pending v) → ⊥
@@ -46,7 +46,7 @@ module _ {O B T : Type 0} where
   none_waits : {V : Type 0} (m : ℕ) (own : List V) (of : V → Defined) (scopes : List (Scope V)) (g : GraphView (Option O) B T) → scopes ≡ [] → Waiting m own of scopes g → Waiting m own of [] g
   none_waits m own of scopes g e w = subst (λ z. Waiting m own of z g) e w
 
-  pub none_left : (m : ℕ) (values : List (Scope Value)) (labels : List (Scope (Ptr BasicBlock))) (g : GraphView (Option O) B T) → values ≡ [] → labels ≡ [] → AreWaiting m [] values labels g → NoneIsLeft m [] g
+  pub none_left : (m : ℕ) (values : List (Scope Value)) (labels : List (Scope (Ptr BasicBlock))) (g : GraphView (Option O) B T) → values ≡ [] → labels ≡ [] → ArePending m [] values labels g → NoneIsLeft m [] g
   none_left m values labels g a b w = record {
     values = λ v d blank n. let x = (none_waits m [] OfValue values g a w.value_waits).known v d blank n (λ i. i) in nothing_there x.0 x.1 v x.2;
     labels = λ k d blank n own. let x = (none_waits m [] OfBlock labels g b w.label_waits).known k d blank n own in nothing_there x.0 x.1 k x.2;

@@ -30,9 +30,9 @@ use Rattle.irtext_grammar.proofs.Grammar.PartsOfFormats.{Formed}
 use Rattle.irtext_grammar.proofs.Graphs.Links.{bound_linked, all_there}
 use Rattle.irtext_grammar.proofs.Names.Building.{bound_same}
 use Rattle.irtext_scopes.specs.declared.tracker.NameTracker.{NameTracker}
-use Rattle.irtext_nesting.specs.Naming.{Names}
-use Rattle.irtext_nesting.specs.Building.{finished}
-use Rattle.irtext_nesting.specs.Tracks.{Made, HoldsMade}
+use Rattle.irtext_parse_spec.specs.Naming.{Names}
+use Rattle.irtext_parse_spec.specs.Building.{finished}
+use Rattle.irtext_parse_spec.specs.Tracks.{Made, HoldsMade}
 use Rattle.irtext_names.specs.Linked.{Known, StandsAt}
 use Rattle.irtext_names.specs.OfItems.{AreOf}
 use Rattle.irtext_names.proofs.Linked.Passes.{ran_through}

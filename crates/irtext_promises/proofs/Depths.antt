@@ -29,9 +29,9 @@ use Rattle.irtext_grammar.specs.Grammar.Tree.{Op, Head, Brace, Tree}
 use Rattle.irtext_grammar.specs.Names.Script.{Path}
 use Rattle.irtext_grammar.specs.Spelling.Spellable.{Each}
 use Rattle.irtext_grammar.proofs.Lists.Each.{each_left, each_right}
-use Rattle.irtext_nesting.specs.Naming.{paths_in_regions, paths_in_blocks, paths_in_operations, Names}
-use Rattle.irtext_nesting.specs.Stands.{own_of, HasOwn, HasHead, RegionsHold, BlocksHold, OperationsHold}
-use Rattle.irtext_nesting.specs.Tracks.{Made, noted}
+use Rattle.irtext_parse_spec.specs.Naming.{paths_in_regions, paths_in_blocks, paths_in_operations, Names}
+use Rattle.irtext_parse_spec.specs.Unchanged.{own_of, HasOwn, HasHead, RegionsHold, BlocksHold, OperationsHold}
+use Rattle.irtext_parse_spec.specs.Tracks.{Made, noted}
 use Rattle.irtext_promises.specs.Alone.{pointers_in}
 use Rattle.irtext_promises.specs.Held.{PtrRegions}
 use Rattle.irtext_promises.specs.Placed.{region_ptrs, block_ptrs, operation_ptrs, RegionsAre, BlocksAre, OperationsAre, RootIs}

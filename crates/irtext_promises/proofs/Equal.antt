@@ -33,7 +33,7 @@ use Rattle.irtext_grammar.specs.Names.Scopes.{link, facts, lookup}
 use Rattle.irtext_grammar.specs.Names.Script.{Path, Place, User, operand, successor}
 use Rattle.irtext_grammar.specs.Names.TextScopes.{Fact}
 use Rattle.irtext_grammar.proofs.Lists.Sets.{in_left, in_right}
-use Rattle.irtext_nesting.specs.Stands.{own_of}
+use Rattle.irtext_parse_spec.specs.Unchanged.{own_of}
 use Rattle.irtext_promises.specs.Held.{PtrRegions, PtrBlocks, PtrOperations, placed_regions, placed_blocks, placed_operations, placed_under, value_place, block_place, defined_place, held_op, held_head, held_regions, held_blocks, held_operations}
 use Rattle.irtext_promises.specs.Given.{OperationHas, BlockHas, RegionsHave, BlocksHave, OperationsHave, RootHas}
 

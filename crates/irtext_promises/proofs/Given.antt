@@ -16,8 +16,8 @@ use Rattle.irtext_grammar.specs.Grammar.Forest.{Regions, no_regions, Blocks, no_
 use Rattle.irtext_grammar.specs.Grammar.Section.{Entry}
 use Rattle.irtext_grammar.specs.Grammar.Tree.{Mark, Op, Head, Brace, Tree}
 use Rattle.irtext_grammar.specs.Graphs.Build.{content, located, labelled, but_label, with_content}
-use Rattle.irtext_nesting.specs.Stands.{own_of, head_entries}
-use Rattle.irtext_nesting.specs.Tracks.{Made}
+use Rattle.irtext_parse_spec.specs.Unchanged.{own_of, head_entries}
+use Rattle.irtext_parse_spec.specs.Tracks.{Made}
 use Rattle.irtext_promises.specs.Given.{OperationHas, BlockHas, RegionsHave, BlocksHave, OperationsHave, RootHas}
 use Rattle.irtext_promises.specs.Held.{PtrRegions, PtrBlocks, PtrOperations}
 use Rattle.irtext_promises.specs.Placed.{OperationAt, BlockAt, RegionsAre, BlocksAre, OperationsAre, RootIs}

@@ -11,9 +11,9 @@ use Rattle.irtext_context.specs.Context.{ContextView}
 use Rattle.irtext_context.specs.Dialects.{Table}
 use Rattle.irtext_graph.specs.declared.arena.Ptr.{Ptr}
 use Rattle.irtext_graph.specs.declared.object.Operation.{Operation}
-use Rattle.irtext_read.specs.AttrTexts.{attr_at}
-use Rattle.irtext_state.specs.States.{marks_of}
-use Rattle.irtext_state.specs.declared.parsable.state.StateStream.{StateStream}
+use Rattle.irtext_tokens.specs.AttrTexts.{attr_at}
+use Rattle.irtext_parse_state.specs.States.{marks_of}
+use Rattle.irtext_parse_state.specs.declared.parsable.state.StateStream.{StateStream}
 use Rattle.irtext_grammar.specs.Contexts.Formats.{format_of, isolated, IsAccepted}
 use Rattle.irtext_grammar.specs.Contexts.Held.{location_over, whole}
 use Rattle.irtext_grammar.specs.Grammar.Reads as grammar
@@ -24,19 +24,19 @@ use Rattle.irtext_grammar.specs.Names.History as history
 use Rattle.irtext_grammar.specs.Names.History.{going, start, run, events}
 use Rattle.irtext_grammar.specs.Names.Script.{Path, done}
 use Rattle.irtext_grammar.proofs.Grammar.PartsOfFormats.{Formed, each_accepted, formed_read}
-use Rattle.irtext_outcomes.specs.Promises.Root.{location_of}
-use Rattle.irtext_outcomes.specs.Promises.Section.{Moves, indices_of}
-use Rattle.irtext_outcomes.proofs.Joins.Answers.{Splits}
-use Rattle.irtext_nesting.specs.Exact.{NeedsWord}
-use Rattle.irtext_nesting.specs.Naming.{naming, Names}
-use Rattle.irtext_nesting.specs.Reached.{Came}
-use Rattle.irtext_nesting.proofs.Knot.Whole as knot
-use Rattle.irtext_nesting.proofs.Naming.Places.{names_exist}
-use Rattle.irtext_nesting.proofs.Naming.Scripts.{read_runs}
-use Rattle.irtext_nesting.proofs.Naming.Shorter.{Shortens}
-use Rattle.irtext_nesting.specs.Building.{Building, building, nothing_open, finished}
-use Rattle.irtext_nesting.proofs.Built.{tree_finished}
-use Rattle.irtext_nesting.proofs.Whole.{whole_read}
+use Rattle.irtext_parse_spec.specs.Promises.Root.{location_of}
+use Rattle.irtext_parse_spec.specs.Promises.Section.{Moves, indices_of}
+use Rattle.irtext_parse_spec.proofs.Joins.Answers.{Splits}
+use Rattle.irtext_parse_spec.specs.Exact.{NeedsWord}
+use Rattle.irtext_parse_spec.specs.Naming.{naming, Names}
+use Rattle.irtext_parse_spec.specs.Reached.{Advanced}
+use Rattle.irtext_parse_spec.proofs.Knot.Whole as knot
+use Rattle.irtext_parse_spec.proofs.Naming.Places.{names_exist}
+use Rattle.irtext_parse_spec.proofs.Naming.Scripts.{read_runs}
+use Rattle.irtext_parse_spec.proofs.Naming.Shorter.{Shortens}
+use Rattle.irtext_parse_spec.specs.Building.{Building, building, nothing_open, finished}
+use Rattle.irtext_parse_spec.proofs.Built.{tree_finished}
+use Rattle.irtext_parse_spec.proofs.Whole.{whole_read}
 use Rattle.irtext_names.proofs.Linked.Passes.{ran_through}
 use Rattle.irtext_promises.specs.Held.{held_root}
 use Rattle.irtext_promises.specs.Leaves.{StandsBehind, LeavesTree, LeavesClosed}
@@ -45,7 +45,7 @@ use Rattle.irtext_promises.specs.Promises.{BuildsTree, tree_marks}
 use Rattle.irtext_promises.proofs.Builds as builds
 use Rattle.irtext_promises.proofs.News.{only_new}
 
-came_same : {X S : Type 0} (x y : X) (s t : S) (a b : Text) → Came x s a ≡ Came y t b → s ≡ t
+came_same : {X S : Type 0} (x y : X) (s t : S) (a b : Text) → Advanced x s a ≡ Advanced y t b → s ≡ t
 came_same x y s t a b e = cc
 
 pub finished_same : {T A : Type 0} (x y : Tree ℕ T A) → finished x ≡ finished y → x ≡ y

@@ -27,8 +27,8 @@ use Rattle.irtext_grammar.specs.Names.Script.{Path, Place, result, argument, blo
 use Rattle.irtext_grammar.specs.Names.History.{State}
 use Rattle.irtext_grammar.proofs.Lists.Each.{each_left, each_right}
 use Rattle.irtext_scopes.specs.declared.tracker.NameTracker.{NameTracker}
-use Rattle.irtext_nesting.specs.Naming.{paths_in_regions, paths_in_blocks, paths_in_operations, Names}
-use Rattle.irtext_nesting.specs.Tracks.{Made}
+use Rattle.irtext_parse_spec.specs.Naming.{paths_in_regions, paths_in_blocks, paths_in_operations, Names}
+use Rattle.irtext_parse_spec.specs.Tracks.{Made}
 use Rattle.irtext_names.specs.Linked.{Known, StandsAt, Became, Holds}
 use Rattle.irtext_names.specs.OfItems.{IsSiteOf, AreOf}
 use Rattle.irtext_names.proofs.Linked.Moving.{among_split}

@@ -11,7 +11,7 @@ use Rattle.irtext_graph.proofs.Nests.{some_eq}
 use Rattle.irtext_graph.proofs.Same.{ptr_same}
 use Rattle.irtext_grammar.specs.Spelling.PrintedNames as printed
 use Rattle.irtext_grammar.proofs.Names.Injective.{values_differ, blocks_differ, value_no_block}
-use Rattle.irtext_outcomes.specs.ContextParts.{KeepsAll}
+use Rattle.irtext_parse_spec.specs.ContextParts.{KeepsAll}
 use Rattle.irtext_grammar.specs.UniqueNames.{given_name, value_name, block_name}
 
 module _ {T A : Type 0} (ctx : ContextView T A) (kept : KeepsAll ctx) where

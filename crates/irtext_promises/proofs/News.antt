@@ -25,7 +25,7 @@ use Rattle.irtext_graph.specs.Chained.{Among}
 use Rattle.irtext_graph.specs.Content.{Node, OperationContent}
 use Rattle.irtext_graph.specs.declared.arena.Entry.{Entry}
 use Rattle.irtext_graph.specs.Erasing.{owner}
-use Rattle.irtext_graph.specs.Graph.{children, parent, parent_of, content_of, Appends, Stands, IsInside, IsNew}
+use Rattle.irtext_graph.specs.Graph.{children, parent, parent_of, content_of, Appends, IsLive, IsInside, IsNew}
 use Rattle.irtext_graph.specs.Nested.{climb, Nested}
 use Rattle.irtext_graph.specs.Objects.{eq_object}
 use Rattle.irtext_graph.specs.Parts.{operands, successors, operands_of, successors_of, results_of, arguments_of, operation_at, block_at}
@@ -43,12 +43,12 @@ use Rattle.irtext_grammar.specs.Graphs.Build.{Built}
 use Rattle.irtext_grammar.specs.Graphs.Links.{OpLinked, Linked}
 use Rattle.irtext_grammar.specs.Names.Script.{Path, result, argument}
 use Rattle.irtext_grammar.specs.Names.Script.{block_at as block_at_path}
-use Rattle.irtext_nesting.specs.Naming.{Names}
+use Rattle.irtext_parse_spec.specs.Naming.{Names}
 use Rattle.irtext_names.specs.Tied.{NoneIsLeft}
 use Rattle.irtext_names.proofs.Linked.Moving.{among_split}
-use Rattle.irtext_nesting.specs.Building.{finished}
-use Rattle.irtext_nesting.specs.Stands.{IsThere}
-use Rattle.irtext_nesting.specs.Tracks.{Made, HasChild, HoldsMade}
+use Rattle.irtext_parse_spec.specs.Building.{finished}
+use Rattle.irtext_parse_spec.specs.Unchanged.{IsThere}
+use Rattle.irtext_parse_spec.specs.Tracks.{Made, HasChild, HoldsMade}
 use Rattle.irtext_promises.specs.Alone.{pointers_in, held_region}
 use Rattle.irtext_promises.specs.Held.{PtrRegions, PtrBlocks, PtrOperations, placed_regions, placed_blocks, placed_operations, placed_under, path_of, value_place, block_place, held_op, held_head, held_regions, held_blocks, held_operations, held_root}
 use Rattle.irtext_promises.specs.OnlyNew.{OnlyNew, BlanksDefine}
@@ -120,7 +120,7 @@ owner_kind (OfBlock k) r e = cc
 
 module _ {T A : Type 0} (c : ContextView T A) where
   -- what is there stands
-  there_stands : (q : Object) → IsThere c q → Stands c.graph q
+  there_stands : (q : Object) → IsThere c q → IsLive c.graph q
   there_stands (TheOperation o) t = here_stands c.graph (TheOperation o) (operation_here (get c.graph.operations o) t)
     where
       operation_here : (y : Option (OperationEntry T A)) → IsSome (option_and_then operation_of y) → IsSome y
@@ -144,7 +144,7 @@ module _ {T A : Type 0} (c : ContextView T A) where
       go None h = absurd (cc)
       go (Some e) h = refl
 
-  owner_stands : (d : Defined) → IsDefined c.graph d → Stands c.graph (owner d)
+  owner_stands : (d : Defined) → IsDefined c.graph d → IsLive c.graph (owner d)
   owner_stands (OfValue (Result o i)) h = here_stands c.graph (TheOperation o) (result_stands o i h)
   owner_stands (OfValue (Argument k i)) h = here_stands c.graph (TheBlock k) (argument_stands k i h)
   owner_stands (OfBlock k) h = h
@@ -178,7 +178,7 @@ module _ {T A : Type 0} (m : ℕ) (start c : ContextView T A) (older : AllOlder 
 
 module _ {T A : Type 0} (m : ℕ) (c : ContextView T A) (none : NoneIsLeft m [] c.graph) (blanks : BlanksDefine m c) where
   -- what stands and is new is there
-  new_there : (q : Object) → Stands c.graph q → IsNew m c.graph q → IsThere c q
+  new_there : (q : Object) → IsLive c.graph q → IsNew m c.graph q → IsThere c q
   new_there (TheOperation o) s n = go (operation c o) refl
     where
       blank : (e : Option (Entry (Node BasicBlock Region (OperationContent (Option (OperationData A)) (Option T))))) → IsSome e → option_and_then operation_of e ≡ None → option_map (λ c. c.data_of) (option_map (λ e. e.content.content) e) ≡ Some None
@@ -238,24 +238,24 @@ module _ {T A : Type 0} (L : ℕ → Location A → Type 0) (start c : ContextVi
 
 module _ {T A : Type 0} (L : ℕ → Location A → Type 0) (start c : ContextView T A) (items : Made) (whole : List Object) (p : Ptr Operation) (x : Tree ℕ T A) (held : HoldsMade L start c items whole [] (Some p) (finished x))
     (nest : Nested (children c.graph) (parent c.graph)) (is : RootIs L c items (pointers c.graph p) x) (b : Built T A (Written A)) (stands : held_root c p ≡ Some b) (linked : Linked b)
-    (m : ℕ) (older : AllOlder m start.graph) (kept : KeepsOlder m start c) (none : NoneIsLeft m [] c.graph) (blanks : BlanksDefine m c) (holders : (o k : Object) → parent start.graph o ≡ Some k → Stands start.graph k)
+    (m : ℕ) (older : AllOlder m start.graph) (kept : KeepsOlder m start c) (none : NoneIsLeft m [] c.graph) (blanks : BlanksDefine m c) (holders : (o k : Object) → parent start.graph o ≡ Some k → IsLive start.graph k)
     (path : ℕ → Path) (names : Names path x) where
   abbrev all : List (Object × Path)
   all = placed_under (pointers c.graph p)
 
   -- ---- what is whole was not there
-  whole_new : (q : Object) → Among q whole → Stands start.graph q → ⊥
+  whole_new : (q : Object) → Among q whole → IsLive start.graph q → ⊥
   whole_new q i s = held.tracks.came q (inl i) (there_then m start c older kept q (stands_here start.graph q s) (held.so_far.whole_there q i))
 
   root_whole : Among (TheOperation p) whole
   root_whole = held.so_far.tree.0
 
   -- ---- nothing inside was there
-  inside_new : (n : ℕ) (q : Object) → climb (parent c.graph) n (Some q) ≡ Some (TheOperation p) → Stands start.graph q → ⊥
-  inside_new zero q e s = whole_new (TheOperation p) root_whole (subst (Stands start.graph) (some_eq e) s)
+  inside_new : (n : ℕ) (q : Object) → climb (parent c.graph) n (Some q) ≡ Some (TheOperation p) → IsLive start.graph q → ⊥
+  inside_new zero q e s = whole_new (TheOperation p) root_whole (subst (IsLive start.graph) (some_eq e) s)
   inside_new (suc n) q e s = go (λ k g t. inside_new n k g t) (parent c.graph q) refl e
     where
-      go : ((k : Object) → climb (parent c.graph) n (Some k) ≡ Some (TheOperation p) → Stands start.graph k → ⊥) → (k : Option Object) → parent c.graph q ≡ k → climb (parent c.graph) n k ≡ Some (TheOperation p) → ⊥
+      go : ((k : Object) → climb (parent c.graph) n (Some k) ≡ Some (TheOperation p) → IsLive start.graph k → ⊥) → (k : Option Object) → parent c.graph q ≡ k → climb (parent c.graph) n k ≡ Some (TheOperation p) → ⊥
       go later None f g = none_climbs n g
         where
           none_climbs : (n : ℕ) → climb (parent c.graph) n None ≡ Some (TheOperation p) → ⊥
@@ -277,13 +277,13 @@ module _ {T A : Type 0} (L : ℕ → Location A → Type 0) (start c : ContextVi
     ]
   ]
 
-  new_whole : (q : Object) → Stands c.graph q → IsNew m c.graph q → Stands start.graph q ⊎ Among q whole
+  new_whole : (q : Object) → IsLive c.graph q → IsNew m c.graph q → IsLive start.graph q ⊎ Among q whole
   new_whole q s n = elim (held.tracks.all q (new_there m c none blanks q s n)) [
     | inl first ↦ inl (there_stands start q first)
     | inr h ↦ elim h [ inl i ↦ inr i | inr never ↦ absurd never ]
   ]
 
-  live : (q : Object) → Stands c.graph q → Stands start.graph q ⊎ IsInside c.graph (TheOperation p) q
+  live : (q : Object) → IsLive c.graph q → IsLive start.graph q ⊎ IsInside c.graph (TheOperation p) q
   live q s = elim (stood_or_new m start.graph c.graph kept.graph q s) [
     | inl was ↦ inl was
     | inr n ↦ elim (new_whole q s n) [ inl was ↦ inl was | inr i ↦ let k = nest.ends q in inr (whole_inside k.0 q i k.1) ]
@@ -356,24 +356,24 @@ module _ {T A : Type 0} (L : ℕ → Location A → Type 0) (start mid c : Conte
     (there : (o : Object) → Among o whole → IsThere mid o) (came : (o : Object) → Among o whole → IsThere start o → ⊥) (all_that : (o : Object) → IsThere mid o → IsThere start o ⊎ Among o whole)
     (known_whole : (n : ℕ) (o : Object) → Among (n, o) items → Among o whole) (region_whole : Among (TheRegion r) whole)
     (inside : (o : Object) → Among o whole → (o ≡ TheRegion r) ⊎ ((k : Object) × Among k whole × HasChild c k o)) (nest : Nested (children c.graph) (parent c.graph))
-    (m : ℕ) (older : AllOlder m start.graph) (kept : KeepsOlder m start mid) (none : NoneIsLeft m [] mid.graph) (blanks : BlanksDefine m mid) (holders : (o k : Object) → parent start.graph o ≡ Some k → Stands start.graph k) where
+    (m : ℕ) (older : AllOlder m start.graph) (kept : KeepsOlder m start mid) (none : NoneIsLeft m [] mid.graph) (blanks : BlanksDefine m mid) (holders : (o k : Object) → parent start.graph o ≡ Some k → IsLive start.graph k) where
   -- the content of each object stayed
   pub used_same : (s : Site) → used_at c.graph s ≡ used_at mid.graph s
   used_same (AtOperand o i) = ap (λ z. option_map OfValue (slice_get (operands_of z) i)) (held_same (get c.graph.operations o) (get mid.graph.operations o) (operation_content_same mid.graph c.graph o (a.objects.contents (TheOperation o))))
   used_same (AtSuccessor o i) = ap (λ z. option_map OfBlock (slice_get (successors_of z) i)) (held_same (get c.graph.operations o) (get mid.graph.operations o) (operation_content_same mid.graph c.graph o (a.objects.contents (TheOperation o))))
 
-  stood_before : (q : Object) → Stands c.graph q → Stands mid.graph q
+  stood_before : (q : Object) → IsLive c.graph q → IsLive mid.graph q
   stood_before q s = subst IsSome (a.objects.contents q) s
 
   -- ---- what is whole was not there
-  pub whole_is_new : (q : Object) → Among q whole → Stands start.graph q → ⊥
+  pub whole_is_new : (q : Object) → Among q whole → IsLive start.graph q → ⊥
   whole_is_new q i s = came q i (there_then m start mid older kept q (stands_here start.graph q s) (there q i))
 
   -- ---- nothing inside was there
-  inside_is_new : (n : ℕ) (q : Object) → climb (parent c.graph) n (Some q) ≡ Some (TheRegion r) → Stands start.graph q → ⊥
-  inside_is_new zero q e s = whole_is_new (TheRegion r) region_whole (subst (Stands start.graph) (some_eq e) s)
+  inside_is_new : (n : ℕ) (q : Object) → climb (parent c.graph) n (Some q) ≡ Some (TheRegion r) → IsLive start.graph q → ⊥
+  inside_is_new zero q e s = whole_is_new (TheRegion r) region_whole (subst (IsLive start.graph) (some_eq e) s)
   inside_is_new (suc n) q e s = elim (told object_tells q (TheRegion r)) [
-    | inl same ↦ whole_is_new (TheRegion r) region_whole (subst (Stands start.graph) same s)
+    | inl same ↦ whole_is_new (TheRegion r) region_whole (subst (IsLive start.graph) same s)
     | inr apart ↦ go (λ k g t. inside_is_new n k g t) (parent c.graph q) refl (a.parents q apart) e
   ]
     where
@@ -381,7 +381,7 @@ module _ {T A : Type 0} (L : ℕ → Location A → Type 0) (start mid c : Conte
       none_climbs zero g = cc
       none_climbs (suc n) g = cc
 
-      go : ((k : Object) → climb (parent c.graph) n (Some k) ≡ Some (TheRegion r) → Stands start.graph k → ⊥) → (k : Option Object) → parent c.graph q ≡ k → parent c.graph q ≡ parent mid.graph q → climb (parent c.graph) n k ≡ Some (TheRegion r) → ⊥
+      go : ((k : Object) → climb (parent c.graph) n (Some k) ≡ Some (TheRegion r) → IsLive start.graph k → ⊥) → (k : Option Object) → parent c.graph q ≡ k → parent c.graph q ≡ parent mid.graph q → climb (parent c.graph) n k ≡ Some (TheRegion r) → ⊥
       go later None f h g = none_climbs n g
       go later (Some k) f h g = later k g (holders q k (sym (same_parent m start.graph mid.graph older kept.graph q s) ∙ (sym h ∙ f)))
 
@@ -396,17 +396,17 @@ module _ {T A : Type 0} (L : ℕ → Location A → Type 0) (start mid c : Conte
         (suc z.0, ap (climb (parent c.graph) z.0) up ∙ z.1)
   ]
 
-  new_is_whole : (q : Object) → Stands mid.graph q → IsNew m mid.graph q → Stands start.graph q ⊎ Among q whole
+  new_is_whole : (q : Object) → IsLive mid.graph q → IsNew m mid.graph q → IsLive start.graph q ⊎ Among q whole
   new_is_whole q s n = elim (all_that q (new_there m mid none blanks q s n)) [ inl first ↦ inl (there_stands start q first) | inr i ↦ inr i ]
 
   -- whatever stands stood, or is inside the region, and none of that stood
-  pub region_live : (q : Object) → Stands c.graph q → Stands start.graph q ⊎ IsInside c.graph (TheRegion r) q
+  pub region_live : (q : Object) → IsLive c.graph q → IsLive start.graph q ⊎ IsInside c.graph (TheRegion r) q
   region_live q s = elim (stood_or_new m start.graph mid.graph kept.graph q (stood_before q s)) [
     | inl was ↦ inl was
     | inr n ↦ elim (new_is_whole q (stood_before q s) n) [ inl was ↦ inl was | inr i ↦ let k = nest.ends q in inr (whole_is_inside k.0 q i k.1) ]
   ]
 
-  pub region_is_new : (q : Object) → IsInside c.graph (TheRegion r) q → Stands start.graph q → ⊥
+  pub region_is_new : (q : Object) → IsInside c.graph (TheRegion r) q → IsLive start.graph q → ⊥
   region_is_new q i s = inside_is_new i.0 q i.1 s
 
   -- ---- what is new uses what is new

@@ -19,8 +19,8 @@ use Rattle.irtext_grammar.specs.Grammar.Forest as forest
 use Rattle.irtext_grammar.specs.Grammar.Forest.{Regions, no_regions, Blocks, no_blocks, Operations, no_operations, Root}
 use Rattle.irtext_grammar.specs.Grammar.Tree.{Op, Head, Brace, Tree}
 use Rattle.irtext_grammar.specs.Names.Script.{Path}
-use Rattle.irtext_nesting.specs.Tracks as tracks
-use Rattle.irtext_nesting.specs.Tracks.{Made, blocks_in, HasChild, Tracks}
+use Rattle.irtext_parse_spec.specs.Tracks as tracks
+use Rattle.irtext_parse_spec.specs.Tracks.{Made, blocks_in, HasChild, Tracks}
 use Rattle.irtext_names.proofs.Linked.Moving.{among_split}
 use Rattle.irtext_promises.specs.Alone.{pointers_in}
 use Rattle.irtext_promises.specs.Held.{PtrRegions, PtrBlocks, PtrOperations, placed_regions, placed_blocks, placed_operations, placed_under}

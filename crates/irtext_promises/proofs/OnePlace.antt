@@ -18,7 +18,7 @@ use Rattle.irtext_graph.proofs.Preorders.{among_left, among_right}
 use Rattle.irtext_graph.proofs.Same.{object_tells}
 use Rattle.irtext_grammar.specs.Contexts.Nested.{operations_by, blocks_by, regions_by, within, pointers}
 use Rattle.irtext_grammar.specs.Names.Script.{Path, Place, result, argument, block_at}
-use Rattle.irtext_outcomes.proofs.Kin.{not_above}
+use Rattle.irtext_parse_spec.proofs.Kin.{not_above}
 use Rattle.irtext_names.proofs.Linked.Moving.{among_split}
 use Rattle.irtext_promises.specs.Held.{PtrRegions, placed_regions, placed_blocks, placed_operations, placed_under, path_of, value_place, block_place}
 use Rattle.irtext_promises.proofs.Equal.{get_map}

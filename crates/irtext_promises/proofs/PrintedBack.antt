@@ -19,15 +19,15 @@ use Rattle.irtext_grammar.specs.Graphs.Graph.{Graph, Limit, Printing, written}
 use Rattle.irtext_grammar.specs.Graphs.Regained.{Named}
 use Rattle.irtext_grammar.specs.Names.Acts.{failures_of}
 use Rattle.irtext_grammar.specs.Spelling.Section.{text}
-use Rattle.irtext_outcomes.specs.Promises.Root.{location_of}
-use Rattle.irtext_outcomes.specs.Promises.Supported.{supported, location_standing}
+use Rattle.irtext_parse_spec.specs.Promises.Root.{location_of}
+use Rattle.irtext_parse_spec.specs.Promises.Supported.{supported, location_standing}
 use Rattle.irtext_promises.specs.Held.{held_root}
 use Rattle.irtext_promises.specs.Promises.{BuildsRoot, IsFirst, RefusesRoot}
-use Rattle.irtext_read.specs.AttrTexts.{attr_at}
-use Rattle.irtext_outcomes.specs.Back.{ClosedRoot, IsTextOf, ReadsAs}
-use Rattle.irtext_outcomes.proofs.Limited.{limited_refused}
-use Rattle.irtext_outcomes.proofs.TextBack.{held_back, held_whole, readable}
-use Rattle.irtext_state.specs.declared.parsable.state.StateStream.{StateStream}
+use Rattle.irtext_tokens.specs.AttrTexts.{attr_at}
+use Rattle.irtext_parse_spec.specs.Back.{ClosedRoot, IsTextOf, ReadsAs}
+use Rattle.irtext_parse_spec.proofs.Limited.{limited_refused}
+use Rattle.irtext_parse_spec.proofs.TextBack.{held_back, held_whole, readable}
+use Rattle.irtext_parse_state.specs.declared.parsable.state.StateStream.{StateStream}
 use Rattle.irtext_promises.specs.PrintedRoot.{PrintedRoot, StandsBack, StandsWhole}
 
 module _ {T A : Type 0} (types : Texts T) (reading : Text → Outcome A) (text_of : A → Text) (types_law : Lawful T types) (owns_law : Lawful A (texts_of reading text_of)) (unreserved : Unreserved A (texts_of reading text_of))

@@ -25,14 +25,14 @@ use Rattle.irtext_grammar.proofs.Grammar.PartsOfFormats.{formed_read}
 use Rattle.irtext_grammar.proofs.Grammar.WholeTree as trees
 use Rattle.irtext_grammar.proofs.Graphs.Links.{all_there}
 use Rattle.irtext_grammar.proofs.Names.ResolvedRoot.{resolves}
-use Rattle.irtext_outcomes.specs.ContextParts.{KeepsCounters}
-use Rattle.irtext_outcomes.specs.Promises.Root.{location_of}
+use Rattle.irtext_parse_spec.specs.ContextParts.{KeepsCounters}
+use Rattle.irtext_parse_spec.specs.Promises.Root.{location_of}
 use Rattle.irtext_promises.specs.Held.{held_root}
 use Rattle.irtext_promises.specs.Promises.{BuildsRoot}
-use Rattle.irtext_read.specs.AttrTexts.{attr_at}
-use Rattle.irtext_outcomes.specs.Back.{ClosedRoot}
-use Rattle.irtext_outcomes.proofs.ReadRoot.{closed_where_read}
-use Rattle.irtext_state.specs.declared.parsable.state.StateStream.{StateStream}
+use Rattle.irtext_tokens.specs.AttrTexts.{attr_at}
+use Rattle.irtext_parse_spec.specs.Back.{ClosedRoot}
+use Rattle.irtext_parse_spec.proofs.ReadRoot.{closed_where_read}
+use Rattle.irtext_parse_state.specs.declared.parsable.state.StateStream.{StateStream}
 use Rattle.irtext_promises.proofs.Accepts.{tree_accepted}
 use Rattle.irtext_promises.proofs.StandsHeld.{many_held, stands_held, label_found}
 

@@ -8,7 +8,7 @@ use Rattle.irtext_base.specs.Paths.{Written}
 use Rattle.irtext_base.specs.Stream.{StreamView}
 use Rattle.irtext_base.specs.declared.parsable.fault.ParseFault.{ParseFault}
 use Rattle.irtext_context.specs.Dialects.{Table}
-use Rattle.irtext_read.specs.AttrTexts.{attr_at}
+use Rattle.irtext_tokens.specs.AttrTexts.{attr_at}
 use Rattle.irtext_grammar.specs.Contexts.Formats.{format_of, isolated}
 use Rattle.irtext_grammar.specs.Contexts.Held.{whole}
 use Rattle.irtext_grammar.specs.Grammar.Reads as grammar
@@ -20,16 +20,16 @@ use Rattle.irtext_grammar.specs.Names.History.{going, failed, start, run, events
 use Rattle.irtext_grammar.specs.Names.Scopes.{no_scope}
 use Rattle.irtext_grammar.specs.Names.Script.{Failure, does_all, done}
 use Rattle.irtext_grammar.specs.Names.TextScopes.{Script, failures}
-use Rattle.irtext_outcomes.proofs.Joins.Answers.{Splits}
-use Rattle.irtext_nesting.specs.Exact.{NeedsWord}
-use Rattle.irtext_nesting.specs.Naming.{naming}
-use Rattle.irtext_nesting.specs.Reached.{do_tree}
-use Rattle.irtext_nesting.specs.Resume.{EndsIn}
-use Rattle.irtext_nesting.proofs.Knot.Whole as knot
-use Rattle.irtext_nesting.proofs.Naming.Places.{names_exist}
-use Rattle.irtext_nesting.proofs.Naming.Runs.{runs_before}
-use Rattle.irtext_nesting.proofs.Naming.Scripts.{formats_read}
-use Rattle.irtext_nesting.proofs.Naming.Shorter.{Shortens}
+use Rattle.irtext_parse_spec.proofs.Joins.Answers.{Splits}
+use Rattle.irtext_parse_spec.specs.Exact.{NeedsWord}
+use Rattle.irtext_parse_spec.specs.Naming.{naming}
+use Rattle.irtext_parse_spec.specs.Reached.{do_tree}
+use Rattle.irtext_parse_spec.specs.Resume.{EndsIn}
+use Rattle.irtext_parse_spec.proofs.Knot.Whole as knot
+use Rattle.irtext_parse_spec.proofs.Naming.Places.{names_exist}
+use Rattle.irtext_parse_spec.proofs.Naming.Runs.{runs_before}
+use Rattle.irtext_parse_spec.proofs.Naming.Scripts.{formats_read}
+use Rattle.irtext_parse_spec.proofs.Naming.Shorter.{Shortens}
 use Rattle.irtext_names.proofs.Linked.Passes.{ran_into}
 use Rattle.irtext_promises.specs.Promises.{IsOf, IsFirst, HasFault, at_text, by_names, RefusesTree}
 

@@ -12,7 +12,7 @@ use Rattle.irtext_context.specs.Context.{ContextView}
 use Rattle.irtext_context.specs.Dialects.{Table}
 use Rattle.irtext_graph.specs.declared.arena.Ptr.{Ptr}
 use Rattle.irtext_graph.specs.declared.object.Operation.{Operation}
-use Rattle.irtext_read.specs.AttrTexts.{attr_at}
+use Rattle.irtext_tokens.specs.AttrTexts.{attr_at}
 use Rattle.irtext_grammar.specs.Contexts.Formats.{format_of, isolated, IsAccepted}
 use Rattle.irtext_grammar.specs.Contexts.Held.{whole}
 use Rattle.irtext_grammar.specs.Grammar.Marked.{marked, section_if, reads_root}
@@ -21,16 +21,16 @@ use Rattle.irtext_grammar.specs.Grammar.Section.{Entry}
 use Rattle.irtext_grammar.specs.Grammar.Tree.{Tree}
 use Rattle.irtext_grammar.specs.Names.Acts.{rule_of, failures_of}
 use Rattle.irtext_grammar.proofs.Grammar.WholeTree as trees
-use Rattle.irtext_outcomes.specs.Promises.Section.{is_noted}
-use Rattle.irtext_outcomes.specs.Promises.Supported.{location_standing}
-use Rattle.irtext_outcomes.proofs.Joins.Answers.{Splits}
-use Rattle.irtext_nesting.specs.Exact.{NeedsWord}
-use Rattle.irtext_nesting.specs.Reached.{Came}
-use Rattle.irtext_nesting.proofs.Knot.Whole as knot
-use Rattle.irtext_nesting.proofs.Naming.Shorter.{Shortens}
-use Rattle.irtext_nesting.specs.Building.{building, nothing_open, finished}
-use Rattle.irtext_nesting.proofs.Built.{tree_finished}
-use Rattle.irtext_nesting.proofs.Whole.{whole_read}
+use Rattle.irtext_parse_spec.specs.Promises.Section.{is_noted}
+use Rattle.irtext_parse_spec.specs.Promises.Supported.{location_standing}
+use Rattle.irtext_parse_spec.proofs.Joins.Answers.{Splits}
+use Rattle.irtext_parse_spec.specs.Exact.{NeedsWord}
+use Rattle.irtext_parse_spec.specs.Reached.{Advanced}
+use Rattle.irtext_parse_spec.proofs.Knot.Whole as knot
+use Rattle.irtext_parse_spec.proofs.Naming.Shorter.{Shortens}
+use Rattle.irtext_parse_spec.specs.Building.{building, nothing_open, finished}
+use Rattle.irtext_parse_spec.proofs.Built.{tree_finished}
+use Rattle.irtext_parse_spec.proofs.Whole.{whole_read}
 use Rattle.irtext_promises.specs.Leaves.{LeavesTree}
 use Rattle.irtext_promises.specs.Promises.{IsFirst, HasFault, RefusesRoot}
 use Rattle.irtext_promises.specs.WithSection.{refused}
@@ -38,7 +38,7 @@ use Rattle.irtext_promises.proofs.Kept as kept
 use Rattle.irtext_promises.proofs.Refuses.{refuses_root}
 use Rattle.irtext_promises.proofs.WithSection.{section_alone, tree_noted}
 
-came_with : {X S : Type 0} (x y : X) (s t : S) (a b : Text) → Came x s a ≡ Came y t b → (s ≡ t) × (a ≡ b)
+came_with : {X S : Type 0} (x y : X) (s t : S) (a b : Text) → Advanced x s a ≡ Advanced y t b → (s ≡ t) × (a ≡ b)
 came_with x y s t a b e = (cc, cc)
 
 module _ {T A : Type 0} (types_at : Text → Outcome T) (types_written : T → Text) (reading : Text → Outcome A) (written : A → Text) (dialects : List (Text × Table)) (types_split : Splits types_at) (splits : Splits reading) (words : NeedsWord reading)
@@ -50,7 +50,7 @@ module _ {T A : Type 0} (types_at : Text → Outcome T) (types_written : T → T
       let owns = texts_of reading written in
       let found = λ (z : Tree ℕ T A) (rest : Text) (k : grammar.reads (knot.L types_at types_written reading written dialects) z text rest).
       knot.tree_found types_at types_written reading written dialects types_split splits (building (format_of dialects)) words z text rest nothing_open k
-      ∙ ap (λ s. Came tt s rest) (tree_finished (format_of dialects) (isolated dialects) z (whole_read types owns (format_of dialects) z text rest k)) in
+      ∙ ap (λ s. Advanced tt s rest) (tree_finished (format_of dialects) (isolated dialects) z (whole_read types owns (format_of dialects) z text rest k)) in
       let e = came_with tt tt (finished x) (finished y) a b (sym (found x a r) ∙ found y b q) in
       (kept.finished_same x y e.0, e.1)
 

@@ -36,8 +36,8 @@ use Rattle.irtext_grammar.specs.Names.Scopes.{Fact, uses, defines, facts, lookup
 use Rattle.irtext_grammar.specs.Names.Script.{Path, Place}
 use Rattle.irtext_grammar.specs.Spelling.Spellable.{Each}
 use Rattle.irtext_grammar.proofs.Names.InScripts.{WholeRegions, WholeBlocks, WholeOperations}
-use Rattle.irtext_outcomes.specs.ContextParts.{KeepsCounters}
-use Rattle.irtext_outcomes.proofs.Counted.{thing_same}
+use Rattle.irtext_parse_spec.specs.ContextParts.{KeepsCounters}
+use Rattle.irtext_parse_spec.proofs.Counted.{thing_same}
 use Rattle.irtext_promises.specs.Held.{PtrRegions, PtrBlocks, PtrOperations, placed_regions, placed_blocks, placed_operations, placed_under, path_of, value_place, block_place, held_op, held_head, held_regions, held_root, IsWhole}
 use Rattle.irtext_promises.proofs.OnePlace.{path_is, one_value, one_block}
 use Rattle.irtext_promises.proofs.Shown.{SeenOp, SeenBlock, HeldOp, HeldBlock, SeenRegions, SeenBlocks, SeenOperations, HeldRegions, HeldBlocks, HeldOperations, typed_seen, known_again, results_seen, arguments_seen, regions_shown, regions_kept}

@@ -36,7 +36,7 @@ use Rattle.irtext_grammar.proofs.Names.Plainly.{append_empty}
 use Rattle.irtext_grammar.proofs.Names.ResolvedScript.{Entryless}
 use Rattle.irtext_grammar.proofs.Names.TreeClaims.{root_entryless}
 use Rattle.irtext_grammar.proofs.Names.TreeLists.{marks_in_root}
-use Rattle.irtext_outcomes.specs.Promises.Section.{is_noted}
+use Rattle.irtext_parse_spec.specs.Promises.Section.{is_noted}
 use Rattle.irtext_promises.specs.Given.{RootHas}
 use Rattle.irtext_promises.specs.Held.{placed_under, held_root, held_op, held_regions}
 use Rattle.irtext_promises.specs.OnlyNew.{OnlyNew}

@@ -23,12 +23,12 @@ use Rattle.irtext_graph.specs.declared.object.Object.{Object}
 use Rattle.irtext_graph.specs.declared.object.Object.TheVariants.{TheRegion}
 use Rattle.irtext_graph.specs.declared.object.Defined.{Defined}
 use Rattle.irtext_graph.specs.declared.object.Site.{Site}
-use Rattle.irtext_graph.specs.Graph.{Stands, IsInside}
+use Rattle.irtext_graph.specs.Graph.{IsLive, IsInside}
 use Rattle.irtext_graph.specs.Regions.{with_child}
 use Rattle.irtext_graph.specs.Store.{get, object_of}
 use Rattle.irtext_graph.specs.Used.{IsDefined, IsUse}
-use Rattle.irtext_state.specs.States.{marks_of}
-use Rattle.irtext_state.specs.declared.parsable.state.StateStream.{StateStream}
+use Rattle.irtext_parse_state.specs.States.{marks_of}
+use Rattle.irtext_parse_state.specs.declared.parsable.state.StateStream.{StateStream}
 use Rattle.irtext_grammar.specs.Contexts.Formats.{isolated}
 use Rattle.irtext_grammar.specs.Contexts.Held.{whole}
 use Rattle.irtext_grammar.specs.Contexts.Nested.{within, regions_by}
@@ -41,10 +41,10 @@ use Rattle.irtext_grammar.specs.Names.Acts.{blocks_script, header_acts}
 use Rattle.irtext_grammar.specs.Names.Scopes.{no_scope, facts, failures}
 use Rattle.irtext_grammar.specs.Names.Script as script
 use Rattle.irtext_grammar.specs.Names.Script.{Script, done, does_all}
-use Rattle.irtext_outcomes.specs.Promises.Root.{location_of}
-use Rattle.irtext_outcomes.specs.Promises.Section.{Moves, indices_of}
-use Rattle.irtext_outcomes.specs.Promises.Supported.{supported}
-use Rattle.irtext_nesting.specs.Heads.{head_at}
+use Rattle.irtext_parse_spec.specs.Promises.Root.{location_of}
+use Rattle.irtext_parse_spec.specs.Promises.Section.{Moves, indices_of}
+use Rattle.irtext_parse_spec.specs.Promises.Supported.{supported}
+use Rattle.irtext_parse_spec.specs.Heads.{head_at}
 use Rattle.irtext_promises.specs.Held.{PtrRegions, placed_regions, held_regions}
 use Rattle.irtext_promises.specs.Promises.{IsFirst}
 
@@ -64,8 +64,8 @@ region_alone dialects place bs = script.within true place (blocks_script (isolat
 -- The region is the last one of the operation, and only it and what is nested in it is new: each older object is unchanged, except the
 -- operation, which has one more region, and what is older has no new uses.
 pub record OnlyNewIn {T A : Type 0} (op : Ptr Operation) (r : Ptr Region) (old new : ContextView T A) : Type 0 where
-  pub live : (q : Object) → Stands new.graph q → Stands old.graph q ⊎ IsInside new.graph (TheRegion r) q
-  pub is_new : (q : Object) → IsInside new.graph (TheRegion r) q → Stands old.graph q → ⊥
+  pub live : (q : Object) → IsLive new.graph q → IsLive old.graph q ⊎ IsInside new.graph (TheRegion r) q
+  pub is_new : (q : Object) → IsInside new.graph (TheRegion r) q → IsLive old.graph q → ⊥
   pub gains : get new.graph.operations op ≡ option_map (object_of (with_child r)) (get old.graph.operations op)
   pub operations : (p : Ptr Operation) → IsSome (get old.graph.operations p) → (p ≡ op → ⊥) → get new.graph.operations p ≡ get old.graph.operations p
   pub blocks : (b : Ptr BasicBlock) → IsSome (get old.graph.blocks b) → get new.graph.blocks b ≡ get old.graph.blocks b

@@ -14,7 +14,7 @@ use Rattle.irtext_grammar.specs.Grammar.Forest.{Regions, no_regions, Blocks, no_
 use Rattle.irtext_grammar.specs.Grammar.Section.{Entry}
 use Rattle.irtext_grammar.specs.Grammar.Tree.{Op, Head, Brace, Tree}
 use Rattle.irtext_grammar.specs.Graphs.Build.{content, located, labelled, but_label, with_content}
-use Rattle.irtext_nesting.specs.Stands.{own_of, head_entries, HasUses}
+use Rattle.irtext_parse_spec.specs.Unchanged.{own_of, head_entries, HasUses}
 use Rattle.irtext_promises.specs.Held.{PtrRegions, PtrBlocks, PtrOperations}
 
 module _ {T A : Type 0} (c : ContextView T A) (first : ℕ → Written A) (es : List (Entry ℕ A (Written A))) where

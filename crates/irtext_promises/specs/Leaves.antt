@@ -13,7 +13,7 @@ use Rattle.irtext_graph.specs.declared.object.Object.{Object}
 use Rattle.irtext_graph.specs.declared.object.Operation.{Operation}
 use Rattle.irtext_graph.specs.declared.object.Value.{Value}
 use Rattle.irtext_graph.specs.Back.{AllOlder}
-use Rattle.irtext_graph.specs.Graph.{children, parent, Stands}
+use Rattle.irtext_graph.specs.Graph.{children, parent, IsLive}
 use Rattle.irtext_graph.specs.Nested.{Nested}
 use Rattle.irtext_scopes.specs.declared.tracker.NameTracker.{NameTracker}
 use Rattle.irtext_grammar.specs.Contexts.Formats.{format_of}
@@ -21,10 +21,10 @@ use Rattle.irtext_grammar.specs.Grammar.Tree.{Tree}
 use Rattle.irtext_grammar.specs.Names.History as history
 use Rattle.irtext_grammar.specs.Names.History.{going, start}
 use Rattle.irtext_grammar.specs.Names.Script.{Path}
-use Rattle.irtext_nesting.specs.Naming.{naming}
-use Rattle.irtext_nesting.specs.Reached.{Came, operation_at}
-use Rattle.irtext_nesting.specs.Building.{building, nothing_open, finished}
-use Rattle.irtext_nesting.specs.Tracks.{Made, HoldsMade}
+use Rattle.irtext_parse_spec.specs.Naming.{naming}
+use Rattle.irtext_parse_spec.specs.Reached.{Advanced, operation_at}
+use Rattle.irtext_parse_spec.specs.Building.{building, nothing_open, finished}
+use Rattle.irtext_parse_spec.specs.Tracks.{Made, HoldsMade}
 use Rattle.irtext_names.specs.Linked.{Known, StandsAt}
 use Rattle.irtext_names.specs.OfItems.{AreOf}
 use Rattle.irtext_names.specs.Tied.{NoneIsLeft}
@@ -40,13 +40,13 @@ module _ {T A : Type 0} (types_at : Text → Outcome T) (attr : Text → Outcome
     pub state : history.State
     pub stands : StandsAt names c.graph known [] state
     pub marked : state.marks ≡ marks
-    pub came : operation_at dialects types_at attr (naming (format_of dialects) path) true text (going start) ≡ Came tt (going state) rest
+    pub came : operation_at dialects types_at attr (naming (format_of dialects) path) true text (going start) ≡ Advanced tt (going state) rest
 
   -- A tree was built of the text. It is under the pointer, with each item at its place; nothing is open, and nothing else was created.
   -- Whatever paths name the items, the machine of names has processed the text.
   pub record LeavesTree (IsLocation : ℕ → Location A → Type 0) (op : Ptr Operation) (marks : List ℕ) (old new : ContextView T A) (text rest : Text) : Type 0 where
     pub tree : Tree ℕ T A
-    pub built : operation_at dialects types_at attr (building (format_of dialects)) true text nothing_open ≡ Came tt (finished tree) rest
+    pub built : operation_at dialects types_at attr (building (format_of dialects)) true text nothing_open ≡ Advanced tt (finished tree) rest
     pub items : Made
     pub whole : List Object
     pub held : HoldsMade IsLocation old new items whole [] (Some op) (finished tree)
@@ -61,4 +61,4 @@ pub record LeavesClosed {T A : Type 0} (old new : ContextView T A) : Type 0 wher
   pub none : NoneIsLeft mark [] new.graph
   pub blanks : BlanksDefine mark new
   pub nest : Nested (children new.graph) (parent new.graph)
-  pub holders : (c k : Object) → parent old.graph c ≡ Some k → Stands old.graph k
+  pub holders : (c k : Object) → parent old.graph c ≡ Some k → IsLive old.graph k

@@ -12,15 +12,15 @@ use Rattle.irtext_graph.specs.declared.object.Defined.{Defined}
 use Rattle.irtext_graph.specs.declared.object.Defined.TheVariants.{OfValue}
 use Rattle.irtext_graph.specs.declared.object.Site.{Site}
 use Rattle.irtext_graph.specs.declared.object.Value.TheVariants.{Result}
-use Rattle.irtext_graph.specs.Graph.{Stands, IsInside, IsNew}
+use Rattle.irtext_graph.specs.Graph.{IsLive, IsInside, IsNew}
 use Rattle.irtext_graph.specs.Store.{get}
 use Rattle.irtext_graph.specs.Used.{IsDefined, IsUse}
 
 -- Each live object was live before, or is the operation or nested in it; nothing in the operation was live before. Each older object is
 -- unchanged, and has no new uses. Each path keeps its key, and the dialects are the same.
 pub record OnlyNew {T A : Type 0} (op : Ptr Operation) (old new : ContextView T A) : Type 0 where
-  pub live : (q : Object) → Stands new.graph q → Stands old.graph q ⊎ IsInside new.graph (TheOperation op) q
-  pub is_new : (q : Object) → IsInside new.graph (TheOperation op) q → Stands old.graph q → ⊥
+  pub live : (q : Object) → IsLive new.graph q → IsLive old.graph q ⊎ IsInside new.graph (TheOperation op) q
+  pub is_new : (q : Object) → IsInside new.graph (TheOperation op) q → IsLive old.graph q → ⊥
   pub operations : (p : Ptr Operation) → IsSome (get old.graph.operations p) → get new.graph.operations p ≡ get old.graph.operations p
   pub blocks : (b : Ptr BasicBlock) → IsSome (get old.graph.blocks b) → get new.graph.blocks b ≡ get old.graph.blocks b
   pub regions : (r : Ptr Region) → IsSome (get old.graph.regions r) → get new.graph.regions r ≡ get old.graph.regions r

@@ -13,8 +13,8 @@ use Rattle.irtext_graph.specs.Chained.{Among}
 use Rattle.irtext_grammar.specs.Grammar.Forest as forest
 use Rattle.irtext_grammar.specs.Grammar.Forest.{Regions, no_regions, Blocks, no_blocks, Operations, no_operations, Root}
 use Rattle.irtext_grammar.specs.Grammar.Tree.{Op, Head, Brace, Tree}
-use Rattle.irtext_nesting.specs.Stands.{own_of, HasOwn, HasHead, HasUses}
-use Rattle.irtext_nesting.specs.Tracks.{Made}
+use Rattle.irtext_parse_spec.specs.Unchanged.{own_of, HasOwn, HasHead, HasUses}
+use Rattle.irtext_parse_spec.specs.Tracks.{Made}
 use Rattle.irtext_promises.specs.Held.{PtrRegions, PtrBlocks, PtrOperations}
 
 -- the pointers of a list of regions, of blocks or of operations, without what is nested in them

@@ -14,10 +14,10 @@ use Rattle.irtext_grammar.specs.Contexts.Nested.{seen_root}
 use Rattle.irtext_grammar.specs.Graphs.Closed.{Fit}
 use Rattle.irtext_grammar.specs.Graphs.Graph.{Graph, Limit, Printing}
 use Rattle.irtext_grammar.specs.Spelling.Section.{text}
-use Rattle.irtext_state.specs.declared.parsable.state.StateStream.{StateStream}
+use Rattle.irtext_parse_state.specs.declared.parsable.state.StateStream.{StateStream}
 use Rattle.irtext_promises.specs.Held.{held_root}
-use Rattle.irtext_outcomes.specs.Back.{HeldBack, HeldWhole}
-use Rattle.irtext_outcomes.specs.RootParts.{KeptRoot}
+use Rattle.irtext_parse_spec.specs.Back.{HeldBack, HeldWhole}
+use Rattle.irtext_parse_spec.specs.RootParts.{KeptRoot}
 
 module _ {T A : Type 0} (types : Texts T) (owns : Texts A) (attr : Text → Outcome (AttrView A)) (C : Printing T A) where
   -- The graph is what printing sees under the pointer. It has the properties that the types of its parts ensure, and its operations fit

@@ -12,8 +12,8 @@ use Rattle.irtext_base.specs.declared.parsable.fault.ParseFault.{ParseFault}
 use Rattle.irtext_context.specs.Dialects.{Table}
 use Rattle.irtext_graph.specs.declared.arena.Ptr.{Ptr}
 use Rattle.irtext_graph.specs.declared.object.Operation.{Operation}
-use Rattle.irtext_state.specs.States.{marks_of}
-use Rattle.irtext_state.specs.declared.parsable.state.StateStream.{StateStream}
+use Rattle.irtext_parse_state.specs.States.{marks_of}
+use Rattle.irtext_parse_state.specs.declared.parsable.state.StateStream.{StateStream}
 use Rattle.irtext_grammar.specs.Contexts.Formats.{format_of, isolated}
 use Rattle.irtext_grammar.specs.Contexts.Held.{whole, StandsAt}
 use Rattle.irtext_grammar.specs.Grammar.Marked.{reads_root}
@@ -27,12 +27,12 @@ use Rattle.irtext_grammar.specs.Names.History as history
 use Rattle.irtext_grammar.specs.Names.Script as script
 use Rattle.irtext_grammar.specs.Names.Script.{Cause, Failure, Path, done}
 use Rattle.irtext_grammar.specs.Names.TextScopes.{facts}
-use Rattle.irtext_outcomes.specs.Promises.Root.{location_of, IsPlace}
-use Rattle.irtext_outcomes.specs.Promises.Section.{Moves, indices_of}
-use Rattle.irtext_outcomes.specs.Promises.Supported.{supported, location_standing}
-use Rattle.irtext_nesting.specs.Naming.{naming}
-use Rattle.irtext_nesting.specs.Reached.{Stuck, operation_at}
-use Rattle.irtext_nesting.specs.Resume.{EndsIn}
+use Rattle.irtext_parse_spec.specs.Promises.Root.{location_of, IsPlace}
+use Rattle.irtext_parse_spec.specs.Promises.Section.{Moves, indices_of}
+use Rattle.irtext_parse_spec.specs.Promises.Supported.{supported, location_standing}
+use Rattle.irtext_parse_spec.specs.Naming.{naming}
+use Rattle.irtext_parse_spec.specs.Reached.{Stopped, operation_at}
+use Rattle.irtext_parse_spec.specs.Resume.{EndsIn}
 use Rattle.irtext_promises.specs.Held.{held_root, IsWhole}
 use Rattle.irtext_promises.specs.OnlyNew.{OnlyNew}
 
@@ -64,7 +64,7 @@ module _ {T A : Type 0} (types_at : Text → Outcome T) (attr : Text → Outcome
   -- a name or a mark, whatever text follows. So the text determines which of the two comes first, even if it parses as no tree.
   pub data HasFault (text rest : Text) (fault : ParseFault A) : Type 0 where
     at_text : (cause : Fault) (place : ℕ) → fault_of fault.cause ≡ cause → StandsAt text place fault.pos
-        → ((path : ℕ → Path) → (st : history.State) × (operation_at dialects types_at attr (naming (format_of dialects) path) true rest (going start) ≡ Stuck (going st) cause place)) → HasFault text rest fault
+        → ((path : ℕ → Path) → (st : history.State) × (operation_at dialects types_at attr (naming (format_of dialects) path) true rest (going start) ≡ Stopped (going st) cause place)) → HasFault text rest fault
     by_names : (f : Failure Text ℕ) → IsOf text f fault → ((path : ℕ → Path) → EndsIn (failed f) (operation_at dialects types_at attr (naming (format_of dialects) path) true rest (going start))) → HasFault text rest fault
 
 module _ {T A : Type 0} (types : Texts T) (owns : Texts A) (types_at : Text → Outcome T) (attr : Text → Outcome (AttrView A)) (dialects : List (Text × Table)) where

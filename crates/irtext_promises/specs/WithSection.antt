@@ -8,7 +8,7 @@ use Rattle.irtext_graph.specs.declared.object.BasicBlock.{BasicBlock}
 use Rattle.irtext_graph.specs.declared.object.Region.{Region}
 use Rattle.irtext_graph.specs.declared.object.Object.{Object}
 use Rattle.irtext_graph.specs.declared.object.Site.{Site}
-use Rattle.irtext_graph.specs.Graph.{GraphView, parent, Stands}
+use Rattle.irtext_graph.specs.Graph.{GraphView, parent, IsLive}
 use Rattle.irtext_graph.specs.Parts.{regions, blocks, operations_in}
 use Rattle.irtext_graph.specs.Used.{used_at}
 use Rattle.irtext_grammar.specs.Grammar.Section.{Entry}
@@ -32,4 +32,4 @@ pub record SameShape {O B T : Type 0} (g k : GraphView O B T) : Type 0 where
   pub same_operations : (b : Ptr BasicBlock) → operations_in k b ≡ operations_in g b
   pub same_parents : (q : Object) → parent k q ≡ parent g q
   pub same_uses : (s : Site) → used_at k s ≡ used_at g s
-  pub stood : (q : Object) → Stands k q → Stands g q
+  pub stood : (q : Object) → IsLive k q → IsLive g q

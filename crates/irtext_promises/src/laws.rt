@@ -19,18 +19,18 @@ ghost use Rattle.irtext_grammar.specs.Graphs.Graph.{Graph, Limit, written};
 ghost use Rattle.irtext_grammar.specs.Graphs.Regained.{Named};
 ghost use Rattle.irtext_grammar.specs.Graphs.Same.{stood};
 ghost use Rattle.irtext_grammar.specs.Graphs.StandsFor.{StandsFor};
-ghost use Rattle.irtext_outcomes.specs.ContextParts.{KeepsCounters};
+ghost use Rattle.irtext_parse_spec.specs.ContextParts.{KeepsCounters};
 ghost use Rattle.irtext_promises.specs.Held.{held_root};
 ghost use Rattle.irtext_promises.specs.Promises.{BuildsRoot, RefusesRoot};
-ghost use Rattle.irtext_read.specs.AttrTexts.{attr_at};
-ghost use Rattle.irtext_outcomes.specs.Back.{ClosedRoot};
-ghost use Rattle.irtext_state.specs.declared.parsable.state.StateStream.{StateStream};
+ghost use Rattle.irtext_tokens.specs.AttrTexts.{attr_at};
+ghost use Rattle.irtext_parse_spec.specs.Back.{ClosedRoot};
+ghost use Rattle.irtext_parse_state.specs.declared.parsable.state.StateStream.{StateStream};
 ghost use Rattle.irtext_promises.specs.PrintedRoot.{PrintedRoot, StandsBack, StandsWhole};
 ghost use Rattle.irtext_grammar.specs.UniqueNames.{value_name, block_name};
 
 use irtext_base::text::{AttrText, IrText};
 use irtext_context::base::Context;
-use irtext_outcomes::context::keeps_parts;
+use irtext_parse_spec::context::keeps_parts;
 
 /// What is printed of a closed root of a context, with its section and without a limit that elides regions, is parsed back from its bytes
 /// in any context with the same dialects. Each root that is returned is equal to the printed one up to fillings, with the same uses

@@ -1,7 +1,7 @@
 //! Parsing a location while an allocation fails: the fault says so.
 
 use crate::{Ctx, Fault};
-use irtext_types::{DemoAttr, DemoType};
+use irtext_demo::{DemoAttr, DemoType};
 use pliron_text::base::Context;
 use pliron_text::location::Location;
 use pliron_text::parsable::{Parsable, parse_from_str};

@@ -10,7 +10,7 @@ mod registering;
 mod strings;
 
 use crate::printing::Located;
-use irtext_types::{DemoAttr, DemoType};
+use irtext_demo::{DemoAttr, DemoType};
 use pliron_text::base::Context;
 use pliron_text::result::{Cause, Error};
 use std::alloc::{AllocError, Global};

@@ -4,7 +4,7 @@ ghost use Rattle.std.specs.Prelude.{IsSome};
 ghost use Rattle.irtext_context.specs.Context.{operation};
 
 use crate::{Ctx, Fault};
-use irtext_types::dialects::register_demo;
+use irtext_demo::dialects::register_demo;
 use pliron_text::base::{Context, Operation, Ptr};
 use pliron_text::ir::OperationText;
 use pliron_text::location::erase_locations;

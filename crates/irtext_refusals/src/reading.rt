@@ -2,8 +2,8 @@
 //! and the same text then parses as it does with enough memory.
 
 use crate::{Ctx, Fault};
-use irtext_types::dialects::register_demo;
-use irtext_types::{DemoAttr, DemoType};
+use irtext_demo::dialects::register_demo;
+use irtext_demo::{DemoAttr, DemoType};
 use pliron_text::base::{Context, Operation, Ptr};
 use pliron_text::ir::OperationText;
 use pliron_text::location::Source;

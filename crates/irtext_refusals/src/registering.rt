@@ -1,7 +1,7 @@
 //! Registering an operation and creating it while an allocation fails: the call that fails has changed nothing.
 
 use crate::{Ctx, Fault};
-use irtext_types::DemoAttr;
+use irtext_demo::DemoAttr;
 use pliron_text::base::{Context, Identifier, NewBareOperation, OpId, Operation};
 use pliron_text::dialect::{Dialect, DialectName};
 use pliron_text::format::OpFormat;

@@ -1,7 +1,7 @@
 //! Parsing a list of texts while an allocation fails: the fault says so, and the stream has failed from then on.
 
 use crate::Fault;
-use irtext_types::DemoAttr;
+use irtext_demo::DemoAttr;
 use pliron_text::irfmt::parsers::{delimited_list_parser, quoted_string_parse};
 use pliron_text::parsable::{ParseFault, ParseResult, TextStream};
 use pliron_text::result::Cause;

@@ -11,12 +11,12 @@ use std::marker::Model;
 
 /// A set of names. Each is kept once, with its index as its number.
 #[derive(Drop)]
-pub struct Names {
+pub struct Interner {
     texts: IndexSet<NameText>,
     alloc: Global,
 }
 
-impl Model for Names {
+impl Model for Interner {
     ghost use Rattle.std.specs.Prelude.{ℕ, List};
     ghost use Rattle.irtext_scopes.specs.Names.{name_texts, AreDistinct};
 
@@ -68,12 +68,12 @@ fn text_at(names: &IndexSet<NameText>, number: usize) -> &str
     }
 }
 
-impl Names {
+impl Interner {
     /// Returns an empty set. It allocates nothing yet.
-    pub fn new(alloc: Global) -> Names
+    pub fn new(alloc: Global) -> Interner
         ensures { result ≡ [] }
     {
-        Names {
+        Interner {
             texts: IndexSet::new(alloc),
             alloc,
         }

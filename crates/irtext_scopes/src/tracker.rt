@@ -10,7 +10,7 @@ ghost use Rattle.irtext_scopes.specs.Names.{number_of, with_name, KeepsNames, Ar
 ghost use Rattle.irtext_scopes.specs.Scopes.{innermost, outer, in_innermost, is_open, find, mentioned, defined, is_defined, placeholder_of, value_of};
 ghost use Rattle.irtext_scopes.specs.Tracker.{entered, left, unresolved, are_known};
 
-use crate::names::Names;
+use crate::names::Interner;
 use crate::scopes::{DefineFault, Entry, Scopes};
 use std::alloc::{AllocError, Global};
 
@@ -26,7 +26,7 @@ pub enum EnterFault {
 /// The names of a parse and what they refer to: names of values V, and labels of blocks B. A name is given by its number.
 #[derive(Drop)]
 pub struct NameTracker<V, B> {
-    names: Names,
+    names: Interner,
     values: Scopes<V>,
     labels: Scopes<B>,
     ghost values_known: { are_known (length names) values ≡ true },
@@ -80,7 +80,7 @@ impl<V: Copy, B: Copy> NameTracker<V, B> {
         ensures labels { result.labels ≡ [] }
     {
         NameTracker {
-            names: Names::new(alloc),
+            names: Interner::new(alloc),
             values: Scopes::new(alloc),
             labels: Scopes::new(alloc),
         }

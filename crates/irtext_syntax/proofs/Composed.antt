@@ -3,7 +3,7 @@ use Rattle.std.proofs.Common.{◌^◌, codes, nat_lt, refl, true}
 use Rattle.std.specs.Prelude.{◌≡◌, ◌↔◌, Bool, IsTrue, ⊤}
 use Rattle.irtext_base.specs.Own.{texts_of, Lawful, Sincere}
 use Rattle.irtext_base.specs.Text.{Text}
-use Rattle.irtext_read.specs.Infix.{Reader}
+use Rattle.irtext_tokens.specs.Infix.{Reader}
 use Rattle.irtext_syntax.specs.IntegerKinds.{u8}
 use Rattle.irtext_syntax.specs.OwnLaws.{own_last}
 use Rattle.irtext_syntax.specs.ShapeLaws.{Proved, comma_joins, spaced_arrow_joins, round_encloses, square_encloses, curly_encloses, number_proved, quoted_proved, name_proved, keyword_proved, flag_proved, ranged_proved, own_proved, then_proved, within_proved, list_proved, maybe_proved, number_missing, quoted_missing, name_missing, keyword_missing, ranged_missing, own_missing, then_missing, within_missing, list_missing}

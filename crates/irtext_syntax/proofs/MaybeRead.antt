@@ -5,7 +5,7 @@ use Rattle.irtext_base.specs.Stream.{StreamView}
 use Rattle.irtext_base.specs.Answers.{Outcome, Read, Missing, Bad, Answers, Takes, unless_failed}
 use Rattle.irtext_base.specs.declared.parsable.fault.ParseFault.{ParseFault}
 use Rattle.irtext_base.proofs.Compose.{takes_none}
-use Rattle.irtext_read.specs.MustRead.{MayRead}
+use Rattle.irtext_tokens.specs.MustRead.{MayRead}
 use Rattle.irtext_syntax.specs.Maybes.{or_none, maybe_at}
 
 committed_not : {A : Type 0} (fault : ParseFault A) → fault.committed ≡ true → fault.committed ≡ false → ⊥

@@ -2,7 +2,7 @@
 use Rattle.std.proofs.Common.{◌≡◌, Bool, true, false, Option, Some, refl, sym, subst, ◌∙◌, ap}
 use Rattle.irtext_base.specs.Stream.{StreamView}
 use Rattle.irtext_base.specs.Answers.{Outcome, Read, Missing, Bad, Gives, unless_failed}
-use Rattle.irtext_read.specs.Integers.{ranged}
+use Rattle.irtext_tokens.specs.Integers.{ranged}
 use Rattle.irtext_syntax.specs.Numbers.{narrowed}
 
 -- a value made of the one that was parsed

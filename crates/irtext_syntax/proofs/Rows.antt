@@ -4,8 +4,8 @@ use Rattle.std.specs.Str.{bytes_eq}
 use Rattle.irtext_base.specs.Text.{Text, front, in_dotted}
 use Rattle.irtext_base.specs.Families.{is_one_of}
 use Rattle.irtext_base.specs.Own.{Ends}
-use Rattle.irtext_read.specs.BeginningWords.{word_leads}
-use Rattle.irtext_read.specs.Infix.{Reader, nothing}
+use Rattle.irtext_tokens.specs.BeginningWords.{word_leads}
+use Rattle.irtext_tokens.specs.Infix.{Reader, nothing}
 use Rattle.irtext_syntax.specs.NameTexts.{word_text, word_text_is}
 use Rattle.irtext_syntax.specs.TableLaws.{word_row, spaced_word_row}
 use Rattle.irtext_syntax.specs.Tables.{Row}

@@ -4,9 +4,9 @@ use Rattle.std.specs.Char.{is_ascii}
 use Rattle.std.specs.List.{list_all}
 use Rattle.irtext_base.specs.Text.{Text, begins, after_space}
 use Rattle.irtext_base.specs.Own.{found, standing}
-use Rattle.irtext_read.specs.Tokens.{space_at, word}
-use Rattle.irtext_read.specs.Demanded.{spaced_at}
-use Rattle.irtext_read.specs.Infix.{Reader, ◌▷◌}
+use Rattle.irtext_tokens.specs.Tokens.{space_at, word}
+use Rattle.irtext_tokens.specs.Demanded.{spaced_at}
+use Rattle.irtext_tokens.specs.Infix.{Reader, ◌▷◌}
 use Rattle.irtext_syntax.specs.PartLaws.{is_closer, closes}
 
 -- an opening bracket, and white space after it

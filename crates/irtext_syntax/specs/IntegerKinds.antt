@@ -3,27 +3,27 @@ use Rattle.std.proofs.Common.{◌≡◌, ◌≤◌, ◌^◌, ℕ, ℤ, Bool, ref
 use Rattle.std.specs.Cmp.{unsigned_Decides, signed_Decides}
 use Rattle.std.specs.Ordering.{int_eq}
 use Rattle.std.specs.Prelude.{◌↔◌, IsTrue, nat_eq}
-use Rattle.irtext_read.specs.declared.irfmt.parsers.from_str_radix.FromStrRadix as radix
-use Rattle.irtext_read.specs.contracts.irfmt.parsers.from_str_radix.U8FromStrRadix.TheImpl as u8_radix
-use Rattle.irtext_read.specs.contracts.irfmt.parsers.from_str_radix.U8FromStrRadix.TheImpl.Laws as u8_laws
-use Rattle.irtext_read.specs.contracts.irfmt.parsers.from_str_radix.U16FromStrRadix.TheImpl as u16_radix
-use Rattle.irtext_read.specs.contracts.irfmt.parsers.from_str_radix.U16FromStrRadix.TheImpl.Laws as u16_laws
-use Rattle.irtext_read.specs.contracts.irfmt.parsers.from_str_radix.U32FromStrRadix.TheImpl as u32_radix
-use Rattle.irtext_read.specs.contracts.irfmt.parsers.from_str_radix.U32FromStrRadix.TheImpl.Laws as u32_laws
-use Rattle.irtext_read.specs.contracts.irfmt.parsers.from_str_radix.U64FromStrRadix.TheImpl as u64_radix
-use Rattle.irtext_read.specs.contracts.irfmt.parsers.from_str_radix.U64FromStrRadix.TheImpl.Laws as u64_laws
-use Rattle.irtext_read.specs.contracts.irfmt.parsers.from_str_radix.UsizeFromStrRadix.TheImpl as usize_radix
-use Rattle.irtext_read.specs.contracts.irfmt.parsers.from_str_radix.UsizeFromStrRadix.TheImpl.Laws as usize_laws
-use Rattle.irtext_read.specs.contracts.irfmt.parsers.from_str_radix.I8FromStrRadix.TheImpl as i8_radix
-use Rattle.irtext_read.specs.contracts.irfmt.parsers.from_str_radix.I8FromStrRadix.TheImpl.Laws as i8_laws
-use Rattle.irtext_read.specs.contracts.irfmt.parsers.from_str_radix.I16FromStrRadix.TheImpl as i16_radix
-use Rattle.irtext_read.specs.contracts.irfmt.parsers.from_str_radix.I16FromStrRadix.TheImpl.Laws as i16_laws
-use Rattle.irtext_read.specs.contracts.irfmt.parsers.from_str_radix.I32FromStrRadix.TheImpl as i32_radix
-use Rattle.irtext_read.specs.contracts.irfmt.parsers.from_str_radix.I32FromStrRadix.TheImpl.Laws as i32_laws
-use Rattle.irtext_read.specs.contracts.irfmt.parsers.from_str_radix.I64FromStrRadix.TheImpl as i64_radix
-use Rattle.irtext_read.specs.contracts.irfmt.parsers.from_str_radix.I64FromStrRadix.TheImpl.Laws as i64_laws
-use Rattle.irtext_read.specs.contracts.irfmt.parsers.from_str_radix.IsizeFromStrRadix.TheImpl as isize_radix
-use Rattle.irtext_read.specs.contracts.irfmt.parsers.from_str_radix.IsizeFromStrRadix.TheImpl.Laws as isize_laws
+use Rattle.irtext_tokens.specs.declared.irfmt.parsers.from_str_radix.FromStrRadix as radix
+use Rattle.irtext_tokens.specs.contracts.irfmt.parsers.from_str_radix.U8FromStrRadix.TheImpl as u8_radix
+use Rattle.irtext_tokens.specs.contracts.irfmt.parsers.from_str_radix.U8FromStrRadix.TheImpl.Laws as u8_laws
+use Rattle.irtext_tokens.specs.contracts.irfmt.parsers.from_str_radix.U16FromStrRadix.TheImpl as u16_radix
+use Rattle.irtext_tokens.specs.contracts.irfmt.parsers.from_str_radix.U16FromStrRadix.TheImpl.Laws as u16_laws
+use Rattle.irtext_tokens.specs.contracts.irfmt.parsers.from_str_radix.U32FromStrRadix.TheImpl as u32_radix
+use Rattle.irtext_tokens.specs.contracts.irfmt.parsers.from_str_radix.U32FromStrRadix.TheImpl.Laws as u32_laws
+use Rattle.irtext_tokens.specs.contracts.irfmt.parsers.from_str_radix.U64FromStrRadix.TheImpl as u64_radix
+use Rattle.irtext_tokens.specs.contracts.irfmt.parsers.from_str_radix.U64FromStrRadix.TheImpl.Laws as u64_laws
+use Rattle.irtext_tokens.specs.contracts.irfmt.parsers.from_str_radix.UsizeFromStrRadix.TheImpl as usize_radix
+use Rattle.irtext_tokens.specs.contracts.irfmt.parsers.from_str_radix.UsizeFromStrRadix.TheImpl.Laws as usize_laws
+use Rattle.irtext_tokens.specs.contracts.irfmt.parsers.from_str_radix.I8FromStrRadix.TheImpl as i8_radix
+use Rattle.irtext_tokens.specs.contracts.irfmt.parsers.from_str_radix.I8FromStrRadix.TheImpl.Laws as i8_laws
+use Rattle.irtext_tokens.specs.contracts.irfmt.parsers.from_str_radix.I16FromStrRadix.TheImpl as i16_radix
+use Rattle.irtext_tokens.specs.contracts.irfmt.parsers.from_str_radix.I16FromStrRadix.TheImpl.Laws as i16_laws
+use Rattle.irtext_tokens.specs.contracts.irfmt.parsers.from_str_radix.I32FromStrRadix.TheImpl as i32_radix
+use Rattle.irtext_tokens.specs.contracts.irfmt.parsers.from_str_radix.I32FromStrRadix.TheImpl.Laws as i32_laws
+use Rattle.irtext_tokens.specs.contracts.irfmt.parsers.from_str_radix.I64FromStrRadix.TheImpl as i64_radix
+use Rattle.irtext_tokens.specs.contracts.irfmt.parsers.from_str_radix.I64FromStrRadix.TheImpl.Laws as i64_laws
+use Rattle.irtext_tokens.specs.contracts.irfmt.parsers.from_str_radix.IsizeFromStrRadix.TheImpl as isize_radix
+use Rattle.irtext_tokens.specs.contracts.irfmt.parsers.from_str_radix.IsizeFromStrRadix.TheImpl.Laws as isize_laws
 use Rattle.irtext_syntax.specs.Numbers.{natural}
 
 -- an integer type: the integer of each value, the value of an integer, and the test for equality; and that each value fits 64 bits, is the

@@ -15,9 +15,9 @@ use Rattle.irtext_base.specs.Own.{can_follow, Ends}
 use Rattle.irtext_base.specs.Faults.{Unexpected, ADigit}
 use Rattle.irtext_base.proofs.Characters.{and_left, front_all, after_all}
 use Rattle.irtext_base.proofs.Numbers.{digits_every}
-use Rattle.irtext_read.specs.Tokens.{is_sign, sign_of, after_sign}
-use Rattle.irtext_read.specs.Integers.{int_at, sign_at, no_digit_behind, signed_integer, numeral_at, ranged, integer_by}
-use Rattle.irtext_read.proofs.Decimals.{plain}
+use Rattle.irtext_tokens.specs.Tokens.{is_sign, sign_of, after_sign}
+use Rattle.irtext_tokens.specs.Integers.{int_at, sign_at, no_digit_behind, signed_integer, numeral_at, ranged, integer_by}
+use Rattle.irtext_tokens.proofs.Decimals.{plain}
 use Rattle.irtext_syntax.specs.PartLaws.{is_closer}
 use Rattle.irtext_syntax.specs.Numbers.{fits}
 use Rattle.irtext_syntax.specs.PartSteps.{ascii_from}

@@ -6,7 +6,7 @@ use Rattle.irtext_base.specs.Text.{Text, front, after, after_space, in_word}
 use Rattle.irtext_base.specs.Stream.{first_of}
 use Rattle.irtext_base.specs.Faults.{Word, Unexpected, characters}
 use Rattle.irtext_base.specs.Answers.{Read, Missing}
-use Rattle.irtext_read.specs.Infix.{Reader}
+use Rattle.irtext_tokens.specs.Infix.{Reader}
 use Rattle.irtext_syntax.specs.NameTexts.{ends_word}
 
 -- whether the word that comes next, as long as possible, is this one

@@ -10,10 +10,10 @@ use Rattle.irtext_base.specs.Own.{found, missing, standing, can_follow}
 use Rattle.irtext_base.proofs.Characters.{and_right, after_twice}
 use Rattle.irtext_base.proofs.Scalars.{scalars_more}
 use Rattle.irtext_base.proofs.Sincere.{Of, of_followed, of_mapped, of_sincere, sincere_of}
-use Rattle.irtext_read.specs.Tokens.{space_at, text_at, word}
-use Rattle.irtext_read.specs.ListOutcomes.{item_after, items_after, or_empty, separated_at}
-use Rattle.irtext_read.proofs.ListOutcomes.{behind_separator, behind_space}
-use Rattle.irtext_read.proofs.SincereTokens.{of_text, of_space, of_separated}
+use Rattle.irtext_tokens.specs.Tokens.{space_at, text_at, word}
+use Rattle.irtext_tokens.specs.ListOutcomes.{item_after, items_after, or_empty, separated_at}
+use Rattle.irtext_tokens.proofs.ListOutcomes.{behind_separator, behind_space}
+use Rattle.irtext_tokens.proofs.SincereTokens.{of_text, of_space, of_separated}
 use Rattle.irtext_syntax.specs.CloserTests.{closer_first, closer_closes, closer_ascii, both}
 use Rattle.irtext_syntax.specs.FixedTexts.{BracketsLaw, open_at, close_at}
 use Rattle.irtext_syntax.specs.PartLaws.{IsRead, PartLaw, MissesClosers, is_closer, closes}

@@ -2,8 +2,8 @@
 use Rattle.std.specs.Prelude.{◌≡◌, ℕ, true, false, List, [], ◌∷◌, ◌++◌, codes, refl}
 use Rattle.irtext_base.specs.Text.{Text, begins, after_space}
 use Rattle.irtext_base.specs.Reading.{the}
-use Rattle.irtext_read.specs.Infix.{Reader, ◌▷◌, ◌◁◌}
-use Rattle.irtext_read.specs.ListOutcomes.{separated_at}
+use Rattle.irtext_tokens.specs.Infix.{Reader, ◌▷◌, ◌◁◌}
+use Rattle.irtext_tokens.specs.ListOutcomes.{separated_at}
 use Rattle.irtext_syntax.specs.FixedTexts.{open_at, close_at}
 use Rattle.irtext_syntax.specs.PartLaws.{is_closer}
 

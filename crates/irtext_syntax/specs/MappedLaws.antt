@@ -4,7 +4,7 @@ use Rattle.std.specs.Prelude.{◌↔◌, IsTrue}
 use Rattle.irtext_base.specs.Text.{Text, after_space}
 use Rattle.irtext_base.specs.Own.{found}
 use Rattle.irtext_base.proofs.Sincere.{of_mapped, of_sincere, sincere_of}
-use Rattle.irtext_read.specs.Infix.{Reader, ◌⇒◌}
+use Rattle.irtext_tokens.specs.Infix.{Reader, ◌⇒◌}
 use Rattle.irtext_syntax.specs.PartLaws.{PartLaw, MissesClosers}
 use Rattle.irtext_syntax.specs.PartSteps.{mapped_found, mapped_missing}
 

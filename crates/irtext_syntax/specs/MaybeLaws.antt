@@ -8,7 +8,7 @@ use Rattle.irtext_base.proofs.Characters.{and_left, and_right, after_twice}
 use Rattle.irtext_base.proofs.Sincere.{Of, of_read, of_bad, of_sincere, sincere_of}
 use Rattle.std.specs.Char.{is_whitespace}
 use Rattle.std.specs.Str.{all_scalars}
-use Rattle.irtext_read.specs.Infix.{Reader}
+use Rattle.irtext_tokens.specs.Infix.{Reader}
 use Rattle.irtext_syntax.specs.Maybes.{or_none, maybe_at, maybe_text, maybe_ends}
 use Rattle.irtext_syntax.specs.PartLaws.{is_closer, IsRead, PartLaw, MissesClosers}
 

@@ -16,7 +16,7 @@ use Rattle.irtext_base.proofs.Characters.{and_left, and_right, is_false, begins_
 use Rattle.irtext_base.proofs.Scalars.{scalars_ascii}
 use Rattle.irtext_base.proofs.Along.{front_after}
 use Rattle.irtext_base.proofs.Sincere.{Of, of_either, of_mapped, of_missing, of_read, sincere_of}
-use Rattle.irtext_read.specs.Tokens.{identifier_at, word_at}
+use Rattle.irtext_tokens.specs.Tokens.{identifier_at, word_at}
 use Rattle.irtext_syntax.specs.CloserTests.{closer_follows}
 use Rattle.irtext_syntax.specs.PartLaws.{PartLaw, MissesClosers, EndsAnywhere}
 use Rattle.irtext_syntax.specs.PartSteps.{not_true}

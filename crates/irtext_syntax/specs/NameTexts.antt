@@ -3,8 +3,8 @@ use Rattle.std.proofs.Common.{◌≡◌, Bool, true, false, not, refl, sym, ◌�
 use Rattle.std.proofs.Math.Bool.{Bool-set}
 use Rattle.std.specs.Coded.{Coded, code_by, coded_list, coded_ℕ}
 use Rattle.irtext_base.specs.Text.{Text, begins, in_word, is_identifier}
-use Rattle.irtext_read.specs.Infix.{Reader, ◌⇒◌}
-use Rattle.irtext_read.specs.Tokens.{identifier_at}
+use Rattle.irtext_tokens.specs.Infix.{Reader, ◌⇒◌}
+use Rattle.irtext_tokens.specs.Tokens.{identifier_at}
 
 -- a text that is an identifier
 pub record WordText : Type 0 where

@@ -11,9 +11,9 @@ use Rattle.irtext_base.specs.Own.{standing, can_follow}
 use Rattle.irtext_base.proofs.Characters.{and_left}
 use Rattle.irtext_base.proofs.Scalars.{scalars_ascii}
 use Rattle.irtext_base.proofs.Sincere.{Of, of_missing, of_bad, sincere_of}
-use Rattle.irtext_read.specs.Integers.{int_at, ranged}
-use Rattle.irtext_read.specs.declared.irfmt.parsers.from_str_radix.FromStrRadix as radix
-use Rattle.irtext_read.proofs.SincereTokens.{of_int, of_ranged}
+use Rattle.irtext_tokens.specs.Integers.{int_at, ranged}
+use Rattle.irtext_tokens.specs.declared.irfmt.parsers.from_str_radix.FromStrRadix as radix
+use Rattle.irtext_tokens.proofs.SincereTokens.{of_int, of_ranged}
 use Rattle.irtext_syntax.specs.PartLaws.{PartLaw, MissesClosers, EndsAnywhere}
 use Rattle.irtext_syntax.specs.PartSteps.{not_true}
 use Rattle.irtext_syntax.specs.ReadHere.{read_here}

@@ -3,8 +3,8 @@ use Rattle.std.proofs.Common.{◌≡◌, ◌∙◌, ℤ, Bool, true, false, Opti
 use Rattle.std.proofs.Math.Bool.{Bool-set}
 use Rattle.irtext_base.specs.Text.{Text}
 use Rattle.irtext_base.specs.Answers.{Outcome}
-use Rattle.irtext_read.specs.Integers.{int_at}
-use Rattle.irtext_read.specs.declared.irfmt.parsers.from_str_radix.FromStrRadix as radix
+use Rattle.irtext_tokens.specs.Integers.{int_at}
+use Rattle.irtext_tokens.specs.declared.irfmt.parsers.from_str_radix.FromStrRadix as radix
 use Rattle.irtext_syntax.specs.Numbers.{fits, narrowed}
 use Rattle.irtext_syntax.specs.declared.number.Number.{Number}
 

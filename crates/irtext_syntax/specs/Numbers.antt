@@ -3,7 +3,7 @@ use Rattle.std.specs.Prelude.{ℕ, suc, ℤ, pos, negsuc, Bool, true, false, Opt
 use Rattle.std.specs.Char.{is_ascii_digit}
 use Rattle.irtext_base.specs.Text.{Text, begins}
 use Rattle.irtext_base.specs.Answers.{Outcome, Read, Missing, Bad}
-use Rattle.irtext_read.specs.Integers.{ranged}
+use Rattle.irtext_tokens.specs.Integers.{ranged}
 
 -- the magnitude of an integer is less than the bound for its sign
 abbrev pub fits : (Bool → ℕ) → ℤ → Bool

@@ -5,7 +5,7 @@ use Rattle.std.specs.Prelude.{◌↔◌, IsTrue}
 use Rattle.irtext_base.specs.Text.{Text, begins_word}
 use Rattle.irtext_base.specs.Own.{standing, texts_of, can_follow, Ends, Lawful, Sincere}
 use Rattle.irtext_base.proofs.Characters.{and_left, word_tight}
-use Rattle.irtext_read.specs.Infix.{Reader}
+use Rattle.irtext_tokens.specs.Infix.{Reader}
 use Rattle.irtext_syntax.specs.Owns.{own_with, own_at, own_text, ends_text}
 use Rattle.irtext_syntax.specs.PartLaws.{is_closer, closes, IsRead, PartLaw, MissesClosers, EndsAnywhere}
 use Rattle.irtext_syntax.specs.MappedLaws.{mapped_law, mapped_misses, mapped_decides}

@@ -2,7 +2,7 @@
 use Rattle.std.specs.Prelude.{Bool, true, [], ◌∷◌}
 use Rattle.irtext_base.specs.Text.{Text}
 use Rattle.irtext_base.specs.Own.{can_follow}
-use Rattle.irtext_read.specs.Infix.{Reader, ◌⇒◌}
+use Rattle.irtext_tokens.specs.Infix.{Reader, ◌⇒◌}
 use Rattle.irtext_syntax.specs.declared.own.Own.{Own}
 
 -- this value as a part

@@ -13,8 +13,8 @@ use Rattle.irtext_base.specs.Own.{found, missing, standing}
 use Rattle.irtext_base.proofs.Characters.{and_left, and_right}
 use Rattle.irtext_base.proofs.Scalars.{scalars_ascii}
 use Rattle.irtext_base.specs.Faults.{Word, Unexpected}
-use Rattle.irtext_read.specs.Tokens.{space_at, spelled_at, text_at}
-use Rattle.irtext_read.specs.Infix.{◌▷◌}
+use Rattle.irtext_tokens.specs.Tokens.{space_at, spelled_at, text_at}
+use Rattle.irtext_tokens.specs.Infix.{◌▷◌}
 use Rattle.irtext_syntax.specs.PartLaws.{is_closer}
 
 -- what is found after characters that were consumed is found

@@ -9,10 +9,10 @@ use Rattle.irtext_base.specs.Answers.{Outcome, Read, mapped}
 use Rattle.irtext_base.specs.Own.{missing, standing}
 use Rattle.irtext_base.proofs.Scalars.{scalars_quoted}
 use Rattle.irtext_base.proofs.Sincere.{of_mapped, sincere_of}
-use Rattle.irtext_read.specs.Tokens.{text_at}
-use Rattle.irtext_read.specs.QuotedTexts.{quoted_at, units_at}
-use Rattle.irtext_read.proofs.QuotedBack.{quoted_back}
-use Rattle.irtext_read.proofs.SincereTokens.{of_quoted}
+use Rattle.irtext_tokens.specs.Tokens.{text_at}
+use Rattle.irtext_tokens.specs.QuotedTexts.{quoted_at, units_at}
+use Rattle.irtext_tokens.proofs.QuotedBack.{quoted_back}
+use Rattle.irtext_tokens.proofs.SincereTokens.{of_quoted}
 use Rattle.irtext_syntax.specs.PartLaws.{PartLaw, MissesClosers, EndsAnywhere, is_closer}
 use Rattle.irtext_syntax.specs.PartSteps.{mapped_missing, then_missing, word_misses}
 use Rattle.irtext_syntax.specs.ReadHere.{read_here}

@@ -1,8 +1,8 @@
 -- Quoted texts, as parts of a text.
 use Rattle.irtext_base.specs.Text.{Text}
 use Rattle.irtext_base.specs.Quoted.{quoted}
-use Rattle.irtext_read.specs.Infix.{Reader, ◌⇒◌}
-use Rattle.irtext_read.specs.QuotedTexts.{quoted_at}
+use Rattle.irtext_tokens.specs.Infix.{Reader, ◌⇒◌}
+use Rattle.irtext_tokens.specs.QuotedTexts.{quoted_at}
 use Rattle.irtext_syntax.specs.ScalarTexts.{ScalarText, scalar_text}
 
 -- a quoted text, by its characters

@@ -19,10 +19,10 @@ use Rattle.irtext_base.proofs.Characters.{and_left, front_all, after_all}
 use Rattle.irtext_base.proofs.Numbers.{digits_every}
 use Rattle.irtext_base.proofs.Scalars.{scalars_ascii}
 use Rattle.irtext_base.proofs.Sincere.{of_either, of_missing, sincere_of}
-use Rattle.irtext_read.specs.Integers.{ranged}
-use Rattle.irtext_read.specs.Tokens.{fitting, value_of}
-use Rattle.irtext_read.proofs.Decimals.{fitting-small, plain}
-use Rattle.irtext_read.proofs.SincereTokens.{of_ranged}
+use Rattle.irtext_tokens.specs.Integers.{ranged}
+use Rattle.irtext_tokens.specs.Tokens.{fitting, value_of}
+use Rattle.irtext_tokens.proofs.Decimals.{fitting-small, plain}
+use Rattle.irtext_tokens.proofs.SincereTokens.{of_ranged}
 use Rattle.irtext_syntax.specs.IntegersBack.{follows_digits, closer_no_digit}
 use Rattle.irtext_syntax.specs.Numbers.{ends_digits}
 use Rattle.irtext_syntax.specs.PartLaws.{PartLaw, MissesClosers}

@@ -6,8 +6,8 @@ use Rattle.irtext_base.specs.Text.{Text, begins, front, after}
 use Rattle.irtext_base.specs.Stream.{first_of}
 use Rattle.irtext_base.specs.Faults.{ADigit, Unexpected}
 use Rattle.irtext_base.specs.Answers.{Outcome, Missing}
-use Rattle.irtext_read.specs.Integers.{ranged}
-use Rattle.irtext_read.specs.Tokens.{value_of}
+use Rattle.irtext_tokens.specs.Integers.{ranged}
+use Rattle.irtext_tokens.specs.Tokens.{value_of}
 use Rattle.irtext_syntax.specs.Ranges.{is_between}
 use Rattle.irtext_syntax.specs.declared.range.Range as range
 use Rattle.irtext_syntax.specs.declared.range.Ranged.{Ranged}

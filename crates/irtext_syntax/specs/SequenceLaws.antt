@@ -7,10 +7,10 @@ use Rattle.irtext_base.specs.Own.{found, standing}
 use Rattle.irtext_base.proofs.Characters.{and_left, and_right}
 use Rattle.irtext_base.proofs.Scalars.{scalars_more}
 use Rattle.irtext_base.proofs.Sincere.{of_followed, of_mapped, of_sincere, sincere_of}
-use Rattle.irtext_read.proofs.SincereTokens.{of_text, of_space, of_spaced}
-use Rattle.irtext_read.specs.Demanded.{spaced_at}
-use Rattle.irtext_read.specs.Infix.{Reader, ◌▷◌}
-use Rattle.irtext_read.specs.Tokens.{space_at, word}
+use Rattle.irtext_tokens.proofs.SincereTokens.{of_text, of_space, of_spaced}
+use Rattle.irtext_tokens.specs.Demanded.{spaced_at}
+use Rattle.irtext_tokens.specs.Infix.{Reader, ◌▷◌}
+use Rattle.irtext_tokens.specs.Tokens.{space_at, word}
 use Rattle.irtext_syntax.specs.FixedTexts.{BetweenLaw, BracketsLaw, open_at, close_at}
 use Rattle.irtext_syntax.specs.PartLaws.{IsRead, PartLaw, MissesClosers}
 use Rattle.irtext_syntax.specs.PartSteps.{then_found, mapped_found, then_missing, spaced_same, word_misses, ascii_scalars}

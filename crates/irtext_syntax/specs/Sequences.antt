@@ -1,8 +1,8 @@
 -- The texts of two parts with a fixed text between them, and of a part in brackets.
 use Rattle.std.specs.Prelude.{Bool, true, ◌++◌, refl}
 use Rattle.irtext_base.specs.Text.{Text}
-use Rattle.irtext_read.specs.Demanded.{spaced_at}
-use Rattle.irtext_read.specs.Infix.{Reader, ◌▷◌, ◌▶◌, ◌⇒◌}
+use Rattle.irtext_tokens.specs.Demanded.{spaced_at}
+use Rattle.irtext_tokens.specs.Infix.{Reader, ◌▷◌, ◌▶◌, ◌⇒◌}
 use Rattle.irtext_syntax.specs.FixedTexts.{open_at, close_at}
 use Rattle.irtext_syntax.specs.PartLaws.{EndsAnywhere}
 use Rattle.irtext_syntax.specs.declared.sequence.Then.{Then}

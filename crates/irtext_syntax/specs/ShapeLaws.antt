@@ -5,7 +5,7 @@ use Rattle.std.specs.Cmp.Lexicographic.{pointwise_decides}
 use Rattle.std.specs.Prelude.{◌↔◌, IsTrue}
 use Rattle.irtext_base.specs.Own.{texts_of, Lawful, Sincere}
 use Rattle.irtext_base.specs.Text.{Text, is_identifier}
-use Rattle.irtext_read.specs.Infix.{Reader}
+use Rattle.irtext_tokens.specs.Infix.{Reader}
 use Rattle.irtext_syntax.specs.FixedTexts.{BetweenLaw, BracketsLaw}
 use Rattle.irtext_syntax.specs.IntegerKinds.{Kind}
 use Rattle.irtext_syntax.specs.KeywordLaws.{keyword_law, keyword_misses, keyword_decides, flag_law}

@@ -5,7 +5,7 @@ use Rattle.std.specs.Cmp.Lexicographic.{pointwise}
 use Rattle.std.specs.Fmt.{signed_decimal}
 use Rattle.std.specs.Str.{bytes_eq, encode_utf8_all}
 use Rattle.irtext_base.specs.Text.{Text}
-use Rattle.irtext_read.specs.Infix.{Reader}
+use Rattle.irtext_tokens.specs.Infix.{Reader}
 use Rattle.irtext_syntax.specs.IntegerKinds.{Kind}
 use Rattle.irtext_syntax.specs.KeywordTexts.{keyword_at, flag_at, flag_text, ends_flag}
 use Rattle.irtext_syntax.specs.ListParts.{list_at, list_text}

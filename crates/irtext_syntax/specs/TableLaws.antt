@@ -16,10 +16,10 @@ use Rattle.irtext_base.proofs.Along.{front_after}
 use Rattle.irtext_base.proofs.Characters.{and_left, and_right, front_all, after_all}
 use Rattle.irtext_base.proofs.Scalars.{scalars_more}
 use Rattle.irtext_base.proofs.Sincere.{Of, of_read, of_here, of_missing, of_either, of_followed, of_mapped, of_sincere, sincere_of}
-use Rattle.irtext_read.proofs.SincereTokens.{of_space}
-use Rattle.irtext_read.specs.BeginningWords.{no_dotted}
-use Rattle.irtext_read.specs.Infix.{Reader, nothing, ◌▷◌}
-use Rattle.irtext_read.specs.Tokens.{space_at}
+use Rattle.irtext_tokens.proofs.SincereTokens.{of_space}
+use Rattle.irtext_tokens.specs.BeginningWords.{no_dotted}
+use Rattle.irtext_tokens.specs.Infix.{Reader, nothing, ◌▷◌}
+use Rattle.irtext_tokens.specs.Tokens.{space_at}
 use Rattle.irtext_syntax.specs.PartLaws.{PartLaw, EndsAnywhere}
 use Rattle.irtext_syntax.specs.PartSteps.{then_found, mapped_found, then_missing, spaced_found, ascii_scalars}
 use Rattle.irtext_syntax.specs.Tables.{table_at, is_word_of, Row, IsRest}

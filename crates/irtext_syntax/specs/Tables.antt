@@ -8,7 +8,7 @@ use Rattle.irtext_base.specs.Answers.{Outcome}
 use Rattle.irtext_base.specs.Families.{is_one_of}
 use Rattle.irtext_base.specs.Faults.{Demand}
 use Rattle.irtext_base.specs.Own.{found, standing, Ends}
-use Rattle.irtext_read.specs.Infix.{Reader, ◌▶◌}
+use Rattle.irtext_tokens.specs.Infix.{Reader, ◌▶◌}
 use Rattle.irtext_syntax.specs.Words.{dotted_at}
 
 -- a word that the table has, and what comes after it; an unknown word is an error with a text that ends in the word

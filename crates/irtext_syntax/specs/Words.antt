@@ -1,7 +1,7 @@
 -- For callers: dotted words, which types and attributes begin with.
 use Rattle.std.specs.Prelude.{ℕ, Bool, cond, Option, Some, None, [], ◌++◌}
 use Rattle.irtext_base.specs.Text.{Text, begins, front, after, begins_word}
-use Rattle.irtext_read.specs.Tokens.{has}
+use Rattle.irtext_tokens.specs.Tokens.{has}
 use Rattle.irtext_stream.specs.declared.class.Class.TheVariants.{Dotted}
 use Rattle.irtext_base.specs.Stream.{first_of}
 use Rattle.irtext_base.specs.Faults.{Demand, Unexpected, OwnText}

@@ -2,16 +2,16 @@
 ghost use Rattle.std.specs.Prelude.{◌≡◌, ◌++◌, ℕ, List, OnOk, true, string_bytes};
 ghost use Rattle.irtext_base.specs.Answers.{Answers, unless_failed};
 ghost use Rattle.irtext_base.specs.Faults.{characters};
-ghost use Rattle.irtext_read.specs.Demanded.{spaced_at};
-ghost use Rattle.irtext_read.specs.MustRead.{MayRead, MustRead};
+ghost use Rattle.irtext_tokens.specs.Demanded.{spaced_at};
+ghost use Rattle.irtext_tokens.specs.MustRead.{MayRead, MustRead};
 ghost use Rattle.irtext_syntax.specs.FixedTexts.{BetweenLaw, BracketsLaw, open_at, close_at};
 
 use crate::part::Part;
 use irtext_base::parsable::{CharStream, ParseResult, TextStream};
 use irtext_base::result::Cause;
-use irtext_read::irfmt::demanded::{spaced_text_demanded, text_demanded};
-use irtext_read::irfmt::faults::refuse;
-use irtext_read::irfmt::parsers::{skip_white_space, text_parse};
+use irtext_tokens::irfmt::demanded::{spaced_text_demanded, text_demanded};
+use irtext_tokens::irfmt::faults::refuse;
+use irtext_tokens::irfmt::parsers::{skip_white_space, text_parse};
 
 /// A fixed text between two parts, such as `->`. White space before and after it is skipped when it is parsed, and it is printed with the
 /// spaces that it usually has. Every law is computed: `ghost law = { record { back = λ rest. refl; .. } }`.

@@ -4,15 +4,15 @@ ghost use Rattle.std.specs.Cmp.{on_equiv, on_per};
 ghost use Rattle.std.specs.Cmp.Lexicographic.{pointwise, lists_equiv, lists_per};
 ghost use Rattle.std.specs.Hash as fed;
 ghost use Rattle.std.specs.Str.{encode_utf8_all};
-ghost use Rattle.irtext_read.specs.ListOutcomes.{separated_at};
-ghost use Rattle.irtext_read.specs.MustRead.{MayRead, MustRead};
+ghost use Rattle.irtext_tokens.specs.ListOutcomes.{separated_at};
+ghost use Rattle.irtext_tokens.specs.MustRead.{MayRead, MustRead};
 ghost use Rattle.irtext_syntax.specs.ListParts.{SeparatorLaw, tail_text, joined_text, list_text, items_at, list_at};
 
 use crate::fixed::{Brackets, close_demanded, open_parse};
 use crate::part::{Closed, Item, Last, Part, TryClone};
 use crate::ready::{Angle, Curly, Round, Square};
 use irtext_base::parsable::{ParseResult, TextStream};
-use irtext_read::irfmt::parsers::list_parser;
+use irtext_tokens::irfmt::parsers::list_parser;
 use std::alloc::{AllocError, Global};
 use std::fmt;
 use std::hash::{Hash, Hasher};

@@ -11,7 +11,7 @@ ghost use Rattle.irtext_syntax.specs.NameTexts.{name_at, name_text, ends_word};
 use crate::part::{Item, Last, Part, TryClone};
 use irtext_base::base::Identifier;
 use irtext_base::parsable::{ParseResult, TextStream};
-use irtext_read::irfmt::parsers::identifier_parse;
+use irtext_tokens::irfmt::parsers::identifier_parse;
 use std::alloc::AllocError;
 use std::fmt;
 use std::hash::{Hash, Hasher};

@@ -6,7 +6,7 @@ ghost use Rattle.irtext_syntax.specs.Numbers.{fits, natural};
 
 use crate::part::{Item, Last, Part, TryClone};
 use irtext_base::parsable::{ParseResult, TextStream};
-use irtext_read::irfmt::parsers::{FromStrRadix, int_parse};
+use irtext_tokens::irfmt::parsers::{FromStrRadix, int_parse};
 use std::alloc::AllocError;
 use std::fmt;
 use std::hash::{Hash, Hasher};

@@ -2,7 +2,7 @@
 use crate::part::{Item, Last, Part, TryClone};
 use irtext_base::parsable::{ParseResult, TextStream};
 use irtext_base::text::IrText;
-use irtext_read::either::Either;
+use irtext_tokens::either::Either;
 use std::alloc::AllocError;
 use std::fmt;
 

@@ -2,7 +2,7 @@
 ghost use Rattle.std.specs.Prelude.{◌≡◌, ◌↔◌, ℕ, List, ◌++◌, Bool, true, IsTrue, IfOk, MatchOption, Ok, string_bytes};
 ghost use Rattle.std.specs.Str.{encode_utf8_all};
 ghost use Rattle.irtext_base.specs.Answers.{Outcome};
-ghost use Rattle.irtext_read.specs.MustRead.{MayRead};
+ghost use Rattle.irtext_tokens.specs.MustRead.{MayRead};
 ghost use Rattle.irtext_syntax.specs.PartLaws.{PartLaw, MissesClosers, EndsAnywhere};
 
 use irtext_base::parsable::{ParseResult, TextStream};

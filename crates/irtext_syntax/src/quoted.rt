@@ -5,8 +5,8 @@ ghost use Rattle.irtext_syntax.specs.QuotedParts.{characters_at, characters_text
 use crate::characters::Characters;
 use crate::part::{Closed, Item, Last, Part, TryClone};
 use irtext_base::parsable::{ParseResult, TextStream};
-use irtext_read::irfmt::parsers::quoted_string_parse;
-use irtext_read::printable::fmt_quoted;
+use irtext_tokens::irfmt::parsers::quoted_string_parse;
+use irtext_tokens::printable::fmt_quoted;
 use std::alloc::AllocError;
 use std::fmt;
 

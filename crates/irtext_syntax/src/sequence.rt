@@ -1,13 +1,13 @@
 //! Two parts with a fixed text between them, and a part in brackets.
 ghost use Rattle.std.specs.Prelude.{◌≡◌, ◌++◌, OnOk, string_bytes};
 ghost use Rattle.std.specs.Str.{encode_utf8_all};
-ghost use Rattle.irtext_read.specs.MustRead.{MustRead};
+ghost use Rattle.irtext_tokens.specs.MustRead.{MustRead};
 ghost use Rattle.irtext_syntax.specs.Sequences.{then_text, second_at, within_text, inside_at};
 
 use crate::fixed::{After, Between, Brackets, between_demanded, close_demanded, open_parse};
 use crate::part::{Closed, Item, Last, Part, TryClone};
 use irtext_base::parsable::{ParseResult, TextStream};
-use irtext_read::irfmt::faults::committed;
+use irtext_tokens::irfmt::faults::committed;
 use std::alloc::AllocError;
 use std::fmt;
 use std::marker::PhantomData;

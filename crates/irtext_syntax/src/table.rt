@@ -3,9 +3,9 @@ ghost use Rattle.std.specs.Prelude.{◌≡◌, ◌++◌, ◌∷◌, OnOk, List, 
 ghost use Rattle.std.specs.Str.{encode_utf8_all};
 ghost use Rattle.irtext_base.specs.Answers.{Outcome, Gives, unless_failed};
 ghost use Rattle.irtext_base.specs.Faults.{characters, demand_of};
-ghost use Rattle.irtext_read.specs.Infix.{nothing, ◌▷◌};
-ghost use Rattle.irtext_read.specs.MustRead.{MayRead, MustRead};
-ghost use Rattle.irtext_read.specs.Tokens.{space_at};
+ghost use Rattle.irtext_tokens.specs.Infix.{nothing, ◌▷◌};
+ghost use Rattle.irtext_tokens.specs.MustRead.{MayRead, MustRead};
+ghost use Rattle.irtext_tokens.specs.Tokens.{space_at};
 ghost use Rattle.irtext_syntax.specs.Tables.{table_at};
 
 use crate::part::Part;
@@ -13,8 +13,8 @@ use crate::sequence::demanded;
 use crate::words::{DottedWord, dotted_parse, dotted_there};
 use irtext_base::parsable::{CharStream, ParseResult, TextStream};
 use irtext_base::result::{Cause, Expected};
-use irtext_read::irfmt::faults::refuse;
-use irtext_read::irfmt::parsers::skip_white_space;
+use irtext_tokens::irfmt::faults::refuse;
+use irtext_tokens::irfmt::parsers::skip_white_space;
 use std::fmt;
 
 /// The words of a family `E` of types or attributes, each with what comes after it.

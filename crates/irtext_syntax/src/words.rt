@@ -8,8 +8,8 @@ ghost use Rattle.irtext_syntax.specs.Words.{dotted_at};
 
 use irtext_base::parsable::{CharStream, ParseFault, ParseResult, Place, TextStream};
 use irtext_base::result::{Cause, Expected};
-use irtext_read::irfmt::faults::{begins, out_of_memory, refuse, refuse_at, unexpected};
-use irtext_read::irfmt::parsers::{Class, skip_class};
+use irtext_tokens::irfmt::faults::{begins, out_of_memory, refuse, refuse_at, unexpected};
+use irtext_tokens::irfmt::parsers::{Class, skip_class};
 
 /// The words that values of one kind begin with.
 pub trait DottedWord: Copy {

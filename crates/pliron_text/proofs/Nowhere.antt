@@ -11,7 +11,7 @@ use Rattle.irtext_graph.specs.Graph.{children, parent, parent_of, children_of}
 use Rattle.irtext_graph.specs.Nested.{Nested}
 use Rattle.irtext_graph.specs.Store.{get}
 use Rattle.irtext_graph.proofs.Inside.{within_self}
-use Rattle.irtext_outcomes.proofs.Kin.{not_above}
+use Rattle.irtext_parse_spec.proofs.Kin.{not_above}
 use Rattle.irtext_print_ir.specs.Printers.Printed.{block_round}
 use Rattle.irtext_promises.specs.OnlyNew.{OnlyNew}
 use Rattle.irtext_promises.proofs.Ages.{here_stands, stands_here}

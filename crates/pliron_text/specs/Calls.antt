@@ -20,7 +20,7 @@ use Rattle.irtext_grammar.specs.Graphs.Graph.{Graph, Printing}
 use Rattle.irtext_grammar.specs.Graphs.Same.{Found, stood}
 use Rattle.irtext_grammar.specs.Spelling.Section.{text}
 use Rattle.irtext_grammar.specs.Spelling.Writable.{has_region}
-use Rattle.irtext_outcomes.specs.Promises.Root.{UnlessMemory}
+use Rattle.irtext_parse_spec.specs.Promises.Root.{UnlessMemory}
 use Rattle.irtext_print.specs.Printers.PrintedOperation.{levels}
 use Rattle.irtext_print.specs.Printers.Shown.{Shown}
 use Rattle.irtext_print_ir.specs.Printers.Printed.{block_round}
@@ -28,10 +28,10 @@ use Rattle.irtext_print_ops.specs.Heads as heads
 use Rattle.irtext_promises.specs.Held.{held_root}
 use Rattle.irtext_promises.specs.OnlyNew.{OnlyNew}
 use Rattle.irtext_promises.specs.Promises.{BuildsRoot, RefusesRoot}
-use Rattle.irtext_read.specs.AttrTexts.{attr_at}
-use Rattle.irtext_outcomes.specs.Back.{HeldBack, HeldWhole}
-use Rattle.irtext_outcomes.specs.RootParts.{HoldsNoLabels}
-use Rattle.irtext_state.specs.declared.parsable.state.StateStream.{StateStream}
+use Rattle.irtext_tokens.specs.AttrTexts.{attr_at}
+use Rattle.irtext_parse_spec.specs.Back.{HeldBack, HeldWhole}
+use Rattle.irtext_parse_spec.specs.RootParts.{HoldsNoLabels}
+use Rattle.irtext_parse_state.specs.declared.parsable.state.StateStream.{StateStream}
 use Rattle.pliron_text.specs.declared.calls.NotAgain.{NotAgain}
 use Rattle.pliron_text.specs.declared.calls.NotAgain.TheVariants.{Refused, Lost}
 use Rattle.pliron_text.specs.declared.calls.NotBack.{NotBack}

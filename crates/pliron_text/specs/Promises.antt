@@ -1,11 +1,11 @@
 -- The promises to a caller about a root, an operation in it, and its section.
-pub use Rattle.irtext_outcomes.specs.Promises.Supported
-pub use Rattle.irtext_outcomes.specs.Promises.Section
-pub use Rattle.irtext_outcomes.specs.Promises.Root
-pub use Rattle.irtext_outcomes.specs.Promises.KeptRoot
-pub use Rattle.irtext_outcomes.specs.ContextParts
-pub use Rattle.irtext_outcomes.specs.Promises.PrintedBack
-pub use Rattle.irtext_outcomes.specs.Promises.LocationsBack
+pub use Rattle.irtext_parse_spec.specs.Promises.Supported
+pub use Rattle.irtext_parse_spec.specs.Promises.Section
+pub use Rattle.irtext_parse_spec.specs.Promises.Root
+pub use Rattle.irtext_parse_spec.specs.Promises.KeptRoot
+pub use Rattle.irtext_parse_spec.specs.ContextParts
+pub use Rattle.irtext_parse_spec.specs.Promises.PrintedBack
+pub use Rattle.irtext_parse_spec.specs.Promises.LocationsBack
 pub use Rattle.irtext_promises.specs.Promises
 pub use Rattle.irtext_promises.specs.Held
 pub use Rattle.irtext_promises.specs.OnlyNew

@@ -9,17 +9,17 @@ ghost use Rattle.irtext_grammar.specs.Grammar.Marked.{AllShown};
 ghost use Rattle.irtext_grammar.specs.Graphs.Closed.{Fit};
 ghost use Rattle.irtext_grammar.specs.Graphs.Graph.{Graph, written};
 ghost use Rattle.irtext_grammar.specs.Graphs.Regained.{Named};
-ghost use Rattle.irtext_outcomes.specs.ContextParts.{KeepsAll};
-ghost use Rattle.irtext_outcomes.specs.Promises.Root.{IsFresh, UnlessMemory};
-ghost use Rattle.irtext_outcomes.specs.Promises.Section.{IsStarved};
+ghost use Rattle.irtext_parse_spec.specs.ContextParts.{KeepsAll};
+ghost use Rattle.irtext_parse_spec.specs.Promises.Root.{IsFresh, UnlessMemory};
+ghost use Rattle.irtext_parse_spec.specs.Promises.Section.{IsStarved};
 ghost use Rattle.irtext_print.specs.Printers.Appended.{fresh};
 ghost use Rattle.irtext_print.specs.Printers.PrintedOperation.{levels};
 ghost use Rattle.irtext_print_ir.specs.Printers.Printed.{block_round};
 ghost use Rattle.irtext_print_ops.specs.Heads as heads;
 ghost use Rattle.irtext_promises.specs.OnlyNew.{OnlyNew};
 ghost use Rattle.irtext_promises.specs.Promises.{BuildsRoot, RefusesRoot};
-ghost use Rattle.irtext_read.specs.AttrTexts.{attr_at};
-ghost use Rattle.irtext_outcomes.specs.Back.{ClosedRoot};
+ghost use Rattle.irtext_tokens.specs.AttrTexts.{attr_at};
+ghost use Rattle.irtext_parse_spec.specs.Back.{ClosedRoot};
 ghost use Rattle.pliron_text.specs.Calls.{IsClosed, IsPrinted, ComesBack, ComesBackWhole, ReadsText, RefusesText, IsExcused, IsAgain, IsExcusedAgain};
 
 use irtext_base::location::Source;
@@ -27,11 +27,11 @@ use irtext_base::parsable::{ParseFault, ParseResult, SourcePosition, TextStream}
 use irtext_base::result::Cause;
 use irtext_base::text::{AttrText, IrText};
 use irtext_context::base::{Context, Operation, Ptr};
-use irtext_outcomes::context::keeps_parts;
 use irtext_parse_root::outermost::root_parse;
+use irtext_parse_spec::context::keeps_parts;
+use irtext_parse_state::parsable::{State, StateStream};
 use irtext_print::printable::{Refusal, State as PrintState};
 use irtext_print_ir::ir::print::print_root;
-use irtext_state::parsable::{State, StateStream};
 
 /// Why a root's text was not parsed back.
 #[derive(Drop)]

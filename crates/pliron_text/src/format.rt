@@ -2,4 +2,4 @@
 
 pub use irtext_base::format::notation::{NotationFault, NotationPart};
 pub use irtext_base::format::{Directive, FormatFault, OpFormat};
-pub use irtext_formats::format::check_format;
+pub use irtext_format_check::format::check_format;

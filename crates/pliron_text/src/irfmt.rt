@@ -7,11 +7,11 @@ pub use irtext_print_ir::irfmt::printers;
 pub mod parsers {
     pub use irtext_parse_root::names::{block_opd_parse, ssa_opd_parse};
     pub use irtext_parse_root::results::process_parsed_ssa_defs;
-    pub use irtext_read::irfmt::parsers::{
+    pub use irtext_parse_state::irfmt::parsers::{location, type_parse};
+    pub use irtext_tokens::irfmt::parsers::{
         Class, FromStrRadix, attr_parse, bool_parse, delimited_list_parser, hex_int_parse,
         id_parse, identifier_parse, int_parse, list_parser, list_with_sep_parser,
         number_as_string_parse, quoted_string_parse, skip_white_space, spaced, text_parse,
         zero_or_more_parser,
     };
-    pub use irtext_state::irfmt::parsers::{location, type_parse};
 }

@@ -1,5 +1,5 @@
 //! Calls on names and a graph together.
-ghost use Rattle.irtext_names.specs.Tied.{AreTied};
+ghost use Rattle.irtext_names.specs.Tied.{MatchesGraph};
 
 use crate::graphs::names::texts;
 use irtext_few::Few;
@@ -50,8 +50,8 @@ pub fn call_of(word: &str) -> Option<Call> {
 
 /// Interns a name.
 fn mention(names: &mut Names, graph: &Measured, text: &str) -> bool
-    requires { AreTied names.old.values names.old.labels graph.now }
-    ensures { AreTied names.new.values names.new.labels graph.now }
+    requires { MatchesGraph names.old.values names.old.labels graph.now }
+    ensures { MatchesGraph names.new.values names.new.labels graph.now }
 {
     let _graph = graph;
     names.intern(text).is_ok()
@@ -60,8 +60,8 @@ fn mention(names: &mut Names, graph: &Measured, text: &str) -> bool
 /// Creates an operation with one result, and checks that the result is live, as a caller has to before it defines a name as that
 /// result.
 fn make(names: &Names, graph: &mut Measured) -> bool
-    requires { AreTied names.now.values names.now.labels graph.old }
-    ensures { AreTied names.now.values names.now.labels graph.new }
+    requires { MatchesGraph names.now.values names.now.labels graph.old }
+    ensures { MatchesGraph names.now.values names.now.labels graph.new }
 {
     let _names = names;
     let Ok(made) = graph.make_operation(Some(2), Few::one(Some(7)), &[], &[]) else {
@@ -72,8 +72,8 @@ fn make(names: &Names, graph: &mut Measured) -> bool
 
 /// Creates an operation with one result, and defines the name with this number as that result.
 fn define_number(names: &mut Names, graph: &mut Measured, name: usize) -> bool
-    requires { AreTied names.old.values names.old.labels graph.old }
-    ensures { AreTied names.new.values names.new.labels graph.new }
+    requires { MatchesGraph names.old.values names.old.labels graph.old }
+    ensures { MatchesGraph names.new.values names.new.labels graph.new }
 {
     if !names.has_value_scope() || name >= names.num_names() {
         return false;
@@ -90,8 +90,8 @@ fn define_number(names: &mut Names, graph: &mut Measured, name: usize) -> bool
 
 /// Creates an operation with one result, and defines a name as that result.
 fn define(names: &mut Names, graph: &mut Measured, text: &str) -> bool
-    requires { AreTied names.old.values names.old.labels graph.old }
-    ensures { AreTied names.new.values names.new.labels graph.new }
+    requires { MatchesGraph names.old.values names.old.labels graph.old }
+    ensures { MatchesGraph names.new.values names.new.labels graph.new }
 {
     match names.intern(text) {
         Ok(name) => define_number(names, graph, name),
@@ -101,8 +101,8 @@ fn define(names: &mut Names, graph: &mut Measured, text: &str) -> bool
 
 /// Uses a name.
 fn use_name(names: &mut Names, graph: &mut Measured, text: &str) -> bool
-    requires { AreTied names.old.values names.old.labels graph.old }
-    ensures { AreTied names.new.values names.new.labels graph.new }
+    requires { MatchesGraph names.old.values names.old.labels graph.old }
+    ensures { MatchesGraph names.new.values names.new.labels graph.new }
 {
     let Ok(name) = names.intern(text) else {
         return false;
@@ -112,8 +112,8 @@ fn use_name(names: &mut Names, graph: &mut Measured, text: &str) -> bool
 
 /// Creates an operation that uses the name with this number.
 fn use_number(names: &mut Names, graph: &mut Measured, name: usize) -> bool
-    requires { AreTied names.old.values names.old.labels graph.old }
-    ensures { AreTied names.new.values names.new.labels graph.new }
+    requires { MatchesGraph names.old.values names.old.labels graph.old }
+    ensures { MatchesGraph names.new.values names.new.labels graph.new }
 {
     if !names.has_value_scope() || name >= names.num_names() {
         return false;
@@ -128,8 +128,8 @@ fn use_number(names: &mut Names, graph: &mut Measured, name: usize) -> bool
 
 /// Creates an operation that uses a name.
 fn use_by(names: &mut Names, graph: &mut Measured, text: &str) -> bool
-    requires { AreTied names.old.values names.old.labels graph.old }
-    ensures { AreTied names.new.values names.new.labels graph.new }
+    requires { MatchesGraph names.old.values names.old.labels graph.old }
+    ensures { MatchesGraph names.new.values names.new.labels graph.new }
 {
     match names.intern(text) {
         Ok(name) => use_number(names, graph, name),
@@ -139,8 +139,8 @@ fn use_by(names: &mut Names, graph: &mut Measured, text: &str) -> bool
 
 /// Creates a block, and checks that it is live.
 fn make_block(names: &Names, graph: &mut Measured) -> bool
-    requires { AreTied names.now.values names.now.labels graph.old }
-    ensures { AreTied names.now.values names.now.labels graph.new }
+    requires { MatchesGraph names.now.values names.now.labels graph.old }
+    ensures { MatchesGraph names.now.values names.now.labels graph.new }
 {
     let _names = names;
     let Ok(made) = graph.make_block(5, Few::none()) else {
@@ -151,8 +151,8 @@ fn make_block(names: &Names, graph: &mut Measured) -> bool
 
 /// Creates a block, and defines the label with this number as that block.
 fn define_label_number(names: &mut Names, graph: &mut Measured, name: usize) -> bool
-    requires { AreTied names.old.values names.old.labels graph.old }
-    ensures { AreTied names.new.values names.new.labels graph.new }
+    requires { MatchesGraph names.old.values names.old.labels graph.old }
+    ensures { MatchesGraph names.new.values names.new.labels graph.new }
 {
     if !names.has_label_scope() || name >= names.num_names() {
         return false;
@@ -168,8 +168,8 @@ fn define_label_number(names: &mut Names, graph: &mut Measured, name: usize) -> 
 
 /// Creates a block, and defines a label as that block.
 fn define_label(names: &mut Names, graph: &mut Measured, text: &str) -> bool
-    requires { AreTied names.old.values names.old.labels graph.old }
-    ensures { AreTied names.new.values names.new.labels graph.new }
+    requires { MatchesGraph names.old.values names.old.labels graph.old }
+    ensures { MatchesGraph names.new.values names.new.labels graph.new }
 {
     match names.intern(text) {
         Ok(name) => define_label_number(names, graph, name),
@@ -179,8 +179,8 @@ fn define_label(names: &mut Names, graph: &mut Measured, text: &str) -> bool
 
 /// Uses a label.
 fn use_label(names: &mut Names, graph: &mut Measured, text: &str) -> bool
-    requires { AreTied names.old.values names.old.labels graph.old }
-    ensures { AreTied names.new.values names.new.labels graph.new }
+    requires { MatchesGraph names.old.values names.old.labels graph.old }
+    ensures { MatchesGraph names.new.values names.new.labels graph.new }
 {
     let Ok(name) = names.intern(text) else {
         return false;
@@ -190,8 +190,8 @@ fn use_label(names: &mut Names, graph: &mut Measured, text: &str) -> bool
 
 /// Makes this call for one name.
 fn call_one(names: &mut Names, graph: &mut Measured, call: Call, text: &str) -> bool
-    requires { AreTied names.old.values names.old.labels graph.old }
-    ensures { AreTied names.new.values names.new.labels graph.new }
+    requires { MatchesGraph names.old.values names.old.labels graph.old }
+    ensures { MatchesGraph names.new.values names.new.labels graph.new }
 {
     match call {
         Call::Skip => true,
@@ -208,8 +208,8 @@ fn call_one(names: &mut Names, graph: &mut Measured, call: Call, text: &str) -> 
 
 /// Makes this call for each name.
 fn call_all(names: &mut Names, graph: &mut Measured, call: Call, texts: &[String]) -> bool
-    requires { AreTied names.old.values names.old.labels graph.old }
-    ensures { AreTied names.new.values names.new.labels graph.new }
+    requires { MatchesGraph names.old.values names.old.labels graph.old }
+    ensures { MatchesGraph names.new.values names.new.labels graph.new }
 {
     let mut all = true;
     for text in texts {
@@ -220,8 +220,8 @@ fn call_all(names: &mut Names, graph: &mut Measured, call: Call, texts: &[String
 
 /// Enters a region with its own scope, makes each of these calls for all names, and leaves the region.
 fn round(names: &mut Names, graph: &mut Measured, calls: &[Call], texts: &[String]) -> bool
-    requires { AreTied names.old.values names.old.labels graph.old }
-    ensures { AreTied names.new.values names.new.labels graph.new }
+    requires { MatchesGraph names.old.values names.old.labels graph.old }
+    ensures { MatchesGraph names.new.values names.new.labels graph.new }
 {
     let mut all = enter_region(names, graph, true).is_ok();
     for call in calls {
@@ -250,7 +250,7 @@ pub fn rounds(
 
 /// Leaves so many regions.
 fn leave_all(names: &mut Names, graph: &Measured, size: usize) -> bool
-    requires { AreTied names.old.values names.old.labels graph.now }
+    requires { MatchesGraph names.old.values names.old.labels graph.now }
 {
     let mut all = true;
     for _ in 0..size {
@@ -261,8 +261,8 @@ fn leave_all(names: &mut Names, graph: &Measured, size: usize) -> bool
 
 /// Enters so many regions, each inside the one before and with its own scope, and makes a call for one name in each.
 fn nest(names: &mut Names, graph: &mut Measured, size: usize, call: Call) -> bool
-    requires { AreTied names.old.values names.old.labels graph.old }
-    ensures { AreTied names.new.values names.new.labels graph.new }
+    requires { MatchesGraph names.old.values names.old.labels graph.old }
+    ensures { MatchesGraph names.new.values names.new.labels graph.new }
 {
     let mut all = true;
     for _ in 0..size {
@@ -286,7 +286,7 @@ pub fn nested(alloc: Global, size: usize, calls: &[Call]) -> bool {
 
 /// Enters a region, makes a call for one name so many times, and then the last call once.
 fn repeat(names: &mut Names, graph: &mut Measured, size: usize, often: Call, last: Call) -> bool
-    requires { AreTied names.old.values names.old.labels graph.old }
+    requires { MatchesGraph names.old.values names.old.labels graph.old }
 {
     let mut all = enter_region(names, graph, true).is_ok();
     for _ in 0..size {

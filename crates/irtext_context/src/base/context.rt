@@ -1,6 +1,6 @@
 //! The context: the graph of all operations, blocks and regions, the paths of source files, and the registered dialects.
 ghost use Rattle.std.specs.Prelude.{◌≡◌, ◌≤◌, ◌↔◌, [], IsSome, IsTrue, refl};
-ghost use Rattle.irtext_graph.specs.Graph.{empty, begun, num_live, Stands};
+ghost use Rattle.irtext_graph.specs.Graph.{empty, begun, num_live, IsLive};
 ghost use Rattle.irtext_graph.specs.declared.object.Object.TheVariants.{TheOperation, TheBlock, TheRegion};
 ghost use Rattle.irtext_context.specs.Context.{operation, block, region};
 
@@ -109,7 +109,7 @@ impl<T: IrText<A>, A: AttrText<A>> Context<T, A> {
     /// Whether a pointer refers to a live operation that is no placeholder.
     pub fn contains_operation(&self, p: Ptr<Operation>) -> bool
         ensures stands { IsTrue result ↔ IsSome (operation self.now p) }
-        ensures graph { IsTrue result → Stands self.now.graph (TheOperation p) }
+        ensures graph { IsTrue result → IsLive self.now.graph (TheOperation p) }
     {
         self.graph.contains(Object::TheOperation(p)) && self.graph.operation(p).is_some()
     }
@@ -117,7 +117,7 @@ impl<T: IrText<A>, A: AttrText<A>> Context<T, A> {
     /// Whether a pointer refers to a live block.
     pub fn contains_block(&self, p: Ptr<BasicBlock>) -> bool
         ensures stands { IsTrue result ↔ IsSome (block self.now p) }
-        ensures graph { IsTrue result → Stands self.now.graph (TheBlock p) }
+        ensures graph { IsTrue result → IsLive self.now.graph (TheBlock p) }
     {
         self.graph.contains(Object::TheBlock(p))
     }
@@ -125,7 +125,7 @@ impl<T: IrText<A>, A: AttrText<A>> Context<T, A> {
     /// Whether a pointer refers to a live region.
     pub fn contains_region(&self, p: Ptr<Region>) -> bool
         ensures stands { IsTrue result ↔ IsSome (region self.now p) }
-        ensures graph { IsTrue result → Stands self.now.graph (TheRegion p) }
+        ensures graph { IsTrue result → IsLive self.now.graph (TheRegion p) }
     {
         self.graph.contains(Object::TheRegion(p))
     }

@@ -5,8 +5,8 @@ ghost use Rattle.irtext_base.specs.Format.{sym_name_key};
 use crate::dialect::OpInfo;
 use irtext_base::base::Identifier;
 use irtext_base::format::OpFormat;
-use irtext_formats::format::parts;
-use irtext_formats::format::parts::Sole;
+use irtext_format_check::format::parts;
+use irtext_format_check::format::parts::Sole;
 use std::alloc::{AllocError, Global};
 use std::marker::Model;
 

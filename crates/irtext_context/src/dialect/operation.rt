@@ -5,7 +5,7 @@ ghost use Rattle.std.specs.Str.{bytes_eq};
 ghost use Rattle.irtext_context.specs.Dialects.{IsRefusedBy};
 ghost use Rattle.irtext_context.specs.DialectTable.{IsKeptAt, dialect_or_new, no_operations, with_operation, CanRegister, RefusesOp};
 ghost use Rattle.irtext_context.specs.Named.{id_of_texts};
-ghost use Rattle.irtext_formats.specs.Directives.{format_of};
+ghost use Rattle.irtext_format_check.specs.Directives.{format_of};
 ghost use Rattle.irtext_base.specs.Format.{Accepted};
 ghost use Rattle.irtext_base.specs.declared.location.Location.{Unknown};
 
@@ -18,7 +18,7 @@ use irtext_base::format::OpFormat;
 use irtext_base::result;
 use irtext_base::result::{Cause, ErrorKind};
 use irtext_base::text::{AttrText, IrText};
-use irtext_formats::format::check_format;
+use irtext_format_check::format::check_format;
 use std::alloc::{AllocError, Global};
 
 /// Returns the id with these two texts if the format is accepted and both are identifiers.

@@ -14,7 +14,7 @@ use Rattle.irtext_grammar.specs.Names.TextScopes.{Word, defined_before}
 use Rattle.irtext_grammar.specs.Names.History.{State, act, after, outcome, step}
 use Rattle.irtext_names.specs.Linked.{Known, Became, StandsAt, TakesDefinition, FailsBy}
 use Rattle.irtext_names.specs.Placeholders.{Defines}
-use Rattle.irtext_names.specs.Tied.{AreTied}
+use Rattle.irtext_names.specs.Tied.{MatchesGraph}
 use Rattle.irtext_names.proofs.Loses.{Loses}
 use Rattle.irtext_names.proofs.NamesOf.{one_value, one_block, no_value, no_block}
 use Rattle.irtext_names.proofs.Pairs.{lost, other, held_if}
@@ -37,14 +37,14 @@ module _ {O B T : Type 0} (old : NameTracker Value (Ptr BasicBlock)) (g : GraphV
   pub value_twice : is_open old.values ≡ true → is_defined (find n (innermost old.values)) ≡ true → FailsBy (act (define_value w p)) old g (record { cause = MultipleDefinitions w.name; at = Some w.at })
   value_twice scope e = record { so = λ known held st s. value_before known held st scope s true e }
 
-  pub takes_value_definition : (new : NameTracker Value (Ptr BasicBlock)) {k : GraphView (Option O) B T} (v : Value) → new.names ≡ old.names → new.labels ≡ old.labels → AreTied new.values new.labels k → is_open old.values ≡ true → is_defined (find n (innermost old.values)) ≡ false
+  pub takes_value_definition : (new : NameTracker Value (Ptr BasicBlock)) {k : GraphView (Option O) B T} (v : Value) → new.names ≡ old.names → new.labels ≡ old.labels → MatchesGraph new.values new.labels k → is_open old.values ≡ true → is_defined (find n (innermost old.values)) ≡ false
       → Defines OfValue old.values new.values g k n v → TakesDefinition (define_value w p) old new g k p (OfValue v)
   takes_value_definition new {k} v names rest tied scope free call = record { so = λ known st became s. (value_before known [] st scope s false free, go known st became s) }
     where
       o : Option Defined
       o = option_map OfValue (placeholder_of (find n (innermost old.values)))
 
-      loss : AreTied old.values old.labels g → Loses g k o
+      loss : MatchesGraph old.values old.labels g → Loses g k o
       loss t = lost OfValue OfBlock one_value no_block old.values old.labels t.value_ties t.label_ties new.values n v call
 
       apart : (known : Known) (st : State) → StandsAt old g known [] st → (q : Place) (d : Defined) → Became known q d → o ≡ Some d → ⊥
@@ -77,14 +77,14 @@ module _ {O B T : Type 0} (old : NameTracker Value (Ptr BasicBlock)) (g : GraphV
   pub label_twice : is_open old.labels ≡ true → is_defined (find n (innermost old.labels)) ≡ true → FailsBy (act (define_label w p)) old g (record { cause = MultipleDefinitions w.name; at = Some w.at })
   label_twice scope e = record { so = λ known held st s. label_before known held st scope s true e }
 
-  pub takes_label_definition : (new : NameTracker Value (Ptr BasicBlock)) {k : GraphView (Option O) B T} (v : Ptr BasicBlock) → new.names ≡ old.names → new.values ≡ old.values → AreTied new.values new.labels k → is_open old.labels ≡ true → is_defined (find n (innermost old.labels)) ≡ false
+  pub takes_label_definition : (new : NameTracker Value (Ptr BasicBlock)) {k : GraphView (Option O) B T} (v : Ptr BasicBlock) → new.names ≡ old.names → new.values ≡ old.values → MatchesGraph new.values new.labels k → is_open old.labels ≡ true → is_defined (find n (innermost old.labels)) ≡ false
       → Defines OfBlock old.labels new.labels g k n v → TakesDefinition (define_label w p) old new g k p (OfBlock v)
   takes_label_definition new {k} v names rest tied scope free call = record { so = λ known st became s. (label_before known [] st scope s false free, go known st became s) }
     where
       o : Option Defined
       o = option_map OfBlock (placeholder_of (find n (innermost old.labels)))
 
-      loss : AreTied old.values old.labels g → Loses g k o
+      loss : MatchesGraph old.values old.labels g → Loses g k o
       loss t = lost OfBlock OfValue one_block no_value old.labels old.values t.label_ties t.value_ties new.labels n v call
 
       apart : (known : Known) (st : State) → StandsAt old g known [] st → (q : Place) (d : Defined) → Became known q d → o ≡ Some d → ⊥

@@ -22,7 +22,7 @@ use Rattle.irtext_grammar.specs.Names.Script.{User}
 use Rattle.irtext_grammar.specs.Names.History.{State}
 use Rattle.irtext_names.specs.Linked.{Known, StandsAt}
 use Rattle.irtext_names.specs.Placeholders.{IsBlank, IsPlaceholder}
-use Rattle.irtext_names.specs.Tied.{entry_at, Tied, AreTied, AreWaiting, IsNoPlaceholder}
+use Rattle.irtext_names.specs.Tied.{entry_at, Tied, MatchesGraph, ArePending, IsNoPlaceholder}
 use Rattle.irtext_names.proofs.SameBut.{same_defined, same_blank}
 use Rattle.irtext_names.proofs.Linked.InPlace.{in_place_same}
 use Rattle.irtext_names.proofs.Linked.Steps.{stands_kept}
@@ -54,11 +54,11 @@ module _ {O B T : Type 0} {g k : GraphView (Option O) B T} {h c : Object} (a : A
   -- names stay tied, where none waits with what came to stand, or with what it stands in
   pub appended_ties : (vs : List (Scope Value)) (ls : List (Scope (Ptr BasicBlock)))
       → ((i n : ℕ) (x : Value) → entry_at i n vs ≡ Some (Pending x) → (owner (OfValue x) ≢ h) × (owner (OfValue x) ≢ c))
-      → ((i n : ℕ) (x : Ptr BasicBlock) → entry_at i n ls ≡ Some (Pending x) → (TheBlock x ≢ h) × (TheBlock x ≢ c)) → AreTied vs ls g → AreTied vs ls k
+      → ((i n : ℕ) (x : Ptr BasicBlock) → entry_at i n ls ≡ Some (Pending x) → (TheBlock x ≢ h) × (TheBlock x ≢ c)) → MatchesGraph vs ls g → MatchesGraph vs ls k
   appended_ties vs ls values labels t = record { value_ties = tied_appended OfValue vs values t.value_ties; label_ties = tied_appended OfBlock ls labels t.label_ties }
 
   -- all stands where the machine stands, where names stay tied
-  pub appended_stands : (names : NameTracker Value (Ptr BasicBlock)) (known : Known) (held : List (User × Defined)) (st : State) → AreTied names.values names.labels k → StandsAt names g known held st → StandsAt names k known held st
+  pub appended_stands : (names : NameTracker Value (Ptr BasicBlock)) (known : Known) (held : List (User × Defined)) (st : State) → MatchesGraph names.values names.labels k → StandsAt names g known held st → StandsAt names k known held st
   appended_stands names known held st tied s = stands_kept g k names known held st still_there (λ s d i. in_place_same g k s d (a.objects.contents (TheOperation (user s))) i) tied s
 
 -- ---- a block came to stand in a region
@@ -72,7 +72,7 @@ module _ {O B T : Type 0} {g k : GraphView (Option O) B T} (r : Ptr Region) (b :
   block_apart ls none i n x f = (λ e. cc, λ e. let same : x ≡ b = cc in none i n (subst (λ z. entry_at i n ls ≡ Some (Pending z)) same f))
 
   -- names stay tied, where no label waits with the block
-  pub block_placed_ties : (vs : List (Scope Value)) (ls : List (Scope (Ptr BasicBlock))) → IsNoPlaceholder ls b → AreTied vs ls g → AreTied vs ls k
+  pub block_placed_ties : (vs : List (Scope Value)) (ls : List (Scope (Ptr BasicBlock))) → IsNoPlaceholder ls b → MatchesGraph vs ls g → MatchesGraph vs ls k
   block_placed_ties vs ls none t = appended_ties a vs ls (λ i n x f. value_apart x (t.value_ties.held i n x f)) (block_apart ls none) t
 
   -- all stands where the machine stands
@@ -84,7 +84,7 @@ module _ {O B T : Type 0} {g k : GraphView (Option O) B T} (r : Ptr Region) (b :
   same_new m q = ap (is_older m) (a.objects.contents q)
 
   -- the block is one's own no more
-  pub block_placed_waits : (m : ℕ) (own own' : List (Ptr BasicBlock)) (vs : List (Scope Value)) (ls : List (Scope (Ptr BasicBlock))) → ((x : Ptr BasicBlock) → Among x own → (x ≡ b) ⊎ Among x own') → AreWaiting m own vs ls g → AreWaiting m own' vs ls k
+  pub block_placed_waits : (m : ℕ) (own own' : List (Ptr BasicBlock)) (vs : List (Scope Value)) (ls : List (Scope (Ptr BasicBlock))) → ((x : Ptr BasicBlock) → Among x own → (x ≡ b) ⊎ Among x own') → ArePending m own vs ls g → ArePending m own' vs ls k
   block_placed_waits m own own' vs ls taken w = record {
     value_waits = record {
       late = λ i n x f. same_new m (owner (OfValue x)) ∙ w.value_waits.late i n x f;

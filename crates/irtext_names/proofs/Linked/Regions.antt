@@ -27,7 +27,7 @@ use Rattle.irtext_scopes.specs.Scopes.{Scope, innermost, outer, is_open, first_p
 use Rattle.irtext_scopes.specs.Tracker.{entered, left, first_value}
 use Rattle.irtext_scopes.specs.Tracker as tracker
 use Rattle.irtext_names.specs.Linked.{Known, nothing_made, Became, Holds, AreLinked, AreMade, StandsAt, Takes, FailsBy}
-use Rattle.irtext_names.specs.Tied.{entry_at, AreTied}
+use Rattle.irtext_names.specs.Tied.{entry_at, MatchesGraph}
 use Rattle.irtext_names.proofs.Linked.Scopes.{means_nothing, bound_means, Leaves, pending_means}
 
 -- ---- the open scopes of one kind
@@ -94,7 +94,7 @@ module _ {O B T V : Type 0} (of : V → Defined) (made : List (Place × V)) (g :
 
 -- ---- no names
 module _ {O B T : Type 0} (g : GraphView (Option O) B T) where
-  pub none_stand : (names : NameTracker Value (Ptr BasicBlock)) → names.names ≡ [] → names.values ≡ [] → names.labels ≡ [] → AreTied names.values names.labels g → StandsAt names g nothing_made [] start
+  pub none_stand : (names : NameTracker Value (Ptr BasicBlock)) → names.names ≡ [] → names.values ≡ [] → names.labels ≡ [] → MatchesGraph names.values names.labels g → StandsAt names g nothing_made [] start
   none_stand names a b c tied = record {
     distinct = rw a (λ i j t e f. absurd (cc));
     tied = tied;
@@ -107,7 +107,7 @@ module _ {O B T : Type 0} (g : GraphView (Option O) B T) where
 
 -- ---- a region begins
 module _ {O B T : Type 0} (g : GraphView (Option O) B T) (old new : NameTracker Value (Ptr BasicBlock)) where
-  enter_stands : (isolated : Bool) → new.names ≡ old.names → new.values ≡ entered isolated old.values → new.labels ≡ [] ∷ old.labels → AreTied new.values new.labels g
+  enter_stands : (isolated : Bool) → new.names ≡ old.names → new.values ≡ entered isolated old.values → new.labels ≡ [] ∷ old.labels → MatchesGraph new.values new.labels g
       → (known : Known) (st : State) → StandsAt old g known [] st → StandsAt new g known [] (history.entered isolated st)
   enter_stands true a b c tied known st s = record {
     distinct = rw a s.distinct;
@@ -134,7 +134,7 @@ module _ {O B T : Type 0} (g : GraphView (Option O) B T) (old new : NameTracker 
 
   -- a region that is entered is one that begins
   pub takes_enter : {A : Type 0} (r : Result A EnterFault) (isolated : Bool) → OnOk r (new.values ≡ entered isolated old.values) → OnOk r (new.labels ≡ [] ∷ old.labels)
-      → ((r ≡ Err TopLevelOpRegionNotIsolatedFromAbove) ↔ ((isolated ≡ false) × (is_open old.values ≡ false))) → new.names ≡ old.names → AreTied new.values new.labels g
+      → ((r ≡ Err TopLevelOpRegionNotIsolatedFromAbove) ↔ ((isolated ≡ false) × (is_open old.values ≡ false))) → new.names ≡ old.names → MatchesGraph new.values new.labels g
       → OnOk r (Takes (enter isolated) (history.entered isolated) old new g)
   takes_enter (Err x) isolated b c shut a tied = tt
   takes_enter (Ok x) isolated b c shut a tied = record { so = λ known st s. (enter_steps isolated (λ i. some_open i (is_open old.values) refl) known st s, enter_stands isolated a b c tied known st s) }
@@ -220,7 +220,7 @@ module _ {O B T : Type 0} (g : GraphView (Option O) B T) (old new : NameTracker 
         → (u : User) (p : Place) → Among (u, p) (xs ++ ys) → (d : Defined) × Became known p d × Holds known.sites held g u d
     both_bound xs ys f h u p a = ⊎_elim (f u p) (h u p) (among_both (u, p) xs ys a)
 
-    leave_stands : (isolated : Bool) → new.names ≡ old.names → new.values ≡ left isolated old.values → new.labels ≡ outer old.labels → AreTied new.values new.labels g → StandsAt new g known held (history.left isolated st)
+    leave_stands : (isolated : Bool) → new.names ≡ old.names → new.values ≡ left isolated old.values → new.labels ≡ outer old.labels → MatchesGraph new.values new.labels g → StandsAt new g known held (history.left isolated st)
     leave_stands true a b c tied = record {
       distinct = rw a s.distinct;
       tied = tied;
@@ -242,7 +242,7 @@ module _ {O B T : Type 0} (g : GraphView (Option O) B T) (old new : NameTracker 
 
   -- a region that is left, and leaves no name without a definition, is one that ends
   pub takes_leave : (o : Option ℕ) (isolated : Bool) → o ≡ tracker.unresolved isolated old.values old.labels → new.values ≡ left isolated old.values → new.labels ≡ outer old.labels → new.names ≡ old.names
-      → AreTied new.values new.labels g → IfNone o ((a : ℕ) → Takes (leave isolated a) (history.left isolated) old new g)
+      → MatchesGraph new.values new.labels g → IfNone o ((a : ℕ) → Takes (leave isolated a) (history.left isolated) old new g)
   takes_leave (Some n) isolated e b c a tied = tt
   takes_leave None isolated e b c a tied = λ at. record { so = λ known st s. (leave_steps known [] st s isolated (sym e) at, leave_stands known [] st s isolated a b c tied) }
 

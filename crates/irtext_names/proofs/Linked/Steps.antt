@@ -22,7 +22,7 @@ use Rattle.irtext_grammar.specs.Names.Script.{Place, User}
 use Rattle.irtext_grammar.specs.Names.TextScopes.{Fact}
 use Rattle.irtext_grammar.specs.Names.History.{State}
 use Rattle.irtext_names.specs.Linked.{Known, Became, Holds, IsInPlace, AreLinked, AreMade, StandsAt}
-use Rattle.irtext_names.specs.Tied.{AreTied, IsNoPlaceholder}
+use Rattle.irtext_names.specs.Tied.{MatchesGraph, IsNoPlaceholder}
 use Rattle.irtext_names.proofs.Added.{added_ties, made_none}
 use Rattle.irtext_names.proofs.Gained.{operation_added, block_added}
 use Rattle.irtext_names.proofs.SameBut.{SameBut, was_defined}
@@ -47,7 +47,7 @@ module _ {O B T : Type 0} (g k : GraphView (Option O) B T) where
   -- all stands where the machine stands, once more is made, and all that users hold they hold still
   stands_grown : (names : NameTracker Value (Ptr BasicBlock)) (known known' : Known) (held held' : List (User × Defined)) (st : State)
       → ((p : Place) (v : Value) → Among (p, v) known.values → Among (p, v) known'.values) → ((p : Place) (b : Ptr BasicBlock) → Among (p, b) known.blocks → Among (p, b) known'.blocks)
-      → ((u : User) (d : Defined) → Holds known.sites held g u d → Holds known'.sites held' k u d) → AreTied names.values names.labels k
+      → ((u : User) (d : Defined) → Holds known.sites held g u d → Holds known'.sites held' k u d) → MatchesGraph names.values names.labels k
       → AreMade OfValue known'.values names.values k → AreMade OfBlock known'.blocks names.labels k → StandsAt names g known held st → StandsAt names k known' held' st
   stands_grown names known known' held held' st more_values more_blocks holds tied values blocks s = record {
     distinct = s.distinct;
@@ -66,7 +66,7 @@ module _ {O B T : Type 0} (g k : GraphView (Option O) B T) where
   -- ---- an edit
   -- what is defined and what is in place stays so
   pub stands_kept : (names : NameTracker Value (Ptr BasicBlock)) (known : Known) (held : List (User × Defined)) (st : State) → ((d : Defined) → IsDefined g d → IsDefined k d) → ((s : Site) (d : Defined) → IsInPlace g d s → IsInPlace k d s)
-      → AreTied names.values names.labels k → StandsAt names g known held st → StandsAt names k known held st
+      → MatchesGraph names.values names.labels k → StandsAt names g known held st → StandsAt names k known held st
   stands_kept names known held st there in_place tied s = stands_grown names known known held held st (λ p v a. a) (λ p b a. a) holds tied
       (λ p v a. let r = s.values_made p v a in (there (OfValue v) r.0, r.1)) (λ p b a. let r = s.blocks_made p b a in (there (OfBlock b) r.0, r.1)) s
     where

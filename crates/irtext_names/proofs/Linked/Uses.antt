@@ -17,7 +17,7 @@ use Rattle.irtext_grammar.specs.Names.TextScopes.{Word}
 use Rattle.irtext_grammar.specs.Names.History.{State, act, after, going, outcome, step}
 use Rattle.irtext_names.specs.Linked.{Known, StandsAt, TakesUse}
 use Rattle.irtext_names.specs.Placeholders.{MakesValue, MakesLabel, Uses}
-use Rattle.irtext_names.specs.Tied.{AreTied}
+use Rattle.irtext_names.specs.Tied.{MatchesGraph}
 use Rattle.irtext_names.proofs.Gained.{value_same, value_placeholder, block_same, block_placeholder}
 use Rattle.irtext_names.proofs.Loses.{Loses, loses_one}
 use Rattle.irtext_names.proofs.Linked.InPlace.{Moves, moves_all, in_place_operation, in_place_block}
@@ -29,7 +29,7 @@ one_more : (held : List (User × Defined)) (y x : User × Defined) → Among x h
 one_more held y x h = among_left x held (y ∷ []) h
 
 module _ {O B T : Type 0} (old new : NameTracker Value (Ptr BasicBlock)) {g k : GraphView (Option O) B (Option T)} (n : ℕ) (w : Word) (u : User) (is : slice_get old.names n ≡ Some w.name)
-    (names : new.names ≡ old.names) (tied : AreTied new.values new.labels k) where
+    (names : new.names ≡ old.names) (tied : MatchesGraph new.values new.labels k) where
   -- ---- a value
   value_step : (st : State) (held : List (User × Defined)) (known : Known) → is_open old.values ≡ true → StandsAt old g known held st → step st (act (use_value w u)) ≡ going (after st (fact_of (use_value w u)))
   value_step st held known scope s =
@@ -59,7 +59,7 @@ module _ {O B T : Type 0} (old new : NameTracker Value (Ptr BasicBlock)) {g k : 
           (bound_stays m held (held ++ (u, OfValue v) ∷ []) (one_more held (u, OfValue v)) known st.bound (λ p d b i. cc) s.bound)
 
 module _ {O B T : Type 0} (old new : NameTracker Value (Ptr BasicBlock)) {g k : GraphView (Option O) B T} (n : ℕ) (w : Word) (u : User) (is : slice_get old.names n ≡ Some w.name)
-    (names : new.names ≡ old.names) (tied : AreTied new.values new.labels k) where
+    (names : new.names ≡ old.names) (tied : MatchesGraph new.values new.labels k) where
   -- ---- a label
   label_step : (st : State) (held : List (User × Defined)) (known : Known) → is_open old.labels ≡ true → StandsAt old g known held st → step st (act (use_label w u)) ≡ going (after st (fact_of (use_label w u)))
   label_step st held known scope s =

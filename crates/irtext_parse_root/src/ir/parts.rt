@@ -3,12 +3,12 @@ ghost use Rattle.std.specs.Prelude.{◌≡◌, false, IsSome, IfOk, IfErr, OnOk,
 ghost use Rattle.irtext_base.specs.Own.{texts_of};
 ghost use Rattle.irtext_context.specs.Context.{operation};
 ghost use Rattle.irtext_context.specs.Made.{SameObjects};
-ghost use Rattle.irtext_read.specs.AttrTexts.{attr_at};
-ghost use Rattle.irtext_state.specs.States.{marks_of};
-ghost use Rattle.irtext_outcomes.specs.Promises.Root.{IsFresh, UnlessMemory};
-ghost use Rattle.irtext_outcomes.specs.Promises.Section.{indices_of};
-ghost use Rattle.irtext_outcomes.specs.Readers.Refusals.{Refusal, RefusesFailed};
-ghost use Rattle.irtext_outcomes.specs.Readers.Streams.{KeepsRest};
+ghost use Rattle.irtext_tokens.specs.AttrTexts.{attr_at};
+ghost use Rattle.irtext_parse_state.specs.States.{marks_of};
+ghost use Rattle.irtext_parse_spec.specs.Promises.Root.{IsFresh, UnlessMemory};
+ghost use Rattle.irtext_parse_spec.specs.Promises.Section.{indices_of};
+ghost use Rattle.irtext_parse_spec.specs.Readers.Refusals.{Refusal, RefusesFailed};
+ghost use Rattle.irtext_parse_spec.specs.Readers.Streams.{KeepsRest};
 ghost use Rattle.irtext_promises.specs.Alone.{BuildsRegion, RefusesRegion, RefusesBlock};
 ghost use Rattle.irtext_parse_root.specs.AnyRegion.{ReadsRegion, MissesRegion};
 ghost use Rattle.irtext_parse_root.specs.Block.{MissesBlock};
@@ -20,7 +20,7 @@ use crate::region::region_parse;
 use irtext_base::parsable::ParseResult;
 use irtext_base::text::{AttrText, IrText};
 use irtext_context::base::{BasicBlock, Operation, Ptr, Region};
-use irtext_state::parsable::StateStream;
+use irtext_parse_state::parsable::StateStream;
 
 impl<T: IrText<A>, A: AttrText<A>, U> Parsable<T, A, U> for Region {
     /// The operation to which the region is appended. It has to be live in the context.

@@ -2,11 +2,11 @@
 ghost use Rattle.std.specs.Prelude.{◌≡◌, false, IfOk, IfErr, OnErr};
 ghost use Rattle.irtext_context.specs.Made.{SameObjects};
 ghost use Rattle.irtext_base.specs.Own.{texts_of};
-ghost use Rattle.irtext_read.specs.AttrTexts.{attr_at};
-ghost use Rattle.irtext_state.specs.States.{marks_of};
-ghost use Rattle.irtext_outcomes.specs.Readers.Refusals.{Refusal, RefusesFailed};
-ghost use Rattle.irtext_outcomes.specs.Readers.Streams.{KeepsRest};
-ghost use Rattle.irtext_outcomes.specs.Promises.Root.{IsFresh, UnlessMemory};
+ghost use Rattle.irtext_tokens.specs.AttrTexts.{attr_at};
+ghost use Rattle.irtext_parse_state.specs.States.{marks_of};
+ghost use Rattle.irtext_parse_spec.specs.Readers.Refusals.{Refusal, RefusesFailed};
+ghost use Rattle.irtext_parse_spec.specs.Readers.Streams.{KeepsRest};
+ghost use Rattle.irtext_parse_spec.specs.Promises.Root.{IsFresh, UnlessMemory};
 ghost use Rattle.irtext_promises.specs.Promises.{BuildsWith, RefusesWith};
 ghost use Rattle.irtext_parse_root.specs.AnyState.{ReadsAny, MissesAny};
 
@@ -15,7 +15,7 @@ use crate::parsable::Parsable;
 use irtext_base::parsable::ParseResult;
 use irtext_base::text::{AttrText, IrText};
 use irtext_context::base::{Operation, Ptr};
-use irtext_state::parsable::StateStream;
+use irtext_parse_state::parsable::StateStream;
 
 /// How an operation is parsed.
 #[derive(Clone, Copy)]

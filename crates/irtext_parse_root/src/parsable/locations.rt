@@ -2,21 +2,21 @@
 ghost use Rattle.std.specs.Prelude.{◌≡◌, IfOk};
 ghost use Rattle.irtext_base.specs.Moves.{path_kept, all_kept};
 ghost use Rattle.irtext_base.specs.Paths.{path_of, is_known};
-ghost use Rattle.irtext_read.specs.AttrTexts.{attr_at};
-ghost use Rattle.irtext_state.specs.States.{marks_of};
-ghost use Rattle.irtext_outcomes.specs.Readers.Locations.{source_at, location_at};
-ghost use Rattle.irtext_outcomes.specs.Readers.Positions.{position_at};
-ghost use Rattle.irtext_read.specs.MustRead.{MayRead};
+ghost use Rattle.irtext_tokens.specs.AttrTexts.{attr_at};
+ghost use Rattle.irtext_parse_state.specs.States.{marks_of};
+ghost use Rattle.irtext_parse_spec.specs.Readers.Locations.{source_at, location_at};
+ghost use Rattle.irtext_parse_spec.specs.Readers.Positions.{position_at};
+ghost use Rattle.irtext_tokens.specs.MustRead.{MayRead};
 ghost use Rattle.irtext_grammar.specs.Contexts.Held.{location_over};
-ghost use Rattle.irtext_outcomes.specs.Readers.NewPaths.{AddsPaths, MayReadOver, known_location};
-ghost use Rattle.irtext_outcomes.specs.Readers.Streams.{itself, replaced, KeepsRest};
+ghost use Rattle.irtext_parse_spec.specs.Readers.NewPaths.{AddsPaths, MayReadOver, known_location};
+ghost use Rattle.irtext_parse_spec.specs.Readers.Streams.{itself, replaced, KeepsRest};
 
 use crate::parsable::{Parsable, ParseResult, StateStream};
 use irtext_base::location::{Location, Source};
 use irtext_base::parsable::SourcePosition;
 use irtext_base::text::{AttrText, IrText};
-use irtext_parse_locations::location::nested::location_parse;
-use irtext_parse_locations::location::source::{position_parse, source_parse};
+use irtext_parse_section::location::nested::location_parse;
+use irtext_parse_section::location::source::{position_parse, source_parse};
 
 impl<T: IrText<A>, A: AttrText<A>, U> Parsable<T, A, U> for SourcePosition {
     type Arg = ();

@@ -2,12 +2,12 @@
 ghost use Rattle.std.specs.Prelude.{◌≡◌, pos, string_bytes};
 ghost use Rattle.std.specs.Str.{encode_utf8_all};
 ghost use Rattle.irtext_base.specs.Answers.{mapped};
-ghost use Rattle.irtext_read.specs.Integers.{bool_at, int_at, signed_below, unsigned_below};
-ghost use Rattle.irtext_read.specs.QuotedTexts.{quoted_at};
-ghost use Rattle.irtext_read.specs.Tokens.{identifier_at};
-ghost use Rattle.irtext_read.specs.MustRead.{MayRead};
-ghost use Rattle.irtext_outcomes.specs.Readers.DialectNames.{dialect_name_at};
-ghost use Rattle.irtext_outcomes.specs.Readers.Streams.{itself, replaced};
+ghost use Rattle.irtext_tokens.specs.Integers.{bool_at, int_at, signed_below, unsigned_below};
+ghost use Rattle.irtext_tokens.specs.QuotedTexts.{quoted_at};
+ghost use Rattle.irtext_tokens.specs.Tokens.{identifier_at};
+ghost use Rattle.irtext_tokens.specs.MustRead.{MayRead};
+ghost use Rattle.irtext_parse_spec.specs.Readers.DialectNames.{dialect_name_at};
+ghost use Rattle.irtext_parse_spec.specs.Readers.Streams.{itself, replaced};
 
 use crate::parsable::{Parsable, ParseResult, StateStream};
 use irtext_base::base::Identifier;
@@ -15,8 +15,8 @@ use irtext_base::parsable::CharStream;
 use irtext_base::result::Cause;
 use irtext_base::text::{AttrText, IrText};
 use irtext_context::dialect::DialectName;
-use irtext_read::irfmt::faults::refuse_at;
-use irtext_read::irfmt::parsers::{bool_parse, identifier_parse, int_parse, quoted_string_parse};
+use irtext_tokens::irfmt::faults::refuse_at;
+use irtext_tokens::irfmt::parsers::{bool_parse, identifier_parse, int_parse, quoted_string_parse};
 
 impl<T: IrText<A>, A: AttrText<A>, U> Parsable<T, A, U> for usize {
     type Arg = ();

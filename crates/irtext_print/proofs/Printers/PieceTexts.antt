@@ -12,7 +12,7 @@ use Rattle.irtext_base.specs.declared.base.attributes.AttrObj.{AttrObj}
 use Rattle.irtext_base.specs.declared.base.attributes.AttrObj.TheVariants.{GivenNames, Ident, Own}
 use Rattle.irtext_base.specs.Locations.{attr_view}
 use Rattle.irtext_grammar.specs.Spelling.AttrText.{attr_text}
-use Rattle.irtext_formats.proofs.Formats.{same_text_bytes}
+use Rattle.irtext_format_check.proofs.Formats.{same_text_bytes}
 use Rattle.irtext_base.specs.Format.{Directive}
 use Rattle.irtext_base.proofs.Characters.{and_left, and_right}
 use Rattle.irtext_grammar.specs.Grammar.Tree.{Attribute}

@@ -9,7 +9,7 @@ use crate::location::print::{fmt_metadata, fmt_place};
 use irtext_base::location::Location;
 use irtext_base::text::{AttrText, IrText};
 use irtext_context::base::Context;
-use irtext_read::printable::fmt_quoted;
+use irtext_tokens::printable::fmt_quoted;
 use std::alloc::AllocError;
 use std::fmt;
 

@@ -17,7 +17,7 @@ use irtext_base::location::{Location, Source};
 use irtext_base::parsable::SourcePosition;
 use irtext_base::text::{AttrText, IrText};
 use irtext_context::base::Context;
-use irtext_read::printable::fmt_quoted;
+use irtext_tokens::printable::fmt_quoted;
 use std::fmt;
 
 /// Returns the path of a file, if the context keeps it.

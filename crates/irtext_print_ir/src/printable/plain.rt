@@ -2,14 +2,14 @@
 ghost use Rattle.std.specs.Prelude.{◌≡◌, Some, List, ℕ};
 ghost use Rattle.std.specs.Char.{encode_utf8};
 ghost use Rattle.std.specs.String.{string_bytes};
-ghost use Rattle.irtext_read.specs.QuotedBytes.{quoted_bytes};
+ghost use Rattle.irtext_tokens.specs.QuotedBytes.{quoted_bytes};
 ghost use Rattle.irtext_print_ir.specs.Printers.Separator.{bool_text};
 
 use crate::printable::state::State;
 use crate::printable::{ListSeparator, Printable, fmt_indented_newline};
 use irtext_base::text::{AttrText, IrText};
 use irtext_context::base::Context;
-use irtext_read::printable::fmt_quoted;
+use irtext_tokens::printable::fmt_quoted;
 use std::fmt;
 
 /// Prints what the value behind the reference prints.

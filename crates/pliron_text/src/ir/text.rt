@@ -2,23 +2,23 @@
 ghost use Rattle.std.specs.Prelude.{◌≡◌, true, false, IfOk, IfErr, OnErr};
 ghost use Rattle.irtext_context.specs.Made.{SameObjects};
 ghost use Rattle.irtext_base.specs.Own.{texts_of};
-ghost use Rattle.irtext_read.specs.AttrTexts.{attr_at};
-ghost use Rattle.irtext_state.specs.States.{marks_of};
-ghost use Rattle.irtext_outcomes.specs.Readers.Refusals.{Refusal, RefusesFailed};
-ghost use Rattle.irtext_outcomes.specs.Promises.Root.{IsFresh, UnlessMemory};
+ghost use Rattle.irtext_tokens.specs.AttrTexts.{attr_at};
+ghost use Rattle.irtext_parse_state.specs.States.{marks_of};
+ghost use Rattle.irtext_parse_spec.specs.Readers.Refusals.{Refusal, RefusesFailed};
+ghost use Rattle.irtext_parse_spec.specs.Promises.Root.{IsFresh, UnlessMemory};
 ghost use Rattle.irtext_promises.specs.Promises.{BuildsRoot, RefusesRoot};
 ghost use Rattle.irtext_parse_root.specs.AnyState.{ReadsAny, MissesAny};
 ghost use Rattle.irtext_parse_root.specs.Whole.{BuildsWhole, RefusesWhole};
 ghost use Rattle.irtext_parse_root.specs.WholeAny.{ReadsWholeAny, MissesWholeAny};
-ghost use Rattle.irtext_outcomes.specs.Readers.Streams.{KeepsRest};
+ghost use Rattle.irtext_parse_spec.specs.Readers.Streams.{KeepsRest};
 
 use irtext_base::parsable::ParseResult;
 use irtext_base::text::{AttrText, IrText};
 use irtext_context::base::{Context, Operation, Ptr};
 use irtext_parse_root::outermost::root_parse;
 use irtext_parse_root::whole::whole_parse;
+use irtext_parse_state::parsable::StateStream;
 use irtext_print_ir::ir::print::concrete::OpObj;
-use irtext_state::parsable::StateStream;
 
 /// Parsing of operations, and an operation as a printable value.
 pub trait OperationText {

@@ -6,7 +6,7 @@ ghost use Rattle.irtext_base.specs.Faults.{Fault};
 ghost use Rattle.irtext_base.specs.Locations.{AttrView};
 ghost use Rattle.irtext_base.specs.Own.{Ends, language, texts_of};
 ghost use Rattle.irtext_base.specs.Text.{after_space, begins, begins_word};
-ghost use Rattle.irtext_read.specs.AttrTexts.{attr_at};
+ghost use Rattle.irtext_tokens.specs.AttrTexts.{attr_at};
 ghost use Rattle.irtext_grammar.specs.Spelling.AttrText.{attr_text, attr_tree, IsSpellableAttr};
 ghost use Rattle.irtext_grammar.specs.Grammar.Reads.{attribute};
 

@@ -3,7 +3,7 @@
 ghost use Rattle.std.specs.Prelude.{◌≡◌, ◌≤◌, ℕ, [], None, IsSome, IfOk, OnOk, OnErr};
 ghost use Rattle.irtext_base.specs.Paths.{path_index, with_path, MayBeRefused};
 ghost use Rattle.irtext_graph.specs.Back.{AllOlder, IsClosedBelow};
-ghost use Rattle.irtext_graph.specs.Graph.{Stands};
+ghost use Rattle.irtext_graph.specs.Graph.{IsLive};
 ghost use Rattle.irtext_graph.specs.Store.{before};
 ghost use Rattle.irtext_graph.specs.declared.object.Object.TheVariants.{TheOperation};
 ghost use Rattle.irtext_context.specs.Made.{BlocksStand, ValuesStand};
@@ -82,7 +82,7 @@ pub trait Making<T: IrText<A>, A: AttrText<A>> {
     /// Adds an empty region to an operation, after its other regions. Fails if an allocation fails or a counter is at its limit; then the
     /// context is unchanged.
     fn add_region(&mut self, op: Ptr<Operation>) -> Result<Ptr<Region>, AllocError>
-        requires { Stands (seen self.old).graph (TheOperation op) }
+        requires { IsLive (seen self.old).graph (TheOperation op) }
         ensures added { IfOk result (λ r. AddsRegion (seen self.old) (seen self.new) op r) }
         ensures err { OnErr result (seen self.new ≡ seen self.old) }
         ensures kept { (mark : ℕ) → mark ≤ (seen self.old).graph.made → before mark (seen self.old).graph.operations op ≡ None →

@@ -1,6 +1,6 @@
 //! Making registered operations.
 ghost use Rattle.std.specs.Prelude.{◌≡◌, ◌≤◌, ◌⊎◌, ℕ, None, IsSome, IfOk, IfErr, OnOk, OnErr};
-ghost use Rattle.irtext_graph.specs.Graph.{Stands};
+ghost use Rattle.irtext_graph.specs.Graph.{IsLive};
 ghost use Rattle.irtext_graph.specs.Store.{before};
 ghost use Rattle.irtext_graph.specs.declared.object.Object.TheVariants.{TheOperation};
 ghost use Rattle.irtext_context.specs.Context.{KeepsOlder, MakesOperation};
@@ -29,7 +29,7 @@ pub fn add_regions<T: IrText<A>, A: AttrText<A>>(
     op: Ptr<Operation>,
     count: usize,
 ) -> Result<(), AllocError>
-    requires { Stands ctx.old.graph (TheOperation op) }
+    requires { IsLive ctx.old.graph (TheOperation op) }
     ensures adds { OnOk result (AddsRegions count ctx.old ctx.new op) }
     ensures kept { (mark : ℕ) → mark ≤ ctx.old.graph.made → before mark ctx.old.graph.operations op ≡ None → KeepsOlder mark ctx.old ctx.new }
 {

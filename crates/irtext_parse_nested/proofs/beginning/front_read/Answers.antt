@@ -1,7 +1,7 @@
 use Rattle.std.proofs.Common.{sym, ap, ◌∙◌, subst, length, slice_get, true≢false}
-use Rattle.irtext_read.proofs.Exits.{handed_on}
-use Rattle.irtext_formats.specs.Directives.{format_of}
-use Rattle.irtext_nesting.specs.Heads.{steps_of}
+use Rattle.irtext_tokens.proofs.Exits.{handed_on}
+use Rattle.irtext_format_check.specs.Directives.{format_of}
+use Rattle.irtext_parse_spec.specs.Heads.{steps_of}
 use Rattle.irtext_parse_pieces.proofs.Meanings.{names_more}
 use Rattle.irtext_parse_nested.specs.Coming.{IsStep}
 use Rattle.irtext_parse_nested.proofs.FrontRead.{lead_lacks, lead_unread, piece_lacks, piece_commits, front_stands, steps_are, isolated_is}

@@ -1,13 +1,13 @@
 use Rattle.std.proofs.Common.{◌≡◌, ◌∙◌, Some, true, is_some, [], refl, sym, subst, slice_get, true≢false}
 use Rattle.irtext_graph.specs.Back.{AllOlder}
 use Rattle.irtext_grammar.specs.Contexts.Held.{whole}
-use Rattle.irtext_outcomes.specs.Promises.Root.{UnlessMemory}
+use Rattle.irtext_parse_spec.specs.Promises.Root.{UnlessMemory}
 use Rattle.irtext_parse_nested.proofs.Stores.{exit_from}
-use Rattle.irtext_read.specs.AttrTexts.{attr_at}
-use Rattle.irtext_read.proofs.Exits.{handed_on}
-use Rattle.irtext_read.proofs.Steps.{alone}
+use Rattle.irtext_tokens.specs.AttrTexts.{attr_at}
+use Rattle.irtext_tokens.proofs.Exits.{handed_on}
+use Rattle.irtext_tokens.proofs.Steps.{alone}
 use Rattle.irtext_parse_pieces.proofs.Meanings.{takes_whole}
-use Rattle.irtext_names.specs.Tied.{AreWaiting}
+use Rattle.irtext_names.specs.Tied.{ArePending}
 use Rattle.irtext_parse_nested.specs.Beginning.{LacksFront, NotGatheredAs}
 use Rattle.irtext_parse_nested.specs.Read.{RefusesOperation}
 use Rattle.irtext_parse_nested.proofs.BeginRead.{if_ok_both, on_ok_by}
@@ -80,7 +80,7 @@ returns-clause-sound g c =
     let older = subst (λ n. AllOlder n old.graph) c.made.ensures.made c.made.ensures.older in
     let read = c.front_read.ensures.names in
     on_ok_by c.begin_read.result (λ b m n le sound.
-    let waits = subst (λ ls. AreWaiting n [] c.front_read.new.names.values ls old.graph) (sym read.labels) (subst (λ vs. AreWaiting n [] vs c.args.names.now.labels old.graph) (sym read.values) sound.waiting) in
+    let waits = subst (λ ls. ArePending n [] c.front_read.new.names.values ls old.graph) (sym read.labels) (subst (λ vs. ArePending n [] vs c.args.names.now.labels old.graph) (sym read.values) sound.waiting) in
     record {
       tied = begun_ties c.args.block c.in_ok-front.front c.position-at.result c.loc-loc.result c.front_read.new.names old c.begin_read.new.names c.begin_read.new.s.state.ctx.now b m older c.requires.block;
       waiting = begun_waits c.args.block c.in_ok-front.front c.position-at.result c.loc-loc.result c.front_read.new.names old c.begin_read.new.names c.begin_read.new.s.state.ctx.now b m older c.requires.block n le waits;

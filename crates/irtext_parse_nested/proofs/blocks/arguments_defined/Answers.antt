@@ -4,7 +4,7 @@ use Rattle.irtext_graph.specs.declared.object.Value.TheVariants.{Argument}
 use Rattle.irtext_grammar.specs.Contexts.Held.{whole}
 use Rattle.irtext_parse_nested.specs.Definitions.{ValuesReady, DefinesRow, FailsRow, IsFaultOf, LosesPlaceholders}
 use Rattle.irtext_parse_nested.specs.Ends.{numbers_of}
-use Rattle.irtext_names.specs.Tied.{AreWaiting}
+use Rattle.irtext_names.specs.Tied.{ArePending}
 use Rattle.irtext_parse_nested.proofs.Blanks.{loses_sound}
 use Rattle.irtext_parse_nested.proofs.blocks.arguments_defined.Goals as goal
 
@@ -15,13 +15,13 @@ pub returns-in-Ok-clause-sound : goal.returns-in-Ok-clause-sound
 returns-in-Ok-clause-sound g c = λ m h.
     let d = c.define_values in
     loses_sound c.args.names.now d.new.names c.args.s.now.state _ (subst (λ g. LosesPlaceholders g d.new.graph) c.graph_mut.ensures.value d.ensures.loses) d.ensures.tied m
-    (λ w. d.ensures.waiting m [] (subst (λ g. AreWaiting m [] c.args.names.now.values c.args.names.now.labels g) (sym c.graph_mut.ensures.value) w)) h
+    (λ w. d.ensures.waiting m [] (subst (λ g. ArePending m [] c.args.names.now.values c.args.names.now.labels g) (sym c.graph_mut.ensures.value) w)) h
 
 pub returns-in-Err-clause-sound : goal.returns-in-Err-clause-sound
 returns-in-Err-clause-sound g c = λ m h.
     let d = c.define_values in
     loses_sound c.args.names.now d.new.names c.args.s.now.state _ (subst (λ g. LosesPlaceholders g d.new.graph) c.graph_mut.ensures.value d.ensures.loses) d.ensures.tied m
-    (λ w. d.ensures.waiting m [] (subst (λ g. AreWaiting m [] c.args.names.now.values c.args.names.now.labels g) (sym c.graph_mut.ensures.value) w)) h
+    (λ w. d.ensures.waiting m [] (subst (λ g. ArePending m [] c.args.names.now.values c.args.names.now.labels g) (sym c.graph_mut.ensures.value) w)) h
 
 pub returns-in-Ok-clause-defines : goal.returns-in-Ok-clause-defines
 returns-in-Ok-clause-defines g c = record {

@@ -1,6 +1,6 @@
 use Rattle.std.proofs.Common.{◌≡◌, ◌∙◌, Some, true, length, refl, sym, ap, subst, slice_get}
-use Rattle.irtext_read.specs.AttrTexts.{attr_at}
-use Rattle.irtext_read.proofs.Exits.{handed_on}
+use Rattle.irtext_tokens.specs.AttrTexts.{attr_at}
+use Rattle.irtext_tokens.proofs.Exits.{handed_on}
 use Rattle.irtext_grammar.specs.Contexts.Held.{whole}
 use Rattle.irtext_scopes.specs.Scopes.{is_open}
 use Rattle.irtext_names.specs.Rows.{AreKnown}
@@ -10,7 +10,7 @@ use Rattle.irtext_parse_nested.proofs.BlockOpened.{label_known, arguments_known,
 use Rattle.irtext_parse_nested.proofs.BlockTurn.{head_unread, keys_refused}
 use Rattle.irtext_parse_nested.proofs.Ended.{must_commit}
 use Rattle.irtext_parse_nested.proofs.Marking.{gains_nothing}
-use Rattle.irtext_state.specs.States.{marks_of}
+use Rattle.irtext_parse_state.specs.States.{marks_of}
 use Rattle.irtext_parse_nested.proofs.blocks.block_begin.Goals as goal
 
 -- ---- no header stands there

@@ -1,9 +1,9 @@
 use Rattle.std.proofs.Common.{◌≡◌, ◌<◌, ◌∙◌, inl, inr, true, length, sym, ap, subst}
-use Rattle.irtext_read.proofs.Exits.{handed_on}
+use Rattle.irtext_tokens.proofs.Exits.{handed_on}
 use Rattle.irtext_grammar.specs.Contexts.Held.{whole}
 use Rattle.irtext_scopes.specs.Scopes.{is_open}
-use Rattle.irtext_names.specs.Tied.{AreTied}
-use Rattle.irtext_graph.specs.Graph.{Stands}
+use Rattle.irtext_names.specs.Tied.{MatchesGraph}
+use Rattle.irtext_graph.specs.Graph.{IsLive}
 use Rattle.irtext_graph.specs.declared.object.Object.TheVariants.{TheBlock}
 use Rattle.irtext_context.specs.Context.{KeepsOlder}
 use Rattle.irtext_context.specs.declared.base.item.Item.TheVariants as item
@@ -52,10 +52,10 @@ pub label_defined-requires-clause-known : goal.label_defined-requires-clause-kno
 label_defined-requires-clause-known g c = subst (λ ns. c.args.label.name < length ns) (sym c.in_ok-arguments_defined.ensures.names.0) c.requires.label
 
 pub label_defined-requires-clause-tied : goal.label_defined-requires-clause-tied
-label_defined-requires-clause-tied g c = subst (λ x. AreTied c.arguments_defined.new.names.values c.arguments_defined.new.names.labels x.graph) (sym c.in_ok-note_mark.ensures.ctx) c.in_ok-arguments_defined.ensures.tied
+label_defined-requires-clause-tied g c = subst (λ x. MatchesGraph c.arguments_defined.new.names.values c.arguments_defined.new.names.labels x.graph) (sym c.in_ok-note_mark.ensures.ctx) c.in_ok-arguments_defined.ensures.tied
 
 pub label_defined-requires-clause-there : goal.label_defined-requires-clause-there
-label_defined-requires-clause-there g c = subst (λ x. Stands x.graph (TheBlock c.args.block)) (sym c.in_ok-note_mark.ensures.ctx)
+label_defined-requires-clause-there g c = subst (λ x. IsLive x.graph (TheBlock c.args.block)) (sym c.in_ok-note_mark.ensures.ctx)
     (block_stays c.args.s.now.state.ctx.now.graph c.arguments_defined.new.s.state.ctx.now.graph c.in_ok-arguments_defined.ensures.loses c.args.block c.requires.inside c.requires.there)
 
 pub label_defined-requires-clause-no_placeholder : goal.label_defined-requires-clause-no_placeholder

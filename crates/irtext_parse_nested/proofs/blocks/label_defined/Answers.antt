@@ -1,5 +1,5 @@
 use Rattle.std.proofs.Common.{sym, subst, []}
-use Rattle.irtext_names.specs.Tied.{AreWaiting}
+use Rattle.irtext_names.specs.Tied.{ArePending}
 use Rattle.irtext_parse_nested.specs.Definitions.{LosesPlaceholders}
 use Rattle.irtext_parse_nested.proofs.Blanks.{loses_sound}
 use Rattle.irtext_parse_nested.proofs.blocks.label_defined.Goals as goal
@@ -8,4 +8,4 @@ pub returns-clause-sound : goal.returns-clause-sound
 returns-clause-sound g c = λ m h.
     let d = c.label_block in
     loses_sound c.args.names.now d.new.names c.args.s.now.state _ (subst (λ g. LosesPlaceholders g d.new.graph) c.graph_mut.ensures.value d.ensures.loses) d.ensures.tied m
-    (λ w. d.ensures.waiting m [] (subst (λ g. AreWaiting m [] c.args.names.now.values c.args.names.now.labels g) (sym c.graph_mut.ensures.value) w)) h
+    (λ w. d.ensures.waiting m [] (subst (λ g. ArePending m [] c.args.names.now.values c.args.names.now.labels g) (sym c.graph_mut.ensures.value) w)) h

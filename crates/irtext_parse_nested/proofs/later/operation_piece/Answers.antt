@@ -1,7 +1,7 @@
 use Rattle.std.proofs.Common.{refl, ap, subst, length}
 use Rattle.irtext_grammar.specs.Contexts.Held.{whole}
-use Rattle.irtext_read.specs.AttrTexts.{attr_at}
-use Rattle.irtext_read.proofs.Exits.{handed_on}
+use Rattle.irtext_tokens.specs.AttrTexts.{attr_at}
+use Rattle.irtext_tokens.proofs.Exits.{handed_on}
 use Rattle.irtext_parse_nested.specs.Later.{NotStored, StoresPiece}
 use Rattle.irtext_parse_nested.specs.Ends.{WritesAttributes}
 use Rattle.irtext_parse_nested.proofs.LaterRead.{next_missing, next_commits, next_moves, next_whole, next_goes_on, next_unstored, unstored_commits, piece_lasts, piece_spares, piece_keeps, piece_sound}

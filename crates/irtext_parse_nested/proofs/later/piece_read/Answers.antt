@@ -1,7 +1,7 @@
 use Rattle.std.proofs.Common.{◌∙◌, sym, ap, subst, slice_get}
-use Rattle.irtext_nesting.specs.Heads.{piece_at}
-use Rattle.irtext_outcomes.specs.Readers.Streams.{itself, replaced}
-use Rattle.irtext_read.specs.AttrTexts.{attr_at}
+use Rattle.irtext_parse_spec.specs.Heads.{piece_at}
+use Rattle.irtext_parse_spec.specs.Readers.Streams.{itself, replaced}
+use Rattle.irtext_tokens.specs.AttrTexts.{attr_at}
 use Rattle.irtext_parse_pieces.specs.Pieces.{MustPiece}
 use Rattle.irtext_parse_nested.proofs.Faults.{some_same}
 use Rattle.irtext_parse_nested.proofs.LaterPieces.{registered_steps, piece_spaced}

@@ -1,5 +1,5 @@
 use Rattle.std.proofs.Common.{◌≡◌, ◌∙◌, Some, subst, slice_get}
-use Rattle.irtext_graph.specs.Graph.{Stands}
+use Rattle.irtext_graph.specs.Graph.{IsLive}
 use Rattle.irtext_graph.specs.Parts.{ValueStands}
 use Rattle.irtext_graph.specs.declared.object.Object.TheVariants.{TheBlock}
 use Rattle.irtext_parse_nested.proofs.Ordering.{all_in_order}
@@ -13,4 +13,4 @@ make_operation_with-requires-clause-operands g c = λ i v e.
 pub make_operation_with-requires-clause-successors : goal.make_operation_with-requires-clause-successors
 make_operation_with-requires-clause-successors g c = λ i b e.
     let x = c.args.gathered.successors in
-    all_in_order (λ b. Stands c.args.ctx.now.graph (TheBlock b)) x.single.items x.list.items c.requires.successors c.requires.listed_successors i b (subst (λ xs. slice_get xs i ≡ Some b) (c.deref-2.ensures.value ∙ c.in_ok-successors.ensures) e)
+    all_in_order (λ b. IsLive c.args.ctx.now.graph (TheBlock b)) x.single.items x.list.items c.requires.successors c.requires.listed_successors i b (subst (λ xs. slice_get xs i ≡ Some b) (c.deref-2.ensures.value ∙ c.in_ok-successors.ensures) e)

@@ -1,13 +1,13 @@
 use Rattle.std.proofs.Common.{◌∙◌, ◌∷◌, [], inl, inr, refl, sym, ap, subst, length}
-use Rattle.irtext_read.specs.AttrTexts.{attr_at}
-use Rattle.irtext_read.proofs.Exits.{handed_on}
+use Rattle.irtext_tokens.specs.AttrTexts.{attr_at}
+use Rattle.irtext_tokens.proofs.Exits.{handed_on}
 use Rattle.irtext_context.specs.declared.base.item.Item.TheVariants as item
-use Rattle.irtext_state.specs.States.{marks_of}
+use Rattle.irtext_parse_state.specs.States.{marks_of}
 use Rattle.irtext_grammar.specs.Contexts.Held.{whole}
 use Rattle.irtext_graph.specs.declared.object.Object.TheVariants.{TheOperation}
-use Rattle.irtext_nesting.specs.Stands.{Spares}
+use Rattle.irtext_parse_spec.specs.Unchanged.{ModifiesOnly}
 use Rattle.irtext_parse_nested.specs.Ends.{BecomesNamed}
-use Rattle.irtext_parse_nested.specs.Items.{Lasts}
+use Rattle.irtext_parse_nested.specs.Items.{KeepsLive}
 use Rattle.irtext_parse_nested.specs.Located.{IsLocated}
 use Rattle.irtext_parse_nested.specs.Read.{no_results}
 use Rattle.irtext_parse_nested.proofs.Ended.{end_read, end_marked, end_unread, end_noted, must_commit}
@@ -99,7 +99,7 @@ returns-clause-refused g c =
     c.close.new.s.stream _ c.in_ok-close.ensures.stream f c.in_ok-mark.mark c.in_ok-mark.ensures u) c.note_mark.ensures.refused
 
 pub returns-clause-lasts : goal.returns-clause-lasts
-returns-clause-lasts g c = always_ok c.note_mark.result (subst (λ x. Lasts c.args.s.now.state.ctx.now x) (sym c.note_mark.ensures.ctx) c.in_ok-close.ensures.lasts)
+returns-clause-lasts g c = always_ok c.note_mark.result (subst (λ x. KeepsLive c.args.s.now.state.ctx.now x) (sym c.note_mark.ensures.ctx) c.in_ok-close.ensures.lasts)
 
 pub returns-clause-sound : goal.returns-clause-sound
 returns-clause-sound g c = always_ok c.note_mark.result (λ m le sound. let r = c.in_ok-close.ensures.sound m sound in record { tied = rw c.note_mark.ensures.ctx r.tied; waiting = rw c.note_mark.ensures.ctx r.waiting; blanks = rw c.note_mark.ensures.ctx r.blanks })
@@ -119,7 +119,7 @@ returns-clause-own g c =
     always_ok c.note_mark.result (subst (λ x. BecomesNamed L c.args.names.now.names (whole c.args.s.now.stream) c.args.begun.now.names c.args.s.now.state.ctx.now x c.args.begun.now.op) (sym c.note_mark.ensures.ctx) c.in_ok-close.ensures.own)
 
 pub returns-clause-spares : goal.returns-clause-spares
-returns-clause-spares g c = always_ok c.note_mark.result (subst (λ x. Spares (TheOperation c.args.begun.now.op ∷ []) c.args.s.now.state.ctx.now x) (sym c.note_mark.ensures.ctx) c.in_ok-close.ensures.spares)
+returns-clause-spares g c = always_ok c.note_mark.result (subst (λ x. ModifiesOnly (TheOperation c.args.begun.now.op ∷ []) c.args.s.now.state.ctx.now x) (sym c.note_mark.ensures.ctx) c.in_ok-close.ensures.spares)
 
 pub returns-clause-noted : goal.returns-clause-noted
 returns-clause-noted g c =

@@ -9,7 +9,7 @@ use Rattle.irtext_parse_nested.proofs.Lasting.{loses_lasts, results_ready}
 use Rattle.irtext_parse_nested.proofs.Marking.{on_both, if_err}
 use Rattle.irtext_parse_nested.proofs.Sparing.{loses_spares}
 use Rattle.irtext_parse_nested.proofs.Blanks.{loses_sound}
-use Rattle.irtext_names.specs.Tied.{AreWaiting}
+use Rattle.irtext_names.specs.Tied.{ArePending}
 use Rattle.irtext_parse_nested.proofs.operation_end.results_defined.Goals as goal
 
 pub define_results-requires-clause-ready : goal.define_results-requires-clause-ready
@@ -46,7 +46,7 @@ pub returns-clause-sound : goal.returns-clause-sound
 returns-clause-sound g c = λ m h.
     let d = c.define_results in
     loses_sound c.args.names.now d.new.names c.args.s.now.state _ (subst (λ g. LosesPlaceholders g d.new.graph) c.graph_mut.ensures.value d.ensures.loses) d.ensures.tied m
-    (λ w. d.ensures.waiting m [] (subst (λ g. AreWaiting m [] c.args.names.now.values c.args.names.now.labels g) (sym c.graph_mut.ensures.value) w)) h
+    (λ w. d.ensures.waiting m [] (subst (λ g. ArePending m [] c.args.names.now.values c.args.names.now.labels g) (sym c.graph_mut.ensures.value) w)) h
 
 pub returns-clause-newer : goal.returns-clause-newer
 returns-clause-newer g c = λ m n.

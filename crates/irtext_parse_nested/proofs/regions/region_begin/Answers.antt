@@ -1,9 +1,9 @@
 use Rattle.std.proofs.Common.{◌∙◌, [], refl, sym, subst, IsSome}
 use Rattle.std.proofs.lemmas.Result.{err_from_is_err_and}
 use Rattle.irtext_context.specs.Context.{operation, AddsRegion}
-use Rattle.irtext_read.specs.AttrTexts.{attr_at}
-use Rattle.irtext_nesting.proofs.Edits.{region_added_came, region_added_gains, region_added_spares}
-use Rattle.irtext_parse_nested.specs.Items.{Lasts}
+use Rattle.irtext_tokens.specs.AttrTexts.{attr_at}
+use Rattle.irtext_parse_spec.proofs.Edits.{region_added_came, region_added_gains, region_added_spares}
+use Rattle.irtext_parse_nested.specs.Items.{KeepsLive}
 use Rattle.irtext_parse_nested.proofs.Entering.{unentered, unbraced, braced}
 use Rattle.irtext_parse_nested.proofs.RegionBegun.{region_lasts, region_sound}
 use Rattle.irtext_parse_nested.proofs.regions.region_begin.Goals as goal
@@ -34,7 +34,7 @@ returns-clause-begins g c =
     (record { passed = c.args.s.now.stream.passed; rest = c.args.s.now.stream.rest; same = refl; stands = c.position-at.ensures; counts = refl })
 
 pub returns-clause-lasts : goal.returns-clause-lasts
-returns-clause-lasts g c = subst (λ x. Lasts x c.add.new.s.state.ctx.now) c.in_ok-enter_here.ensures.ctx (region_lasts _ _ c.args.op c.in_ok-region.region c.in_ok-region.ensures.adds)
+returns-clause-lasts g c = subst (λ x. KeepsLive x c.add.new.s.state.ctx.now) c.in_ok-enter_here.ensures.ctx (region_lasts _ _ c.args.op c.in_ok-region.region c.in_ok-region.ensures.adds)
 
 pub returns-clause-sound : goal.returns-clause-sound
 returns-clause-sound g c = λ m le h.

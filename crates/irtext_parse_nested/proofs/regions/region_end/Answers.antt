@@ -4,8 +4,8 @@ use Rattle.irtext_grammar.specs.Contexts.Held.{whole}
 use Rattle.irtext_grammar.specs.Names.History as history
 use Rattle.irtext_grammar.specs.Names.History.{leave}
 use Rattle.irtext_names.specs.Linked.{Takes}
-use Rattle.irtext_outcomes.specs.Promises.Root.{UnlessMemory}
-use Rattle.irtext_read.specs.AttrTexts.{attr_at}
+use Rattle.irtext_parse_spec.specs.Promises.Root.{UnlessMemory}
+use Rattle.irtext_tokens.specs.AttrTexts.{attr_at}
 use Rattle.irtext_parse_nested.specs.Leaving.{IsUnresolved}
 use Rattle.irtext_parse_nested.proofs.Leaving.{unclosed, closed, unleft}
 use Rattle.irtext_parse_nested.proofs.Marking.{on_both, if_err}

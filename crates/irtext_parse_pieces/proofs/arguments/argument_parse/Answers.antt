@@ -1,9 +1,9 @@
 use Rattle.std.proofs.Common.{ℕ, refl, codes}
 use Rattle.irtext_base.specs.Answers.{Outcome, mapped, followed}
 use Rattle.irtext_base.specs.Text.{Text}
-use Rattle.irtext_read.specs.Demanded.{spaced_at}
-use Rattle.irtext_read.proofs.Exits.{handed_on}
-use Rattle.irtext_read.proofs.Steps.{Lens, lens, begins_with, begun_by, more, refuses, refuses_seen, last_seen, insisted}
+use Rattle.irtext_tokens.specs.Demanded.{spaced_at}
+use Rattle.irtext_tokens.proofs.Exits.{handed_on}
+use Rattle.irtext_tokens.proofs.Steps.{Lens, lens, begins_with, begun_by, more, refuses, refuses_seen, last_seen, insisted}
 use Rattle.irtext_grammar.specs.Grammar.Tree.{Name}
 use Rattle.irtext_parse_pieces.proofs.Meanings.{may_unread}
 use Rattle.irtext_parse_pieces.proofs.arguments.argument_parse.Given as given

@@ -1,4 +1,4 @@
-use Rattle.irtext_read.proofs.Steps.{Lens, lens, insisted}
+use Rattle.irtext_tokens.proofs.Steps.{Lens, lens, insisted}
 use Rattle.irtext_parse_pieces.proofs.EntrySteps.{as_tree}
 use Rattle.irtext_parse_pieces.proofs.entries.attr_demanded.Given as given
 use Rattle.irtext_parse_pieces.proofs.entries.attr_demanded.Goals as goal

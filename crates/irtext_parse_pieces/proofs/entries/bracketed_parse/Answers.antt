@@ -2,13 +2,13 @@ use Rattle.std.proofs.Common.{ℕ, List, [], refl, codes, subst}
 use Rattle.irtext_base.specs.Answers.{Outcome, mapped, followed}
 use Rattle.irtext_base.specs.Locations.{AttrView}
 use Rattle.irtext_base.specs.Text.{Text}
-use Rattle.irtext_read.specs.AttrTexts.{attr_at}
-use Rattle.irtext_read.specs.ListOutcomes.{separated_at}
-use Rattle.irtext_read.specs.Tokens.{space_at, text_at}
-use Rattle.irtext_read.proofs.Exits.{handed_on}
-use Rattle.irtext_read.proofs.Steps.{Lens, lens, first, spaced, more, refuses, refuses_seen, last_seen}
+use Rattle.irtext_tokens.specs.AttrTexts.{attr_at}
+use Rattle.irtext_tokens.specs.ListOutcomes.{separated_at}
+use Rattle.irtext_tokens.specs.Tokens.{space_at, text_at}
+use Rattle.irtext_tokens.proofs.Exits.{handed_on}
+use Rattle.irtext_tokens.proofs.Steps.{Lens, lens, first, spaced, more, refuses, refuses_seen, last_seen}
 use Rattle.irtext_grammar.specs.Grammar.Tree.{Name, Attribute}
-use Rattle.irtext_nesting.specs.Heads.{pair_at, dictionary_at}
+use Rattle.irtext_parse_spec.specs.Heads.{pair_at, dictionary_at}
 use Rattle.irtext_parse_pieces.specs.Entries.{AreEntries}
 use Rattle.irtext_parse_pieces.proofs.EntrySteps.{first_refused}
 use Rattle.irtext_parse_pieces.proofs.Meanings.{must_refuse, passed_whole}

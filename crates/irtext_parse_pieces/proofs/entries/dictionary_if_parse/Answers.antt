@@ -1,7 +1,7 @@
 use Rattle.std.proofs.Common.{None, sym, ◌∙◌}
-use Rattle.irtext_read.specs.AttrTexts.{attr_at}
-use Rattle.irtext_read.proofs.Exits.{handed_on}
-use Rattle.irtext_read.proofs.Steps.{Lens, lens}
+use Rattle.irtext_tokens.specs.AttrTexts.{attr_at}
+use Rattle.irtext_tokens.proofs.Exits.{handed_on}
+use Rattle.irtext_tokens.proofs.Steps.{Lens, lens}
 use Rattle.irtext_parse_pieces.proofs.Meanings.{must_fail}
 use Rattle.irtext_parse_pieces.proofs.EntrySteps.{no_dictionary, dictionary_there, dictionary_refused}
 use Rattle.irtext_parse_pieces.proofs.entries.dictionary_if_parse.Given as given

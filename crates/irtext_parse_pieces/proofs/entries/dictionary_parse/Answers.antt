@@ -1,6 +1,6 @@
 use Rattle.std.proofs.Common.{sym, ◌∙◌}
-use Rattle.irtext_read.specs.AttrTexts.{attr_at}
-use Rattle.irtext_read.proofs.Steps.{Lens, lens}
+use Rattle.irtext_tokens.specs.AttrTexts.{attr_at}
+use Rattle.irtext_tokens.proofs.Steps.{Lens, lens}
 use Rattle.irtext_parse_pieces.proofs.EntrySteps.{no_entries}
 use Rattle.irtext_parse_pieces.proofs.entries.dictionary_parse.Given as given
 use Rattle.irtext_parse_pieces.proofs.entries.dictionary_parse.Goals as goal

@@ -1,7 +1,7 @@
 use Rattle.std.proofs.Common.{[], refl}
-use Rattle.irtext_read.proofs.Steps.{Lens, lens}
-use Rattle.irtext_read.specs.AttrTexts.{attr_at}
-use Rattle.irtext_nesting.specs.Heads.{pair_at}
+use Rattle.irtext_tokens.proofs.Steps.{Lens, lens}
+use Rattle.irtext_tokens.specs.AttrTexts.{attr_at}
+use Rattle.irtext_parse_spec.specs.Heads.{pair_at}
 use Rattle.irtext_parse_pieces.proofs.Meanings.{must_refuse}
 use Rattle.irtext_parse_pieces.specs.declared.lists.NameKind.TheVariants as kind
 use Rattle.irtext_parse_pieces.proofs.Absences.{missing_followed, no_name_begins, list_unbegun}

@@ -2,13 +2,13 @@ use Rattle.std.proofs.Common.{ℕ, refl, codes}
 use Rattle.irtext_base.specs.Answers.{Outcome, mapped, followed}
 use Rattle.irtext_base.specs.Locations.{AttrView}
 use Rattle.irtext_base.specs.Text.{Text}
-use Rattle.irtext_read.specs.AttrTexts.{attr_at}
-use Rattle.irtext_read.specs.Demanded.{spaced_at}
-use Rattle.irtext_read.proofs.Exits.{handed_on}
-use Rattle.irtext_read.proofs.Steps.{Lens, lens, begins_with, begins_refused, begun_by, more, refuses, refuses_seen, last_seen}
+use Rattle.irtext_tokens.specs.AttrTexts.{attr_at}
+use Rattle.irtext_tokens.specs.Demanded.{spaced_at}
+use Rattle.irtext_tokens.proofs.Exits.{handed_on}
+use Rattle.irtext_tokens.proofs.Steps.{Lens, lens, begins_with, begins_refused, begun_by, more, refuses, refuses_seen, last_seen}
 use Rattle.irtext_grammar.specs.Contexts.Held.{attribute_of}
 use Rattle.irtext_grammar.specs.Grammar.Tree.{Name, Attribute}
-use Rattle.irtext_outcomes.specs.Readers.Directives.{attribute_at}
+use Rattle.irtext_parse_spec.specs.Readers.Directives.{attribute_at}
 use Rattle.irtext_parse_pieces.proofs.Meanings.{may_refuse, may_unread}
 use Rattle.irtext_parse_pieces.proofs.entries.entry_parse.Given as given
 use Rattle.irtext_parse_pieces.proofs.entries.entry_parse.Goals as goal

@@ -1,5 +1,5 @@
 use Rattle.std.proofs.Common.{refl}
-use Rattle.irtext_read.proofs.Steps.{Lens, lens}
+use Rattle.irtext_tokens.proofs.Steps.{Lens, lens}
 use Rattle.irtext_parse_pieces.proofs.WordSteps.{nothing_taken}
 use Rattle.irtext_parse_pieces.proofs.entries.key_again.Given as given
 use Rattle.irtext_parse_pieces.proofs.entries.key_again.Goals as goal

@@ -1,7 +1,7 @@
 use Rattle.std.proofs.Common.{sym, ◌∙◌}
 use Rattle.irtext_base.specs.Text.{front, after, in_word}
-use Rattle.irtext_read.proofs.Words.{encodes-front_word, is_identifier-front, taken_since}
-use Rattle.irtext_read.proofs.Steps.{Lens, lens}
+use Rattle.irtext_tokens.proofs.Words.{encodes-front_word, is_identifier-front, taken_since}
+use Rattle.irtext_tokens.proofs.Steps.{Lens, lens}
 use Rattle.irtext_parse_pieces.proofs.EntrySteps.{key_there}
 use Rattle.irtext_parse_pieces.proofs.Meanings.{may_fail}
 use Rattle.irtext_parse_pieces.proofs.NameSteps.{nobody, no_name, name_starved}

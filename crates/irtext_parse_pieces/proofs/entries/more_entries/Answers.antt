@@ -1,8 +1,8 @@
 use Rattle.std.proofs.Common.{[], ◌∷◌, ◌++◌, ap, sym, ◌∙◌, subst, Ok, Err}
-use Rattle.irtext_read.proofs.Exits.{handed_on}
-use Rattle.irtext_read.proofs.Steps.{Lens, lens}
-use Rattle.irtext_read.specs.AttrTexts.{attr_at}
-use Rattle.irtext_nesting.specs.Heads.{pair_at}
+use Rattle.irtext_tokens.proofs.Exits.{handed_on}
+use Rattle.irtext_tokens.proofs.Steps.{Lens, lens}
+use Rattle.irtext_tokens.specs.AttrTexts.{attr_at}
+use Rattle.irtext_parse_spec.specs.Heads.{pair_at}
 use Rattle.irtext_parse_pieces.specs.Entries.{IsEntry, AreEntries}
 use Rattle.irtext_parse_pieces.specs.Named.{whole, MustMean}
 use Rattle.irtext_parse_pieces.proofs.Meanings.{insisted_mean, must_refuse}

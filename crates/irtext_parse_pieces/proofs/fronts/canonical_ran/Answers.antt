@@ -1,6 +1,6 @@
 use Rattle.std.proofs.Common.{drop, sym, ◌∙◌, ap}
-use Rattle.irtext_nesting.specs.Heads.{canonical_steps}
-use Rattle.irtext_read.proofs.Steps.{Lens, lens}
+use Rattle.irtext_parse_spec.specs.Heads.{canonical_steps}
+use Rattle.irtext_tokens.proofs.Steps.{Lens, lens}
 use Rattle.irtext_parse_pieces.proofs.Runs.{ran_one, runs_on}
 use Rattle.irtext_parse_pieces.proofs.fronts.canonical_ran.Given as given
 use Rattle.irtext_parse_pieces.proofs.fronts.canonical_ran.Goals as goal

@@ -1,9 +1,9 @@
 use Rattle.std.proofs.Common.{◌≡◌, ◌∙◌, ◌+◌, ◌<◌, ◌^◌, Some, None, slice_get, drop, length, suc, ap, sym, subst, arith}
-use Rattle.irtext_formats.specs.Directives.{format_of}
-use Rattle.irtext_read.specs.AttrTexts.{attr_at}
-use Rattle.irtext_read.proofs.Exits.{handed_on}
-use Rattle.irtext_read.proofs.Steps.{Lens, lens}
-use Rattle.irtext_nesting.specs.Heads.{steps_of}
+use Rattle.irtext_format_check.specs.Directives.{format_of}
+use Rattle.irtext_tokens.specs.AttrTexts.{attr_at}
+use Rattle.irtext_tokens.proofs.Exits.{handed_on}
+use Rattle.irtext_tokens.proofs.Steps.{Lens, lens}
+use Rattle.irtext_parse_spec.specs.Heads.{steps_of}
 use Rattle.irtext_parse_pieces.proofs.Meanings.{names_none, names_more}
 use Rattle.irtext_parse_pieces.proofs.FormatSteps.{Counts, next_left, none_left, count_none, count_all, count_more, fewer_left, left_more, front_over, front_ended}
 use Rattle.irtext_parse_pieces.proofs.FrontSteps.{Fronting, front_begins, front_more, front_refused, front_ends}

@@ -1,8 +1,8 @@
 use Rattle.std.proofs.Common.{◌≡◌, false, drop, length}
-use Rattle.irtext_formats.specs.Directives.{format_of}
-use Rattle.irtext_read.specs.AttrTexts.{attr_at}
-use Rattle.irtext_read.proofs.Steps.{Lens, lens}
-use Rattle.irtext_nesting.specs.Heads.{steps_of}
+use Rattle.irtext_format_check.specs.Directives.{format_of}
+use Rattle.irtext_tokens.specs.AttrTexts.{attr_at}
+use Rattle.irtext_tokens.proofs.Steps.{Lens, lens}
+use Rattle.irtext_parse_spec.specs.Heads.{steps_of}
 use Rattle.irtext_parse_pieces.specs.Named.{NamesRead}
 use Rattle.irtext_parse_pieces.proofs.FormatSteps.{Counts}
 use Rattle.irtext_parse_pieces.proofs.FrontSteps.{Fronting}

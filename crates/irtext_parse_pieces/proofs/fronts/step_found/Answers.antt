@@ -1,6 +1,6 @@
 use Rattle.irtext_base.specs.Faults.{characters}
-use Rattle.irtext_read.proofs.Exits.{handed_on}
-use Rattle.irtext_read.proofs.Steps.{Lens, lens}
+use Rattle.irtext_tokens.proofs.Exits.{handed_on}
+use Rattle.irtext_tokens.proofs.Steps.{Lens, lens}
 use Rattle.irtext_parse_pieces.proofs.FrontSteps.{word_found, word_missed, piece_found, piece_missed, found_starved}
 use Rattle.irtext_parse_pieces.proofs.fronts.step_found.Given as given
 use Rattle.irtext_parse_pieces.proofs.fronts.step_found.Goals as goal

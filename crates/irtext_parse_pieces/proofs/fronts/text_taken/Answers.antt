@@ -1,7 +1,7 @@
 use Rattle.std.proofs.Common.{sym, ◌∙◌}
 use Rattle.std.proofs.lemmas.Str.{chars_from_encodes}
 use Rattle.irtext_base.specs.Faults.{characters}
-use Rattle.irtext_read.proofs.Characters.{encodes-characters}
+use Rattle.irtext_tokens.proofs.Characters.{encodes-characters}
 use Rattle.irtext_parse_pieces.proofs.fronts.text_taken.Goals as goal
 
 pub returns-then-not-accept : goal.returns-then-not-accept

@@ -1,4 +1,4 @@
-use Rattle.irtext_read.proofs.Steps.{Lens, lens}
+use Rattle.irtext_tokens.proofs.Steps.{Lens, lens}
 use Rattle.irtext_parse_pieces.proofs.Runs.{ran_none, ran_more}
 use Rattle.irtext_parse_pieces.proofs.fronts.three_ran.Given as given
 use Rattle.irtext_parse_pieces.proofs.fronts.three_ran.Goals as goal

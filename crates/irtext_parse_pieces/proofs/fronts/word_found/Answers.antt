@@ -1,5 +1,5 @@
 use Rattle.irtext_base.specs.Faults.{characters}
-use Rattle.irtext_read.proofs.Steps.{Lens, lens}
+use Rattle.irtext_tokens.proofs.Steps.{Lens, lens}
 use Rattle.irtext_parse_pieces.proofs.FrontSteps.{text_taken, word_found}
 use Rattle.irtext_parse_pieces.proofs.fronts.word_found.Given as given
 use Rattle.irtext_parse_pieces.proofs.fronts.word_found.Goals as goal

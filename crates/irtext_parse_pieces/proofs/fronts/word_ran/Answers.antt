@@ -1,6 +1,6 @@
 use Rattle.std.proofs.lemmas.Str.{chars_from_encodes}
 use Rattle.irtext_base.specs.Faults.{characters}
-use Rattle.irtext_read.proofs.Characters.{encodes-characters}
+use Rattle.irtext_tokens.proofs.Characters.{encodes-characters}
 use Rattle.irtext_parse_pieces.proofs.fronts.word_ran.Goals as goal
 
 pub returns : goal.returns

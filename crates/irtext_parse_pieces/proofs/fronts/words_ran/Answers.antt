@@ -1,5 +1,5 @@
 use Rattle.std.proofs.Common.{refl}
-use Rattle.irtext_read.proofs.Steps.{Lens, lens}
+use Rattle.irtext_tokens.proofs.Steps.{Lens, lens}
 use Rattle.irtext_parse_pieces.proofs.Runs.{runs_none}
 use Rattle.irtext_parse_pieces.proofs.fronts.words_ran.Given as given
 use Rattle.irtext_parse_pieces.proofs.fronts.words_ran.Goals as goal

@@ -1,8 +1,8 @@
 use Rattle.std.proofs.Common.{Err, is_some, ap, subst}
-use Rattle.irtext_read.proofs.Exits.{handed_on}
+use Rattle.irtext_tokens.proofs.Exits.{handed_on}
 use Rattle.irtext_parse_pieces.specs.Ids.{id_in, AnswersLed}
 use Rattle.irtext_parse_pieces.proofs.Leads.{found_behind, refused_behind, registered_led}
-use Rattle.irtext_read.proofs.Steps.{Lens, lens}
+use Rattle.irtext_tokens.proofs.Steps.{Lens, lens}
 use Rattle.irtext_parse_pieces.proofs.ids.id_behind.Given as given
 use Rattle.irtext_parse_pieces.proofs.ids.id_behind.Goals as goal
 

@@ -1,14 +1,14 @@
 use Rattle.std.proofs.Common.{ℕ, List, [], refl, sym, ◌∙◌, subst}
 use Rattle.irtext_base.specs.Text.{Text}
 use Rattle.irtext_base.specs.Answers.{Outcome, mapped, followed}
-use Rattle.irtext_read.proofs.Exits.{handed_on}
-use Rattle.irtext_read.specs.Tokens.{space_at}
+use Rattle.irtext_tokens.proofs.Exits.{handed_on}
+use Rattle.irtext_tokens.specs.Tokens.{space_at}
 use Rattle.irtext_grammar.specs.Grammar.Tree.{Name}
-use Rattle.irtext_nesting.specs.Heads.{lead_at}
+use Rattle.irtext_parse_spec.specs.Heads.{lead_at}
 use Rattle.irtext_parse_pieces.specs.Named.{StandsFor, Each}
 use Rattle.irtext_parse_pieces.specs.Results.{results_if_at}
 use Rattle.irtext_parse_pieces.proofs.Meanings.{must_fail, must_refuse, passed_whole}
-use Rattle.irtext_read.proofs.Steps.{Lens, lens, starts, spaced, more, refuses, last_spaced}
+use Rattle.irtext_tokens.proofs.Steps.{Lens, lens, starts, spaced, more, refuses, last_spaced}
 use Rattle.irtext_parse_pieces.proofs.ids.lead_parse.Given as given
 use Rattle.irtext_parse_pieces.proofs.ids.lead_parse.Goals as goal
 

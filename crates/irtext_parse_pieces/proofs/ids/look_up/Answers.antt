@@ -4,8 +4,8 @@ use Rattle.irtext_base.specs.Text.{front, after, in_word}
 use Rattle.irtext_base.specs.declared.base.identifier.OpId.{OpId}
 use Rattle.irtext_base.proofs.Compose.{seen_after}
 use Rattle.irtext_context.specs.Named.{id_of_texts}
-use Rattle.irtext_read.proofs.Words.{encodes-front_word, taken_since}
-use Rattle.irtext_outcomes.proofs.Readers.Steps.{Lens, lens}
+use Rattle.irtext_tokens.proofs.Words.{encodes-front_word, taken_since}
+use Rattle.irtext_parse_spec.proofs.Readers.Steps.{Lens, lens}
 use Rattle.irtext_parse_pieces.proofs.Leads.{dotted, dotted_stands, word_stands, found_there}
 use Rattle.irtext_parse_pieces.proofs.ids.look_up.Given as given
 use Rattle.irtext_parse_pieces.proofs.ids.look_up.Goals as goal

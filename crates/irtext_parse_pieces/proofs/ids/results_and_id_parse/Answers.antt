@@ -1,10 +1,10 @@
 use Rattle.std.proofs.Common.{sym, ◌∙◌, ap, not, eqb, length}
 use Rattle.irtext_base.proofs.Compose.{seen_after}
-use Rattle.irtext_read.proofs.Exits.{handed_on}
-use Rattle.irtext_read.proofs.Words.{taken_since}
-use Rattle.irtext_outcomes.proofs.Readers.Leads.{is_led-bytes}
+use Rattle.irtext_tokens.proofs.Exits.{handed_on}
+use Rattle.irtext_tokens.proofs.Words.{taken_since}
+use Rattle.irtext_parse_spec.proofs.Readers.Leads.{is_led-bytes}
 use Rattle.irtext_parse_pieces.proofs.Leads.{lead_taken, lead_refused, led_read, led_missed}
-use Rattle.irtext_read.proofs.Steps.{Lens, lens}
+use Rattle.irtext_tokens.proofs.Steps.{Lens, lens}
 use Rattle.irtext_parse_pieces.proofs.ids.results_and_id_parse.Given as given
 use Rattle.irtext_parse_pieces.proofs.ids.results_and_id_parse.Goals as goal
 

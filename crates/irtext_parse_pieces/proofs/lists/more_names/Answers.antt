@@ -1,6 +1,6 @@
 use Rattle.std.proofs.Common.{[], ◌∷◌, refl, sym, ◌∙◌, subst, Ok, Err}
-use Rattle.irtext_read.proofs.Exits.{handed_on}
-use Rattle.irtext_read.proofs.Steps.{Lens, lens}
+use Rattle.irtext_tokens.proofs.Exits.{handed_on}
+use Rattle.irtext_tokens.proofs.Steps.{Lens, lens}
 use Rattle.irtext_parse_pieces.specs.Kinds.{named_at}
 use Rattle.irtext_parse_pieces.specs.Named.{whole, StandsFor, Each, MustMean}
 use Rattle.irtext_parse_pieces.proofs.Meanings.{names_none, names_more, insisted_mean, must_refuse, stands_on}

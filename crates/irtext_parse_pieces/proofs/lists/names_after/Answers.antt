@@ -1,5 +1,5 @@
 use Rattle.std.proofs.Common.{[], ◌∷◌, sym, ◌∙◌, subst}
-use Rattle.irtext_read.proofs.Steps.{Lens, lens}
+use Rattle.irtext_tokens.proofs.Steps.{Lens, lens}
 use Rattle.irtext_parse_pieces.specs.Kinds.{named_at}
 use Rattle.irtext_parse_pieces.specs.Named.{whole, StandsFor, Each}
 use Rattle.irtext_parse_pieces.proofs.Listings.{Listing, listing_first, listing_all}

@@ -1,5 +1,5 @@
 use Rattle.std.proofs.Common.{[], refl}
-use Rattle.irtext_read.proofs.Steps.{Lens, lens}
+use Rattle.irtext_tokens.proofs.Steps.{Lens, lens}
 use Rattle.irtext_parse_pieces.specs.Kinds.{named_at}
 use Rattle.irtext_parse_pieces.proofs.Meanings.{names_more, must_refuse}
 use Rattle.irtext_parse_pieces.proofs.Absences.{none_begins, list_unbegun}

@@ -1,5 +1,5 @@
 use Rattle.std.proofs.Common.{sym, ◌∙◌}
-use Rattle.irtext_read.proofs.Steps.{Lens, lens}
+use Rattle.irtext_tokens.proofs.Steps.{Lens, lens}
 use Rattle.irtext_parse_pieces.proofs.MarkSteps.{no_mark}
 use Rattle.irtext_parse_pieces.proofs.marks.mark_parse.Given as given
 use Rattle.irtext_parse_pieces.proofs.marks.mark_parse.Goals as goal

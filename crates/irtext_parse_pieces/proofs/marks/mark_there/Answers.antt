@@ -1,6 +1,6 @@
 use Rattle.std.proofs.Common.{None, sym, ◌∙◌}
-use Rattle.irtext_read.proofs.Exits.{handed_on}
-use Rattle.irtext_read.proofs.Steps.{Lens, lens}
+use Rattle.irtext_tokens.proofs.Exits.{handed_on}
+use Rattle.irtext_tokens.proofs.Steps.{Lens, lens}
 use Rattle.irtext_parse_pieces.proofs.Meanings.{must_fail}
 use Rattle.irtext_parse_pieces.proofs.MarkSteps.{no_mark, mark_there, mark_refused}
 use Rattle.irtext_parse_pieces.proofs.marks.mark_there.Given as given

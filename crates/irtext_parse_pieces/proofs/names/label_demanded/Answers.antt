@@ -1,7 +1,7 @@
 use Rattle.std.proofs.Common.{codes}
-use Rattle.irtext_read.proofs.Exits.{handed_on}
+use Rattle.irtext_tokens.proofs.Exits.{handed_on}
 use Rattle.irtext_parse_pieces.proofs.NameSteps.{behind_mark, mark_refused, marked_refused}
-use Rattle.irtext_read.proofs.Steps.{Lens, lens}
+use Rattle.irtext_tokens.proofs.Steps.{Lens, lens}
 use Rattle.irtext_parse_pieces.proofs.names.label_demanded.Given as given
 use Rattle.irtext_parse_pieces.proofs.names.label_demanded.Goals as goal
 

@@ -1,7 +1,7 @@
 use Rattle.std.proofs.Common.{sym, ◌∙◌}
 use Rattle.irtext_parse_pieces.proofs.Meanings.{may_fail}
 use Rattle.irtext_parse_pieces.proofs.NameSteps.{nobody, no_name}
-use Rattle.irtext_read.proofs.Steps.{Lens, lens}
+use Rattle.irtext_tokens.proofs.Steps.{Lens, lens}
 use Rattle.irtext_parse_pieces.proofs.names.name_missing.Given as given
 use Rattle.irtext_parse_pieces.proofs.names.name_missing.Goals as goal
 

@@ -1,10 +1,10 @@
 use Rattle.std.proofs.Common.{sym, ◌∙◌, ap, subst, Some}
 use Rattle.irtext_base.specs.Text.{front, after, in_word, is_identifier}
-use Rattle.irtext_read.proofs.Words.{encodes-front_word, is_identifier-front, taken_since}
+use Rattle.irtext_tokens.proofs.Words.{encodes-front_word, is_identifier-front, taken_since}
 use Rattle.irtext_parse_pieces.proofs.Interned.{words_with}
 use Rattle.irtext_parse_pieces.specs.Named.{AreWords}
 use Rattle.irtext_parse_pieces.proofs.NameSteps.{unstored, name_there}
-use Rattle.irtext_read.proofs.Steps.{Lens, lens}
+use Rattle.irtext_tokens.proofs.Steps.{Lens, lens}
 use Rattle.irtext_parse_pieces.proofs.names.name_parse.Given as given
 use Rattle.irtext_parse_pieces.proofs.names.name_parse.Goals as goal
 

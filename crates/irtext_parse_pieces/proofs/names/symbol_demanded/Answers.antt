@@ -1,5 +1,5 @@
-use Rattle.irtext_read.proofs.Exits.{handed_on}
-use Rattle.irtext_read.proofs.Steps.{Lens, lens}
+use Rattle.irtext_tokens.proofs.Exits.{handed_on}
+use Rattle.irtext_tokens.proofs.Steps.{Lens, lens}
 use Rattle.irtext_parse_pieces.proofs.NameSteps.{symbol_read, symbol_refused}
 use Rattle.irtext_parse_pieces.proofs.names.symbol_demanded.Given as given
 use Rattle.irtext_parse_pieces.proofs.names.symbol_demanded.Goals as goal

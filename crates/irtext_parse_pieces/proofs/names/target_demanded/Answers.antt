@@ -1,5 +1,5 @@
 use Rattle.irtext_parse_pieces.proofs.Meanings.{insisted_mean}
-use Rattle.irtext_read.proofs.Steps.{Lens, lens}
+use Rattle.irtext_tokens.proofs.Steps.{Lens, lens}
 use Rattle.irtext_parse_pieces.proofs.names.target_demanded.Given as given
 use Rattle.irtext_parse_pieces.proofs.names.target_demanded.Goals as goal
 

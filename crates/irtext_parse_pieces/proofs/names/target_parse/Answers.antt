@@ -1,6 +1,6 @@
-use Rattle.irtext_read.proofs.Exits.{handed_on}
+use Rattle.irtext_tokens.proofs.Exits.{handed_on}
 use Rattle.irtext_parse_pieces.proofs.NameSteps.{target_behind, target_refused}
-use Rattle.irtext_read.proofs.Steps.{Lens, lens}
+use Rattle.irtext_tokens.proofs.Steps.{Lens, lens}
 use Rattle.irtext_parse_pieces.proofs.names.target_parse.Given as given
 use Rattle.irtext_parse_pieces.proofs.names.target_parse.Goals as goal
 

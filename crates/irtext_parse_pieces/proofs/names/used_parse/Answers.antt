@@ -1,6 +1,6 @@
 use Rattle.irtext_parse_pieces.proofs.Meanings.{may_miss}
 use Rattle.irtext_parse_pieces.proofs.NameSteps.{nobody}
-use Rattle.irtext_read.proofs.Steps.{Lens, lens}
+use Rattle.irtext_tokens.proofs.Steps.{Lens, lens}
 use Rattle.irtext_parse_pieces.proofs.names.used_parse.Given as given
 use Rattle.irtext_parse_pieces.proofs.names.used_parse.Goals as goal
 

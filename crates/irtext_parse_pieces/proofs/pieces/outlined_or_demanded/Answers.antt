@@ -1,7 +1,7 @@
 use Rattle.std.proofs.Common.{sym, ◌∙◌}
-use Rattle.irtext_read.specs.AttrTexts.{attr_at}
-use Rattle.irtext_read.proofs.Exits.{handed_on}
-use Rattle.irtext_read.proofs.Steps.{Lens, lens}
+use Rattle.irtext_tokens.specs.AttrTexts.{attr_at}
+use Rattle.irtext_tokens.proofs.Exits.{handed_on}
+use Rattle.irtext_tokens.proofs.Steps.{Lens, lens}
 use Rattle.irtext_parse_pieces.proofs.PieceSteps.{outlined_taken, not_outlined, not_outlined_refused, read_failed}
 use Rattle.irtext_parse_pieces.proofs.pieces.outlined_or_demanded.Given as given
 use Rattle.irtext_parse_pieces.proofs.pieces.outlined_or_demanded.Goals as goal

@@ -2,9 +2,9 @@ use Rattle.std.proofs.Common.{◌∙◌, ap, subst}
 use Rattle.std.proofs.lemmas.Str.{chars_from_encodes}
 use Rattle.std.specs.Str.{chars}
 use Rattle.irtext_base.specs.Faults.{characters}
-use Rattle.irtext_read.specs.Infix.{◌⇒◌}
-use Rattle.irtext_read.specs.Tokens.{text_at}
-use Rattle.irtext_read.proofs.Characters.{encodes-characters}
+use Rattle.irtext_tokens.specs.Infix.{◌⇒◌}
+use Rattle.irtext_tokens.specs.Tokens.{text_at}
+use Rattle.irtext_tokens.proofs.Characters.{encodes-characters}
 use Rattle.irtext_grammar.specs.Grammar.Tree as tree
 use Rattle.irtext_parse_pieces.specs.Pieces.{MustPiece}
 use Rattle.irtext_parse_pieces.proofs.pieces.piece_parse.Goals as goal

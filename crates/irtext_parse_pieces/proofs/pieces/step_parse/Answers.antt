@@ -1,6 +1,6 @@
 use Rattle.std.proofs.Common.{sym, subst}
-use Rattle.irtext_formats.specs.Directives.{directive_of}
-use Rattle.irtext_read.specs.AttrTexts.{attr_at}
+use Rattle.irtext_format_check.specs.Directives.{directive_of}
+use Rattle.irtext_tokens.specs.AttrTexts.{attr_at}
 use Rattle.irtext_parse_pieces.specs.Pieces.{MustPiece}
 use Rattle.irtext_parse_pieces.proofs.FormatSteps.{step_reads}
 use Rattle.irtext_parse_pieces.proofs.pieces.step_parse.Goals as goal

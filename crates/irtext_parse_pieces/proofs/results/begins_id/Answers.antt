@@ -1,9 +1,9 @@
 use Rattle.std.proofs.Common.{sym, ◌∙◌}
 use Rattle.irtext_base.specs.Text.{front, after, in_word}
 use Rattle.irtext_base.proofs.Compose.{takes_stands}
-use Rattle.irtext_read.proofs.SetBack.{set_back, set_within}
+use Rattle.irtext_tokens.proofs.SetBack.{set_back, set_within}
 use Rattle.irtext_parse_pieces.proofs.Looks.{dotted_there}
-use Rattle.irtext_read.proofs.Steps.{Lens, lens}
+use Rattle.irtext_tokens.proofs.Steps.{Lens, lens}
 use Rattle.irtext_parse_pieces.proofs.results.begins_id.Given as given
 use Rattle.irtext_parse_pieces.proofs.results.begins_id.Goals as goal
 

@@ -1,7 +1,7 @@
 use Rattle.std.proofs.Common.{[], ◌∷◌, refl, sym, ◌∙◌, subst, Ok, false}
-use Rattle.irtext_base.specs.Answers.{Stands}
-use Rattle.irtext_read.proofs.Steps.{Lens, lens, fine_there}
-use Rattle.irtext_nesting.specs.Heads.{name_at}
+use Rattle.irtext_base.specs.Answers.{SameStream}
+use Rattle.irtext_tokens.proofs.Steps.{Lens, lens, fine_there}
+use Rattle.irtext_parse_spec.specs.Heads.{name_at}
 use Rattle.irtext_parse_pieces.specs.Named.{whole, StandsFor, Each, MustMean}
 use Rattle.irtext_parse_pieces.proofs.Meanings.{names_none, names_more, read_mean, stands_on}
 use Rattle.irtext_parse_pieces.proofs.Listings.{Listing, listing_first, listing_all, listing_next, listing_more, listing_whole, item_falls}
@@ -31,7 +31,7 @@ returns-in-Err-clause-looks g c = λ name means fine.
     let p = c.loop-stream.invariant.1 name means fine in
     let q = listing_next l name_at (sym c.next_is.ensures ∙ c.loop-stream-test.true) c.take.ensures.after c.skip_white_space.ensures p in
     let m = missing_unread l c.in-Err.ensures.read.read c.if-fault.false in
-    (passed_unread l q.2 (next_unread q.0 p.items (l.view c.skip_white_space.new.stream).rest m.0), subst (λ s. Stands l.view l.at false c.args.stream.now s) (sym m.1) (passed_stands l q.2))
+    (passed_unread l q.2 (next_unread q.0 p.items (l.view c.skip_white_space.new.stream).rest m.0), subst (λ s. SameStream l.view l.at false c.args.stream.now s) (sym m.1) (passed_stands l q.2))
 
 pub returns-in-Err-clause-names : goal.returns-in-Err-clause-names
 returns-in-Err-clause-names g c = names_more _ _ _ c.loop-stream.invariant.0 c.name_parse.ensures.names

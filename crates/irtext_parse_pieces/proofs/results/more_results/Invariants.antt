@@ -1,7 +1,7 @@
 use Rattle.std.proofs.Common.{◌≡◌, ℕ, false, [], ◌∷◌, length}
-use Rattle.irtext_read.proofs.Steps.{Lens, lens}
+use Rattle.irtext_tokens.proofs.Steps.{Lens, lens}
 use Rattle.irtext_grammar.specs.Grammar.Tree.{Name}
-use Rattle.irtext_nesting.specs.Heads.{name_at}
+use Rattle.irtext_parse_spec.specs.Heads.{name_at}
 use Rattle.irtext_parse_pieces.specs.Named.{whole, StandsFor, NamesRead}
 use Rattle.irtext_parse_pieces.proofs.Listings.{Listing}
 use Rattle.irtext_parse_pieces.proofs.results.more_results.Given as goal

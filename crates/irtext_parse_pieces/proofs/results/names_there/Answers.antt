@@ -1,9 +1,9 @@
 use Rattle.std.proofs.Common.{[], refl}
-use Rattle.irtext_nesting.specs.Heads.{name_at}
+use Rattle.irtext_parse_spec.specs.Heads.{name_at}
 use Rattle.irtext_parse_pieces.proofs.Meanings.{names_more}
 use Rattle.irtext_parse_pieces.proofs.Listings.{list_none}
 use Rattle.irtext_parse_pieces.proofs.Looks.{list_looks, name_starves}
-use Rattle.irtext_read.proofs.Steps.{Lens, lens}
+use Rattle.irtext_tokens.proofs.Steps.{Lens, lens}
 use Rattle.irtext_parse_pieces.proofs.results.names_there.Given as given
 use Rattle.irtext_parse_pieces.proofs.results.names_there.Goals as goal
 

@@ -1,6 +1,6 @@
 use Rattle.std.proofs.Common.{[], ◌∷◌, sym, ◌∙◌, subst}
-use Rattle.irtext_read.proofs.Steps.{Lens, lens}
-use Rattle.irtext_nesting.specs.Heads.{name_at}
+use Rattle.irtext_tokens.proofs.Steps.{Lens, lens}
+use Rattle.irtext_parse_spec.specs.Heads.{name_at}
 use Rattle.irtext_parse_pieces.specs.Named.{whole, StandsFor, Each}
 use Rattle.irtext_parse_pieces.proofs.Listings.{Listing, listing_first, listing_all}
 use Rattle.irtext_parse_pieces.proofs.results.results_after.Given as given

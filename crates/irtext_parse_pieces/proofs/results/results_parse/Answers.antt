@@ -1,11 +1,11 @@
 use Rattle.std.proofs.Common.{◌≡◌, false, sym, ◌∙◌, ap, subst}
-use Rattle.irtext_base.specs.Answers.{Stands}
-use Rattle.irtext_nesting.specs.Heads.{results_at}
+use Rattle.irtext_base.specs.Answers.{SameStream}
+use Rattle.irtext_parse_spec.specs.Heads.{results_at}
 use Rattle.irtext_parse_pieces.specs.Results.{is_read}
-use Rattle.irtext_read.proofs.Exits.{handed_on}
-use Rattle.irtext_read.proofs.SetBack.{set_back, set_within}
+use Rattle.irtext_tokens.proofs.Exits.{handed_on}
+use Rattle.irtext_tokens.proofs.SetBack.{set_back, set_within}
 use Rattle.irtext_parse_pieces.proofs.Looks.{results_none, results_starve, results_fail}
-use Rattle.irtext_read.proofs.Steps.{Lens, lens}
+use Rattle.irtext_tokens.proofs.Steps.{Lens, lens}
 use Rattle.irtext_parse_pieces.proofs.results.results_parse.Given as given
 use Rattle.irtext_parse_pieces.proofs.results.results_parse.Goals as goal
 
@@ -35,6 +35,6 @@ returns-in-None-clause-read g c =
     let fine : (l.view c.args.stream.now).failed ≡ false = sym c.has_failed.ensures ∙ c.if-has_failed.false in
     let begun : (l.view start).failed ≡ false = ap (λ s. (l.view s).failed) still ∙ fine in
     let k = (rw c.in-None.is at c.in_ok-results.ensures.looks) begun in
-    let s = subst (λ b. Stands l.view l.at b start mid) (sym begun) k.1 in
+    let s = subst (λ b. SameStream l.view l.at b start mid) (sym begun) k.1 in
     let e = set_back l start mid c.reset.new.self s (c.reset.ensures (l.view start).passed (l.view start).rest (set_within l start mid s) c.position-place.ensures) in
     results_none l c.none-in-None.result c.none-in-None.ensures fine (subst (λ t. is_read (results_at (l.view t).rest) ≡ false) still k.0) (e ∙ still)

@@ -1,6 +1,6 @@
 use Rattle.std.proofs.Common.{◌≡◌, [], ◌∷◌, refl, sym, ◌∙◌, subst, Ok, Err}
-use Rattle.irtext_read.proofs.Exits.{handed_on}
-use Rattle.irtext_read.proofs.Steps.{Lens, lens}
+use Rattle.irtext_tokens.proofs.Exits.{handed_on}
+use Rattle.irtext_tokens.proofs.Steps.{Lens, lens}
 use Rattle.irtext_parse_pieces.specs.Named.{Each}
 use Rattle.irtext_parse_pieces.proofs.Meanings.{insisted_mean, must_refuse}
 use Rattle.irtext_parse_pieces.proofs.Listings.{Listing, listing_first, listing_all, listing_refused, listing_more, item_falls, listing_starved}

@@ -1,4 +1,4 @@
-use Rattle.irtext_read.proofs.Steps.{Lens, lens}
+use Rattle.irtext_tokens.proofs.Steps.{Lens, lens}
 use Rattle.irtext_parse_pieces.proofs.PieceSteps.{may_itself}
 use Rattle.irtext_parse_pieces.proofs.types.type_parse.Given as given
 use Rattle.irtext_parse_pieces.proofs.types.type_parse.Goals as goal

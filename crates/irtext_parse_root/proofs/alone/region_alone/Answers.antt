@@ -2,7 +2,7 @@ use Rattle.std.proofs.Common.{◌≡◌, ◌≤◌, ◌∙◌, [], refl, sym, su
 use Rattle.std.proofs.lemmas.Result.{err_from_is_err_and}
 use Rattle.irtext_context.specs.Context.{with_graph, KeepsOlder}
 use Rattle.irtext_graph.specs.Graph.{MakesRegion}
-use Rattle.irtext_read.specs.AttrTexts.{attr_at}
+use Rattle.irtext_tokens.specs.AttrTexts.{attr_at}
 use Rattle.irtext_parse_nested.proofs.Entering.{unentered}
 use Rattle.irtext_parse_root.proofs.Entered.{alone_unbraced, alone_braced}
 use Rattle.irtext_parse_root.proofs.Unplaced.{alone_sound}

@@ -1,7 +1,7 @@
 use Rattle.std.proofs.Common.{◌∙◌, ◌<◌, sym, subst, refl, arith, Some, None}
 use Rattle.irtext_context.proofs.Kept.{kept_closed, kept_trans}
-use Rattle.irtext_read.specs.AttrTexts.{attr_at}
-use Rattle.irtext_read.proofs.Exits.{handed_on}
+use Rattle.irtext_tokens.specs.AttrTexts.{attr_at}
+use Rattle.irtext_tokens.proofs.Exits.{handed_on}
 use Rattle.irtext_parse_root.specs.Levels.{AreAllNew, left_to_do}
 use Rattle.irtext_parse_root.proofs.Chains.{carries_still, carries_both, remains_on}
 use Rattle.irtext_parse_root.proofs.Looping.{arrives_first, are_here, arrives_on, stops_on, less_on, finishes_on, keeps_itself, none_wait, come_to}

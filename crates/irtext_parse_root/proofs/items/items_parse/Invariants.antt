@@ -1,7 +1,7 @@
 use Rattle.std.proofs.Common.{◌≡◌, ◌≤◌, ℕ, List, Some, []}
 use Rattle.irtext_context.specs.Context.{KeepsOlder}
 use Rattle.irtext_graph.specs.Back.{IsClosedBelow}
-use Rattle.irtext_read.specs.AttrTexts.{attr_at}
+use Rattle.irtext_tokens.specs.AttrTexts.{attr_at}
 use Rattle.irtext_grammar.specs.Contexts.Held.{whole}
 use Rattle.irtext_parse_nested.specs.Items.{IsSound}
 use Rattle.irtext_parse_root.specs.Here.{Base, IsHere}

@@ -1,6 +1,6 @@
 use Rattle.std.proofs.Common.{false, refl, Err, []}
-use Rattle.irtext_read.proofs.Exits.{handed_on}
-use Rattle.irtext_read.proofs.Steps.{Lens, lens}
+use Rattle.irtext_tokens.proofs.Exits.{handed_on}
+use Rattle.irtext_tokens.proofs.Steps.{Lens, lens}
 use Rattle.irtext_parse_pieces.specs.Named.{StandsFor}
 use Rattle.irtext_parse_pieces.proofs.Meanings.{may_miss, insisted_mean}
 use Rattle.irtext_parse_pieces.proofs.NameSteps.{nobody, target_behind, target_refused}

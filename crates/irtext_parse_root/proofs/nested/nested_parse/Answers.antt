@@ -1,6 +1,6 @@
 use Rattle.std.proofs.Common.{arith}
 use Rattle.irtext_context.proofs.Kept.{kept_closed, kept_trans}
-use Rattle.irtext_read.proofs.Exits.{handed_on}
+use Rattle.irtext_tokens.proofs.Exits.{handed_on}
 use Rattle.irtext_graph.specs.declared.object.Object.TheVariants.{TheOperation}
 use Rattle.irtext_parse_root.proofs.Chains.{never_open, carries_both, remains_on}
 use Rattle.irtext_parse_root.proofs.Nesting.{root_is_here, nested_reads, nested_stops, none_begins}

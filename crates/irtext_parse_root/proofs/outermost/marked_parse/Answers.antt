@@ -1,14 +1,14 @@
 use Rattle.std.proofs.Common.{◌≡◌, ◌∙◌, ◌⊎◌, ◌&&◌, false, [], refl, sym, ap, inl, inr, true≢false}
 use Rattle.irtext_base.specs.Own.{texts_of}
 use Rattle.irtext_context.proofs.Kept.{kept_closed, kept_trans}
-use Rattle.irtext_nesting.proofs.Exact.Attributes.{lawful_needs_word}
-use Rattle.irtext_outcomes.proofs.Readers.EntryIndices.{demanded_refusal}
-use Rattle.irtext_outcomes.specs.Promises.Section.{is_noted}
+use Rattle.irtext_parse_spec.proofs.Exact.Attributes.{lawful_needs_word}
+use Rattle.irtext_parse_spec.proofs.Readers.EntryIndices.{demanded_refusal}
+use Rattle.irtext_parse_spec.specs.Promises.Section.{is_noted}
 use Rattle.irtext_parse_nested.specs.Located.{IsLocated}
 use Rattle.irtext_grammar.specs.Contexts.Held.{whole}
-use Rattle.irtext_read.specs.AttrTexts.{attr_at}
-use Rattle.irtext_read.proofs.Exits.{handed_on}
-use Rattle.irtext_state.specs.States.{marks_of}
+use Rattle.irtext_tokens.specs.AttrTexts.{attr_at}
+use Rattle.irtext_tokens.proofs.Exits.{handed_on}
+use Rattle.irtext_parse_state.specs.States.{marks_of}
 use Rattle.irtext_parse_root.specs.AnyState.{no_operation, no_section}
 use Rattle.irtext_parse_root.proofs.Laws.{short}
 use Rattle.irtext_parse_root.proofs.Newer.{all_newer}

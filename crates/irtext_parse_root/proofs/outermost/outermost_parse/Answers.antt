@@ -3,7 +3,7 @@ use Rattle.std.proofs.Math.Seq.{take-append_seam}
 use Rattle.irtext_context.proofs.Kept.{rolled_back}
 use Rattle.irtext_context.specs.Context.{KeepsOlder}
 use Rattle.irtext_graph.specs.Back.{IsClosedBelow}
-use Rattle.irtext_state.specs.States.{marks_of}
+use Rattle.irtext_parse_state.specs.States.{marks_of}
 use Rattle.irtext_parse_root.proofs.outermost.outermost_parse.Goals as goal
 
 pub roll_back-requires : goal.roll_back-requires

@@ -1,7 +1,7 @@
 use Rattle.std.proofs.Common.{sym, subst, le_refl}
-use Rattle.irtext_read.specs.AttrTexts.{attr_at}
-use Rattle.irtext_outcomes.specs.Readers.Refusals.{Refusal}
-use Rattle.irtext_nesting.proofs.Exact.Attributes.{lawful_needs_word}
+use Rattle.irtext_tokens.specs.AttrTexts.{attr_at}
+use Rattle.irtext_parse_spec.specs.Readers.Refusals.{Refusal}
+use Rattle.irtext_parse_spec.proofs.Exact.Attributes.{lawful_needs_word}
 use Rattle.irtext_parse_root.proofs.Laws.{short}
 use Rattle.irtext_parse_root.proofs.Fresh.{fresh_sound}
 use Rattle.irtext_parse_root.proofs.Refused.{refusal_by}

@@ -1,5 +1,5 @@
 use Rattle.std.proofs.Common.{◌∙◌, sym}
-use Rattle.irtext_read.proofs.Exits.{handed_on}
+use Rattle.irtext_tokens.proofs.Exits.{handed_on}
 use Rattle.irtext_parse_root.proofs.Proceeding.{gone_proceeds, begins_proceeds}
 use Rattle.irtext_parse_root.proofs.Stopping.{begin_stops}
 use Rattle.irtext_parse_root.proofs.Chains.{remains_so}

@@ -1,5 +1,5 @@
 use Rattle.irtext_grammar.specs.Contexts.Held.{whole}
-use Rattle.irtext_read.proofs.Exits.{handed_on}
+use Rattle.irtext_tokens.proofs.Exits.{handed_on}
 use Rattle.irtext_parse_root.proofs.Proceeding.{ended_proceeds}
 use Rattle.irtext_parse_root.proofs.Stopping.{end_stops, operation_known, operation_there}
 use Rattle.irtext_parse_root.proofs.steps.end_step.Goals as goal

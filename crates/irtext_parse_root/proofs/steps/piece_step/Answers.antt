@@ -1,4 +1,4 @@
-use Rattle.irtext_read.proofs.Exits.{handed_on}
+use Rattle.irtext_tokens.proofs.Exits.{handed_on}
 use Rattle.irtext_parse_root.proofs.Proceeding.{piece_proceeds}
 use Rattle.irtext_grammar.specs.Contexts.Held.{whole}
 use Rattle.irtext_parse_root.proofs.Stopping.{piece_stops, piece_there}

@@ -1,6 +1,6 @@
 use Rattle.std.proofs.Common.{◌≡◌, ◌∙◌, None, sym, ap, subst, true, false}
-use Rattle.irtext_read.proofs.Exits.{handed_on}
-use Rattle.irtext_nesting.specs.Reached.{begins_region}
+use Rattle.irtext_tokens.proofs.Exits.{handed_on}
+use Rattle.irtext_parse_spec.specs.Reached.{begins_region}
 use Rattle.irtext_parse_root.proofs.Proceeding.{another_proceeds, over_proceeds}
 use Rattle.irtext_parse_root.proofs.Stopping.{another_stops}
 use Rattle.irtext_parse_root.proofs.Chains.{remains_so}

@@ -1,10 +1,10 @@
 use Rattle.std.proofs.Common.{ap, sym, subst, le_refl}
 use Rattle.irtext_grammar.specs.Contexts.Held.{whole}
-use Rattle.irtext_nesting.proofs.Exact.Attributes.{lawful_needs_word}
-use Rattle.irtext_outcomes.specs.Promises.Section.{indices_of}
-use Rattle.irtext_outcomes.specs.Readers.Refusals.{Refusal}
-use Rattle.irtext_read.specs.AttrTexts.{attr_at}
-use Rattle.irtext_state.specs.States.{marks_of}
+use Rattle.irtext_parse_spec.proofs.Exact.Attributes.{lawful_needs_word}
+use Rattle.irtext_parse_spec.specs.Promises.Section.{indices_of}
+use Rattle.irtext_parse_spec.specs.Readers.Refusals.{Refusal}
+use Rattle.irtext_tokens.specs.AttrTexts.{attr_at}
+use Rattle.irtext_parse_state.specs.States.{marks_of}
 use Rattle.irtext_parse_root.proofs.Laws.{short}
 use Rattle.irtext_parse_root.proofs.Closed.{reads_tree}
 use Rattle.irtext_parse_root.proofs.Fresh.{fresh_sound, fresh_once}

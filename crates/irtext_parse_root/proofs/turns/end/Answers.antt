@@ -1,4 +1,4 @@
-use Rattle.irtext_read.specs.AttrTexts.{attr_at}
+use Rattle.irtext_tokens.specs.AttrTexts.{attr_at}
 use Rattle.irtext_parse_root.proofs.Handing.{ends_given, remains_more}
 use Rattle.irtext_parse_root.proofs.turns.end.Goals as goal
 

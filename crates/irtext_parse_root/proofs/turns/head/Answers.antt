@@ -1,4 +1,4 @@
-use Rattle.irtext_read.specs.AttrTexts.{attr_at}
+use Rattle.irtext_tokens.specs.AttrTexts.{attr_at}
 use Rattle.irtext_parse_root.proofs.Handing.{heads_given, first_given, remains_more}
 use Rattle.irtext_parse_root.proofs.turns.head.Goals as goal
 

@@ -1,7 +1,7 @@
 use Rattle.std.proofs.Common.{ap, sym, subst}
 use Rattle.irtext_context.specs.Context.{KeepsOlder}
-use Rattle.irtext_read.specs.AttrTexts.{attr_at}
-use Rattle.irtext_state.specs.States.{marks_of}
+use Rattle.irtext_tokens.specs.AttrTexts.{attr_at}
+use Rattle.irtext_parse_state.specs.States.{marks_of}
 use Rattle.irtext_parse_root.proofs.Chains.{lasts_still}
 use Rattle.irtext_parse_root.proofs.Handing.{leaves_given, remains_same}
 use Rattle.irtext_parse_root.proofs.Looping.{keeps_itself}

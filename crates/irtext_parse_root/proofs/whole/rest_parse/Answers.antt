@@ -2,15 +2,15 @@ use Rattle.std.proofs.Common.{◌∙◌, ap, sym, refl, subst, inl, inr, true}
 use Rattle.irtext_base.proofs.Results.{where_ok}
 use Rattle.irtext_context.proofs.Kept.{kept_trans}
 use Rattle.irtext_context.proofs.Contexts.{same-keeps}
-use Rattle.irtext_read.specs.AttrTexts.{attr_at}
-use Rattle.irtext_read.proofs.Exits.{handed_on}
-use Rattle.irtext_read.proofs.Steps.{alone}
-use Rattle.irtext_state.specs.States.{marks_of}
-use Rattle.irtext_outcomes.specs.Promises.Section.{indices_of}
-use Rattle.irtext_outcomes.proofs.Readers.Answered.{answered, not_answered}
-use Rattle.irtext_outcomes.proofs.Readers.EntryIndices.{demands}
-use Rattle.irtext_outcomes.proofs.Readers.NewPaths.{adds_kept}
-use Rattle.irtext_nesting.proofs.Fine.{fine_section}
+use Rattle.irtext_tokens.specs.AttrTexts.{attr_at}
+use Rattle.irtext_tokens.proofs.Exits.{handed_on}
+use Rattle.irtext_tokens.proofs.Steps.{alone}
+use Rattle.irtext_parse_state.specs.States.{marks_of}
+use Rattle.irtext_parse_spec.specs.Promises.Section.{indices_of}
+use Rattle.irtext_parse_spec.proofs.Readers.Answered.{answered, not_answered}
+use Rattle.irtext_parse_spec.proofs.Readers.EntryIndices.{demands}
+use Rattle.irtext_parse_spec.proofs.Readers.NewPaths.{adds_kept}
+use Rattle.irtext_parse_spec.proofs.Fine.{fine_section}
 use Rattle.irtext_parse_nested.proofs.Marking.{if_err, on_err, always_err}
 use Rattle.irtext_parse_pieces.proofs.Meanings.{takes_whole}
 use Rattle.irtext_parse_section.specs.Said.{rules_of}

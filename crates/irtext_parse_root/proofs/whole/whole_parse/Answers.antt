@@ -2,7 +2,7 @@ use Rattle.std.proofs.Common.{◌∙◌, ap, sym, subst, take, length}
 use Rattle.std.proofs.Math.Seq.{take-append_seam}
 use Rattle.irtext_context.proofs.Kept.{kept_closed, rolled_back}
 use Rattle.irtext_context.specs.Context.{KeepsOlder}
-use Rattle.irtext_state.specs.States.{marks_of}
+use Rattle.irtext_parse_state.specs.States.{marks_of}
 use Rattle.irtext_parse_root.proofs.whole.whole_parse.Goals as goal
 
 pub roll_back-requires : goal.roll_back-requires

@@ -1,5 +1,5 @@
 use Rattle.std.proofs.Common.{refl, ◌∙◌, ap}
-use Rattle.irtext_read.proofs.Exits.{handed_on}
+use Rattle.irtext_tokens.proofs.Exits.{handed_on}
 use Rattle.irtext_parse_section.specs.Checked.{pairs_wrong, items_wrong}
 use Rattle.irtext_parse_section.specs.Said.{is_block}
 use Rattle.irtext_parse_section.proofs.CheckSteps.{refused_first, none_wrong}

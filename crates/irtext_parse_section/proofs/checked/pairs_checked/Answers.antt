@@ -1,5 +1,5 @@
 use Rattle.std.proofs.Common.{refl, ◌∙◌, ap}
-use Rattle.irtext_read.proofs.Exits.{handed_on}
+use Rattle.irtext_tokens.proofs.Exits.{handed_on}
 use Rattle.irtext_parse_section.specs.Checked.{pair_wrong, pairs_wrong}
 use Rattle.irtext_parse_section.proofs.CheckSteps.{refused_first, none_wrong}
 use Rattle.irtext_parse_section.proofs.checked.pairs_checked.Goals as goal

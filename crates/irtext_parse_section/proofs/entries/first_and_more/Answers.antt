@@ -1,6 +1,6 @@
 use Rattle.std.proofs.Common.{sym, subst}
-use Rattle.irtext_read.specs.AttrTexts.{attr_at}
-use Rattle.irtext_outcomes.proofs.Readers.NewPaths.{adds_none}
+use Rattle.irtext_tokens.specs.AttrTexts.{attr_at}
+use Rattle.irtext_parse_spec.proofs.Readers.NewPaths.{adds_none}
 use Rattle.irtext_parse_section.specs.Entries.{EntriesSoFar, one_noted}
 use Rattle.irtext_parse_section.proofs.LoopSteps.{rest_stays, starved_so_far}
 use Rattle.irtext_parse_section.proofs.entries.first_and_more.Goals as goal

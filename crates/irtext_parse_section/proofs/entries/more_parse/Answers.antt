@@ -1,9 +1,9 @@
 use Rattle.std.proofs.Common.{true, sym, ap, ◌∙◌, refl}
-use Rattle.irtext_state.specs.States.{marks_of}
-use Rattle.irtext_read.specs.AttrTexts.{attr_at}
-use Rattle.irtext_read.proofs.Exits.{handed_on}
-use Rattle.irtext_outcomes.specs.Readers.Marks.{may_follow}
-use Rattle.irtext_outcomes.proofs.Readers.NewPaths.{adds_none, adds_more}
+use Rattle.irtext_parse_state.specs.States.{marks_of}
+use Rattle.irtext_tokens.specs.AttrTexts.{attr_at}
+use Rattle.irtext_tokens.proofs.Exits.{handed_on}
+use Rattle.irtext_parse_spec.specs.Readers.Marks.{may_follow}
+use Rattle.irtext_parse_spec.proofs.Readers.NewPaths.{adds_none, adds_more}
 use Rattle.irtext_parse_section.specs.Entries.{noted}
 use Rattle.irtext_parse_section.specs.Said.{rules_of}
 use Rattle.irtext_parse_section.proofs.LoopSteps.{unless_err, rest_stays, rest_joins, all_entries, entries_refused, entries_starved, entries_shorter, entries_more, starved_so_far}

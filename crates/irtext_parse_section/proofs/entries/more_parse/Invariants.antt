@@ -1,9 +1,9 @@
 use Rattle.std.proofs.Common.{◌≡◌, length}
-use Rattle.irtext_state.specs.States.{marks_of}
-use Rattle.irtext_state.specs.declared.parsable.state.StateStream.{StateStream}
-use Rattle.irtext_read.specs.AttrTexts.{attr_at}
-use Rattle.irtext_outcomes.specs.Readers.NewPaths.{AddsPaths}
-use Rattle.irtext_outcomes.specs.Readers.Streams.{KeepsRest}
+use Rattle.irtext_parse_state.specs.States.{marks_of}
+use Rattle.irtext_parse_state.specs.declared.parsable.state.StateStream.{StateStream}
+use Rattle.irtext_tokens.specs.AttrTexts.{attr_at}
+use Rattle.irtext_parse_spec.specs.Readers.NewPaths.{AddsPaths}
+use Rattle.irtext_parse_spec.specs.Readers.Streams.{KeepsRest}
 use Rattle.irtext_parse_section.specs.Entries.{EntriesSoFar, noted}
 use Rattle.irtext_parse_section.proofs.entries.more_parse.Given as goal
 

@@ -1,9 +1,9 @@
 use Rattle.std.proofs.Common.{sym, ◌∙◌, ap}
 use Rattle.std.specs.Prelude.{is_some, option_copied}
-use Rattle.irtext_read.specs.AttrTexts.{attr_at}
-use Rattle.irtext_state.specs.States.{marks_of}
-use Rattle.irtext_read.proofs.Exits.{handed_on}
-use Rattle.irtext_outcomes.specs.Readers.Marks.{may_follow}
+use Rattle.irtext_tokens.specs.AttrTexts.{attr_at}
+use Rattle.irtext_parse_state.specs.States.{marks_of}
+use Rattle.irtext_tokens.proofs.Exits.{handed_on}
+use Rattle.irtext_parse_spec.specs.Readers.Marks.{may_follow}
 use Rattle.irtext_parse_section.specs.Entries.{earlier_indices}
 use Rattle.irtext_parse_section.proofs.EntrySteps.{entry_unread, once_there, once_refused, item_there, item_refused}
 use Rattle.irtext_parse_section.proofs.entry.entry_parse.Goals as goal

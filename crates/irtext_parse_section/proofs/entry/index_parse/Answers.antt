@@ -1,9 +1,9 @@
 use Rattle.std.proofs.Common.{ℕ, refl, codes, length}
 use Rattle.irtext_base.specs.Answers.{Outcome, mapped}
 use Rattle.irtext_base.specs.Text.{Text}
-use Rattle.irtext_read.specs.Demanded.{spaced_at}
-use Rattle.irtext_read.proofs.Exits.{handed_on}
-use Rattle.irtext_read.proofs.Steps.{alone, first, refuses_seen, last_seen}
+use Rattle.irtext_tokens.specs.Demanded.{spaced_at}
+use Rattle.irtext_tokens.proofs.Exits.{handed_on}
+use Rattle.irtext_tokens.proofs.Steps.{alone, first, refuses_seen, last_seen}
 use Rattle.irtext_grammar.specs.Grammar.Tree.{Mark}
 use Rattle.irtext_parse_pieces.proofs.EntrySteps.{first_refused}
 use Rattle.irtext_parse_pieces.proofs.Meanings.{must_refuse}

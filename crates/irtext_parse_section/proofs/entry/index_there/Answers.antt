@@ -1,5 +1,5 @@
-use Rattle.irtext_read.proofs.SetBack.{set_back, set_within}
-use Rattle.irtext_read.proofs.Steps.{alone}
+use Rattle.irtext_tokens.proofs.SetBack.{set_back, set_within}
+use Rattle.irtext_tokens.proofs.Steps.{alone}
 use Rattle.irtext_parse_section.proofs.entry.index_there.Goals as goal
 
 pub reset-requires : goal.reset-requires

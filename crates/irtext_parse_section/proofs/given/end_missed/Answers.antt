@@ -1,9 +1,9 @@
 use Rattle.std.proofs.Common.{codes, refl}
 use Rattle.irtext_base.specs.Answers.{Outcome, followed}
 use Rattle.irtext_base.specs.Text.{Text}
-use Rattle.irtext_read.specs.Tokens.{space_at, text_at}
-use Rattle.irtext_read.proofs.Exits.{handed_on}
-use Rattle.irtext_read.proofs.Steps.{alone, first, more, refuses, last_spaced}
+use Rattle.irtext_tokens.specs.Tokens.{space_at, text_at}
+use Rattle.irtext_tokens.proofs.Exits.{handed_on}
+use Rattle.irtext_tokens.proofs.Steps.{alone, first, more, refuses, last_spaced}
 use Rattle.irtext_parse_pieces.proofs.EntrySteps.{first_refused}
 use Rattle.irtext_parse_section.proofs.given.end_missed.Goals as goal
 

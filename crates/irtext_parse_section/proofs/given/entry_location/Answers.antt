@@ -4,18 +4,18 @@ use Rattle.irtext_base.specs.Locations.{AttrView}
 use Rattle.irtext_base.specs.Paths.{Written}
 use Rattle.irtext_base.specs.Stream.{StreamView}
 use Rattle.irtext_base.specs.Text.{Text}
-use Rattle.irtext_read.specs.AttrTexts.{attr_at}
-use Rattle.irtext_read.specs.Tokens.{space_at, text_at}
-use Rattle.irtext_outcomes.specs.Readers.Locations.{location_at}
-use Rattle.irtext_outcomes.specs.Readers.Positions.{spaced_at}
+use Rattle.irtext_tokens.specs.AttrTexts.{attr_at}
+use Rattle.irtext_tokens.specs.Tokens.{space_at, text_at}
+use Rattle.irtext_parse_spec.specs.Readers.Locations.{location_at}
+use Rattle.irtext_parse_spec.specs.Readers.Positions.{spaced_at}
 use Rattle.irtext_grammar.specs.Contexts.Held.{location_over}
-use Rattle.irtext_outcomes.specs.Promises.Section.{given_over}
-use Rattle.irtext_outcomes.specs.Readers.Section.{entry_location_at}
-use Rattle.irtext_read.proofs.Exits.{handed_on}
-use Rattle.irtext_read.proofs.Steps.{Passed}
-use Rattle.irtext_outcomes.proofs.Locations.Bounds.{at_length}
-use Rattle.irtext_outcomes.proofs.Readers.PlainStream.{alone}
-use Rattle.irtext_outcomes.proofs.Readers.Steps.{starts, turned, more, spaced, refuses, refuses_seen, last_seen}
+use Rattle.irtext_parse_spec.specs.Promises.Section.{given_over}
+use Rattle.irtext_parse_spec.specs.Readers.Section.{entry_location_at}
+use Rattle.irtext_tokens.proofs.Exits.{handed_on}
+use Rattle.irtext_tokens.proofs.Steps.{Passed}
+use Rattle.irtext_parse_spec.proofs.Locations.Bounds.{at_length}
+use Rattle.irtext_parse_spec.proofs.Readers.PlainStream.{alone}
+use Rattle.irtext_parse_spec.proofs.Readers.Steps.{starts, turned, more, spaced, refuses, refuses_seen, last_seen}
 use Rattle.irtext_parse_section.specs.Entries.{location_end_at}
 use Rattle.irtext_parse_section.proofs.PlainEntries.{end_mapped}
 use Rattle.irtext_parse_section.proofs.given.entry_location.Goals as goal

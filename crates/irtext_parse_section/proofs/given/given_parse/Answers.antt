@@ -3,16 +3,16 @@ use Rattle.irtext_base.specs.Answers.{Outcome, mapped}
 use Rattle.irtext_base.specs.Locations.{AttrView}
 use Rattle.irtext_base.specs.Paths.{Written}
 use Rattle.irtext_base.specs.Text.{Text}
-use Rattle.irtext_read.specs.AttrTexts.{attr_at}
-use Rattle.irtext_read.proofs.Exits.{handed_on}
-use Rattle.irtext_read.proofs.Steps.{alone, first, refuses_seen, last_seen}
+use Rattle.irtext_tokens.specs.AttrTexts.{attr_at}
+use Rattle.irtext_tokens.proofs.Exits.{handed_on}
+use Rattle.irtext_tokens.proofs.Steps.{alone, first, refuses_seen, last_seen}
 use Rattle.irtext_grammar.specs.Grammar.Section.{Item}
 use Rattle.irtext_grammar.specs.Grammar.Tree.{Name}
 use Rattle.irtext_grammar.specs.Names.Acts.{Rule}
-use Rattle.irtext_outcomes.specs.Promises.Section.{given_over}
+use Rattle.irtext_parse_spec.specs.Promises.Section.{given_over}
 use Rattle.irtext_parse_pieces.proofs.EntrySteps.{first_refused}
 use Rattle.irtext_parse_pieces.proofs.Meanings.{must_refuse, must_whole}
-use Rattle.irtext_nesting.specs.Readers.{pairs_at}
+use Rattle.irtext_parse_spec.specs.Entries.{pairs_at}
 use Rattle.irtext_parse_section.specs.Said.{rule_for, ArePairs}
 use Rattle.irtext_parse_section.proofs.given.given_parse.Goals as goal
 

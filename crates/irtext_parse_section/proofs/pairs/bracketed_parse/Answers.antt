@@ -2,18 +2,18 @@ use Rattle.std.proofs.Common.{ℕ, List, [], refl, codes, subst}
 use Rattle.irtext_base.specs.Answers.{Outcome, mapped, followed}
 use Rattle.irtext_base.specs.Locations.{AttrView}
 use Rattle.irtext_base.specs.Text.{Text}
-use Rattle.irtext_read.specs.AttrTexts.{attr_at}
-use Rattle.irtext_read.specs.ListOutcomes.{separated_at}
-use Rattle.irtext_read.specs.Tokens.{space_at, text_at}
-use Rattle.irtext_read.proofs.Exits.{handed_on}
-use Rattle.irtext_read.proofs.Steps.{alone, first, spaced, more, refuses, refuses_seen, last_seen}
+use Rattle.irtext_tokens.specs.AttrTexts.{attr_at}
+use Rattle.irtext_tokens.specs.ListOutcomes.{separated_at}
+use Rattle.irtext_tokens.specs.Tokens.{space_at, text_at}
+use Rattle.irtext_tokens.proofs.Exits.{handed_on}
+use Rattle.irtext_tokens.proofs.Steps.{alone, first, spaced, more, refuses, refuses_seen, last_seen}
 use Rattle.irtext_grammar.specs.Grammar.Section.{Item}
 use Rattle.irtext_grammar.specs.Grammar.Tree.{Name}
 use Rattle.irtext_grammar.specs.Names.Acts.{Rule}
 use Rattle.irtext_parse_pieces.specs.Named.{Each}
 use Rattle.irtext_parse_pieces.proofs.EntrySteps.{first_refused}
 use Rattle.irtext_parse_pieces.proofs.Meanings.{must_refuse, passed_whole}
-use Rattle.irtext_nesting.specs.Readers.{pairs_at}
+use Rattle.irtext_parse_spec.specs.Entries.{pairs_at}
 use Rattle.irtext_parse_section.specs.Said.{rule_for, IsPair}
 use Rattle.irtext_parse_section.proofs.PairSteps.{kept_at}
 use Rattle.irtext_parse_section.proofs.pairs.bracketed_parse.Goals as goal

@@ -1,7 +1,7 @@
 use Rattle.std.proofs.Common.{[], sym, ◌∙◌}
-use Rattle.irtext_read.specs.AttrTexts.{attr_at}
-use Rattle.irtext_read.proofs.Exits.{handed_on}
-use Rattle.irtext_read.proofs.Steps.{alone}
+use Rattle.irtext_tokens.specs.AttrTexts.{attr_at}
+use Rattle.irtext_tokens.proofs.Exits.{handed_on}
+use Rattle.irtext_tokens.proofs.Steps.{alone}
 use Rattle.irtext_grammar.specs.Grammar.Section.{direct}
 use Rattle.irtext_grammar.specs.Grammar.Tree.{ident}
 use Rattle.irtext_parse_pieces.proofs.Meanings.{must_fail}

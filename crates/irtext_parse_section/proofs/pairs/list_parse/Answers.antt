@@ -1,6 +1,6 @@
 use Rattle.std.proofs.Common.{[], refl}
-use Rattle.irtext_read.proofs.Steps.{alone}
-use Rattle.irtext_read.specs.AttrTexts.{attr_at}
+use Rattle.irtext_tokens.proofs.Steps.{alone}
+use Rattle.irtext_tokens.specs.AttrTexts.{attr_at}
 use Rattle.irtext_parse_pieces.proofs.Meanings.{must_refuse}
 use Rattle.irtext_parse_pieces.proofs.Listings.{list_bad, list_none}
 use Rattle.irtext_parse_section.specs.Said.{rule_for}

@@ -1,6 +1,6 @@
 use Rattle.std.proofs.Common.{◌≡◌, ℕ, false, [], ◌∷◌, length}
-use Rattle.irtext_read.proofs.Steps.{alone}
-use Rattle.irtext_read.specs.AttrTexts.{attr_at}
+use Rattle.irtext_tokens.proofs.Steps.{alone}
+use Rattle.irtext_tokens.specs.AttrTexts.{attr_at}
 use Rattle.irtext_grammar.specs.Grammar.Section.{Item}
 use Rattle.irtext_grammar.specs.Grammar.Tree.{Name}
 use Rattle.irtext_parse_pieces.specs.Named.{whole}

@@ -2,14 +2,14 @@ use Rattle.std.proofs.Common.{ℕ, refl, codes, subst}
 use Rattle.irtext_base.specs.Answers.{Outcome, mapped, followed}
 use Rattle.irtext_base.specs.Locations.{AttrView}
 use Rattle.irtext_base.specs.Text.{Text}
-use Rattle.irtext_read.specs.AttrTexts.{attr_at}
-use Rattle.irtext_read.specs.Demanded.{spaced_at}
-use Rattle.irtext_read.proofs.Exits.{handed_on}
-use Rattle.irtext_read.proofs.Steps.{alone, begins_with, begins_refused, begun_by, more, refuses, refuses_seen, last_seen}
+use Rattle.irtext_tokens.specs.AttrTexts.{attr_at}
+use Rattle.irtext_tokens.specs.Demanded.{spaced_at}
+use Rattle.irtext_tokens.proofs.Exits.{handed_on}
+use Rattle.irtext_tokens.proofs.Steps.{alone, begins_with, begins_refused, begun_by, more, refuses, refuses_seen, last_seen}
 use Rattle.irtext_grammar.specs.Grammar.Section.{Item, direct}
 use Rattle.irtext_grammar.specs.Grammar.Tree.{Name, ident}
 use Rattle.irtext_parse_pieces.proofs.Meanings.{may_refuse, may_unread, passed_whole}
-use Rattle.irtext_nesting.specs.Readers.{item_at}
+use Rattle.irtext_parse_spec.specs.Entries.{item_at}
 use Rattle.irtext_parse_section.specs.Said.{IsGiven}
 use Rattle.irtext_parse_section.proofs.pairs.pair_parse.Goals as goal
 

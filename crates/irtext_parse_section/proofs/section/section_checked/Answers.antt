@@ -1,15 +1,15 @@
 use Rattle.std.proofs.Common.{Ok, sym, subst}
 use Rattle.irtext_base.specs.Own.{texts_of}
-use Rattle.irtext_read.specs.AttrTexts.{attr_at}
-use Rattle.irtext_read.proofs.Exits.{handed_on}
-use Rattle.irtext_state.specs.States.{marks_of}
-use Rattle.irtext_outcomes.specs.Promises.Section.{indices_of}
-use Rattle.irtext_outcomes.specs.Readers.Streams.{itself, replaced}
-use Rattle.irtext_outcomes.proofs.Readers.Answered.{answered}
+use Rattle.irtext_tokens.specs.AttrTexts.{attr_at}
+use Rattle.irtext_tokens.proofs.Exits.{handed_on}
+use Rattle.irtext_parse_state.specs.States.{marks_of}
+use Rattle.irtext_parse_spec.specs.Promises.Section.{indices_of}
+use Rattle.irtext_parse_spec.specs.Readers.Streams.{itself, replaced}
+use Rattle.irtext_parse_spec.proofs.Readers.Answered.{answered}
 use Rattle.irtext_parse_section.specs.Checked.{items_wrong}
 use Rattle.irtext_parse_section.specs.Said.{rules_of}
 use Rattle.irtext_parse_pieces.specs.Named.{whole, Each, MustMean}
-use Rattle.irtext_nesting.specs.Readers.{wrong_references, section_at}
+use Rattle.irtext_parse_spec.specs.Entries.{wrong_references, section_at}
 use Rattle.irtext_parse_section.specs.Entries.{AreEntriesOver, items_of, once_of}
 use Rattle.irtext_parse_section.proofs.References.{IsWrong, references_same, references_near, section_unread, section_right, section_wrong}
 use Rattle.irtext_parse_section.proofs.section.section_checked.Goals as goal

@@ -1,13 +1,13 @@
 use Rattle.std.proofs.Common.{inl, inr, ◌∙◌}
 use Rattle.irtext_context.proofs.Kept.{kept_trans}
-use Rattle.irtext_read.specs.AttrTexts.{attr_at}
-use Rattle.irtext_read.proofs.Exits.{handed_on}
-use Rattle.irtext_state.specs.States.{marks_of}
-use Rattle.irtext_outcomes.specs.Promises.Section.{indices_of}
-use Rattle.irtext_outcomes.proofs.Readers.Answered.{not_answered}
-use Rattle.irtext_outcomes.proofs.Readers.EntryIndices.{demands}
-use Rattle.irtext_outcomes.proofs.Readers.NewPaths.{adds_kept}
-use Rattle.irtext_nesting.proofs.Fine.{fine_section}
+use Rattle.irtext_tokens.specs.AttrTexts.{attr_at}
+use Rattle.irtext_tokens.proofs.Exits.{handed_on}
+use Rattle.irtext_parse_state.specs.States.{marks_of}
+use Rattle.irtext_parse_spec.specs.Promises.Section.{indices_of}
+use Rattle.irtext_parse_spec.proofs.Readers.Answered.{not_answered}
+use Rattle.irtext_parse_spec.proofs.Readers.EntryIndices.{demands}
+use Rattle.irtext_parse_spec.proofs.Readers.NewPaths.{adds_kept}
+use Rattle.irtext_parse_spec.proofs.Fine.{fine_section}
 use Rattle.irtext_parse_section.specs.Said.{rules_of}
 use Rattle.irtext_parse_section.proofs.SectionSteps.{either_way, adds_closed, starved_refusal, starved_there, given_kept, reads_section}
 use Rattle.irtext_parse_section.proofs.section.section_parse.Goals as goal

@@ -1,5 +1,5 @@
 use Rattle.irtext_context.proofs.Kept.{kept_closed}
-use Rattle.irtext_read.proofs.Exits.{handed_on}
+use Rattle.irtext_tokens.proofs.Exits.{handed_on}
 use Rattle.irtext_parse_section.proofs.AllOrNone.{gives_all, gives_kept, gives_closed}
 use Rattle.irtext_parse_section.proofs.together.items_given_together.Goals as goal
 

@@ -2,7 +2,7 @@
 ghost use Rattle.std.specs.Prelude.{◌≡◌, ◌++◌, OnOk, IfErr, IsSome, length, true};
 ghost use Rattle.irtext_context.specs.Context.{operation};
 ghost use Rattle.irtext_context.specs.Context as context;
-ghost use Rattle.irtext_graph.specs.Graph.{Stands};
+ghost use Rattle.irtext_graph.specs.Graph.{IsLive};
 ghost use Rattle.irtext_graph.specs.declared.object.Object.TheVariants.{TheRegion};
 ghost use Rattle.irtext_print.specs.Printers.Appended.{AppendsText};
 ghost use Rattle.irtext_print.specs.Printers.Printing.{gathered_of, with_gathered};
@@ -92,7 +92,7 @@ pub(crate) fn gather_region<T: IrText<A>, A: AttrText<A>, U>(
     state: &mut State<U>,
     f: &mut String,
 ) -> Result<(), Refusal>
-    requires live { Stands ctx.now.graph (TheRegion region) }
+    requires live { IsLive ctx.now.graph (TheRegion region) }
     ensures text { OnOk result (AppendsText f.old (heads.region_text_under T.IrText.own A.IrText.own A.AttrText.own A.eq ctx.now region
         state.old (length (gathered_of state.old))) f.new) }
     ensures state { OnOk result (state.new ≡ printed.gathers state.old

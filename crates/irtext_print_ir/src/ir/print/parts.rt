@@ -1,7 +1,7 @@
 //! The text of blocks and of regions, with everything nested in them, without a section.
 ghost use Rattle.std.specs.Prelude.{◌≡◌, OnOk, IfErr, IsSome};
 ghost use Rattle.irtext_context.specs.Context as context;
-ghost use Rattle.irtext_graph.specs.Graph.{Stands};
+ghost use Rattle.irtext_graph.specs.Graph.{IsLive};
 ghost use Rattle.irtext_graph.specs.declared.object.Object.TheVariants.{TheRegion};
 ghost use Rattle.irtext_print.specs.Printers.Printing.{gathered_of, with_gathered};
 ghost use Rattle.irtext_print_ir.specs.Printers.Printed as printed;
@@ -51,7 +51,7 @@ pub fn print_region<T: IrText<A>, A: AttrText<A>, U>(
     state: &mut State<U>,
     f: &mut String,
 ) -> Result<(), Refusal>
-    requires live { Stands ctx.now.graph (TheRegion region) }
+    requires live { IsLive ctx.now.graph (TheRegion region) }
     ensures prints { OnOk result (printed.PrintsRegion T.IrText.own A.IrText.own A.AttrText.own A.eq ctx.now region state.old f.old
         state.new f.new) }
     ensures refused { IfErr result (heads.RefusesRegionUnder T.IrText.own A.IrText.own A.AttrText.own A.eq ctx.now region state.old) }
@@ -76,7 +76,7 @@ impl<T: IrText<A>, A: AttrText<A>, U> Printable<U, T, A> for Ptr<BasicBlock> {
 
 /// Prints the region as [`print_region`] does. The region has to be live.
 impl<T: IrText<A>, A: AttrText<A>, U> Printable<U, T, A> for Ptr<Region> {
-    ghost can_print = { λ region ctx. Stands ctx.graph (TheRegion region) };
+    ghost can_print = { λ region ctx. IsLive ctx.graph (TheRegion region) };
 
     ghost gives = { λ region ctx s. printed.region_gives T.IrText.own A.IrText.own A.AttrText.own A.eq ctx region s };
 

@@ -1,7 +1,7 @@
 //! A quoted text, and a text between two others.
 ghost use Rattle.std.specs.Prelude.{◌≡◌, Some};
 ghost use Rattle.irtext_print_ir.specs.Printers.Enclosed.{around, Encloses};
-ghost use Rattle.irtext_read.specs.QuotedBytes.{quoted_bytes};
+ghost use Rattle.irtext_tokens.specs.QuotedBytes.{quoted_bytes};
 
 use crate::printable::state::State;
 use crate::printable::{Printable, fmt_quoted};

@@ -1,5 +1,5 @@
 use Rattle.std.proofs.Common.{◌∙◌, refl, sym, ap, option_copied}
-use Rattle.irtext_formats.specs.Directives.{directives_of}
+use Rattle.irtext_format_check.specs.Directives.{directives_of}
 use Rattle.irtext_grammar.specs.Contexts.Held.{entries_of}
 use Rattle.irtext_print_ops.proofs.Counting.{tested, symbol_tested}
 use Rattle.irtext_print_ops.proofs.FitTexts.{first, second, third, fourth, fifth, sixth, seventh, no_one}

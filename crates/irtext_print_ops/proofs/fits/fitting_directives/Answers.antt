@@ -3,7 +3,7 @@ use Rattle.irtext_base.specs.Faults.{id_of}
 use Rattle.irtext_base.specs.Format as format
 use Rattle.irtext_base.specs.Format.{Accepted}
 use Rattle.irtext_context.specs.Context.{operation}
-use Rattle.irtext_formats.specs.Directives.{directives_of, format_of}
+use Rattle.irtext_format_check.specs.Directives.{directives_of, format_of}
 use Rattle.irtext_graph.specs.Parts.{regions}
 use Rattle.irtext_grammar.specs.Contexts.Formats.{isolated}
 use Rattle.irtext_grammar.specs.Contexts.Held.{entries_of}

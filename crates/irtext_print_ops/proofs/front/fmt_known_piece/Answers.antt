@@ -1,6 +1,6 @@
 use Rattle.std.proofs.Common.{◌≡◌, ◌++◌, string_bytes}
 use Rattle.std.specs.Str.{encode_utf8_all}
-use Rattle.irtext_formats.specs.Directives.{directive_of, directives_of}
+use Rattle.irtext_format_check.specs.Directives.{directive_of, directives_of}
 use Rattle.irtext_grammar.specs.Graphs.Graph.{part_of}
 use Rattle.irtext_print.proofs.Printers.Appended.{then}
 use Rattle.irtext_print_ops.specs.Written.{part_text}

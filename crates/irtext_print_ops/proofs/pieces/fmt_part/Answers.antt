@@ -2,7 +2,7 @@ use Rattle.std.proofs.Common.{◌∙◌, sym, ap, string_bytes, [], length, slic
 use Rattle.std.specs.Str.{chars}
 use Rattle.irtext_base.specs.Format as format
 use Rattle.irtext_base.specs.Format.{operand_places, successor_places}
-use Rattle.irtext_formats.specs.Directives.{directive_of, directives_of}
+use Rattle.irtext_format_check.specs.Directives.{directive_of, directives_of}
 use Rattle.irtext_grammar.specs.Contexts.Held.{known_types, entries_of}
 use Rattle.irtext_grammar.specs.Contexts.Nested.{seen_operation}
 use Rattle.irtext_grammar.specs.Graphs.Graph.{part_of}

@@ -2,7 +2,7 @@ use Rattle.std.proofs.Common.{rules, ◌≡◌, ◌∷◌, ◌∙◌, ◌+◌, l
 use Rattle.std.proofs.lemmas.List.{drop_more, length-map}
 use Rattle.std.specs.List.{cons_option}
 use Rattle.irtext_base.specs.Format.{is_any_region}
-use Rattle.irtext_formats.specs.Directives.{directive_of, directives_of}
+use Rattle.irtext_format_check.specs.Directives.{directive_of, directives_of}
 use Rattle.irtext_grammar.specs.Contexts.Formats.{isolated}
 use Rattle.irtext_grammar.specs.Grammar.Tree as tree
 use Rattle.irtext_print_ops.specs.Heads as heads

@@ -1,6 +1,6 @@
 use Rattle.std.proofs.Common.{subst}
-use Rattle.irtext_read.specs.Demanded.{spaced_at}
-use Rattle.irtext_read.specs.MustRead.{MustRead}
+use Rattle.irtext_tokens.specs.Demanded.{spaced_at}
+use Rattle.irtext_tokens.specs.MustRead.{MustRead}
 use Rattle.irtext_syntax.proofs.fixed.between_demanded.Goals as goal
 
 pub returns : goal.returns

@@ -1,7 +1,7 @@
 use Rattle.std.proofs.Common.{refl, sym, ◌∙◌, subst}
-use Rattle.irtext_read.specs.MustRead.{MustRead}
-use Rattle.irtext_read.specs.Tokens.{text_at}
-use Rattle.irtext_read.proofs.Steps.{alone, starts, spaced, last}
+use Rattle.irtext_tokens.specs.MustRead.{MustRead}
+use Rattle.irtext_tokens.specs.Tokens.{text_at}
+use Rattle.irtext_tokens.proofs.Steps.{alone, starts, spaced, last}
 use Rattle.irtext_syntax.specs.FixedTexts.{close_at}
 use Rattle.irtext_syntax.proofs.fixed.close_demanded.Goals as goal
 

@@ -1,9 +1,9 @@
 use Rattle.std.proofs.Common.{Ok, Err, refl, subst}
 use Rattle.irtext_base.specs.Answers.{Outcome}
 use Rattle.irtext_base.specs.Text.{Text}
-use Rattle.irtext_read.specs.MustRead.{MayRead}
-use Rattle.irtext_read.specs.Tokens.{space_at, text_at}
-use Rattle.irtext_read.proofs.Steps.{alone, may_read, begins_with, begun_by, begins_refused, last_spaced}
+use Rattle.irtext_tokens.specs.MustRead.{MayRead}
+use Rattle.irtext_tokens.specs.Tokens.{space_at, text_at}
+use Rattle.irtext_tokens.proofs.Steps.{alone, may_read, begins_with, begun_by, begins_refused, last_spaced}
 use Rattle.irtext_syntax.proofs.fixed.open_parse.Goals as goal
 
 -- white space after the bracket

@@ -2,7 +2,7 @@ use Rattle.std.proofs.Common.{◌++◌, ◌∙◌, refl, sym, ap, append_assoc}
 use Rattle.std.specs.Str.{bytes_eq}
 use Rattle.irtext_base.specs.Text.{front, after, in_word}
 use Rattle.irtext_stream.specs.Stream.{moved}
-use Rattle.irtext_read.proofs.Words.{encodes-front_word, taken_since}
+use Rattle.irtext_tokens.proofs.Words.{encodes-front_word, taken_since}
 use Rattle.irtext_syntax.proofs.keyword.take_word.Goals as goal
 
 pub reset-requires : goal.reset-requires

@@ -1,8 +1,8 @@
 use Rattle.std.proofs.Common.{Ok, List, Vec, Global, refl}
 use Rattle.irtext_base.specs.Answers.{Outcome, mapped}
 use Rattle.irtext_base.specs.Text.{Text}
-use Rattle.irtext_read.proofs.Exits.{handed_on}
-use Rattle.irtext_read.proofs.Steps.{alone, first, refuses_seen, last_seen}
+use Rattle.irtext_tokens.proofs.Exits.{handed_on}
+use Rattle.irtext_tokens.proofs.Steps.{alone, first, refuses_seen, last_seen}
 use Rattle.irtext_syntax.specs.FixedTexts.{close_at}
 use Rattle.irtext_syntax.proofs.ItemsRead.{separated_read}
 use Rattle.irtext_syntax.proofs.list.items_parse.Goals as goal

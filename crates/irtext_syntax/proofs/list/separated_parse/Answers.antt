@@ -1,7 +1,7 @@
 use Rattle.std.proofs.Common.{of_calls, map-id, sym, subst}
-use Rattle.irtext_read.specs.MustRead.{MayRead}
-use Rattle.irtext_read.proofs.ListReads.{list_reads}
-use Rattle.irtext_read.proofs.Steps.{alone}
+use Rattle.irtext_tokens.specs.MustRead.{MayRead}
+use Rattle.irtext_tokens.proofs.ListReads.{list_reads}
+use Rattle.irtext_tokens.proofs.Steps.{alone}
 use Rattle.irtext_syntax.proofs.list.separated_parse.Goals as goal
 
 pub returns : goal.returns

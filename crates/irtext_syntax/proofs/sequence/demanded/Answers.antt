@@ -1,4 +1,4 @@
-use Rattle.irtext_read.proofs.Steps.{alone, insisted}
+use Rattle.irtext_tokens.proofs.Steps.{alone, insisted}
 use Rattle.irtext_syntax.proofs.sequence.demanded.Goals as goal
 
 pub returns : goal.returns

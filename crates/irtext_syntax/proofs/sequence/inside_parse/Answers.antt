@@ -1,7 +1,7 @@
 use Rattle.std.proofs.Common.{refl}
 use Rattle.irtext_base.specs.Text.{Text}
-use Rattle.irtext_read.proofs.Exits.{handed_on}
-use Rattle.irtext_read.proofs.Steps.{alone, first, refuses_seen, last_seen}
+use Rattle.irtext_tokens.proofs.Exits.{handed_on}
+use Rattle.irtext_tokens.proofs.Steps.{alone, first, refuses_seen, last_seen}
 use Rattle.irtext_syntax.specs.Sequences.{within_with, shut_at}
 use Rattle.irtext_syntax.proofs.sequence.inside_parse.Goals as goal
 

@@ -1,8 +1,8 @@
 use Rattle.std.proofs.Common.{refl}
 use Rattle.irtext_base.specs.Answers.{mapped}
 use Rattle.irtext_base.specs.Text.{Text}
-use Rattle.irtext_read.proofs.Exits.{handed_on}
-use Rattle.irtext_read.proofs.Steps.{alone, first, refuses_seen, last_seen}
+use Rattle.irtext_tokens.proofs.Exits.{handed_on}
+use Rattle.irtext_tokens.proofs.Steps.{alone, first, refuses_seen, last_seen}
 use Rattle.irtext_syntax.specs.Sequences.{then_with}
 use Rattle.irtext_syntax.proofs.sequence.second_parse.Goals as goal
 

@@ -1,9 +1,9 @@
 use Rattle.std.proofs.Common.{refl, sym, ◌∙◌}
 use Rattle.std.specs.Char.{is_whitespace}
 use Rattle.irtext_base.specs.Text.{front, after}
-use Rattle.irtext_read.specs.Infix.{◌▷◌}
-use Rattle.irtext_read.specs.Tokens.{space_at}
-use Rattle.irtext_read.proofs.Steps.{alone, starts, spaced, last, insisted}
+use Rattle.irtext_tokens.specs.Infix.{◌▷◌}
+use Rattle.irtext_tokens.specs.Tokens.{space_at}
+use Rattle.irtext_tokens.proofs.Steps.{alone, starts, spaced, last, insisted}
 use Rattle.irtext_syntax.proofs.Restored.{earlier, restored}
 use Rattle.irtext_syntax.proofs.table.behind_known.Goals as goal
 

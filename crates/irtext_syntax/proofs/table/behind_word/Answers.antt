@@ -1,7 +1,7 @@
 use Rattle.std.proofs.Common.{refl, sym, ◌∙◌}
-use Rattle.irtext_read.specs.Infix.{◌▷◌}
-use Rattle.irtext_read.specs.Tokens.{space_at}
-use Rattle.irtext_read.proofs.Steps.{alone, starts, spaced, last}
+use Rattle.irtext_tokens.specs.Infix.{◌▷◌}
+use Rattle.irtext_tokens.specs.Tokens.{space_at}
+use Rattle.irtext_tokens.proofs.Steps.{alone, starts, spaced, last}
 use Rattle.irtext_syntax.proofs.table.behind_word.Goals as goal
 
 pub returns : goal.returns

@@ -1,6 +1,6 @@
 use Rattle.std.proofs.Common.{Ok}
 use Rattle.irtext_base.specs.Faults.{demand_of}
-use Rattle.irtext_read.proofs.Steps.{alone, may_read, begins_with, begun_by, last}
+use Rattle.irtext_tokens.proofs.Steps.{alone, may_read, begins_with, begun_by, last}
 use Rattle.irtext_syntax.specs.Words.{dotted_at}
 use Rattle.irtext_syntax.proofs.table.table_parse.Goals as goal
 

@@ -1,6 +1,6 @@
 use Rattle.std.proofs.Common.{[], ◌∷◌, ◌++◌, ◌∙◌, ap, sym, refl, string_bytes}
 use Rattle.irtext_base.specs.Faults.{characters}
-use Rattle.irtext_read.proofs.Characters.{encodes-characters}
+use Rattle.irtext_tokens.proofs.Characters.{encodes-characters}
 use Rattle.irtext_syntax.proofs.Written.{ascii_piece, pieces}
 use Rattle.irtext_syntax.proofs.table.write_row.Goals as goal
 

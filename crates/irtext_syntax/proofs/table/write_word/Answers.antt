@@ -1,5 +1,5 @@
 use Rattle.std.proofs.Common.{◌++◌, ◌∙◌, ap, sym, string_bytes}
-use Rattle.irtext_read.proofs.Characters.{encodes-characters}
+use Rattle.irtext_tokens.proofs.Characters.{encodes-characters}
 use Rattle.irtext_syntax.proofs.table.write_word.Goals as goal
 
 pub returns : goal.returns

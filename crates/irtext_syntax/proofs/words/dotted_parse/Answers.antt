@@ -4,7 +4,7 @@ use Rattle.irtext_base.specs.Text.{Text, begins, front, after, begins_word}
 use Rattle.irtext_base.specs.Answers.{Gives, StarvesHere, FailsBehind, Read, Bad, unless_failed}
 use Rattle.irtext_base.specs.Faults.{Demand, demand_of, OwnText}
 use Rattle.irtext_base.proofs.Compose.{refuses_before, seen_after}
-use Rattle.irtext_read.proofs.Words.{encodes-front, taken_since}
+use Rattle.irtext_tokens.proofs.Words.{encodes-front, taken_since}
 use Rattle.irtext_syntax.specs.Words.{in_dotted, dotted_at}
 use Rattle.irtext_syntax.proofs.words.dotted_parse.Goals as goal
 

@@ -3,7 +3,7 @@ use Rattle.std.proofs.lemmas.Bool.Decides.{nat_tests}
 use Rattle.irtext_base.specs.Text.{Text, begins, front, after, begins_word}
 use Rattle.irtext_base.specs.Answers.{Gives, Read, unless_failed}
 use Rattle.irtext_base.specs.Faults.{Demand}
-use Rattle.irtext_read.proofs.Words.{encodes-front, taken_since}
+use Rattle.irtext_tokens.proofs.Words.{encodes-front, taken_since}
 use Rattle.irtext_syntax.specs.Words.{in_dotted, dotted_at}
 use Rattle.irtext_syntax.proofs.Restored.{earlier, restored}
 use Rattle.irtext_syntax.proofs.words.dotted_there.Goals as goal

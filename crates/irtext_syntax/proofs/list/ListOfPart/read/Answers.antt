@@ -1,6 +1,6 @@
 use Rattle.std.proofs.Common.{Ok}
 use Rattle.irtext_base.specs.Text.{Text}
-use Rattle.irtext_read.proofs.Steps.{alone, may_read, begins_with, begun_by, last}
+use Rattle.irtext_tokens.proofs.Steps.{alone, may_read, begins_with, begun_by, last}
 use Rattle.irtext_syntax.specs.FixedTexts.{open_at}
 use Rattle.irtext_syntax.specs.ListParts.{items_at}
 use Rattle.irtext_syntax.proofs.list.ListOfPart.read.Goals as goal

@@ -1,5 +1,5 @@
 use Rattle.std.proofs.Common.{◌∙◌, sym, ap}
-use Rattle.irtext_read.specs.Tokens.{identifier_at}
+use Rattle.irtext_tokens.specs.Tokens.{identifier_at}
 use Rattle.irtext_syntax.specs.NameTexts.{word_text, word_text_found}
 use Rattle.irtext_syntax.proofs.Seen.{gives_seen}
 use Rattle.irtext_syntax.proofs.name.NamePart.read.Goals as goal

@@ -1,5 +1,5 @@
 use Rattle.std.proofs.Common.{◌∙◌, ap, sym}
-use Rattle.irtext_read.specs.Integers.{int_at}
+use Rattle.irtext_tokens.specs.Integers.{int_at}
 use Rattle.irtext_syntax.specs.NumberOf.{number_if, number_found}
 use Rattle.irtext_syntax.proofs.Narrowed.{gives_narrowed}
 use Rattle.irtext_syntax.proofs.number.NumberPart.read.Goals as goal

@@ -1,5 +1,5 @@
 use Rattle.std.proofs.lemmas.Str.{IsUtf8-string_bytes}
-use Rattle.irtext_read.specs.QuotedTexts.{quoted_at}
+use Rattle.irtext_tokens.specs.QuotedTexts.{quoted_at}
 use Rattle.irtext_syntax.proofs.QuotedRead.{gives_characters}
 use Rattle.irtext_syntax.proofs.quoted.CharactersPart.read.Goals as goal
 

@@ -4,8 +4,8 @@ use Rattle.irtext_base.specs.Text.{Text, begins, front, after}
 use Rattle.irtext_base.specs.Faults.{NumberRange}
 use Rattle.irtext_base.specs.Answers.{StarvesHere, FailsBehind, Bad, unless_failed}
 use Rattle.irtext_base.proofs.Compose.{refuses_before, seen_after}
-use Rattle.irtext_read.proofs.Words.{encodes-front_digits}
-use Rattle.irtext_read.specs.Tokens.{value_of}
+use Rattle.irtext_tokens.proofs.Words.{encodes-front_digits}
+use Rattle.irtext_tokens.specs.Tokens.{value_of}
 use Rattle.irtext_syntax.specs.RangeOf.{ranged_at, ranged_if}
 use Rattle.irtext_syntax.specs.declared.range.Range as range
 use Rattle.irtext_syntax.proofs.range.RangedPart.read.Goals as goal

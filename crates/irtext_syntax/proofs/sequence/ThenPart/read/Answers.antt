@@ -1,4 +1,4 @@
-use Rattle.irtext_read.proofs.Steps.{alone, begins_with, begun_by, last}
+use Rattle.irtext_tokens.proofs.Steps.{alone, begins_with, begun_by, last}
 use Rattle.irtext_syntax.specs.Sequences.{second_at}
 use Rattle.irtext_syntax.proofs.sequence.ThenPart.read.Goals as goal
 

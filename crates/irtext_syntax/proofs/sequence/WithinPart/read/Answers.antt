@@ -1,5 +1,5 @@
 use Rattle.irtext_base.specs.Text.{Text}
-use Rattle.irtext_read.proofs.Steps.{alone, begins_with, begun_by, last}
+use Rattle.irtext_tokens.proofs.Steps.{alone, begins_with, begun_by, last}
 use Rattle.irtext_syntax.specs.Sequences.{inside_at}
 use Rattle.irtext_syntax.proofs.sequence.WithinPart.read.Goals as goal
 

@@ -1,0 +1,9 @@
+use Rattle.std.proofs.lemmas.Result.{IfErr-weaker}
+use Rattle.irtext_demo.proofs.DemoFormats.{refused}
+use Rattle.irtext_demo.proofs.dialects.add.Goals as goal
+
+pub returns-clause-refused : goal.returns-clause-refused
+returns-clause-refused g c =
+    let a = c.args in
+    let row = c.row-isolated.ensures in
+    IfErr-weaker c.register_op.result _ _ (λ e told. refused a.ctx.now.dialects a.demo _ _ c.in_ok-format.format e.err row.dialect row.name c.in_ok-format.ensures told) c.register_op.ensures.refused

@@ -1,0 +1,154 @@
+//! The demo attributes: integers with their type, strings, function types, and debug notes, which are printed in the section after a
+//! root.
+pub mod function;
+pub mod integer;
+
+use crate::attributes::function::FunctionAttr;
+use crate::attributes::integer::IntegerAttr;
+use irtext_base::parsable::{ParseResult, TextStream};
+use irtext_base::result::Expected;
+use irtext_base::text::{AttrText, Family, IrText, Worded};
+use irtext_syntax::characters::Characters;
+use irtext_syntax::part::TryClone;
+use irtext_syntax::table::{Table, behind_word, table_parse, write_row};
+use irtext_syntax::words::DottedWord;
+use std::alloc::AllocError;
+use std::fmt;
+
+/// A demo attribute.
+#[derive(PartialEq, Eq, Hash, Debug, Drop)]
+pub enum DemoAttr {
+    /// Printed as `builtin.integer <N: W>`.
+    Integer(IntegerAttr),
+    /// Printed as `builtin.string "S"`.
+    String(Characters),
+    /// Printed as `builtin.function <(T, ..)->(T, ..)>`.
+    Function(FunctionAttr),
+    /// Printed as `test.dbg "S"`, once, in the section after the root.
+    Debug(Characters),
+}
+
+/// The words that demo attributes begin with.
+#[derive(Clone, Copy)]
+pub enum AttrWord {
+    /// `builtin.integer`.
+    Integer,
+    /// `builtin.string`.
+    String,
+    /// `builtin.function`.
+    Function,
+    /// `test.dbg`.
+    Debug,
+}
+
+impl DottedWord for AttrWord {
+    ghost use Rattle.irtext_demo.specs.Attributes.{attr_word};
+
+    ghost word = { attr_word };
+
+    fn of(text: &str) -> Option<AttrWord> {
+        if text == "builtin.integer" {
+            return Some(AttrWord::Integer);
+        }
+        if text == "builtin.string" {
+            return Some(AttrWord::String);
+        }
+        if text == "builtin.function" {
+            return Some(AttrWord::Function);
+        }
+        if text == "test.dbg" {
+            return Some(AttrWord::Debug);
+        }
+        None
+    }
+}
+
+impl<B: Drop> Table<DemoAttr, B> for AttrWord {
+    ghost use Rattle.irtext_demo.specs.Attributes.{attr_behind};
+
+    ghost behind = { attr_behind };
+
+    fn parse(self, stream: &mut TextStream) -> ParseResult<DemoAttr, B> {
+        match self {
+            AttrWord::Integer => Ok(DemoAttr::Integer(behind_word(stream)?)),
+            AttrWord::String => Ok(DemoAttr::String(behind_word(stream)?)),
+            AttrWord::Function => Ok(DemoAttr::Function(behind_word(stream)?)),
+            AttrWord::Debug => Ok(DemoAttr::Debug(behind_word(stream)?)),
+        }
+    }
+}
+
+impl<B: Drop> IrText<B> for DemoAttr {
+    ghost use Rattle.irtext_demo.specs.Attributes.{attr_at, attr_text};
+    ghost use Rattle.irtext_demo.specs.AttributeLaws.{attr_lawful, attr_sincere, attr_decides};
+
+    ghost reading = { attr_at };
+
+    ghost written = { attr_text };
+
+    ghost lawful = { attr_lawful };
+
+    ghost sincere = { attr_sincere };
+
+    ghost decides = { attr_decides };
+
+    fn read(stream: &mut TextStream) -> ParseResult<DemoAttr, B> {
+        table_parse::<AttrWord, DemoAttr, B>(stream, "Unregistered attribute ", Expected::Attribute)
+    }
+
+    fn write_text(&self, f: &mut String) -> fmt::Result {
+        match self {
+            DemoAttr::Integer(attr) => write_row::<IntegerAttr, B>("builtin.integer", attr, f),
+            DemoAttr::String(text) => write_row::<Characters, B>("builtin.string", text, f),
+            DemoAttr::Function(attr) => write_row::<FunctionAttr, B>("builtin.function", attr, f),
+            DemoAttr::Debug(text) => write_row::<Characters, B>("test.dbg", text, f),
+        }
+    }
+}
+
+impl<B: Drop> AttrText<B> for DemoAttr {
+    ghost use Rattle.irtext_demo.specs.Attributes.{is_debug};
+    ghost use Rattle.irtext_demo.specs.AttributeLaws.{attr_unreserved};
+
+    ghost outlined = { is_debug };
+
+    ghost print_once = { is_debug };
+
+    ghost unreserved = { attr_unreserved };
+
+    fn is_outlined(&self) -> bool {
+        matches!(self, DemoAttr::Debug(_))
+    }
+
+    fn is_print_once(&self) -> bool {
+        matches!(self, DemoAttr::Debug(_))
+    }
+
+    fn try_clone(&self) -> Result<DemoAttr, AllocError> {
+        match self {
+            DemoAttr::Integer(attr) => Ok(DemoAttr::Integer(attr.try_clone()?)),
+            DemoAttr::String(text) => Ok(DemoAttr::String(text.try_clone()?)),
+            DemoAttr::Function(attr) => Ok(DemoAttr::Function(attr.try_clone()?)),
+            DemoAttr::Debug(text) => Ok(DemoAttr::Debug(text.try_clone()?)),
+        }
+    }
+}
+
+impl Worded for DemoAttr {
+    ghost use Rattle.irtext_demo.specs.Attributes.{attr_words};
+
+    ghost words = { attr_words };
+
+    fn has_word(word: &str) -> bool {
+        word == "builtin.integer"
+            || word == "builtin.string"
+            || word == "builtin.function"
+            || word == "test.dbg"
+    }
+}
+
+impl<B: Drop> Family<B> for DemoAttr {
+    ghost use Rattle.irtext_demo.specs.AttributeLaws.{attr_led};
+
+    ghost led = { attr_led };
+}

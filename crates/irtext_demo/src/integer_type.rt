@@ -1,0 +1,244 @@
+//! The integer types and their parser: a sign, and a width in decimal digits.
+ghost use Rattle.std.specs.Prelude.{◌≡◌, Some, MatchBool, MatchOption};
+ghost use Rattle.irtext_base.specs.Faults.{characters};
+ghost use Rattle.irtext_tokens.specs.Tokens.{word};
+ghost use Rattle.irtext_base.specs.Answers.{Answers, Gives, unless_failed};
+ghost use Rattle.irtext_demo.specs.IntegerTypes.{integer_type_text, signedness_text, signedness_at, width_if, width_at, integer_type_at};
+
+use crate::width::Width;
+use irtext_base::parsable::{CharStream, ParseResult, TextStream};
+use irtext_base::result::{Cause, Expected};
+use irtext_syntax::part::{Last, Part, TryClone};
+use irtext_tokens::irfmt::faults::{begins, committed, next_is, refuse, unexpected};
+use irtext_tokens::irfmt::parsers::digits::{Radix, out_of_range, take_digits};
+use irtext_tokens::irfmt::parsers::{Class, text_parse};
+use std::alloc::AllocError;
+use std::fmt;
+
+/// Whether the integers of a type are signed, unsigned, or interpreted by each use.
+#[derive(Clone, Copy, PartialEq, Eq, Hash, Debug)]
+pub enum Signedness {
+    /// Printed as `si`.
+    Signed,
+    /// Printed as `ui`.
+    Unsigned,
+    /// Printed as `i`.
+    Signless,
+}
+
+/// An integer type such as `si32`. It is printed as its sign and its width, without a space between them.
+#[derive(Clone, Copy, PartialEq, Eq, Hash, Debug)]
+pub struct IntegerType {
+    pub kind: Signedness,
+    pub width: Width,
+}
+
+impl fmt::Display for Signedness {
+    ghost output = { λ kind. Some (signedness_text kind) };
+
+    fn fmt<W: fmt::Write>(&self, f: &mut fmt::Formatter<W>) -> fmt::Result {
+        match self {
+            Signedness::Signed => f.write_str("si"),
+            Signedness::Unsigned => f.write_str("ui"),
+            Signedness::Signless => f.write_str("i"),
+        }
+    }
+}
+
+impl fmt::Display for IntegerType {
+    ghost output = { λ t. Some (integer_type_text t) };
+
+    fn fmt<W: fmt::Write>(&self, f: &mut fmt::Formatter<W>) -> fmt::Result {
+        let kind = self.kind;
+        let bits = self.width.bits();
+        write!(f, "{kind}{bits}")
+    }
+}
+
+/// Parses `si`, `ui` or `i`.
+fn signedness_parse<A>(stream: &mut TextStream) -> ParseResult<Signedness, A>
+    ensures { Answers (λ s. s) (λ s v. v) (λ k. k)
+        (unless_failed stream.old.failed (signedness_at stream.old.rest)) stream.old result stream.new }
+{
+    if stream.has_failed() {
+        return Err(refuse(stream, Cause::StreamFailed));
+    }
+    if next_is(stream, 's') {
+        text_parse(stream, "si")?;
+        return Ok(Signedness::Signed);
+    }
+    if next_is(stream, 'u') {
+        text_parse(stream, "ui")?;
+        return Ok(Signedness::Unsigned);
+    }
+    if next_is(stream, 'i') {
+        text_parse(stream, "i")?;
+        return Ok(Signedness::Signless);
+    }
+    Err(unexpected(stream, Expected::Type))
+}
+
+/// Parses a width: as many decimal digits as come next. Fails with `NumberRange` at its first digit if it is not from 1 to 65,535.
+fn width_parse<A>(stream: &mut TextStream) -> ParseResult<Width, A>
+    ensures { Answers (λ s. s) (λ s v. v) (λ w. w)
+        (unless_failed stream.old.failed (width_at stream.old.rest)) stream.old result stream.new }
+{
+    if stream.has_failed() {
+        return Err(refuse(stream, Cause::StreamFailed));
+    }
+    if !begins(stream, Class::Digit) {
+        return Err(unexpected(stream, Expected::Digit));
+    }
+    let place = stream.position();
+    let number = take_digits(stream, Radix::Decimal);
+    match width_if(number) {
+        Some(width) => Ok(width),
+        None => Err(out_of_range(stream, place)),
+    }
+}
+
+/// Returns the width with this number of bits, if it is from 1 to 65,535. `None` is a number that does not fit 64 bits.
+fn width_if(number: Option<u64>) -> Option<Width>
+    ensures { result ≡ width_if number }
+{
+    Width::new(number? as usize)
+}
+
+/// Parses an integer type, such as `si32`: `si`, `ui` or `i`, and a width in decimal digits, without white space between them. Fails with
+/// `Unexpected`, uncommitted, if the next character begins no sign. Every other error is committed: `Unexpected` if `s` or `u` is not
+/// followed by `i` or the sign by a digit, and `NumberRange` at the first digit if the width is not from 1 to 65,535.
+pub fn integer_type_parse<A>(stream: &mut TextStream) -> ParseResult<IntegerType, A>
+    ensures { Answers (λ s. s) (λ s v. v) (λ t. t)
+        (unless_failed stream.old.failed (integer_type_at stream.old.rest)) stream.old result stream.new }
+{
+    let kind = signedness_parse(stream)?;
+    let width = width_parse(stream);
+    let width = committed(stream, width)?;
+    Ok(IntegerType { kind, width })
+}
+
+/// Consumes a fixed text if the whole of it comes next, and returns whether it does. Otherwise, and on a stream that has failed, the stream
+/// is unchanged.
+#[inline(always)]
+fn text_there(stream: &mut TextStream, text: &str) -> bool
+    ensures { MatchBool result
+        (Gives (λ s. s) (λ s v. v) (unless_failed stream.old.failed (word (characters text.now) stream.old.rest)) stream.old tt stream.new)
+        (stream.new ≡ stream.old) }
+{
+    if stream.has_failed() {
+        return false;
+    }
+    if !stream.accept(text) {
+        return false;
+    }
+    true
+}
+
+/// Consumes a sign if one comes next, and returns it. Otherwise the stream is unchanged.
+#[inline(always)]
+fn sign_there(stream: &mut TextStream) -> Option<Signedness>
+    ensures { MatchOption result (stream.new ≡ stream.old)
+        (λ k. Gives (λ s. s) (λ s v. v) (unless_failed stream.old.failed (signedness_at stream.old.rest)) stream.old k stream.new) }
+{
+    if next_is(stream, 's') {
+        if text_there(stream, "si") {
+            return Some(Signedness::Signed);
+        }
+        return None;
+    }
+    if next_is(stream, 'u') {
+        if text_there(stream, "ui") {
+            return Some(Signedness::Unsigned);
+        }
+        return None;
+    }
+    if next_is(stream, 'i') {
+        if text_there(stream, "i") {
+            return Some(Signedness::Signless);
+        }
+    }
+    None
+}
+
+/// Consumes a width if one comes next, and returns it. Otherwise the stream is unchanged.
+#[inline(always)]
+fn width_there(stream: &mut TextStream) -> Option<Width>
+    ensures { MatchOption result (stream.new ≡ stream.old)
+        (λ w. Gives (λ s. s) (λ s v. v) (unless_failed stream.old.failed (width_at stream.old.rest)) stream.old w stream.new) }
+{
+    if stream.has_failed() {
+        return None;
+    }
+    if !begins(stream, Class::Digit) {
+        return None;
+    }
+    let place = stream.position();
+    let number = take_digits(stream, Radix::Decimal);
+    if let Some(width) = width_if(number) {
+        return Some(width);
+    }
+    stream.reset(place);
+    None
+}
+
+/// Consumes an integer type if one comes next, and returns it. Otherwise the stream is unchanged.
+#[inline(always)]
+fn integer_type_there(stream: &mut TextStream) -> Option<IntegerType>
+    ensures { MatchOption result (stream.new ≡ stream.old)
+        (λ t. Gives (λ s. s) (λ s v. v) (unless_failed stream.old.failed (integer_type_at stream.old.rest)) stream.old t stream.new) }
+{
+    let place = stream.position();
+    let Some(kind) = sign_there(stream) else {
+        return None;
+    };
+    if let Some(width) = width_there(stream) {
+        return Some(IntegerType { kind, width });
+    }
+    stream.reset(place);
+    None
+}
+
+/// An integer type as a part of other texts. A digit right after it would belong to its width.
+impl<A> Part<A> for IntegerType {
+    ghost use Rattle.irtext_demo.specs.IntegerTypes.{integer_type_ends};
+    ghost use Rattle.irtext_demo.specs.IntegerTypeLaws.{integer_type_law, integer_type_decides};
+
+    ghost reading = { integer_type_at };
+
+    ghost written = { integer_type_text };
+
+    ghost ends = { integer_type_ends };
+
+    ghost law = { integer_type_law };
+
+    ghost decides = { integer_type_decides };
+
+    fn read(stream: &mut TextStream) -> ParseResult<IntegerType, A> {
+        match integer_type_parse(stream) {
+            Ok(ty) => Ok(ty),
+            Err(fault) => Err(fault),
+        }
+    }
+
+    #[inline(always)]
+    fn read_known(stream: &mut TextStream) -> Option<IntegerType> {
+        integer_type_there(stream)
+    }
+
+    fn write_text(&self, f: &mut String) -> fmt::Result {
+        write!(f, "{self}")?;
+        Ok(())
+    }
+}
+
+impl<A> Last<A> for IntegerType {
+    ghost use Rattle.irtext_demo.specs.IntegerTypeLaws.{integer_type_last};
+
+    ghost last = { integer_type_last };
+}
+
+impl TryClone for IntegerType {
+    fn try_clone(&self) -> Result<IntegerType, AllocError> {
+        Ok(*self)
+    }
+}

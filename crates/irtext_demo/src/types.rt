@@ -1,0 +1,163 @@
+//! The demo types: integers and a pointer.
+use crate::integer_type::IntegerType;
+use irtext_base::parsable::{ParseResult, TextStream};
+use irtext_base::result::Expected;
+use irtext_base::text::{Family, IrText, Worded};
+use irtext_syntax::part::{Item, Part, TryClone};
+use irtext_syntax::table::{
+    Table, alone_known, behind_known, behind_word, table_parse, word_alone, write_row, write_word,
+};
+use irtext_syntax::words::DottedWord;
+use std::alloc::AllocError;
+use std::fmt;
+
+/// A demo type.
+#[derive(Clone, Copy, PartialEq, Eq, Hash, Debug)]
+pub enum DemoType {
+    /// Printed as `builtin.integer W`, where W is the text of the integer type, such as `si32`.
+    Integer(IntegerType),
+    /// Printed as `test.ptr ` with one space at its end. The parser consumes the word only.
+    Pointer,
+}
+
+/// The words that demo types begin with.
+#[derive(Clone, Copy)]
+pub enum TypeWord {
+    /// `builtin.integer`.
+    Integer,
+    /// `test.ptr`.
+    Pointer,
+}
+
+impl DottedWord for TypeWord {
+    ghost use Rattle.irtext_demo.specs.Types.{type_word};
+
+    ghost word = { type_word };
+
+    fn of(text: &str) -> Option<TypeWord> {
+        if text == "builtin.integer" {
+            return Some(TypeWord::Integer);
+        }
+        if text == "test.ptr" {
+            return Some(TypeWord::Pointer);
+        }
+        None
+    }
+}
+
+impl fmt::Display for DemoType {
+    ghost use Rattle.std.specs.Prelude.{Some};
+    ghost use Rattle.irtext_demo.specs.Types.{type_text};
+
+    ghost output = { λ t. Some (type_text t) };
+
+    fn fmt<W: fmt::Write>(&self, f: &mut fmt::Formatter<W>) -> fmt::Result {
+        match self {
+            DemoType::Integer(ty) => write!(f, "builtin.integer {ty}"),
+            DemoType::Pointer => f.write_str("test.ptr "),
+        }
+    }
+}
+
+impl<A> Table<DemoType, A> for TypeWord {
+    ghost use Rattle.irtext_demo.specs.Types.{type_behind};
+
+    ghost behind = { type_behind };
+
+    fn parse(self, stream: &mut TextStream) -> ParseResult<DemoType, A> {
+        match self {
+            TypeWord::Integer => Ok(DemoType::Integer(behind_word(stream)?)),
+            TypeWord::Pointer => word_alone(stream, DemoType::Pointer),
+        }
+    }
+
+    #[inline(always)]
+    fn parse_known(self, stream: &mut TextStream) -> Option<DemoType> {
+        match self {
+            TypeWord::Integer => match behind_known::<IntegerType, A>(stream) {
+                Some(ty) => Some(DemoType::Integer(ty)),
+                None => None,
+            },
+            TypeWord::Pointer => alone_known(stream, DemoType::Pointer),
+        }
+    }
+}
+
+impl<A> IrText<A> for DemoType {
+    ghost use Rattle.irtext_demo.specs.Types.{type_at, type_text};
+    ghost use Rattle.irtext_demo.specs.TypeLaws.{type_lawful, type_sincere, type_decides};
+
+    ghost reading = { type_at };
+
+    ghost written = { type_text };
+
+    ghost lawful = { type_lawful };
+
+    ghost sincere = { type_sincere };
+
+    ghost decides = { type_decides };
+
+    fn read(stream: &mut TextStream) -> ParseResult<DemoType, A> {
+        table_parse::<TypeWord, DemoType, A>(stream, "Unregistered type ", Expected::Type)
+    }
+
+    fn write_text(&self, f: &mut String) -> fmt::Result {
+        match self {
+            DemoType::Integer(ty) => write_row::<IntegerType, A>("builtin.integer", ty, f),
+            DemoType::Pointer => write_word("test.ptr ", f),
+        }
+    }
+}
+
+impl Worded for DemoType {
+    ghost use Rattle.irtext_demo.specs.Types.{type_words};
+
+    ghost words = { type_words };
+
+    fn has_word(word: &str) -> bool {
+        word == "builtin.integer" || word == "test.ptr"
+    }
+}
+
+impl<A> Family<A> for DemoType {
+    ghost use Rattle.irtext_demo.specs.TypeLaws.{type_led};
+
+    ghost led = { type_led };
+}
+
+/// A type as a part of other texts.
+impl<A> Part<A> for DemoType {
+    ghost use Rattle.irtext_syntax.specs.Owns.{ends_text};
+    ghost use Rattle.irtext_demo.specs.Types.{type_at, type_text};
+    ghost use Rattle.irtext_demo.specs.TypeLaws.{type_law, type_decides};
+
+    ghost reading = { type_at };
+
+    ghost written = { type_text };
+
+    ghost ends = { ends_text };
+
+    ghost law = { type_law };
+
+    ghost decides = { type_decides };
+
+    fn read(stream: &mut TextStream) -> ParseResult<DemoType, A> {
+        <DemoType as IrText<A>>::read(stream)
+    }
+
+    fn write_text(&self, f: &mut String) -> fmt::Result {
+        <DemoType as IrText<A>>::write_text(self, f)
+    }
+}
+
+impl<A> Item<A> for DemoType {
+    ghost use Rattle.irtext_demo.specs.TypeLaws.{type_misses};
+
+    ghost misses = { type_misses };
+}
+
+impl TryClone for DemoType {
+    fn try_clone(&self) -> Result<DemoType, AllocError> {
+        Ok(*self)
+    }
+}

@@ -1,0 +1,14 @@
+use Rattle.std.proofs.Common.{◌≡◌, ◌==◌, ◌∙◌, rules}
+use Rattle.std.proofs.lemmas.Iterator.{YieldsList-from_slice}
+use Rattle.std.proofs.lemmas.Iterator.Search.{any_from_yields_List}
+use Rattle.std.specs.List.{list_any}
+use borrow.Author.Tests.{tests}
+use Rattle.irtext_format_check.specs.Directives.{directive_of, place_of, is_value}
+use Rattle.irtext_format_check.proofs.Formats.{any_has}
+use Rattle.irtext_format_check.proofs.format.parts.has_place.Goals as goal
+
+pub returns : goal.returns
+returns c =
+    let e : c.any.result ≡ list_any (λ d. is_value ◌==◌ c.args.place (place_of c.args.part (directive_of d))) c.args.directives.now =
+    any_from_yields_List (λ d. is_value ◌==◌ c.args.place (place_of c.args.part (directive_of d))) _ _ c.any.result c.any.ensures.ran (YieldsList-from_slice c.args.directives.now cc) (λ x b q k. search (rules, tests)) in
+    e ∙ any_has ◌==◌ (place_of c.args.part) directive_of c.args.place c.args.directives.now

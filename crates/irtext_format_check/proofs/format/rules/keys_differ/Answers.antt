@@ -1,0 +1,7 @@
+use Rattle.std.proofs.Common.{◌∙◌}
+use Rattle.irtext_format_check.specs.Directives.{directives_of}
+use Rattle.irtext_format_check.proofs.Formats as formats
+use Rattle.irtext_format_check.proofs.format.rules.keys_differ.Goals as goal
+
+pub returns : goal.returns
+returns c = c.all_keep.ensures ∙ formats.keys_differ (directives_of c.args.directives.now)

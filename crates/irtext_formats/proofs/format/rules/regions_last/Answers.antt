@@ -1,7 +1,0 @@
-use Rattle.std.proofs.Common.{◌∙◌}
-use Rattle.irtext_formats.specs.Directives.{directives_of}
-use Rattle.irtext_formats.proofs.Formats as formats
-use Rattle.irtext_formats.proofs.format.rules.regions_last.Goals as goal
-
-pub returns : goal.returns
-returns c = c.all_keep.ensures ∙ formats.regions_last (directives_of c.args.directives.now)

@@ -1,4 +1,0 @@
-pub mod FrameOutcomes
-pub mod FrameSteps
-pub mod Places
-pub mod Plain

@@ -1,0 +1,32 @@
+use Rattle.std.proofs.Common.{ap, refl, sym, ◌∙◌}
+use Rattle.irtext_base.specs.Locations.{src_pos}
+use Rattle.irtext_base.specs.Paths.{path_of, written_with}
+use Rattle.irtext_base.specs.declared.location.Location.{SrcPos}
+use Rattle.irtext_base.specs.declared.location.Source.TheVariants.{InMemory}
+use Rattle.irtext_grammar.specs.Contexts.Held.{location_over}
+use Rattle.irtext_base.proofs.LocationViews.{seen-src_pos}
+use Rattle.irtext_tokens.proofs.Exits.{handed_on}
+use Rattle.irtext_parse_spec.proofs.Readers.PlainStream.{alone}
+use Rattle.irtext_parse_spec.proofs.Readers.Steps.{refuses_seen, last_seen}
+use Rattle.irtext_parse_section.proofs.Places.{memory_comes, source_passed}
+use Rattle.irtext_parse_section.proofs.location.source.place_demanded.Goals as goal
+
+pub returns-in_err-pos-clause-read : goal.returns-in_err-pos-clause-read
+returns-in_err-pos-clause-read g c =
+    let s = memory_comes {A = g.row.A.Denot} c.args.stream.now c.accept.new.self (sym c.has_failed.ensures ∙ c.if-has_failed.false) c.if-accept.ensures in
+    rw (handed_on c.from_residual.result c.from_residual.ensures.1) (record { known = tt; read = refuses_seen alone _ (source_passed s) c.in_err-pos.ensures })
+
+pub returns-then-accept-clause-read : goal.returns-then-accept-clause-read
+returns-then-accept-clause-read g c =
+    let s = memory_comes {A = g.row.A.Denot} c.args.stream.now c.accept.new.self (sym c.has_failed.ensures ∙ c.if-has_failed.false) c.if-accept.ensures in
+    let paths = c.args.ctx.now.paths in
+    let seen = seen-src_pos {A = g.row.A.Denot} InMemory c.in_ok-pos.pos in
+    record {
+      known = rw seen refl;
+      read = last_seen alone (location_over paths) (src_pos (path_of paths InMemory)) (SrcPos InMemory c.in_ok-pos.pos) (ap (written_with paths) seen) (source_passed s) c.in_ok-pos.ensures;
+    }
+
+pub returns-then-accept-clause-paths : goal.returns-then-accept-clause-paths
+returns-then-accept-clause-paths g c =
+    let seen = seen-src_pos {A = g.row.A.Denot} InMemory c.in_ok-pos.pos in
+    rw seen refl

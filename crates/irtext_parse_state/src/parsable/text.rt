@@ -1,0 +1,145 @@
+//! Runs a parser on a text in memory, or on the characters of an iterator.
+ghost use Rattle.std.specs.Prelude.{◌≡◌, ◌⊎◌, ℕ, List, IfOk};
+ghost use Rattle.std.specs.Iterator.{Drains, IsFinite};
+ghost use Rattle.std.specs.Str.{encode_utf8_all};
+ghost use Rattle.irtext_parse_state.specs.FromText.{at_beginning, IsErrorOf, IsStarved, Passes, Runs, Ran};
+
+use crate::parsable::{State, StateStream};
+use irtext_base::location::{Location, Source};
+use irtext_base::parsable::{ParseFault, ParseResult, TextStream};
+use irtext_base::result::{Cause, Error, ErrorKind, Result};
+use irtext_base::text::{AttrText, IrText};
+use irtext_context::base::Context;
+use std::alloc::{AllocError, Global};
+
+/// Returns the error for a parser that failed on a text in memory.
+fn error_of<A: Drop>(alloc: Global, fault: ParseFault<A>) -> Error<A>
+    ensures { IsErrorOf fault result }
+{
+    let ParseFault {
+        pos,
+        cause,
+        committed: _,
+    } = fault;
+    let err = match Box::new(alloc, cause) {
+        Ok(cause) => Cause::Parse { at: pos, cause },
+        Err(_) => Cause::Memory,
+    };
+    Error {
+        kind: ErrorKind::InvalidInput,
+        err,
+        loc: Location::SrcPos {
+            src: Source::InMemory,
+            pos,
+        },
+    }
+}
+
+/// Runs a parser on a text in memory, and returns its result.
+fn run_on<T, A, R, F: FnOnce(&mut StateStream<'_, T, A, ()>) -> R>(
+    stream: TextStream,
+    ctx: &mut Context<T, A>,
+    parse: F,
+) -> R
+where
+    T: IrText<A>,
+    A: AttrText<A>,
+    requires callable { (s : _) → F.pre parse s }
+    requires lent { (s : _) (answer : R) (t : _) → F.post parse s answer t → t.now.state.ctx.ghost_name ≡ s.now.state.ctx.ghost_name }
+    ensures { Runs (F.post parse) stream ctx.old result ctx.new }
+{
+    let state = State::new(ctx, Source::InMemory, ());
+    let mut s = StateStream::new(stream, state);
+    let answer = parse(&mut s);
+    let _ctx = s.into_ctx();
+    answer
+}
+
+/// The result of a parser, and its conversion to the result of `parse_from_str`.
+pub trait ParseAnswer: Sized {
+    type Answer;
+
+    // the conversion of the parser's result
+    ghost passes: { Self → Self.Answer → Type 0 };
+    // the result if the text cannot be allocated
+    ghost starved: { Self.Answer → Type 0 };
+
+    /// Returns the value, or the `ParseFault` as an `Error`.
+    fn into_answer(self, alloc: Global) -> Self::Answer
+        ensures { passes self result };
+
+    /// Returns the error for a text that cannot be allocated.
+    fn no_memory() -> Self::Answer
+        ensures { starved result };
+}
+
+impl<X, A: Drop> ParseAnswer for ParseResult<X, A> {
+    type Answer = Result<X, A>;
+
+    ghost passes = { Passes };
+
+    ghost starved = { IsStarved };
+
+    fn into_answer(self, alloc: Global) -> Result<X, A> {
+        match self {
+            Ok(x) => Ok(x),
+            Err(fault) => Err(error_of(alloc, fault)),
+        }
+    }
+
+    fn no_memory() -> Result<X, A> {
+        Err(Error {
+            kind: ErrorKind::InvalidArgument,
+            err: Cause::Memory,
+            loc: Location::Unknown,
+        })
+    }
+}
+
+/// Runs a parser that returns a `ParseResult` on a text in memory. The text after what the parser consumes is ignored.
+///
+/// If the parser fails, the error is of kind invalid input. Its cause is `Parse`, with the parser's cause and its position, or `Memory`
+/// if that cannot be allocated. Its location is the position, in memory. The context is as the parser left it. If the text cannot be
+/// copied, the parser does not run: the error is `Memory`, of kind invalid argument without a location, and the context is unchanged.
+pub fn parse_from_str<T, A, R, F: FnOnce(&mut StateStream<'_, T, A, ()>) -> R>(
+    parse: F,
+    ctx: &mut Context<T, A>,
+    text: &str,
+) -> R::Answer
+where
+    T: IrText<A>,
+    A: AttrText<A>,
+    R: ParseAnswer,
+    requires callable { (s : _) → F.pre parse s }
+    requires lent { (s : _) (answer : R) (t : _) → F.post parse s answer t → t.now.state.ctx.ghost_name ≡ s.now.state.ctx.ghost_name }
+    ensures { Ran R.passes (F.post parse) text.now ctx.old result ctx.new ⊎ (R.starved result × (ctx.new ≡ ctx.old)) }
+{
+    let alloc = ctx.allocator();
+    let Ok(stream) = TextStream::new(alloc, text) else {
+        return R::no_memory();
+    };
+    let answer = run_on(stream, ctx, parse);
+    answer.into_answer(alloc)
+}
+
+/// Makes a stream of the characters of a finite iterator, which are collected first. Fails only if an allocation fails.
+pub fn state_stream_from_iterator<
+    'c,
+    T: IrText<A>,
+    A: AttrText<A>,
+    U: Drop,
+    I: Iterator<Item = char>,
+>(
+    iterator: I,
+    state: State<'c, T, A, U>,
+) -> std::result::Result<StateStream<'c, T, A, U>, AllocError>
+    requires can { I.can_next iterator }
+    requires finite { IsFinite (I.remaining iterator) }
+    ensures text { IfOk result (λ s. (items : List ℕ) × Drains I.next_gives iterator items × (s.stream ≡ at_beginning (encode_utf8_all items))) }
+    ensures state { IfOk result (λ s. s.state ≡ state.entry) }
+{
+    let alloc = state.ctx.allocator();
+    let text: String = iterator.collect(alloc)?;
+    let stream = TextStream::new(alloc, text.as_str())?;
+    Ok(StateStream { stream, state })
+}

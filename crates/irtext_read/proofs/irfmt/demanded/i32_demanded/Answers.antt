@@ -1,8 +1,0 @@
-use Rattle.irtext_read.proofs.Numbers.{integer_must, integer_spares}
-use Rattle.irtext_read.proofs.irfmt.demanded.i32_demanded.Goals as goal
-
-pub returns-clause-read : goal.returns-clause-read
-returns-clause-read g c = integer_must g.S.CharStream.view g.S.CharStream.at g.met.S.CharStream.view_at g.met.S.CharStream.at_at c.args.stream.now c.int_parse-answer.new.stream c.committed.new.stream c.int_parse-answer.result c.committed.result c.int_parse-answer.ensures.answers c.committed.ensures
-
-pub returns-clause-spares : goal.returns-clause-spares
-returns-clause-spares g c = integer_spares g.S.CharStream.view g.S.CharStream.at g.met.S.CharStream.view_at g.met.S.CharStream.at_at c.args.stream.now c.int_parse-answer.new.stream c.committed.new.stream c.int_parse-answer.result c.committed.result c.int_parse-answer.ensures.spares c.committed.ensures

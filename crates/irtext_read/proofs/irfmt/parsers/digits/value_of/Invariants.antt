@@ -1,6 +1,0 @@
-use Rattle.std.proofs.Common.{◌≡◌, Some, take}
-use Rattle.irtext_read.specs.Digits.{base, value_in}
-use Rattle.irtext_read.proofs.irfmt.parsers.digits.value_of.Given as goal
-
-abbrev pub invariant-loop-digit : goal.invariant-loop-digit
-invariant-loop-digit l = value_in (base l.radix) (take l.digit-index l.digits) ≡ Some l.number

@@ -1,8 +1,0 @@
-use Rattle.irtext_read.proofs.ListRules.{items_keep, list_keeps}
-use Rattle.irtext_read.proofs.irfmt.parsers.lists.list_with_sep_parser.Goals as goal
-
-pub returns-in_default-clause-kept : goal.returns-in_default-clause-kept
-returns-in_default-clause-kept g c = items_keep g.S.CharStream.view g.S.CharStream.at g.met.S.CharStream.view_at (λ r. r) g.F.FnMut c.requires.rules c.args.item c.args.stream.now c.items.result c.items.new.stream c.items.ensures
-
-pub returns-clause-kept : goal.returns-clause-kept
-returns-clause-kept g c = list_keeps g.S.CharStream.view g.S.CharStream.at g.met.S.CharStream.view_at (λ r. r) g.F.FnMut c.requires.rules _ c.args.item c.args.stream.now c.separated.result c.separated.new.stream c.separated.ensures

@@ -1,5 +1,0 @@
-use Rattle.irtext_read.proofs.QuotedBack.{quoted_back}
-use Rattle.irtext_read.proofs.laws.quoted.quoted_comes_back.Goals as goal
-
-pub returns : goal.returns
-returns c = quoted_back

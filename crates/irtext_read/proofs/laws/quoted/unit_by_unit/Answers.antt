@@ -1,5 +1,0 @@
-use Rattle.irtext_read.proofs.QuotedUnits.{units_more}
-use Rattle.irtext_read.proofs.laws.quoted.unit_by_unit.Goals as goal
-
-pub returns : goal.returns
-returns c = units_more

@@ -1,0 +1,238 @@
+//! Texts that are rejected beside a live root: the error of each; everything live is unchanged.
+use crate::tests::standing::said;
+use irtext_tests_common::contexts::with_demo;
+use std::alloc::Global;
+use std::test::Fail;
+
+/// Texts, and the fault of each, with `!` if it is committed.
+const ROWS: &[(&str, &str)] = &[
+    (
+        "",
+        "line: 1, column: 1: Unexpected end of input, expected operation",
+    ),
+    (
+        "builtin.module @m { ^a(): test.scope { ^c(): x = test.make: builtin.integer si64 }; test.scope { ^d(): x = test.make: builtin.integer si64 } }",
+        "line: 1, column: 104: Identifier x defined more than once in the scope!",
+    ),
+    (
+        "builtin.module @m { ^a(): test.scope { ^c(): test.br ^a } }",
+        "line: 1, column: 38: Identifier a was not resolved to any definition in the scope!",
+    ),
+    (
+        "x = test.make: builtin.integer si64",
+        "line: 1, column: 1: No active scope for identifier x!",
+    ),
+    (
+        "test.scope {}",
+        "line: 1, column: 1: Regions in a top-level operation must be IsolatedFromAbove!",
+    ),
+    (
+        "builtin.module @m { ^a() !0: test.nop !0 }",
+        "line: 1, column: 39: Duplicate outline index: 0!",
+    ),
+    (
+        "builtin.module @m {} !0",
+        "line: 1, column: 24: Unexpected end of input, expected `outlined_attributes:`!",
+    ),
+    (
+        "builtin.module @bar {..}",
+        "line: 1, column: 22: Unexpected `.`, expected `}`!",
+    ),
+    (
+        "builtin.module @m { ^a(): test.nop; }",
+        "line: 1, column: 37: Unexpected `}`, expected operation!",
+    ),
+    (
+        "builtin.module @m {",
+        "line: 1, column: 20: Unexpected end of input, expected `}`!",
+    ),
+    (
+        "builtin.module @m { ^a(): test.use y; test.use x }",
+        "line: 1, column: 19: Identifier y was not resolved to any definition in the scope!",
+    ),
+    (
+        "builtin.module @m { ^a(): test.br ^b; test.use x }",
+        "line: 1, column: 19: Identifier x was not resolved to any definition in the scope!",
+    ),
+    (
+        "builtin.module @m { ^a(): ^a(): }",
+        "line: 1, column: 27: Identifier a defined more than once in the scope!",
+    ),
+    (
+        "builtin.module @m { ^a(x: builtin.integer si64, x: builtin.integer si64): }",
+        "line: 1, column: 49: Identifier x defined more than once in the scope!",
+    ),
+    (
+        "builtin.module @m { ^a(): x, y = test.make: builtin.integer si64 }",
+        "line: 1, column: 27: Operation has 1 results and 2 names!",
+    ),
+    (
+        "builtin.module @m { ^a(): test.make: builtin.integer si64 }",
+        "line: 1, column: 27: Operation has 1 results and 0 names!",
+    ),
+    (
+        "builtin.module @m {} !3 outlined_attributes: !3 = [dbg = !9]",
+        "line: 1, column: 58: No PrintOnceAttr found for outline index: 9!",
+    ),
+    (
+        "builtin.module @m {} !3 outlined_attributes: !3 = [] !3 = []",
+        "line: 1, column: 54: No operation or block found for outline index: 3!",
+    ),
+    (
+        "builtin.module @m {} !3 outlined_attributes: !3 = [builtin_given_names = test.dbg \"s\"]",
+        "line: 1, column: 52: Reserved attribute key: builtin_given_names!",
+    ),
+    (
+        "builtin.module @m { ^a(): x = test.make: builtin.integer si64; builtin.func @f: builtin.function <()->()> { ^b(): test.use x } }",
+        "line: 1, column: 107: Identifier x was not resolved to any definition in the scope!",
+    ),
+    (
+        "builtin.module @m { ^a(): x = test.make: builtin.integer si64; x = test.make: builtin.integer si64 }",
+        "line: 1, column: 64: Identifier x defined more than once in the scope!",
+    ),
+    (
+        "builtin.module @m { ^a(): x, x = test.make: builtin.integer si64 }",
+        "line: 1, column: 27: Operation has 1 results and 2 names!",
+    ),
+    (
+        "builtin.module @m { ^a(): x, y = test.make: builtin.integer si64",
+        "line: 1, column: 27: Operation has 1 results and 2 names!",
+    ),
+    (
+        "builtin.module @m { ^a(): test.nop !0; test.nop !0 }",
+        "line: 1, column: 49: Duplicate outline index: 0!",
+    ),
+    (
+        "builtin.module @m {} !18446744073709551616",
+        "line: 1, column: 23: Number out of range: 18446744073709551616!",
+    ),
+    (
+        "builtin.module @m {} !-0",
+        "line: 1, column: 23: Number out of range: -0!",
+    ),
+    (
+        "builtin.module @m {} !0 outlined_attributes: !1 = []",
+        "line: 1, column: 46: No operation or block found for outline index: 1!",
+    ),
+    (
+        "builtin.module @m {} !0 outlined_attributes: !0 = @[name: \"\\q\", loc: (?)], []",
+        "line: 1, column: 60: Unexpected escaped character \\q!",
+    ),
+    (
+        "builtin.module @m {} !0 outlined_attributes: !0 = @[name: \"\\u{d800}\", loc: (?)], []",
+        "line: 1, column: 60: Invalid unicode escape \\u{d800}!",
+    ),
+    (
+        "builtin.module @m {} !0 outlined_attributes: !0 = @[name: \"\\u{}\", loc: (?)], []",
+        "line: 1, column: 63: Unexpected `}`, expected hexadecimal digit!",
+    ),
+    (
+        "builtin.module @m { ^a() !0: } outlined_attributes: !0 = [builtin_block_label = test.dbg \"s\"]",
+        "line: 1, column: 59: Reserved attribute key: builtin_block_label!",
+    ),
+    (
+        "builtin.module @m { ^a() [builtin_block_label: builtin.identifier z]: }",
+        "line: 1, column: 27: Reserved attribute key: builtin_block_label!",
+    ),
+    (
+        "builtin.module @m { ^a(): test.global () [] [builtin_given_names: builtin.identifier x]: <() -> ()> }",
+        "line: 1, column: 46: Reserved attribute key: builtin_given_names!",
+    ),
+    (
+        "builtin.module @m { ^b: test.nop }",
+        "line: 1, column: 23: Unexpected `:`, expected `(`!",
+    ),
+    (
+        "builtin.module @m { ^a(): test.nop ^a b }",
+        "line: 1, column: 39: Unexpected `b`, expected `(`!",
+    ),
+    (
+        "builtin.module @m { ^a(): test.scope { ^b(): test.use x }; builtin.func @f: builtin.function <()->()> { ^c(): x = test.make: builtin.integer si64 } }",
+        "line: 1, column: 19: Identifier x was not resolved to any definition in the scope!",
+    ),
+    (
+        "builtin.module @m { ^a(): builtin.func @f: builtin.function <()->()> { ^c(): test.br ^a }; test.br ^b }",
+        "line: 1, column: 70: Identifier a was not resolved to any definition in the scope!",
+    ),
+    (
+        "builtin.module @m { ^a(): test.scope { ^b(): test.br ^a }; test.use x }",
+        "line: 1, column: 38: Identifier a was not resolved to any definition in the scope!",
+    ),
+    (
+        "builtin.module @m { ^a(): test.return x, y, x, z; y = test.make: builtin.integer si64 }",
+        "line: 1, column: 19: Identifier x was not resolved to any definition in the scope!",
+    ),
+    (
+        "builtin.module @m { ^a(): test.br ^c; test.br ^d; test.br ^c }",
+        "line: 1, column: 19: Identifier c was not resolved to any definition in the scope!",
+    ),
+    (
+        "builtin.module @m { ^a(): x = test.global () [] []: <() -> ()> }",
+        "line: 1, column: 27: Operation has 0 results and 1 names!",
+    ),
+    (
+        "builtin.module @m { ^a(): x, x = test.global () [] []: <() -> (test.ptr, test.ptr)> }",
+        "line: 1, column: 30: Identifier x defined more than once in the scope!",
+    ),
+    (
+        "builtin.module @m { ^a(): test.use x; x = test.make: builtin.integer si64 ^b(x: test.ptr): }",
+        "line: 1, column: 78: Identifier x defined more than once in the scope!",
+    ),
+    (
+        "builtin.module @m { ^a() !1: test.nop !1 }",
+        "line: 1, column: 39: Duplicate outline index: 1!",
+    ),
+    (
+        "builtin.module @m { ^a() !1: ^b() !1: }",
+        "line: 1, column: 35: Duplicate outline index: 1!",
+    ),
+    (
+        "builtin.module @m { ^a() !1: } !1",
+        "line: 1, column: 32: Duplicate outline index: 1!",
+    ),
+    (
+        "builtin.module @m { ^a(): test.scope { ^b(): builtin.module @n { ^c(): test.use x } } }",
+        "line: 1, column: 64: Identifier x was not resolved to any definition in the scope!",
+    ),
+    (
+        "test.use x",
+        "line: 1, column: 10: No active scope for identifier x!",
+    ),
+    (
+        "test.br ^a",
+        "line: 1, column: 10: No active scope for identifier a!",
+    ),
+    (
+        "test.global () [] []: <() -> ()> {}",
+        "line: 1, column: 1: Regions in a top-level operation must be IsolatedFromAbove!",
+    ),
+    (
+        "builtin.module @m { ^a(): test.nop } !0 outlined_attributes: !0 = [k = !0]",
+        "line: 1, column: 72: No PrintOnceAttr found for outline index: 0!",
+    ),
+    (
+        "builtin.module @m { ^a() !0: test.nop !1 } outlined_attributes: !1 = [builtin_given_names = !2] !2 = test.dbg \"s\"",
+        "line: 1, column: 71: Reserved attribute key: builtin_given_names!",
+    ),
+    (
+        "builtin.module @m { ^a() !0: test.nop !1 } outlined_attributes: !0 = [builtin_block_label = !2] !2 = test.dbg \"s\"",
+        "line: 1, column: 71: Reserved attribute key: builtin_block_label!",
+    ),
+    (
+        "builtin.module @m { ^a() !0: test.nop !1 } outlined_attributes: !0 = [a = !2] !1 = [b = !3] !3 = test.dbg \"s\"",
+        "line: 1, column: 75: No PrintOnceAttr found for outline index: 2!",
+    ),
+];
+
+/// The result for a text in a context of its own.
+fn answered(alloc: Global, text: &str) -> Result<String, Fail> {
+    with_demo(alloc, |alloc, ctx| said(alloc, ctx, text))
+}
+
+#[test]
+fn a_refused_text_leaves_what_stood(rt: HostRuntime) -> Result<(), Fail> {
+    for row in ROWS {
+        assert_eq!(rt; answered(rt.alloc(), row.0)?.as_str(), row.1);
+    }
+    Ok(())
+}

@@ -1,0 +1,96 @@
+//! Contexts of the demo types, passed to a closure: nothing else owns one here, so that a test has one call and no context.
+ghost use Rattle.std.specs.Prelude.{◌≤◌};
+
+pub use crate::answers::named;
+use irtext_base::location::Source;
+use irtext_base::parsable::TextStream;
+use irtext_context::base::Context;
+use irtext_demo::dialects::register_demo;
+use irtext_demo::{DemoAttr, DemoType};
+use irtext_parse_state::parsable::{State, StateStream};
+use std::alloc::Global;
+use std::test::Fail;
+
+/// A context of the demo types and attributes.
+pub type Ctx = Context<DemoType, DemoAttr>;
+
+/// A stream with its state.
+pub type Stream<'c> = StateStream<'c, DemoType, DemoAttr, ()>;
+
+/// The result of a call with an empty context.
+pub fn with_context<X, F: FnOnce(Global, &mut Ctx) -> Result<X, Fail> + Drop>(
+    alloc: Global,
+    call: F,
+) -> Result<X, Fail>
+    requires { F.IsAlwaysCallable call }
+{
+    let mut ctx: Ctx = Context::new(alloc);
+    call(alloc, &mut ctx)
+}
+
+/// The result of a call with an empty context whose next value has the number `values`, and whose places count from
+/// `places`.
+pub fn with_counters<X, F: FnOnce(Global, &mut Ctx) -> Result<X, Fail> + Drop>(
+    alloc: Global,
+    values: u64,
+    places: u32,
+    call: F,
+) -> Result<X, Fail>
+    requires callable { F.IsAlwaysCallable call }
+    requires places { 1 ≤ places }
+{
+    let mut ctx: Ctx = Context::with_counters(alloc, values, places);
+    call(alloc, &mut ctx)
+}
+
+/// The result of a call with a context that has the demo dialects.
+pub fn with_demo<X, F: FnOnce(Global, &mut Ctx) -> Result<X, Fail> + Drop>(
+    alloc: Global,
+    call: F,
+) -> Result<X, Fail>
+    requires { F.IsAlwaysCallable call }
+{
+    let mut ctx: Ctx = Context::new(alloc);
+    registered(alloc, &mut ctx, call)
+}
+
+/// Registers the demo dialects with this context, and returns the result of the call with it.
+fn registered<X, F: FnOnce(Global, &mut Ctx) -> Result<X, Fail> + Drop>(
+    alloc: Global,
+    ctx: &mut Ctx,
+    call: F,
+) -> Result<X, Fail>
+    requires { F.IsAlwaysCallable call }
+{
+    match register_demo(ctx) {
+        Ok(()) => call(alloc, ctx),
+        Err(_) => Err(Fail::from("not registered")),
+    }
+}
+
+/// The result of a call with two empty contexts.
+pub fn with_contexts<X, F: FnOnce(Global, &mut Ctx, &mut Ctx) -> Result<X, Fail> + Drop>(
+    alloc: Global,
+    call: F,
+) -> Result<X, Fail>
+    requires { F.IsAlwaysCallable call }
+{
+    let mut ctx: Ctx = Context::new(alloc);
+    let mut other: Ctx = Context::new(alloc);
+    call(alloc, &mut ctx, &mut other)
+}
+
+/// The result of a function on a stream over a text, with a context of its own.
+pub fn in_context<F: FnOnce(Global, &mut Stream<'_>) -> Result<String, Fail> + Drop>(
+    alloc: Global,
+    text: &str,
+    read: F,
+) -> Result<String, Fail>
+    requires { F.IsAlwaysCallable read }
+{
+    let stream = TextStream::new(alloc, text)?;
+    let mut ctx: Ctx = Context::new(alloc);
+    let state = State::new(&mut ctx, Source::InMemory, ());
+    let mut s = StateStream { stream, state };
+    read(alloc, &mut s)
+}

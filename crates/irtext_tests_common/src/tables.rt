@@ -1,0 +1,35 @@
+//! Tables of expected texts, line by line, for one value or one context that the lines may change.
+use crate::contexts::Ctx;
+use irtext_context::base::Context;
+use std::alloc::Global;
+use std::test::Fail;
+
+/// The number of the first line of a table whose text differs from the expected one, with an empty context for all
+/// lines.
+pub fn differing_alone<F: Fn(Global, &mut Ctx, usize) -> Result<String, Fail>>(
+    alloc: Global,
+    wanted: &[&str],
+    said: F,
+) -> Result<Option<usize>, Fail>
+    requires { F.IsAlwaysCallable said }
+{
+    let mut ctx: Ctx = Context::new(alloc);
+    differing(alloc, wanted, &mut ctx, said)
+}
+
+/// The number of the first line of a table whose text differs from the expected one, with one value for all lines.
+pub fn differing<X, F: Fn(Global, &mut X, usize) -> Result<String, Fail>>(
+    alloc: Global,
+    wanted: &[&str],
+    on: &mut X,
+    said: F,
+) -> Result<Option<usize>, Fail>
+    requires { F.IsAlwaysCallable said }
+{
+    for (number, wanted) in wanted.iter().enumerate() {
+        if said(alloc, on, number)?.as_str() != *wanted {
+            return Ok(Some(number));
+        }
+    }
+    Ok(None)
+}

@@ -1,0 +1,12 @@
+use Rattle.std.proofs.Common.{arith}
+use Rattle.irtext_graph.proofs.Closed.{older_on}
+use Rattle.irtext_tests_graph.proofs.back.makes_three.Goals as goal
+
+pub returns : goal.returns
+returns c = record {
+  kept = λ m up.
+      let first = c.in_ok-make_operation.ensures.kept m up in
+      let second = c.in_ok-make_block.ensures.kept m (let e = first.made in omega (arith, up, e)) in
+      let third = c.in_ok-make_region.ensures.kept m (let e = first.made in let f = second.made in omega (arith, up, e, f)) in
+      older_on m _ _ _ (older_on m _ _ _ first second) third;
+}

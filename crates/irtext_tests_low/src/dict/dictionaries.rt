@@ -1,0 +1,125 @@
+//! A dictionary of up to twenty keys and given names: they are inserted, replaced and removed, and are in the order in which
+//! they were inserted.
+use crate::dict::pairs::put;
+use irtext_base::base::{AttrObj, GIVEN_NAMES_KEY, Identifier};
+use irtext_dict::base::AttributeDict;
+use irtext_tests_common::answers::named;
+use irtext_tests_common::tables::differing;
+use std::alloc::Global;
+use std::test::Fail;
+
+/// The edits, by keys of one letter: the key gets this attribute, or is removed if there is none. No letters denote the
+/// given names.
+const EDITS: &[(&str, &str)] = &[
+    ("abcde", "x"),
+    ("", "x"),
+    ("fgh", "x"),
+    ("c", "y"),
+    ("c", ""),
+    ("c", "z"),
+    ("ijklmnopqrst", "x"),
+    ("ct", "w"),
+    ("agj", ""),
+    ("a", "v"),
+    ("", ""),
+    ("bdefhiklmno", ""),
+    ("", "x"),
+    ("bc", "u"),
+    ("cpqrstab", ""),
+];
+
+/// The entries after each edit, with `!` for the given names, and then the attribute under `c`.
+const LISTED: &[&str] = &[
+    "axbxcxdxex|x",
+    "axbxcxdxex!|x",
+    "axbxcxdxex!fxgxhx|x",
+    "axbxcydxex!fxgxhx|y",
+    "axbxdxex!fxgxhx|-",
+    "axbxdxex!fxgxhxcz|z",
+    "axbxdxex!fxgxhxczixjxkxlxmxnxoxpxqxrxsxtx|z",
+    "axbxdxex!fxgxhxcwixjxkxlxmxnxoxpxqxrxsxtw|w",
+    "bxdxex!fxhxcwixkxlxmxnxoxpxqxrxsxtw|w",
+    "bxdxex!fxhxcwixkxlxmxnxoxpxqxrxsxtwav|w",
+    "bxdxexfxhxcwixkxlxmxnxoxpxqxrxsxtwav|w",
+    "cwpxqxrxsxtwav|w",
+    "cwpxqxrxsxtwav!|w",
+    "cupxqxrxsxtwav!bu|u",
+    "!|-",
+];
+
+/// The text of the attribute under a key.
+fn shown(attr: &AttrObj<()>) -> &str {
+    match attr {
+        AttrObj::Ident(name) => name.as_str(),
+        _ => "!",
+    }
+}
+
+/// The entries of a dictionary, and then the attribute under `c`.
+fn listed(alloc: Global, dictionary: &AttributeDict<()>) -> Result<String, Fail> {
+    let mut text = String::new(alloc);
+    for (key, attr) in dictionary.iter() {
+        if key.as_str() != GIVEN_NAMES_KEY {
+            text.push_str(key.as_str())?;
+        }
+        text.push_str(shown(attr))?;
+    }
+    let found = match dictionary.get_str("c") {
+        Some(attr) => shown(attr),
+        None => "-",
+    };
+    Ok(format!(in alloc; "{text}|{found}")?)
+}
+
+/// The attribute for a key: given names, or an identifier of this name.
+fn attr_for(alloc: Global, key: &str, name: &str) -> Result<AttrObj<()>, Fail> {
+    if key == GIVEN_NAMES_KEY {
+        return Ok(AttrObj::GivenNames(Vec::new(alloc)));
+    }
+    Ok(AttrObj::Ident(named(alloc, name)?))
+}
+
+/// Inserts an attribute under a key, or removes the entry if there is no name.
+fn edit(
+    alloc: Global,
+    dictionary: &mut AttributeDict<()>,
+    key: Identifier,
+    name: &str,
+) -> Result<(), Fail> {
+    if name == "" {
+        let _taken = dictionary.remove(&key);
+        return Ok(());
+    }
+    let attr = attr_for(alloc, key.as_str(), name)?;
+    if put(dictionary, key, attr) != "kept" {
+        return Err(Fail::from("refused"));
+    }
+    Ok(())
+}
+
+/// The text after an edit.
+fn step(alloc: Global, dictionary: &mut AttributeDict<()>, number: usize) -> Result<String, Fail> {
+    let Some((letters, name)) = EDITS.get(number) else {
+        return Err(Fail::from("no edit"));
+    };
+    if *letters == "" {
+        edit(alloc, dictionary, named(alloc, GIVEN_NAMES_KEY)?, name)?;
+    }
+    for letter in letters.chars() {
+        let key = format!(in alloc; "{letter}")?;
+        edit(alloc, dictionary, named(alloc, key.as_str())?, name)?;
+    }
+    listed(alloc, dictionary)
+}
+
+/// The number of the first edit with another text than expected.
+fn first_differing(alloc: Global) -> Result<Option<usize>, Fail> {
+    let mut dictionary: AttributeDict<()> = AttributeDict::new(alloc);
+    differing(alloc, LISTED, &mut dictionary, step)
+}
+
+#[test]
+fn keys_keep_their_order(rt: HostRuntime) -> Result<(), Fail> {
+    assert_eq!(rt; first_differing(rt.alloc())?, None);
+    Ok(())
+}

@@ -1,0 +1,304 @@
+//! The stream over a text, places, faults and tokens.
+use irtext_base::parsable::{
+    CharStream, ParseFault, ParseResult, Place, SourcePosition, TextStream,
+};
+use irtext_base::result::{Cause, Expected};
+use irtext_tests_common::answers::{said, said_next, told};
+use irtext_tests_common::tables::differing;
+use irtext_tokens::irfmt::demanded::spaced_text_demanded;
+use irtext_tokens::irfmt::faults::{
+    begins, commit, committed, next_is, pass, refuse, refuse_at, unexpected,
+};
+use irtext_tokens::irfmt::parsers::{
+    Class, id_parse, identifier_parse, skip_class, skip_white_space, text_parse,
+};
+use std::alloc::Global;
+use std::test::Fail;
+
+/// The results for the words and fixed texts of ` \t_a1 builtin.module ->x`, one after the other.
+const WORDS: &[&str] = &[
+    "_a1",
+    "builtin.module",
+    "read",
+    "line: 1, column: 24: Unexpected `x`, expected `a text of more than 24 bytes`",
+    "line: 1, column: 25: Unexpected end of input, expected `xy`!",
+    "line: 1, column: 25: The stream has failed!",
+];
+
+/// The texts of faults after `a` in `ab`.
+const FAULTS: &[&str] = &[
+    "line: 1, column: 2: Unexpected escaped character \\q",
+    "line: 1, column: 2: Unexpected `b`, expected digit!",
+    "line: 1, column: 2: No operation or block found for outline index: 3!",
+    "line: 1, column: 1: Duplicate outline index: 3!",
+];
+
+/// Texts, whether the stream had failed, and then: whether white space and `->` are skipped, the position of the stream, and whether it
+/// has failed.
+const ACCEPTED: &[(&str, bool, &str)] = &[
+    ("->x", false, "true line: 1, column: 3 false"),
+    (
+        " \u{2028}\u{3000}->x",
+        false,
+        "true line: 1, column: 6 false",
+    ),
+    ("\n \u{3000}->", false, "true line: 2, column: 5 false"),
+    ("\u{3000}->x", true, "true line: 1, column: 4 true"),
+    (" \u{3000}-", false, "false line: 1, column: 1 false"),
+    ("\u{2028}- >", false, "false line: 1, column: 1 false"),
+    ("\u{3000}x->", false, "false line: 1, column: 1 false"),
+    ("\u{2028}", true, "false line: 1, column: 1 true"),
+    ("", false, "false line: 1, column: 1 false"),
+];
+
+/// Texts, whether the stream had failed, and the result for an expected `->` with white space around it.
+const ARROWS: &[(&str, bool, &str)] = &[
+    ("->x", false, "line: 1, column: 3"),
+    ("\u{2028} ->\u{3000}\n x", false, "line: 2, column: 2"),
+    ("\u{3000}->", false, "line: 1, column: 4"),
+    (
+        "\u{3000}->",
+        true,
+        "line: 1, column: 1: The stream has failed!",
+    ),
+    (
+        "\u{2028}-",
+        false,
+        "line: 1, column: 3: Unexpected end of input, expected `->`!",
+    ),
+    (
+        "\u{2028} x",
+        false,
+        "line: 1, column: 3: Unexpected `x`, expected `->`!",
+    ),
+];
+
+/// The position of a stream, the next character, and whether it has failed.
+fn stands(alloc: Global, stream: &TextStream) -> Result<String, Fail> {
+    let at = stream.locate(stream.position());
+    Ok(format!(in alloc; "{at} {:?} {}", stream.peek(), stream.has_failed())?)
+}
+
+/// How many characters of `é\nb` are taken, the last of them, and the position of the stream then.
+const TAKEN: &[(usize, &str)] = &[
+    (0, "None line: 1, column: 1 Some('é') false"),
+    (1, "Some('é') line: 1, column: 2 Some('\\n') false"),
+    (2, "Some('\\n') line: 2, column: 1 Some('b') false"),
+    (3, "Some('b') line: 2, column: 2 None false"),
+    (4, "None line: 2, column: 2 None false"),
+];
+
+/// The last of so many characters, and the position of the stream after it.
+fn taken(alloc: Global, text: &str, number: usize) -> Result<String, Fail> {
+    let mut stream = TextStream::new(alloc, text)?;
+    let mut last = None;
+    for _ in 0..number {
+        last = stream.take();
+    }
+    let stands = stands(alloc, &stream)?;
+    Ok(format!(in alloc; "{last:?} {stands}")?)
+}
+
+/// The text from the beginning of `é\nb` to the place after two characters, and the next character once the stream is reset to the start.
+fn given_back(alloc: Global) -> Result<String, Fail> {
+    let mut stream = TextStream::new(alloc, "é\nb")?;
+    let start = stream.position();
+    if stream.take() != Some('é') || stream.take() != Some('\n') {
+        return Err(Fail::from("another character"));
+    }
+    let text = String::from_str(alloc, stream.text_since(start))?;
+    stream.reset(start);
+    Ok(format!(in alloc; "{text:?} {:?}", stream.peek())?)
+}
+
+/// Whether a stream has failed, before and after it is failed.
+fn failed(alloc: Global, text: &str) -> Result<String, Fail> {
+    let mut stream = TextStream::new(alloc, text)?;
+    let before = stream.has_failed();
+    stream.fail();
+    Ok(format!(in alloc; "{before} {}", stream.has_failed())?)
+}
+
+#[test]
+fn a_stream_counts_lines_and_characters(rt: HostRuntime) -> Result<(), Fail> {
+    assert!(rt; SourcePosition::default() == SourcePosition { line: 1, column: 1 });
+    for row in TAKEN {
+        assert_eq!(rt; taken(rt.alloc(), "é\nb", row.0)?.as_str(), row.1);
+    }
+    assert_eq!(rt; given_back(rt.alloc())?.as_str(), "\"é\\n\" Some('é')");
+    assert_eq!(rt; failed(rt.alloc(), "")?.as_str(), "false true");
+    Ok(())
+}
+
+/// The result for a fixed text.
+fn fixed(alloc: Global, stream: &mut TextStream, text: &str) -> Result<String, Fail> {
+    match text_parse::<TextStream, ()>(stream, text) {
+        Ok(()) => Ok(String::from_str(alloc, "read")?),
+        Err(fault) => told(alloc, &fault),
+    }
+}
+
+/// The result for the identifier after white space.
+fn identifier(alloc: Global, stream: &mut TextStream) -> Result<String, Fail> {
+    skip_white_space(stream);
+    said_next(alloc, stream, identifier_parse::<TextStream, ()>)
+}
+
+/// The result for the operation's id after white space.
+fn id(alloc: Global, stream: &mut TextStream) -> Result<String, Fail> {
+    skip_class(stream, Class::WhiteSpace);
+    said_next(alloc, stream, id_parse::<TextStream, ()>)
+}
+
+/// The result for the word or fixed text of a line.
+fn word(alloc: Global, stream: &mut TextStream, number: usize) -> Result<String, Fail> {
+    match number {
+        0 => identifier(alloc, stream),
+        1 => id(alloc, stream),
+        2 => {
+            skip_white_space(stream);
+            fixed(alloc, stream, "->")
+        }
+        3 => fixed(alloc, stream, "a text of more than 24 bytes"),
+        4 => fixed(alloc, stream, "xy"),
+        _ => identifier(alloc, stream),
+    }
+}
+
+/// The number of the first word or fixed text with another result than expected.
+fn words(alloc: Global, text: &str) -> Result<String, Fail> {
+    let mut stream = TextStream::new(alloc, text)?;
+    let number = differing(alloc, WORDS, &mut stream, word)?;
+    Ok(format!(in alloc; "{number:?}")?)
+}
+
+#[test]
+fn words_and_fixed_texts(rt: HostRuntime) -> Result<(), Fail> {
+    let said = words(rt.alloc(), " \t_a1 builtin.module ->x")?;
+    assert_eq!(rt; said.as_str(), "None");
+    Ok(())
+}
+
+/// The fault of a line, at the position of the stream, or at its start.
+fn fault(number: usize, stream: &mut TextStream, start: Place) -> ParseFault<()> {
+    match number {
+        0 => pass(stream, Cause::BadEscape('q')),
+        1 => {
+            let missing = unexpected(stream, Expected::Digit);
+            commit(stream, missing)
+        }
+        2 => refuse(stream, Cause::UnknownIndex(3)),
+        _ => refuse_at(stream, start, Cause::DuplicateIndex(3)),
+    }
+}
+
+/// The text of the fault of a line, after a character.
+fn refused(alloc: Global, text: &str, number: usize) -> Result<String, Fail> {
+    let mut stream = TextStream::new(alloc, text)?;
+    let start = stream.position();
+    let _ = stream.take();
+    let fault = fault(number, &mut stream, start);
+    told(alloc, &fault)
+}
+
+/// What begins at the start of a text, and after its first character.
+fn classes(alloc: Global, text: &str) -> Result<String, Fail> {
+    let mut stream = TextStream::new(alloc, text)?;
+    let (next, class) = (next_is(&stream, 'a'), begins(&stream, Class::Beginning));
+    let _ = stream.take();
+    let (behind, space) = (next_is(&stream, 'a'), begins(&stream, Class::WhiteSpace));
+    Ok(format!(in alloc; "{next} {class} {behind} {space}")?)
+}
+
+/// A value as the result of a parser.
+fn value(stream: &mut TextStream) -> ParseResult<u8, ()> {
+    committed(stream, Ok(7))
+}
+
+#[test]
+fn faults_are_committed_or_not(rt: HostRuntime) -> Result<(), Fail> {
+    assert_eq!(rt;
+        classes(rt.alloc(), "ab")?.as_str(),
+        "true true false false"
+    );
+    for (number, wanted) in FAULTS.iter().enumerate() {
+        assert_eq!(rt; refused(rt.alloc(), "ab", number)?.as_str(), *wanted);
+    }
+    assert_eq!(rt; said(rt.alloc(), "ab", value)?.as_str(), "7");
+    Ok(())
+}
+
+/// Whether two fixed texts are skipped after white space, and the position of the stream then.
+fn slices(alloc: Global, text: &str) -> Result<String, Fail> {
+    let mut stream = TextStream::new(alloc, text)?;
+    stream.skip(Class::WhiteSpace);
+    let first = stream.accept("é!=");
+    let second = stream.accept("ab");
+    let stands = stands(alloc, &stream)?;
+    Ok(format!(in alloc; "{first} {second} {stands}")?)
+}
+
+#[test]
+fn a_stream_goes_by_slices(rt: HostRuntime) -> Result<(), Fail> {
+    assert_eq!(rt;
+        slices(rt.alloc(), " \u{3000}\né!=a")?.as_str(),
+        "true false line: 2, column: 4 Some('a') false"
+    );
+    Ok(())
+}
+
+/// Fails the stream, or not.
+fn fail_if(stream: &mut TextStream, failed: bool) {
+    if failed {
+        stream.fail();
+    }
+}
+
+/// Whether `->` is skipped after white space, the position of the stream then, and whether it has failed.
+fn accepted(alloc: Global, text: &str, failed: bool) -> Result<String, Fail> {
+    let mut stream = TextStream::new(alloc, text)?;
+    fail_if(&mut stream, failed);
+    let accepted = stream.accept_spaced("->");
+    let at = stream.locate(stream.position());
+    Ok(format!(in alloc; "{accepted} {at} {}", stream.has_failed())?)
+}
+
+/// The error for an expected `->` with white space around it, or the position of the stream after it.
+fn arrow(alloc: Global, text: &str, failed: bool) -> Result<String, Fail> {
+    let mut stream = TextStream::new(alloc, text)?;
+    fail_if(&mut stream, failed);
+    match spaced_text_demanded::<TextStream, ()>(&mut stream, "->") {
+        Ok(()) => Ok(format!(in alloc; "{}", stream.locate(stream.position()))?),
+        Err(fault) => told(alloc, &fault),
+    }
+}
+
+#[test]
+fn a_fixed_text_behind_white_space(rt: HostRuntime) -> Result<(), Fail> {
+    for row in ACCEPTED {
+        assert_eq!(rt; accepted(rt.alloc(), row.0, row.1)?.as_str(), row.2);
+    }
+    for row in ARROWS {
+        assert_eq!(rt; arrow(rt.alloc(), row.0, row.1)?.as_str(), row.2);
+    }
+    Ok(())
+}
+
+/// A line that begins after the first newline.
+fn long_line(alloc: Global) -> Result<String, Fail> {
+    let mut text = String::from_str(alloc, "\n")?;
+    for _ in 0..600 {
+        text.push_str("aé")?;
+    }
+    Ok(text)
+}
+
+#[test]
+fn a_long_line_counts_characters(rt: HostRuntime) -> Result<(), Fail> {
+    let text = long_line(rt.alloc())?;
+    assert_eq!(rt;
+        taken(rt.alloc(), text.as_str(), 1100)?.as_str(),
+        "Some('a') line: 2, column: 1100 Some('é') false"
+    );
+    Ok(())
+}

@@ -1,0 +1,209 @@
+//! Blocks of a context: how they are made, labelled and changed.
+use crate::tests::locations::{at, make};
+use irtext_base::base::{AttrObj, GIVEN_NAMES_KEY, SYM_NAME_KEY};
+use irtext_base::location::Source;
+use irtext_base::result::Result as Answer;
+use irtext_context::base::context::making::Making;
+use irtext_context::base::{
+    BasicBlock, BlockAccess, NewBlock, Operation, OperationAccess, Ptr, Region,
+};
+use irtext_context::location::erase_locations;
+use irtext_demo::{DemoAttr, DemoType};
+use irtext_few::Few;
+use irtext_graph::held::HasGraph;
+use irtext_graph::object::Value;
+use irtext_tests_common::contexts::{Ctx, named, with_context, with_counters};
+use std::alloc::{AllocError, Global};
+use std::test::Fail;
+
+/// Makes a block with this many arguments, each a pointer, and without a label.
+fn made(
+    alloc: Global,
+    ctx: &mut Ctx,
+    count: usize,
+) -> Result<Answer<Ptr<BasicBlock>, DemoAttr>, Fail> {
+    let mut types = Vec::new(alloc);
+    for _ in 0..count {
+        types.push(DemoType::Pointer)?;
+    }
+    Ok(BasicBlock::new(ctx, None, Few::from_vec(types)))
+}
+
+/// Whether the first argument of a block is a pointer.
+fn begins_with_pointer(ctx: &Ctx, block: Ptr<BasicBlock>) -> bool {
+    let graph = ctx.graph();
+    let first = Value::Argument(block, 0);
+    graph.contains_value(first) && *graph.type_of(first) == Some(DemoType::Pointer)
+}
+
+/// The text of a block: its label, how many arguments and attributes it has, and whether its location is unknown.
+fn shown(alloc: Global, ctx: &Ctx, block: Ptr<BasicBlock>) -> Result<String, Fail> {
+    if !ctx.contains_block(block) {
+        return Err(Fail::from("no such block"));
+    }
+    let label = match block.label(ctx) {
+        Some(label) => label.as_str(),
+        None => "-",
+    };
+    let arguments = ctx.graph().num_arguments(block);
+    let attributes = block.attributes(ctx).len();
+    let unknown = block.loc(ctx).is_unknown();
+    Ok(format!(in alloc; "{label} {arguments} {attributes} {unknown}")?)
+}
+
+/// A change of a block.
+#[derive(Clone, Copy)]
+enum Step {
+    Label,
+    NoLabel,
+    Place,
+    Name,
+    GivenNames,
+}
+
+/// Puts an identifier under a key of a block, and returns whether that was allowed.
+fn put(alloc: Global, ctx: &mut Ctx, block: Ptr<BasicBlock>, key: &str) -> Result<bool, Fail> {
+    let key = named(alloc, key)?;
+    let attr = AttrObj::Ident(named(alloc, "main")?);
+    Ok(ctx.contains_block(block) && block.set_attribute(ctx, key, attr).is_ok())
+}
+
+/// Changes a block, and returns whether that was allowed.
+fn write(alloc: Global, ctx: &mut Ctx, block: Ptr<BasicBlock>, step: Step) -> Result<bool, Fail> {
+    let label = named(alloc, "entry")?;
+    if !ctx.contains_block(block) {
+        return Ok(false);
+    }
+    match step {
+        Step::Label => block.set_label(ctx, Some(label)),
+        Step::NoLabel => block.set_label(ctx, None),
+        Step::Place => block.set_loc(ctx, at(Source::InMemory)),
+        Step::Name => return put(alloc, ctx, block, SYM_NAME_KEY),
+        Step::GivenNames => return put(alloc, ctx, block, GIVEN_NAMES_KEY),
+    }
+    Ok(true)
+}
+
+/// Changes, one after the other, whether each is allowed, and the text of the block after it.
+const STEPS: &[(Step, bool, &str)] = &[
+    (Step::Label, true, "entry 3 0 true"),
+    (Step::Name, true, "entry 3 1 true"),
+    (Step::GivenNames, false, "entry 3 1 true"),
+    (Step::Place, true, "entry 3 1 false"),
+    (Step::NoLabel, true, "- 3 1 false"),
+];
+
+/// The first step with another result than expected, for a block that begins with three arguments.
+fn differing(alloc: Global, ctx: &mut Ctx) -> Result<Option<usize>, Fail> {
+    let block = made(alloc, ctx, 3)?.ok().ok_or("refused")?;
+    if !begins_with_pointer(ctx, block) || shown(alloc, ctx, block)?.as_str() != "- 3 0 true" {
+        return Ok(Some(STEPS.len()));
+    }
+    for number in 0..STEPS.len() {
+        let (step, allowed, said) = STEPS[number];
+        if write(alloc, ctx, block, step)? != allowed
+            || shown(alloc, ctx, block)?.as_str() != said
+        {
+            return Ok(Some(number));
+        }
+    }
+    Ok(None)
+}
+
+#[test]
+fn blocks_are_labelled_and_written(rt: HostRuntime) -> Result<(), Fail> {
+    assert_eq!(rt; with_context(rt.alloc(), differing)?, None);
+    Ok(())
+}
+
+/// The result if one number is left for values: for a block of two arguments, the number of live objects then, and whether a block
+/// of one is made.
+fn filled(alloc: Global, ctx: &mut Ctx) -> Result<String, Fail> {
+    let said = match made(alloc, ctx, 2)? {
+        Ok(_) => String::from_str(alloc, "made")?,
+        Err(error) => format!(in alloc; "{}", error.err)?,
+    };
+    let live = ctx.num_live();
+    let one = made(alloc, ctx, 1)?.is_ok();
+    Ok(format!(in alloc; "{said} {live} {one}")?)
+}
+
+#[test]
+fn arguments_end_at_the_greatest_number(rt: HostRuntime) -> Result<(), Fail> {
+    assert_eq!(rt;
+        with_counters(rt.alloc(), u64::MAX - 1, 1, filled)?.as_str(),
+        "Out of memory 0 true"
+    );
+    Ok(())
+}
+
+/// Puts a block into a region, and returns whether it could.
+fn holds_block(
+    ctx: &mut Ctx,
+    region: Ptr<Region>,
+    block: Ptr<BasicBlock>,
+) -> Result<bool, AllocError> {
+    if !ctx.contains_region(region) || !ctx.contains_block(block) {
+        return Ok(false);
+    }
+    if !block.can_insert_at_back(region, ctx) {
+        return Ok(false);
+    }
+    block.insert_at_back(region, ctx)?;
+    Ok(true)
+}
+
+/// Puts an operation into a block, and returns whether it could.
+fn holds_operation(
+    ctx: &mut Ctx,
+    block: Ptr<BasicBlock>,
+    op: Ptr<Operation>,
+) -> Result<bool, AllocError> {
+    if !ctx.contains_block(block) || !ctx.contains_operation(op) {
+        return Ok(false);
+    }
+    if !op.can_insert_at_back(block, ctx) {
+        return Ok(false);
+    }
+    op.insert_at_back(block, ctx)?;
+    Ok(true)
+}
+
+/// Which of three locations are known: those of an operation, of a block in it, and of an operation in the block.
+fn known(
+    ctx: &Ctx,
+    outer: Ptr<Operation>,
+    block: Ptr<BasicBlock>,
+    inner: Ptr<Operation>,
+) -> (bool, bool, bool) {
+    (
+        ctx.contains_operation(outer) && !outer.loc(ctx).is_unknown(),
+        ctx.contains_block(block) && !block.loc(ctx).is_unknown(),
+        ctx.contains_operation(inner) && !inner.loc(ctx).is_unknown(),
+    )
+}
+
+/// Whether locations are known in an operation with a block and an operation in it, and none once they are erased.
+fn erased_inside(alloc: Global, ctx: &mut Ctx) -> Result<bool, Fail> {
+    let (outer, inner) = (make(alloc, ctx)?, make(alloc, ctx)?);
+    let block = made(alloc, ctx, 0)?.ok().ok_or("refused")?;
+    if !write(alloc, ctx, block, Step::Place)? || !ctx.contains_operation(outer) {
+        return Ok(false);
+    }
+    let region = ctx.add_region(outer)?;
+    if !holds_block(ctx, region, block)? || !holds_operation(ctx, block, inner)? {
+        return Ok(false);
+    }
+    let before = known(ctx, outer, block, inner);
+    if !ctx.contains_operation(outer) {
+        return Ok(false);
+    }
+    erase_locations(ctx, outer);
+    Ok(before == (true, true, true) && known(ctx, outer, block, inner) == (false, false, false))
+}
+
+#[test]
+fn inner_locations_are_erased(rt: HostRuntime) -> Result<(), Fail> {
+    assert_eq!(rt; with_context(rt.alloc(), erased_inside)?, true);
+    Ok(())
+}

@@ -1,0 +1,93 @@
+//! Attributes that are set on an operation, and `Refusal`s as errors.
+use irtext_base::base::{AttrObj, GIVEN_NAMES_KEY, Identifier, OpId, SYM_NAME_KEY};
+use irtext_base::location::Location;
+use irtext_base::result::{Error, Result as Answer};
+use irtext_context::base::context::making::Making;
+use irtext_context::base::{Operation, OperationAccess, Ptr};
+use irtext_demo::DemoAttr;
+use irtext_dict::base::AttributeDict;
+use irtext_tests_common::contexts::{Ctx, named, with_context};
+use std::alloc::{AllocError, Global};
+use std::test::Fail;
+
+/// The result of setting an attribute under a key of an operation.
+fn set(
+    ctx: &mut Ctx,
+    op: Ptr<Operation>,
+    key: Identifier,
+    attr: AttrObj<DemoAttr>,
+) -> Answer<(), DemoAttr> {
+    if !ctx.contains_operation(op) {
+        return Err(Error::from(AllocError));
+    }
+    match op.set_attribute(ctx, key, attr) {
+        Ok(()) => Ok(()),
+        Err(refusal) => Err(Error::from(refusal)),
+    }
+}
+
+/// This word for a call that succeeded, or the cause of its error.
+fn cause_or(alloc: Global, answer: &Answer<(), DemoAttr>, word: &str) -> Result<String, Fail> {
+    match answer {
+        Ok(()) => Ok(String::from_str(alloc, word)?),
+        Err(error) => Ok(format!(in alloc; "{}", error.err)?),
+    }
+}
+
+/// The keys that are set, one after the other, and the result for each.
+const KEYS: &[(&str, &str)] = &[
+    (SYM_NAME_KEY, "set"),
+    (
+        GIVEN_NAMES_KEY,
+        "Reserved attribute key: builtin_given_names",
+    ),
+    (SYM_NAME_KEY, "set"),
+];
+
+/// Sets an identifier under a key of an operation, and returns the text of the result.
+fn step(alloc: Global, ctx: &mut Ctx, op: Ptr<Operation>, key: &str) -> Result<String, Fail> {
+    let key = named(alloc, key)?;
+    let attr = AttrObj::Ident(named(alloc, "main")?);
+    let answer = set(ctx, op, key, attr);
+    cause_or(alloc, &answer, "set")
+}
+
+/// The first key with another result than expected, with an operation without attributes.
+fn differing(alloc: Global, ctx: &mut Ctx) -> Result<Option<usize>, Fail> {
+    let id = OpId {
+        dialect: named(alloc, "builtin")?,
+        name: named(alloc, "module")?,
+    };
+    let op = ctx.make_operation(id, AttributeDict::new(alloc), Location::Unknown)?;
+    for number in 0..KEYS.len() {
+        let said = step(alloc, ctx, op, KEYS[number].0)?;
+        if said.as_str() != KEYS[number].1 {
+            return Ok(Some(number));
+        }
+    }
+    if !ctx.contains_operation(op) || op.attributes(ctx).len() != 1 {
+        return Ok(Some(KEYS.len()));
+    }
+    Ok(None)
+}
+
+/// The text of an error.
+fn text_of(alloc: Global, error: &Error<DemoAttr>) -> Result<String, Fail> {
+    Ok(format!(in alloc; "{error}")?)
+}
+
+/// The text of the error for out of memory.
+fn no_memory(alloc: Global) -> Result<String, Fail> {
+    let error: Error<DemoAttr> = Error::from(AllocError);
+    text_of(alloc, &error)
+}
+
+#[test]
+fn attributes_are_set_and_refused(rt: HostRuntime) -> Result<(), Fail> {
+    assert_eq!(rt; with_context(rt.alloc(), differing)?, None);
+    assert_eq!(rt;
+        no_memory(rt.alloc())?.as_str(),
+        "Compilation error: invalid argument.\nOut of memory"
+    );
+    Ok(())
+}

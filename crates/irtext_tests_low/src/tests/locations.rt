@@ -1,0 +1,202 @@
+//! The sources, copies and hashes of locations, and the paths that a context keeps.
+use crate::tests::nested;
+use irtext_base::base::{AttrObj, OpId};
+use irtext_base::location::{CloneIntoContext, Location, Source};
+use irtext_base::parsable::SourcePosition;
+use irtext_context::base::context::making::Making;
+use irtext_context::base::{Operation, OperationAccess, Ptr};
+use irtext_context::location::erase_locations;
+use irtext_demo::DemoAttr;
+use irtext_dict::base::AttributeDict;
+use irtext_tests_common::contexts::{Ctx, named, with_contexts};
+use std::alloc::Global;
+use std::hash::{DefaultHasher, Hash, Hasher};
+use std::test::Fail;
+
+/// The source of a file.
+pub fn file(ctx: &mut Ctx, path: &str) -> Result<Source, Fail> {
+    Ok(Source::new_from_file(ctx, path).ok().ok_or("refused")?)
+}
+
+/// Line 1, column 2 of a source.
+pub fn at(src: Source) -> Location<DemoAttr> {
+    Location::SrcPos {
+        src,
+        pos: SourcePosition { line: 1, column: 2 },
+    }
+}
+
+/// A location fused of two others, with a name as metadata.
+fn fused(
+    alloc: Global,
+    first: Location<DemoAttr>,
+    second: Location<DemoAttr>,
+) -> Result<Location<DemoAttr>, Fail> {
+    let mut locations = Vec::new(alloc);
+    locations.push(first)?;
+    locations.push(second)?;
+    let metadata = Some(AttrObj::Ident(named(alloc, "m")?));
+    Ok(Location::Fused {
+        metadata: Box::new(alloc, metadata)?,
+        locations: Box::new(alloc, locations)?,
+    })
+}
+
+/// The hash of a new hasher after a location of the context's paths is hashed.
+fn hash_of(ctx: &Ctx, location: &Location<DemoAttr>) -> u64 {
+    let mut state = DefaultHasher::new();
+    if ctx.contains_paths(location) {
+        location.stable_hash(ctx, &mut state);
+    }
+    state.finish()
+}
+
+/// Whether a context keeps each path once.
+fn once(alloc: Global, ctx: &mut Ctx, other: &Ctx) -> Result<bool, Fail> {
+    let b = file(ctx, "b")?;
+    let c = file(ctx, "c")?;
+    let again = file(ctx, "b")?;
+    let kept = b != c && b == again && ctx.num_paths() == 2;
+    let known = b.is_of(ctx) && !b.is_of(other) && !other.contains_paths(&at(b));
+    Ok(kept && known && path_of(ctx, b) == "b" && in_order(alloc, b)?)
+}
+
+/// The path of a source of the context.
+fn path_of(ctx: &Ctx, source: Source) -> &str {
+    if let Source::File(key) = source {
+        if source.is_of(ctx) {
+            return ctx.path(key);
+        }
+    }
+    ""
+}
+
+/// Whether sources are in the order of their first mention.
+fn in_order(alloc: Global, b: Source) -> Result<bool, Fail> {
+    let one = fused(alloc, at(b), at(b))?;
+    let single = one.source() == Some(b);
+    let all = fused(alloc, one, at(Source::InMemory))?;
+    let several = all.source().is_none();
+    let sources = all.sources(alloc).ok().ok_or("refused")?;
+    let ordered = sources.len() == 2 && sources[0] == b && sources[1] == Source::InMemory;
+    Ok(single && several && ordered)
+}
+
+/// Whether a copy equals its source.
+fn copied(alloc: Global) -> Result<bool, Fail> {
+    let location = fused(alloc, at(Source::InMemory), Location::Unknown)?;
+    let copy = location.try_clone(alloc).ok().ok_or("refused")?;
+    Ok(copy == location)
+}
+
+/// Whether the copy of an attribute equals it.
+fn attribute_copied(alloc: Global) -> Result<bool, Fail> {
+    let attribute: AttrObj<DemoAttr> = AttrObj::Ident(named(alloc, "x")?);
+    let copy = attribute.try_clone(alloc)?;
+    Ok(copy == attribute)
+}
+
+/// Whether the hash of a place is computed from its path.
+fn hashed(ctx: &mut Ctx) -> Result<bool, Fail> {
+    let place = at(file(ctx, "b")?);
+    let mut wanted = DefaultHasher::new();
+    wanted.write_u8(0);
+    wanted.write_u8(0);
+    "b".hash(&mut wanted);
+    wanted.write_i32(1);
+    wanted.write_i32(2);
+    Ok(hash_of(ctx, &place) == wanted.finish())
+}
+
+/// Whether the hash of fused locations counts them.
+fn counted(alloc: Global, ctx: &Ctx) -> Result<bool, Fail> {
+    let metadata = Box::new(alloc, None)?;
+    let locations = Box::new(alloc, Vec::new(alloc))?;
+    let none: Location<DemoAttr> = Location::Fused {
+        metadata,
+        locations,
+    };
+    let mut wanted = DefaultHasher::new();
+    wanted.write_u8(1);
+    wanted.write_u8(0);
+    wanted.write_u64(0);
+    Ok(hash_of(ctx, &none) == wanted.finish())
+}
+
+/// Whether a source moves to another context under the same path, and a place without a path stays the same.
+fn moved(from: &mut Ctx, to: &mut Ctx) -> Result<bool, Fail> {
+    let b = file(from, "b")?;
+    let a = file(to, "a")?;
+    if !b.is_of(from) {
+        return Ok(false);
+    }
+    let moved = b.clone_into_context(from, to).ok().ok_or("refused")?;
+    let same = moved == file(to, "b")?;
+    let position = SourcePosition { line: 3, column: 4 };
+    let place = position.clone_into_context(from, to).ok();
+    Ok(a == b && moved != b && same && place == Some(position))
+}
+
+/// Whether a location moves to another context with the same text, and adds only the path that is new there.
+fn carried(alloc: Global, from: &mut Ctx, to: &mut Ctx) -> Result<bool, Fail> {
+    let location = fused(alloc, at(file(from, "d")?), at(file(from, "a")?))?;
+    if !from.contains_paths(&location) {
+        return Ok(false);
+    }
+    let moved = location.clone_into_context(from, to);
+    let moved = moved.ok().ok_or("refused")?;
+    let alike = hash_of(to, &moved) == hash_of(from, &location);
+    Ok(alike && moved != location && to.num_paths() == 3)
+}
+
+/// Makes a module with a place.
+pub(crate) fn make(alloc: Global, ctx: &mut Ctx) -> Result<Ptr<Operation>, Fail> {
+    let id = OpId {
+        dialect: named(alloc, "builtin")?,
+        name: named(alloc, "module")?,
+    };
+    let attributes = AttributeDict::new(alloc);
+    Ok(ctx.make_operation(id, attributes, at(Source::InMemory))?)
+}
+
+/// Whether a location that was there is erased.
+fn erased(alloc: Global, ctx: &mut Ctx) -> Result<bool, Fail> {
+    let op = make(alloc, ctx)?;
+    if !ctx.contains_operation(op) || op.loc(ctx).is_unknown() {
+        return Ok(false);
+    }
+    erase_locations(ctx, op);
+    Ok(ctx.contains_operation(op) && op.loc(ctx).is_unknown())
+}
+
+/// Whether the condition of a line holds.
+fn holds(alloc: Global, ctx: &mut Ctx, other: &mut Ctx, number: usize) -> Result<bool, Fail> {
+    match number {
+        0 => once(alloc, ctx, other),
+        1 => copied(alloc),
+        2 => attribute_copied(alloc),
+        3 => hashed(ctx),
+        4 => counted(alloc, ctx),
+        5 => moved(ctx, other),
+        6 => carried(alloc, ctx, other),
+        7 => erased(alloc, ctx),
+        8 => nested::copied(alloc),
+        _ => nested::carried(alloc, ctx, other),
+    }
+}
+
+/// The number of the first line that does not hold.
+fn differing(alloc: Global, ctx: &mut Ctx, other: &mut Ctx) -> Result<Option<usize>, Fail> {
+    for number in 0..10 {
+        if !holds(alloc, ctx, other, number)? {
+            return Ok(Some(number));
+        }
+    }
+    Ok(None)
+}
+
+#[test]
+fn sources_hashes_and_copies_of_locations(rt: HostRuntime) -> Result<(), Fail> {
+    assert_eq!(rt; with_contexts(rt.alloc(), differing)?, None);
+    Ok(())
+}

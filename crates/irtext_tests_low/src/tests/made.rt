@@ -1,0 +1,193 @@
+//! Operations of a context that are made with results, operands, successors and regions, or fail.
+use irtext_base::base::OpId;
+use irtext_base::result::Result as Answer;
+use irtext_context::base::{
+    BasicBlock, NewBlock, NewOperation, Operation, OperationAccess, Ptr, Value,
+};
+use irtext_demo::dialects::register_demo;
+use irtext_demo::{DemoAttr, DemoType, IntegerType, Signedness, Width};
+use irtext_few::Few;
+use irtext_graph::held::HasGraph;
+use irtext_graph_queries::operation::OperationParts;
+use irtext_graph_queries::value::ValueUses;
+use irtext_tests_common::contexts::{Ctx, named, with_counters, with_demo};
+use std::alloc::{AllocError, Global};
+use std::test::Fail;
+
+/// The type of signed integers of eight bits.
+fn byte() -> Option<DemoType> {
+    let kind = Signedness::Signed;
+    let width = Width::new(8)?;
+    Some(DemoType::Integer(IntegerType { kind, width }))
+}
+
+/// The result of making an operation with two results, a pointer and a byte, with these operands and successors, and with
+/// two regions.
+fn answered(
+    alloc: Global,
+    ctx: &mut Ctx,
+    id: (&str, &str),
+    operands: &[Value],
+    successors: &[Ptr<BasicBlock>],
+) -> Result<Answer<Ptr<Operation>, DemoAttr>, Fail> {
+    let id = OpId {
+        dialect: named(alloc, id.0)?,
+        name: named(alloc, id.1)?,
+    };
+    let byte = byte().ok_or("no such width")?;
+    if !ctx.graph().contains_values(operands) || !ctx.graph().contains_blocks(successors) {
+        return Err(Fail::from("no such value or block"));
+    }
+    let types = Few::two(DemoType::Pointer, byte);
+    Ok(Operation::new(ctx, id, types, operands, successors, 2))
+}
+
+/// Makes such an operation of a demo dialect.
+fn made(
+    alloc: Global,
+    ctx: &mut Ctx,
+    operands: &[Value],
+    successors: &[Ptr<BasicBlock>],
+) -> Result<Ptr<Operation>, Fail> {
+    let answer = answered(alloc, ctx, ("builtin", "module"), operands, successors)?;
+    Ok(answer.ok().ok_or("refused")?)
+}
+
+/// Makes a block with one argument.
+fn made_block(ctx: &mut Ctx) -> Result<Ptr<BasicBlock>, Fail> {
+    let answer = BasicBlock::new(ctx, None, Few::one(DemoType::Pointer));
+    Ok(answer.ok().ok_or("refused")?)
+}
+
+/// Whether an operation uses these three values and this block, and nothing else.
+fn is_linked(ctx: &Ctx, op: Ptr<Operation>, operands: [Value; 3], block: Ptr<BasicBlock>) -> bool {
+    if !ctx.contains_operation(op)
+        || op.get_num_operands(ctx) != 3
+        || op.get_num_successors(ctx) != 1
+    {
+        return false;
+    }
+    op.get_operand(ctx, 0) == operands[0]
+        && op.get_operand(ctx, 1) == operands[1]
+        && op.get_operand(ctx, 2) == operands[2]
+        && op.get_successor(ctx, 0) == block
+}
+
+/// Whether an operation has two results, a pointer and a byte.
+fn is_typed(ctx: &Ctx, op: Ptr<Operation>) -> bool {
+    ctx.contains_operation(op)
+        && op.get_num_results(ctx) == 2
+        && *op.get_type(ctx, 0) == Some(DemoType::Pointer)
+        && *op.get_type(ctx, 1) == byte()
+}
+
+/// The number of operands that are a value, if it is live.
+fn num_uses(ctx: &Ctx, value: Value) -> Option<usize> {
+    if !ctx.graph().contains_value(value) {
+        return None;
+    }
+    Some(value.num_uses(ctx))
+}
+
+/// Whether a region that is added to an operation with two regions is its third.
+fn grows(ctx: &mut Ctx, op: Ptr<Operation>) -> Result<bool, AllocError> {
+    if !ctx.contains_operation(op) || op.num_regions(ctx) != 2 {
+        return Ok(false);
+    }
+    let region = op.add_region(ctx)?;
+    Ok(
+        ctx.contains_region(region)
+            && region.get_parent_op(ctx) == Some(op)
+            && ctx.contains_operation(op)
+            && op.num_regions(ctx) == 3,
+    )
+}
+
+/// Whether an operation that uses a result twice, an argument and a block has the parts that it was made with.
+fn linked(alloc: Global, ctx: &mut Ctx) -> Result<bool, Fail> {
+    let first = made(alloc, ctx, &[], &[])?;
+    let block = made_block(ctx)?;
+    let (result, argument) = (Value::Result(first, 1), Value::Argument(block, 0));
+    let op = made(alloc, ctx, &[result, argument, result], &[block])?;
+    Ok(
+        is_linked(ctx, op, [result, argument, result], block)
+            && is_typed(ctx, op)
+            && num_uses(ctx, result) == Some(2)
+            && num_uses(ctx, argument) == Some(1)
+            && grows(ctx, op)?,
+    )
+}
+
+#[test]
+fn operations_are_made_with_all_that_they_have(rt: HostRuntime) -> Result<(), Fail> {
+    assert_eq!(rt; with_demo(rt.alloc(), linked)?, true);
+    Ok(())
+}
+
+/// The text of a result.
+fn said(alloc: Global, answer: &Answer<Ptr<Operation>, DemoAttr>) -> Result<String, Fail> {
+    match answer {
+        Ok(_) => Ok(String::from_str(alloc, "made")?),
+        Err(error) => Ok(format!(in alloc; "{}", error.err)?),
+    }
+}
+
+/// Ids that are not registered with the demo dialects, and the error for an operation of each.
+const UNREGISTERED: &[(&str, &str, &str)] = &[
+    ("other", "module", "Unregistered dialect other"),
+    ("builtin", "other", "Unregistered Op builtin.other"),
+];
+
+/// The first id for which an operation that is to use a result has another error, or leaves a trace.
+fn differing(alloc: Global, ctx: &mut Ctx) -> Result<Option<usize>, Fail> {
+    let used = Value::Result(made(alloc, ctx, &[], &[])?, 0);
+    for number in 0..UNREGISTERED.len() {
+        let (dialect, name, cause) = UNREGISTERED[number];
+        let answer = answered(alloc, ctx, (dialect, name), &[used], &[])?;
+        if said(alloc, &answer)?.as_str() != cause
+            || ctx.num_live() != 3
+            || num_uses(ctx, used) != Some(0)
+        {
+            return Ok(Some(number));
+        }
+    }
+    Ok(None)
+}
+
+#[test]
+fn what_is_not_registered_is_not_made(rt: HostRuntime) -> Result<(), Fail> {
+    assert_eq!(rt; with_demo(rt.alloc(), differing)?, None);
+    Ok(())
+}
+
+/// The result for an operation that is to use a result of another, and whether all objects and uses are unchanged then.
+fn filled(alloc: Global, ctx: &mut Ctx) -> Result<String, Fail> {
+    let used = Value::Result(made(alloc, ctx, &[], &[])?, 0);
+    let block = made_block(ctx)?;
+    let answer = answered(alloc, ctx, ("builtin", "module"), &[used], &[block])?;
+    let said = said(alloc, &answer)?;
+    let same = ctx.num_live() == 4 && num_uses(ctx, used) == Some(0);
+    Ok(format!(in alloc; "{said} {same}")?)
+}
+
+/// The same with the demo dialects.
+fn filled_demo(alloc: Global, ctx: &mut Ctx) -> Result<String, Fail> {
+    match register_demo(ctx) {
+        Ok(()) => filled(alloc, ctx),
+        Err(_) => Err(Fail::from("not registered")),
+    }
+}
+
+#[test]
+fn a_full_counter_leaves_all_as_it_was(rt: HostRuntime) -> Result<(), Fail> {
+    let alloc = rt.alloc();
+    assert_eq!(rt;
+        with_counters(alloc, u64::MAX - 4, 1, filled_demo)?.as_str(),
+        "Out of memory true"
+    );
+    assert_eq!(rt;
+        with_counters(alloc, 0, u32::MAX - 3, filled_demo)?.as_str(),
+        "Out of memory true"
+    );
+    Ok(())
+}

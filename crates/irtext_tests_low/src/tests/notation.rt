@@ -1,0 +1,86 @@
+//! The notation of formats: which texts denote which formats, how formats are printed, and where a wrong text is rejected.
+use irtext_base::format::OpFormat;
+use irtext_base::format::notation::NotationFault;
+use irtext_tests_common::formats::format_of;
+use std::alloc::Global;
+use std::test::Fail;
+
+/// Texts with the letters of the directives that they denote, and the text that is printed for these.
+const DENOTED: &[(&str, &str, &str)] = &[
+    ("", "", ""),
+    (" \n", "", ""),
+    ("$0", "0", "$0"),
+    ("operands", "O", "operands"),
+    ("^0successors", "sS", "^0 successors"),
+];
+
+/// Texts that are no notations, and where and why.
+const REFUSED: &[(&str, &str)] = &[
+    ("operand", "line: 1, column: 1: expected a directive"),
+    ("$0 @nam", "line: 1, column: 4: expected a directive"),
+    ("$0\n $", "line: 2, column: 3: expected a key or an index"),
+    ("$+1", "line: 1, column: 2: expected a key or an index"),
+    ("^x", "line: 1, column: 2: expected an index"),
+    (
+        "^18446744073709551616",
+        "line: 1, column: 2: expected an index",
+    ),
+    ("type($0", "line: 1, column: 8: expected `)`"),
+    ("type($k)", "line: 1, column: 7: expected an index"),
+    ("{0 }", "line: 1, column: 3: expected `}`"),
+    ("``", "line: 1, column: 2: expected a printable character"),
+    ("`a b`", "line: 1, column: 3: expected a backquote"),
+    ("`é`", "line: 1, column: 2: expected a backquote"),
+    ("`a``", "line: 1, column: 5: expected a backquote"),
+    ("canonical $0", "line: 1, column: 11: expected the end"),
+    ("$0 canonical", "line: 1, column: 4: expected a directive"),
+];
+
+/// The notation that is printed for the format of a text, or the error.
+fn printed(alloc: Global, text: &str) -> Result<String, Fail> {
+    match OpFormat::parse(alloc, text) {
+        Ok(format) => Ok(format!(in alloc; "{format}")?),
+        Err(fault) => Ok(format!(in alloc; "{fault}")?),
+    }
+}
+
+/// The notation of the format of these letters.
+fn of_letters(alloc: Global, letters: &str) -> Result<String, Fail> {
+    let format = format_of(alloc, letters)?;
+    Ok(format!(in alloc; "{format}")?)
+}
+
+#[test]
+fn notations_denote_formats(rt: HostRuntime) -> Result<(), Fail> {
+    for row in DENOTED {
+        assert!(rt; printed(rt.alloc(), row.0)?.as_str() == row.2);
+        assert!(rt; of_letters(rt.alloc(), row.1)?.as_str() == row.2);
+    }
+    Ok(())
+}
+
+/// Notations that are printed as they are.
+const KEPT: &[&str] = &[
+    "@name `to` $my_to `with` {0}",
+    "canonical",
+    "$0 operands ^0 successors $k attr_dict type($0) {0} regions @name",
+    "`a``b` ```` `->` ``````",
+    "$18446744073709551615 ^10 $_9",
+];
+
+#[test]
+fn printed_notations_are_kept(rt: HostRuntime) -> Result<(), Fail> {
+    for text in KEPT {
+        assert!(rt; printed(rt.alloc(), text)?.as_str() == *text);
+    }
+    Ok(())
+}
+
+#[test]
+fn wrong_notations_are_refused(rt: HostRuntime) -> Result<(), Fail> {
+    for row in REFUSED {
+        assert!(rt; printed(rt.alloc(), row.0)?.as_str() == row.1);
+    }
+    assert!(rt; NotationFault::Memory == NotationFault::Memory);
+    Ok(())
+}

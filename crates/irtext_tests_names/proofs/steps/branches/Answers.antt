@@ -1,0 +1,5 @@
+use Rattle.irtext_names.proofs.Added.{operation_tried}
+use Rattle.irtext_tests_names.proofs.steps.branches.Goals as goal
+
+pub returns : goal.returns
+returns c = operation_tried c.block_opd.new.names.values c.block_opd.new.names.labels _ _ _ _ c.make_operation.result c.make_operation.ensures.made c.make_operation.ensures.err c.block_opd.ensures.tied

@@ -1,0 +1,102 @@
+//! Names that are used in a row before they are defined in a row, as the results of one operation and as a block.
+ghost use Rattle.std.specs.Prelude.{◌<◌, length};
+ghost use Rattle.irtext_names.specs.Tied.{MatchesGraph};
+
+use crate::steps::{Names, Tested};
+use irtext_few::Few;
+use irtext_graph::arena::Ptr;
+use irtext_graph::graph::Graph;
+use irtext_graph::object::{BasicBlock, Operation, Value};
+use irtext_names::definitions::process_parsed_ssa_defs;
+use irtext_names::named::Named;
+use irtext_names::regions::{enter_region, no_names};
+use irtext_names::uses::ssa_opds;
+use std::alloc::{AllocError, Global};
+use std::test::Fail;
+
+/// A name given by its number alone.
+#[derive(Clone, Copy)]
+struct ByNumber {
+    name: usize,
+}
+
+impl Named for ByNumber {
+    ghost numbered = { λ n. n.name };
+
+    fn number(&self) -> usize {
+        self.name
+    }
+}
+
+/// The values that two names refer to if they are used one after the other.
+fn used(
+    names: &mut Names,
+    graph: &mut Tested,
+    alloc: Global,
+    first: usize,
+    second: usize,
+) -> Result<Vec<Value>, AllocError>
+    requires tied { MatchesGraph names.old.values names.old.labels graph.old }
+    ensures tied { MatchesGraph names.new.values names.new.labels graph.new }
+{
+    let mut values = Vec::new(alloc);
+    if !names.has_value_scope() || first >= names.num_names() || second >= names.num_names() {
+        return Ok(values);
+    }
+    let row = [ByNumber { name: first }, ByNumber { name: second }];
+    ssa_opds(names, graph, &row, &mut values)?;
+    Ok(values)
+}
+
+/// Defines two names as the results of an operation that is made for them, and returns it.
+fn defined(
+    names: &mut Names,
+    graph: &mut Tested,
+    first: usize,
+    second: usize,
+) -> Option<Ptr<Operation>>
+    requires tied { MatchesGraph names.old.values names.old.labels graph.old }
+    ensures tied { MatchesGraph names.new.values names.new.labels graph.new }
+{
+    if !names.has_value_scope() || first >= names.num_names() || second >= names.num_names() {
+        return None;
+    }
+    let Ok(op) = graph.make_operation(Some(3), Few::two(Some(7), Some(8)), &[], &[]) else {
+        return None;
+    };
+    let row = [ByNumber { name: first }, ByNumber { name: second }];
+    match process_parsed_ssa_defs(names, graph, &row, op) {
+        Ok(()) => Some(op),
+        Err(_) => None,
+    }
+}
+
+/// Whether two names that are used, defined and used again refer to the results of one operation, and a third definition in the row
+/// fails.
+fn goes_in_rows(names: &mut Names, graph: &mut Tested, alloc: Global) -> Result<bool, AllocError>
+    requires tied { MatchesGraph names.old.values names.old.labels graph.old }
+{
+    let first = names.intern("a")?;
+    let second = names.intern("b")?;
+    if enter_region(names, graph, true).is_err() {
+        return Ok(false);
+    }
+    let early = used(names, graph, alloc, first, second)?;
+    let Some(op) = defined(names, graph, first, second) else {
+        return Ok(false);
+    };
+    let late = used(names, graph, alloc, first, second)?;
+    let twice = defined(names, graph, second, first).is_none();
+    let results = [Value::Result(op, 0), Value::Result(op, 1)];
+    Ok(early.len() == 2 && early[..] != results[..] && late[..] == results[..] && twice)
+}
+
+#[test]
+fn two_names_in_a_row(rt: HostRuntime) -> Result<(), Fail> {
+    let alloc = rt.alloc();
+    let mut graph = Graph::new(alloc);
+    let mut names = no_names(alloc, &graph);
+    let done = goes_in_rows(&mut names, &mut graph, alloc)?;
+    assert!(rt; done);
+    Ok(())
+}

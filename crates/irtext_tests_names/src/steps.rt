@@ -1,0 +1,259 @@
+//! One step on names over a graph, and what the steps made.
+ghost use Rattle.irtext_names.specs.Tied.{MatchesGraph};
+
+use irtext_few::Few;
+use irtext_graph::arena::Ptr;
+use irtext_graph::graph::Graph;
+use irtext_graph::object::{BasicBlock, Defined, Object, Operation, Value};
+use irtext_names::labels::{block_def, block_opd};
+use irtext_names::regions::{enter_region, exit_region};
+use irtext_names::values::{ssa_def, ssa_opd};
+use irtext_scopes::scopes::DefineFault;
+use irtext_scopes::tracker::{EnterFault, NameTracker};
+use irtext_tests_common::calls::Call;
+use std::alloc::{AllocError, Global};
+
+pub(crate) type Names = NameTracker<Value, Ptr<BasicBlock>>;
+
+pub(crate) type Tested = Graph<Option<u32>, u32, Option<u8>>;
+
+/// The result: success, no scope is open for the call, a region is not isolated where it has to be, a name is
+/// defined already, a region lacks a definition of this name or of another one, or out of memory.
+#[derive(Clone, Copy, PartialEq, Eq)]
+pub(crate) enum Answer {
+    Done,
+    NoScope,
+    NotIsolated,
+    Twice,
+    Lacks,
+    LacksAnother,
+    NoMemory,
+}
+
+/// The operations that use names of one kind, and the definitions, each in the order in which they were made.
+#[derive(Drop)]
+pub(crate) struct Kind {
+    pub(crate) users: Vec<Ptr<Operation>>,
+    pub(crate) definitions: Vec<Defined>,
+}
+
+/// What was made for values and for labels.
+#[derive(Drop)]
+pub(crate) struct Made {
+    pub(crate) values: Kind,
+    pub(crate) labels: Kind,
+}
+
+impl Kind {
+    fn new(alloc: Global) -> Kind {
+        Kind {
+            users: Vec::new(alloc),
+            definitions: Vec::new(alloc),
+        }
+    }
+
+    fn add_user(&mut self, user: Option<Ptr<Operation>>) -> Result<Answer, AllocError> {
+        let Some(user) = user else {
+            return Ok(Answer::NoMemory);
+        };
+        self.users.push(user)?;
+        Ok(Answer::Done)
+    }
+
+    fn add_definition(
+        &mut self,
+        definition: Result<Defined, DefineFault>,
+    ) -> Result<Answer, AllocError> {
+        match definition {
+            Ok(definition) => {
+                self.definitions.push(definition)?;
+                Ok(Answer::Done)
+            }
+            Err(DefineFault::MultipleDefinitions) => Ok(Answer::Twice),
+            Err(DefineFault::Memory) => Ok(Answer::NoMemory),
+        }
+    }
+}
+
+impl Made {
+    /// Nothing is made.
+    pub(crate) fn new(alloc: Global) -> Made {
+        Made {
+            values: Kind::new(alloc),
+            labels: Kind::new(alloc),
+        }
+    }
+}
+
+/// Makes an operation that uses what a name refers to.
+fn uses(names: &mut Names, graph: &mut Tested, name: usize) -> Option<Ptr<Operation>>
+    requires { MatchesGraph names.old.values names.old.labels graph.old }
+    ensures { MatchesGraph names.new.values names.new.labels graph.new }
+{
+    if !names.has_value_scope() || name >= names.num_names() {
+        return None;
+    }
+    let Ok(value) = ssa_opd(names, graph, name) else {
+        return None;
+    };
+    graph
+        .make_operation(Some(1), Few::none(), &[value], &[])
+        .ok()
+}
+
+/// Makes an operation with one result, and defines a name as this result.
+pub(crate) fn defines(
+    names: &mut Names,
+    graph: &mut Tested,
+    name: usize,
+) -> Result<Defined, DefineFault>
+    requires { MatchesGraph names.old.values names.old.labels graph.old }
+    ensures { MatchesGraph names.new.values names.new.labels graph.new }
+{
+    if !names.has_value_scope() || name >= names.num_names() {
+        return Err(DefineFault::Memory);
+    }
+    let Ok(made) = graph.make_operation(Some(2), Few::one(Some(7)), &[], &[]) else {
+        return Err(DefineFault::Memory);
+    };
+    let def = Value::Result(made, 0);
+    if !graph.contains_value(def) {
+        return Err(DefineFault::Memory);
+    }
+    match ssa_def(names, graph, name, def) {
+        Ok(()) => Ok(Defined::OfValue(def)),
+        Err(fault) => Err(fault),
+    }
+}
+
+/// Makes an operation that branches to the block of a label.
+fn branches(names: &mut Names, graph: &mut Tested, name: usize) -> Option<Ptr<Operation>>
+    requires { MatchesGraph names.old.values names.old.labels graph.old }
+    ensures { MatchesGraph names.new.values names.new.labels graph.new }
+{
+    if !names.has_label_scope() || name >= names.num_names() {
+        return None;
+    }
+    let Ok(block) = block_opd(names, graph, name, 0) else {
+        return None;
+    };
+    graph
+        .make_operation(Some(1), Few::none(), &[], &[block])
+        .ok()
+}
+
+/// Makes a block with one argument, and defines a label as this block.
+pub(crate) fn labels(
+    names: &mut Names,
+    graph: &mut Tested,
+    name: usize,
+) -> Result<Defined, DefineFault>
+    requires { MatchesGraph names.old.values names.old.labels graph.old }
+    ensures { MatchesGraph names.new.values names.new.labels graph.new }
+{
+    if !names.has_label_scope() || name >= names.num_names() {
+        return Err(DefineFault::Memory);
+    }
+    let Ok(made) = graph.make_block(5, Few::one(Some(7))) else {
+        return Err(DefineFault::Memory);
+    };
+    if !graph.contains(Object::TheBlock(made)) {
+        return Err(DefineFault::Memory);
+    }
+    match block_def(names, graph, name, made) {
+        Ok(()) => Ok(Defined::OfBlock(made)),
+        Err(fault) => Err(fault),
+    }
+}
+
+fn entered(names: &mut Names, graph: &Tested, isolated: bool) -> Answer
+    requires { MatchesGraph names.old.values names.old.labels graph.now }
+    ensures { MatchesGraph names.new.values names.new.labels graph.now }
+{
+    match enter_region(names, graph, isolated) {
+        Ok(()) => Answer::Done,
+        Err(EnterFault::TopLevelOpRegionNotIsolatedFromAbove) => Answer::NotIsolated,
+        Err(EnterFault::Memory) => Answer::NoMemory,
+    }
+}
+
+fn left(names: &mut Names, graph: &Tested, isolated: bool, name: usize) -> Answer
+    requires { MatchesGraph names.old.values names.old.labels graph.now }
+    ensures { MatchesGraph names.new.values names.new.labels graph.now }
+{
+    match exit_region(names, graph, isolated) {
+        None => Answer::Done,
+        Some(lacking) => {
+            if lacking == name {
+                Answer::Lacks
+            } else {
+                Answer::LacksAnother
+            }
+        }
+    }
+}
+
+/// Makes a call on a value's name, and records what was made for it.
+fn step_value(
+    names: &mut Names,
+    graph: &mut Tested,
+    made: &mut Kind,
+    name: usize,
+    is_use: bool,
+) -> Result<Answer, AllocError>
+    requires { MatchesGraph names.old.values names.old.labels graph.old }
+    ensures { MatchesGraph names.new.values names.new.labels graph.new }
+{
+    if !names.has_value_scope() {
+        return Ok(Answer::NoScope);
+    }
+    if is_use {
+        made.add_user(uses(names, graph, name))
+    } else {
+        made.add_definition(defines(names, graph, name))
+    }
+}
+
+/// Makes a call on a label, and records what was made for it.
+fn step_label(
+    names: &mut Names,
+    graph: &mut Tested,
+    made: &mut Kind,
+    name: usize,
+    is_use: bool,
+) -> Result<Answer, AllocError>
+    requires { MatchesGraph names.old.values names.old.labels graph.old }
+    ensures { MatchesGraph names.new.values names.new.labels graph.new }
+{
+    if !names.has_label_scope() {
+        return Ok(Answer::NoScope);
+    }
+    if is_use {
+        made.add_user(branches(names, graph, name))
+    } else {
+        made.add_definition(labels(names, graph, name))
+    }
+}
+
+/// Makes one call, and records what was made for it.
+pub(crate) fn step(
+    names: &mut Names,
+    graph: &mut Tested,
+    made: &mut Made,
+    call: Call,
+    name: usize,
+) -> Result<Answer, AllocError>
+    requires { MatchesGraph names.old.values names.old.labels graph.old }
+    ensures { MatchesGraph names.new.values names.new.labels graph.new }
+{
+    match call {
+        Call::Enter => Ok(entered(names, graph, false)),
+        Call::EnterIsolated => Ok(entered(names, graph, true)),
+        Call::Exit => Ok(left(names, graph, false, name)),
+        Call::ExitIsolated => Ok(left(names, graph, true, name)),
+        Call::Use => step_value(names, graph, &mut made.values, name, true),
+        Call::Define => step_value(names, graph, &mut made.values, name, false),
+        Call::UseLabel => step_label(names, graph, &mut made.labels, name, true),
+        Call::DefineLabel => step_label(names, graph, &mut made.labels, name, false),
+    }
+}

@@ -1,0 +1,180 @@
+//! Locations of each kind and their parser, and the errors of other texts.
+use irtext_base::location::{Location, Source};
+use irtext_base::result::{Error, Result as Answer};
+use irtext_demo::DemoAttr;
+use irtext_parse_root::parsable::{Parsable, SourcePosition, parse_from_str};
+use irtext_print_ir::printable::Disp;
+use irtext_tests_common::contexts::{Ctx, with_context};
+use std::alloc::Global;
+use std::test::Fail;
+
+/// Texts of locations, which are printed unchanged.
+const SAME: &[&str] = &[
+    "?",
+    "<in-memory>: line: 1, column: 2",
+    "\"foo.mlir\": line: 42, column: 7",
+    "\"a\\\"b\\\\c.mlir\": line: 1, column: 1",
+    "name: \"foo\", loc: (?)",
+    "name: \"a\\\"b\\\\c\\nd\\te\\u{7f}\", loc: (?)",
+    "fused[]",
+    "fused[<in-memory>: line: 3, column: 4, ?]",
+    "fused<builtin.string \"testattr\">[?]",
+    "callsite(? at ?)",
+    "callsite(\"b\": line: -1, column: 2 at fused[name: \"n\", loc: (\"c\": line: 1, column: 2), ?])",
+];
+
+/// Texts, and the printed text of the location that each begins with, or the error.
+const OTHERS: &[(&str, &str)] = &[
+    (
+        "fused < builtin.string \"s\" >[ ? , ? ]",
+        "fused<builtin.string \"s\">[?, ?]",
+    ),
+    ("callsite ( ?\n at ? ) x", "callsite(? at ?)"),
+    (
+        "fused<builtin.string \"s\"> [?]",
+        "Parse error at line: 1, column: 26\nUnexpected ` `, expected `[`\n",
+    ),
+    (
+        "name: \"foo\", loc: ( ?)",
+        "Parse error at line: 1, column: 20\nUnexpected ` `, expected location\n",
+    ),
+    (
+        "fused[?,]",
+        "Parse error at line: 1, column: 9\nUnexpected `]`, expected location\n",
+    ),
+    (
+        "<in-memory>: line: 2147483648, column: 1",
+        "Parse error at line: 1, column: 20\nNumber out of range: 2147483648\n",
+    ),
+    (
+        "x",
+        "Parse error at line: 1, column: 1\nUnexpected `x`, expected location\n",
+    ),
+];
+
+/// How many times the text before and after a location is repeated in a text: four times as many locations nest.
+const DEPTH: usize = 25_000;
+
+/// The text before a location in four others, one of each kind.
+const FRONT: &str = "name: \"a\", loc: (callsite(callsite(? at fused[?, ";
+
+/// The text after it.
+const BACK: &str = ", <in-memory>: line: 1, column: 1]) at ?))";
+
+/// The printed text of a location.
+fn printed(alloc: Global, ctx: &Ctx, location: &Location<DemoAttr>) -> Result<String, Fail> {
+    Ok(format!(in alloc; "{}", location.disp(ctx))?)
+}
+
+/// The error for a text.
+fn refused(alloc: Global, error: &Error<DemoAttr>) -> Result<String, Fail> {
+    Ok(format!(in alloc; "{}", error.err)?)
+}
+
+/// The location that a text is parsed as.
+fn location(ctx: &mut Ctx, text: &str) -> Answer<Location<DemoAttr>, DemoAttr> {
+    parse_from_str(|s| Location::parse(s, ()), ctx, text)
+}
+
+/// The printed text of the location that a text is parsed as, or the error.
+fn read(alloc: Global, ctx: &mut Ctx, text: &str) -> Result<String, Fail> {
+    match location(ctx, text) {
+        Ok(location) => printed(alloc, ctx, &location),
+        Err(error) => refused(alloc, &error),
+    }
+}
+
+/// The same with a context of its own.
+fn again(alloc: Global, text: &str) -> Result<String, Fail> {
+    with_context(alloc, |alloc, ctx| read(alloc, ctx, text))
+}
+
+#[test]
+fn locations_of_a_text(rt: HostRuntime) -> Result<(), Fail> {
+    for text in SAME {
+        assert_eq!(rt; again(rt.alloc(), text)?.as_str(), *text);
+    }
+    Ok(())
+}
+
+/// A text between two others, each so many times.
+fn between(
+    alloc: Global,
+    depth: usize,
+    front: &str,
+    inside: &str,
+    back: &str,
+) -> Result<String, Fail> {
+    let mut text = String::new(alloc);
+    for _ in 0..depth {
+        text.push_str(front)?;
+    }
+    text.push_str(inside)?;
+    for _ in 0..depth {
+        text.push_str(back)?;
+    }
+    Ok(text)
+}
+
+/// Whether a text is parsed as a location.
+fn is_read(ctx: &mut Ctx, text: &str) -> bool {
+    location(ctx, text).is_ok()
+}
+
+#[test]
+fn locations_deep_in_one_another(rt: HostRuntime) -> Result<(), Fail> {
+    let text = between(rt.alloc(), DEPTH, FRONT, "?", BACK)?;
+    assert!(rt; with_context(rt.alloc(), |_, ctx| Ok(is_read(ctx, text.as_str())))?);
+    Ok(())
+}
+
+#[test]
+fn a_fault_deep_in_locations(rt: HostRuntime) -> Result<(), Fail> {
+    let text = between(rt.alloc(), DEPTH, FRONT, "x", "")?;
+    assert!(rt; !with_context(rt.alloc(), |_, ctx| Ok(is_read(ctx, text.as_str())))?);
+    Ok(())
+}
+
+#[test]
+fn white_space_and_faults_in_locations(rt: HostRuntime) -> Result<(), Fail> {
+    for row in OTHERS {
+        assert_eq!(rt; again(rt.alloc(), row.0)?.as_str(), row.1);
+    }
+    Ok(())
+}
+
+/// The source that a text is parsed as.
+fn source(ctx: &mut Ctx, text: &str) -> Option<Source> {
+    parse_from_str(|s| Source::parse(s, ()), ctx, text).ok()
+}
+
+/// The position that a text is parsed as.
+fn position(ctx: &mut Ctx, text: &str) -> Option<SourcePosition> {
+    parse_from_str(|s| SourcePosition::parse(s, ()), ctx, text).ok()
+}
+
+/// The printed texts of a source and a position.
+fn shown(
+    alloc: Global,
+    ctx: &Ctx,
+    source: &Source,
+    position: &SourcePosition,
+) -> Result<String, Fail> {
+    Ok(format!(in alloc; "{} {}", source.disp(ctx), position.disp(ctx))?)
+}
+
+/// The printed texts of a source and a position that are parsed.
+fn source_and_position(alloc: Global, ctx: &mut Ctx) -> Result<String, Fail> {
+    let source = source(ctx, "\"b\"").ok_or("refused")?;
+    let position = position(ctx, "line : 3,column:4").ok_or("refused")?;
+    shown(alloc, ctx, &source, &position)
+}
+
+#[test]
+fn sources_and_positions_of_a_text(rt: HostRuntime) -> Result<(), Fail> {
+    assert_eq!(rt;
+        with_context(rt.alloc(), source_and_position)?.as_str(),
+        "\"b\" line: 3, column: 4"
+    );
+    Ok(())
+}

@@ -1,0 +1,131 @@
+//! Errors in errors, and errors as faults of a parser.
+use irtext_base::location::{Location, Source};
+use irtext_base::parsable::{ParseResult, SourcePosition};
+use irtext_base::result::{Cause, Error, ErrorKind};
+use irtext_demo::DemoAttr;
+use irtext_print_ir::printable::Disp;
+use irtext_tests_common::answers::line;
+use irtext_tests_common::contexts::Ctx;
+use irtext_tests_common::tables::differing_alone;
+use irtext_tokens::parsable::IntoParseResult;
+use std::alloc::Global;
+use std::fmt;
+use std::test::Fail;
+
+/// What a call returns here: an error either way.
+type Answer = Result<Error<DemoAttr>, Error<DemoAttr>>;
+
+/// A place in memory.
+pub(crate) fn at(line: i32, column: i32) -> Location<DemoAttr> {
+    Location::SrcPos {
+        src: Source::InMemory,
+        pos: SourcePosition { line, column },
+    }
+}
+
+/// An error of a kind at a location.
+pub(crate) fn error(
+    kind: ErrorKind,
+    loc: Location<DemoAttr>,
+    err: Cause<DemoAttr>,
+) -> Error<DemoAttr> {
+    Error { kind, err, loc }
+}
+
+/// The text of a result, with the locations of its error.
+fn shown(alloc: Global, ctx: &Ctx, answer: &Answer) -> Result<String, Fail> {
+    Ok(format!(in alloc; "{}", answer.disp(ctx))?)
+}
+
+/// The texts of errors that hold others, with their locations.
+const INNER: &[&str] = &[
+    "[<in-memory>: line: 1, column: 1] Compilation error: invalid argument.\nCompilation error: verification failed.\n[<in-memory>: line: 1, column: 2] Compilation error: invalid input program.\nRepeated item reads nothing",
+    "Compilation error: invalid argument.\nan error occurred when formatting an argument",
+    "[<in-memory>: line: 4, column: 2] Compilation error: verification failed.\nCompilation error: invalid argument.\nan error occurred when formatting an argument",
+];
+
+/// An error in an error in another.
+fn third(alloc: Global) -> Result<Error<DemoAttr>, Fail> {
+    let first = error(ErrorKind::InvalidInput, at(1, 2), Cause::EmptyItem);
+    let second = Cause::Nested(Box::new(alloc, first)?);
+    let second = error(ErrorKind::VerificationFailed, Location::Unknown, second);
+    let third = Cause::Nested(Box::new(alloc, second)?);
+    Ok(error(ErrorKind::InvalidArgument, at(1, 1), third))
+}
+
+/// An error of a formatter in another.
+fn formatted(alloc: Global) -> Result<Error<DemoAttr>, Fail> {
+    let inner: Error<DemoAttr> = Error::from(fmt::Error);
+    Ok(Error {
+        kind: ErrorKind::VerificationFailed,
+        err: Cause::Nested(Box::new(alloc, inner)?),
+        loc: at(4, 2),
+    })
+}
+
+/// The text of the error of a line.
+fn shown_inner(alloc: Global, ctx: &mut Ctx, number: usize) -> Result<String, Fail> {
+    let answer: Answer = match number {
+        0 => Ok(third(alloc)?),
+        1 => Ok(Error::from(fmt::Error)),
+        _ => Ok(formatted(alloc)?),
+    };
+    shown(alloc, ctx, &answer)
+}
+
+/// The results of a parser for errors, a value and a result.
+const FAULTS: &[&str] = &[
+    "line: 4, column: 2: Repeated item reads nothing!",
+    "line: 1, column: 1: Repeated item reads nothing!",
+    "7",
+    "line: 4, column: 2: List separator is white space!",
+];
+
+/// An error with its location.
+fn located() -> Error<DemoAttr> {
+    error(ErrorKind::InvalidInput, at(4, 2), Cause::EmptyItem)
+}
+
+/// An error without its location.
+fn alone() -> Error<DemoAttr> {
+    error(
+        ErrorKind::InvalidArgument,
+        Location::Unknown,
+        Cause::EmptyItem,
+    )
+}
+
+/// A result that is a value.
+fn good() -> Result<u8, Error<DemoAttr>> {
+    Ok(7)
+}
+
+/// A result that is an error.
+fn bad() -> Result<u8, Error<DemoAttr>> {
+    Err(error(ErrorKind::InvalidInput, at(4, 2), Cause::BadSeparator))
+}
+
+/// The error, value or result of a line, as the result of a parser.
+fn of_reading(number: usize) -> ParseResult<u8, DemoAttr> {
+    match number {
+        0 => located().into_parse_result(),
+        1 => alone().into_parse_result(),
+        2 => good().into_parse_result(),
+        _ => bad().into_parse_result(),
+    }
+}
+
+/// The text of the result of a line.
+fn said(alloc: Global, number: usize) -> Result<String, Fail> {
+    let answer = of_reading(number);
+    line(alloc, &answer)
+}
+
+#[test]
+fn errors_in_errors_and_in_readings(rt: HostRuntime) -> Result<(), Fail> {
+    assert_eq!(rt; differing_alone(rt.alloc(), INNER, shown_inner)?, None);
+    for (number, wanted) in FAULTS.iter().enumerate() {
+        assert_eq!(rt; said(rt.alloc(), number)?.as_str(), *wanted);
+    }
+    Ok(())
+}

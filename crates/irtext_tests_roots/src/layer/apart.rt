@@ -1,0 +1,156 @@
+//! Two contexts in which the same dialect is registered separately: they have the same dialects, so the printed text of the one is parsed
+//! back in the other.
+ghost use Rattle.std.specs.Prelude.{◌≡◌, [], IfOk, OnOk, codes};
+ghost use Rattle.irtext_base.specs.Format as format;
+ghost use Rattle.irtext_format_check.specs.Directives.{directive_of, format_of};
+ghost use Rattle.irtext_tests_roots.specs.Apart.{lab_dialects, lab_format, lab_id};
+
+use crate::reading::concrete;
+use crate::registering::register_operation;
+use irtext_demo::DemoAttr;
+use irtext_tests_common::contexts::{Ctx, named};
+use pliron_text::base::{Context, NewBareOperation, OpId, Operation, Ptr};
+use pliron_text::dialect::DialectName;
+use pliron_text::format::{Directive, OpFormat};
+use pliron_text::laws::two_calls::{printed_and_read, read_printed_and_read};
+use pliron_text::printable::State;
+use pliron_text::result::Result as Answer;
+use std::alloc::Global;
+use std::test::Fail;
+
+/// The id of `lab.d`.
+fn id(alloc: Global) -> Result<OpId, Fail>
+    ensures { IfOk result (λ id. id ≡ lab_id) }
+{
+    Ok(OpId {
+        dialect: named(alloc, "lab")?,
+        name: named(alloc, "d")?,
+    })
+}
+
+/// A word.
+fn word(alloc: Global) -> Result<Directive, Fail>
+    ensures { IfOk result (λ d. directive_of d ≡ format.word (codes "here")) }
+{
+    Ok(Directive::Literal(String::from_str(alloc, "here")?))
+}
+
+/// A word and a region, allocated anew at each call.
+fn word_and_region(alloc: Global) -> Result<OpFormat, Fail>
+    ensures { IfOk result (λ f. format_of f ≡ lab_format) }
+{
+    let mut directives = Vec::new(alloc);
+    directives.push(word(alloc)?)?;
+    directives.push(Directive::Region(0))?;
+    Ok(OpFormat::Custom(directives))
+}
+
+/// Registers `lab.d`, which is isolated, with its dialect.
+fn register(alloc: Global, ctx: &mut Ctx) -> Result<(), Fail>
+    requires { ctx.old.dialects ≡ [] }
+    ensures { OnOk result (ctx.new.dialects ≡ lab_dialects) }
+{
+    let id = id(alloc)?;
+    let name = DialectName::from(named(alloc, "lab")?);
+    let format = word_and_region(alloc)?;
+    let answer: Answer<(), DemoAttr> = register_operation(ctx, &name, id, format, true);
+    match answer {
+        Ok(()) => Ok(()),
+        Err(_) => Err(Fail::from("not registered")),
+    }
+}
+
+/// Makes `lab.d` with one region.
+fn make(alloc: Global, ctx: &mut Ctx) -> Result<Ptr<Operation>, Fail>
+    ensures { OnOk result (ctx.new.dialects ≡ ctx.old.dialects) }
+{
+    let id = id(alloc)?;
+    let answer: Answer<Ptr<Operation>, DemoAttr> = Operation::new(ctx, id, 1);
+    match answer {
+        Ok(op) => Ok(op),
+        Err(_) => Err(Fail::from("not made")),
+    }
+}
+
+/// The concrete text of the root in the other context, after `lab.d` is made in the one, printed and parsed.
+fn brought_over(alloc: Global, ctx: &mut Ctx, other: &mut Ctx) -> Result<String, Fail>
+    requires { other.old.dialects ≡ ctx.old.dialects }
+{
+    let op = make(alloc, ctx)?;
+    if !ctx.contains_operation(op) {
+        return Err(Fail::from("no such operation"));
+    }
+    let layout = State::new(alloc, ());
+    match printed_and_read(ctx, op, &layout, other) {
+        Ok(root) => concrete(alloc, other, root),
+        Err(_) => Err(Fail::from("not read back")),
+    }
+}
+
+/// The text that is parsed, printed and parsed again: an operation in a block of another.
+const NESTED: &str = "lab.d here { ^a(): lab.d here {} }";
+
+/// The concrete texts of both roots after that text is parsed in the one context, printed, and parsed in the other.
+fn read_again(alloc: Global, ctx: &mut Ctx, other: &mut Ctx) -> Result<(String, String), Fail>
+    requires { other.old.dialects ≡ ctx.old.dialects }
+{
+    let layout = State::new(alloc, ());
+    match read_printed_and_read(NESTED, ctx, &layout, other) {
+        Ok((first, second)) => Ok((
+            concrete(alloc, ctx, first)?,
+            concrete(alloc, other, second)?,
+        )),
+        Err(_) => Err(Fail::from("not read again")),
+    }
+}
+
+/// The same, if the dialect is registered with each context separately.
+fn registered_again(alloc: Global, ctx: &mut Ctx, other: &mut Ctx) -> Result<(String, String), Fail>
+    requires one { ctx.old.dialects ≡ [] }
+    requires two { other.old.dialects ≡ [] }
+{
+    register(alloc, ctx)?;
+    register(alloc, other)?;
+    read_again(alloc, ctx, other)
+}
+
+/// The same with two contexts that had no dialects before.
+fn again(alloc: Global) -> Result<(String, String), Fail> {
+    let mut ctx: Ctx = Context::new(alloc);
+    let mut other: Ctx = Context::new(alloc);
+    registered_again(alloc, &mut ctx, &mut other)
+}
+
+/// The concrete text of the operation that is made and brought over, if the dialect is registered with each context separately.
+fn registered_apart(alloc: Global, ctx: &mut Ctx, other: &mut Ctx) -> Result<String, Fail>
+    requires one { ctx.old.dialects ≡ [] }
+    requires two { other.old.dialects ≡ [] }
+{
+    register(alloc, ctx)?;
+    register(alloc, other)?;
+    brought_over(alloc, ctx, other)
+}
+
+/// The same with two contexts that had no dialects before.
+fn apart(alloc: Global) -> Result<String, Fail> {
+    let mut ctx: Ctx = Context::new(alloc);
+    let mut other: Ctx = Context::new(alloc);
+    registered_apart(alloc, &mut ctx, &mut other)
+}
+
+#[test]
+fn a_text_is_read_printed_and_read_again(rt: HostRuntime) -> Result<(), Fail> {
+    let (first, second) = again(rt.alloc())?;
+    assert_eq!(rt; first.as_str(), second.as_str());
+    assert_eq!(rt;
+        first.as_str(),
+        "lab.d here \n{\n  ^a_block1v1() !0:\n    lab.d here \n    {\n      \n    } !1\n}"
+    );
+    Ok(())
+}
+
+#[test]
+fn a_root_comes_back_where_its_dialect_is_registered_apart(rt: HostRuntime) -> Result<(), Fail> {
+    assert_eq!(rt; apart(rt.alloc())?.as_str(), "lab.d here \n{\n  \n}");
+    Ok(())
+}

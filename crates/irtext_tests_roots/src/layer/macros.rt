@@ -1,0 +1,94 @@
+//! The errors that the macros make from a cause or a text.
+use irtext_demo::DemoAttr;
+use irtext_tests_common::contexts::Ctx;
+use irtext_tests_common::tables::differing_alone;
+use pliron_text::location::{Location, Source};
+use pliron_text::parsable::SourcePosition;
+use pliron_text::printable::Disp;
+use pliron_text::result::{Cause, Error, ErrorKind};
+use std::alloc::Global;
+use std::test::Fail;
+
+/// What a call returns here: an error either way.
+type Answer = Result<Error<DemoAttr>, Error<DemoAttr>>;
+
+/// The errors of the macros, with their locations.
+const MADE: &[&str] = &[
+    "[<in-memory>: line: 4, column: 2] Compilation error: invalid input program.\nRepeated item reads nothing",
+    "[<in-memory>: line: 4, column: 2] Compilation error: verification failed.\nlocated 1",
+    "Compilation error: verification failed.\nThe stream has failed",
+    "[<in-memory>: line: 4, column: 2] Compilation error: invalid input program.\nList separator is white space",
+    "Compilation error: invalid input program.\nalone 2",
+    "[<in-memory>: line: 4, column: 2] Compilation error: invalid argument.\nOut of memory",
+    "Compilation error: invalid argument.\nalone 3",
+];
+
+/// A place in memory.
+fn at(line: i32, column: i32) -> Location<DemoAttr> {
+    Location::SrcPos {
+        src: Source::InMemory,
+        pos: SourcePosition { line, column },
+    }
+}
+
+/// The error of a line, as a macro makes it.
+fn made(alloc: Global, number: usize) -> Answer {
+    match number {
+        0 => Ok(pliron_text::create_error!(at(4, 2), ErrorKind::InvalidInput, Cause::EmptyItem)),
+        1 => Ok(pliron_text::verify_error!(at(4, 2), in alloc; "located {}", 1)),
+        2 => Ok(pliron_text::verify_error_noloc!(Cause::StreamFailed)),
+        3 => Ok(pliron_text::input_error!(at(4, 2), Cause::BadSeparator)),
+        4 => Ok(pliron_text::input_error_noloc!(in alloc; "alone {}", 2)),
+        5 => Ok(pliron_text::arg_error!(at(4, 2), Cause::Memory)),
+        _ => Ok(pliron_text::arg_error_noloc!(in alloc; "alone 3")),
+    }
+}
+
+/// The error of a line, as a macro returns it.
+fn answered(alloc: Global, number: usize) -> Answer {
+    match number {
+        0 => pliron_text::create_err!(at(4, 2), ErrorKind::InvalidInput, Cause::EmptyItem),
+        1 => pliron_text::verify_err!(at(4, 2), in alloc; "located {}", 1),
+        2 => pliron_text::verify_err_noloc!(Cause::StreamFailed),
+        3 => pliron_text::input_err!(at(4, 2), Cause::BadSeparator),
+        4 => pliron_text::input_err_noloc!(in alloc; "alone {}", 2),
+        5 => pliron_text::arg_err!(at(4, 2), Cause::Memory),
+        _ => pliron_text::arg_err_noloc!(in alloc; "alone 3"),
+    }
+}
+
+/// The error that the macros of a set make for a line.
+fn of_set(alloc: Global, set: usize, number: usize) -> Answer {
+    match set {
+        0 => made(alloc, number),
+        _ => answered(alloc, number),
+    }
+}
+
+/// The text of a result, with the locations of its error.
+fn shown(alloc: Global, ctx: &Ctx, answer: &Answer) -> Result<String, Fail> {
+    Ok(format!(in alloc; "{}", answer.disp(ctx))?)
+}
+
+/// The text of the error that the macros of a set make for a line.
+fn shown_of_set(alloc: Global, ctx: &mut Ctx, set: usize, number: usize) -> Result<String, Fail> {
+    let answer = of_set(alloc, set, number);
+    shown(alloc, ctx, &answer)
+}
+
+/// The number of the first line for which the macros of a set make another text.
+fn differing_of_set(alloc: Global, set: usize) -> Result<Option<usize>, Fail> {
+    differing_alone(
+        alloc,
+        MADE,
+        |alloc, ctx, number| shown_of_set(alloc, ctx, set, number),
+    )
+}
+
+#[test]
+fn what_the_macros_make(rt: HostRuntime) -> Result<(), Fail> {
+    for set in 0..2 {
+        assert_eq!(rt; differing_of_set(rt.alloc(), set)?, None);
+    }
+    Ok(())
+}

@@ -1,0 +1,35 @@
+//! The example of README.md, as it is there (`tools/pages` compares both), with a test of it.
+use irtext_demo::dialects::register_demo;
+use irtext_demo::{DemoAttr, DemoType};
+use pliron_text::base::{Context, Operation, Ptr};
+use pliron_text::ir::OperationText;
+use pliron_text::parsable::parse_from_str;
+use pliron_text::printable::Disp;
+use std::alloc::Global;
+use std::test::Fail;
+
+fn root_of(ctx: &mut Context<DemoType, DemoAttr>, text: &str) -> Result<Ptr<Operation>, Fail> {
+    match parse_from_str(|s| Operation::top_level_parse(s), ctx, text) {
+        Ok(root) => Ok(root),
+        Err(_) => Err(Fail::from("refused")),
+    }
+}
+
+fn printed(alloc: Global, text: &str) -> Result<String, Fail> {
+    let mut ctx = Context::new(alloc);
+    register_demo(&mut ctx).ok().ok_or("not registered")?;
+    let root = root_of(&mut ctx, text)?;
+    if !ctx.contains_operation(root) {
+        return Err(Fail::from("no such operation"));
+    }
+    Ok(format!(in alloc; "{}", root.disp(&ctx))?)
+}
+
+#[test]
+fn the_example_of_the_readme_prints_a_text(rt: HostRuntime) -> Result<(), Fail> {
+    assert_eq!(rt;
+        printed(rt.alloc(), "builtin.module @m { }")?.as_str(),
+        "builtin.module @m \n{\n  \n} !0\n\noutlined_attributes:\n!0 = @[<in-memory>: line: 1, column: 1], []\n"
+    );
+    Ok(())
+}

@@ -1,0 +1,34 @@
+//! What a caller knows about a context once the reference to its dialect is dropped.
+ghost use Rattle.std.specs.Prelude.{◌≡◌, ◌⊎◌, OnOk, OnErr};
+ghost use Rattle.irtext_context.specs.Dialects.{with_op};
+ghost use Rattle.irtext_context.specs.DialectTable.{dialect_or_new, with_dialect};
+ghost use Rattle.irtext_format_check.specs.Directives.{format_of};
+
+use pliron_text::base::{Context, OpId};
+use pliron_text::dialect::{Dialect, DialectName};
+use pliron_text::format::OpFormat;
+use pliron_text::result::Result;
+use pliron_text::text::{AttrText, IrText};
+
+/// Registers an operation with the dialect of a name, which is registered first if there is none. If the operation is
+/// rejected the dialect stays registered, unchanged.
+pub fn register_operation<T: IrText<A>, A: AttrText<A>>(
+    ctx: &mut Context<T, A>,
+    name: &DialectName,
+    id: OpId,
+    format: OpFormat,
+    isolated: bool,
+) -> Result<(), A>
+    ensures ok { OnOk result (ctx.new ≡ record ctx.old {
+      dialects = with_dialect ctx.old.dialects name.now
+          (with_op (dialect_or_new ctx.old.dialects name.now) id (format_of format) isolated);
+    }) }
+    ensures err { OnErr result ((ctx.new ≡ ctx.old) ⊎
+        (ctx.new ≡ record ctx.old {
+          dialects = with_dialect ctx.old.dialects name.now
+              (dialect_or_new ctx.old.dialects name.now);
+        })) }
+{
+    let dialect = Dialect::register(ctx, name)?;
+    dialect.add_op(id, format, isolated)
+}

@@ -1,0 +1,254 @@
+//! Ready parts of texts (`irtext_syntax`), each parsed and printed again.
+ghost use Rattle.std.specs.Prelude.{codes, refl};
+
+use irtext_demo::{DemoAttr, DemoType};
+use irtext_syntax::characters::Characters;
+use irtext_syntax::keyword::{Flag, Keyword, Word};
+use irtext_syntax::list::ListOf;
+use irtext_syntax::name::Name;
+use irtext_syntax::number::Number;
+use irtext_syntax::own::Own;
+use irtext_syntax::part::Part;
+use irtext_syntax::range::{Range, Ranged};
+use irtext_syntax::ready::{Angle, Colon, Comma, Curly, Round, SpacedArrow, Square};
+use irtext_syntax::sequence::{Then, Within};
+use irtext_tests_common::answers::left;
+use pliron_text::parsable::{CharStream, ParseResult, TextStream};
+use std::alloc::Global;
+use std::test::Fail;
+
+/// The word `to`.
+struct To;
+
+impl Word for To {
+    ghost word = { codes "to" };
+
+    ghost is_word = { refl };
+
+    fn word() -> &'static str {
+        "to"
+    }
+}
+
+/// The numbers from 1 to 100.
+struct Percent;
+
+impl Range for Percent {
+    ghost low = { 1 };
+
+    ghost high = { 100 };
+
+    ghost fits = { refl };
+
+    fn low() -> u64 {
+        1
+    }
+
+    fn high() -> u64 {
+        100
+    }
+}
+
+/// A part whose texts are parsed.
+#[derive(Clone, Copy)]
+enum Kind {
+    /// A number of a signed type.
+    Signed,
+    /// A number of an unsigned type.
+    Byte,
+    /// A number from 1 to 100.
+    Percent,
+    /// A quoted text.
+    Quoted,
+    /// An identifier.
+    Name,
+    /// The word `to`, required.
+    Keyword,
+    /// The word `to`, or nothing.
+    Flag,
+    /// A type of the caller.
+    Type,
+    /// `<i64: i64>`.
+    Pair,
+    /// `name -> type`.
+    Arrow,
+    /// A list of names in `[` and `]`.
+    Names,
+    /// A list of lists of bytes.
+    Nested,
+    /// A list in `{` and `}`, or nothing, between `(` and `)`.
+    Maybe,
+}
+
+/// Two numbers in angle brackets.
+type Pair = Within<Angle, Then<Number<i64>, Colon, Number<i64>>>;
+
+/// A name, and the type that it is mapped to.
+type Mapping = Then<Name, SpacedArrow, Own<DemoType>>;
+
+/// Rows of bytes.
+type Rows = ListOf<Square, ListOf<Round, Number<u8>>>;
+
+/// A list that may be left out.
+type Optional = Within<Round, Option<ListOf<Curly, Name>>>;
+
+/// The text of what is parsed for a part: what is printed for it and the next character, or the fault.
+fn said<P: Part<DemoAttr>>(alloc: Global, text: &str) -> Result<String, Fail> {
+    let mut stream = TextStream::new(alloc, text)?;
+    let answer: ParseResult<P, DemoAttr> = <P as Part<DemoAttr>>::read(&mut stream);
+    let next = stream.peek();
+    match answer {
+        Ok(part) => {
+            let mut printed = String::new(alloc);
+            part.write_text(&mut printed)?;
+            Ok(format!(in alloc; "{printed}|{next:?}")?)
+        }
+        Err(fault) => left(alloc, &fault, next),
+    }
+}
+
+/// The same for the part of this kind.
+fn row(alloc: Global, kind: Kind, text: &str) -> Result<String, Fail> {
+    match kind {
+        Kind::Signed => said::<Number<i64>>(alloc, text),
+        Kind::Byte => said::<Number<u8>>(alloc, text),
+        Kind::Percent => said::<Ranged<Percent>>(alloc, text),
+        Kind::Quoted => said::<Characters>(alloc, text),
+        Kind::Name => said::<Name>(alloc, text),
+        Kind::Keyword => said::<Keyword<To>>(alloc, text),
+        Kind::Flag => said::<Flag<To>>(alloc, text),
+        Kind::Type => said::<Own<DemoType>>(alloc, text),
+        Kind::Pair => said::<Pair>(alloc, text),
+        Kind::Arrow => said::<Mapping>(alloc, text),
+        Kind::Names => said::<ListOf<Square, Then<Name, Comma, Name>>>(alloc, text),
+        Kind::Nested => said::<Rows>(alloc, text),
+        Kind::Maybe => said::<Optional>(alloc, text),
+    }
+}
+
+/// A part, a text, and what is said of it.
+const TEXTS: &[(Kind, &str, &str)] = &[
+    (Kind::Signed, "-12;", "-12|Some(';')"),
+    (
+        Kind::Signed,
+        "9223372036854775808",
+        "line: 1, column: 1: Number out of range: 9223372036854775808!",
+    ),
+    (
+        Kind::Signed,
+        "x",
+        "line: 1, column: 1: Unexpected `x`, expected digit|Some('x')",
+    ),
+    (Kind::Byte, "255", "255|None"),
+    (
+        Kind::Byte,
+        "256",
+        "line: 1, column: 1: Number out of range: 256!",
+    ),
+    (Kind::Byte, "007", "7|None"),
+    (Kind::Percent, "100%", "100|Some('%')"),
+    (
+        Kind::Percent,
+        "0",
+        "line: 1, column: 1: Number out of range: 0!",
+    ),
+    (
+        Kind::Percent,
+        "101",
+        "line: 1, column: 1: Number out of range: 101!",
+    ),
+    (
+        Kind::Percent,
+        "%",
+        "line: 1, column: 1: Unexpected `%`, expected digit|Some('%')",
+    ),
+    (Kind::Quoted, "\"a\\n\\\"b\"", "\"a\\n\\\"b\"|None"),
+    (
+        Kind::Quoted,
+        "\"a",
+        "line: 1, column: 3: Unexpected end of input, expected `\"`!",
+    ),
+    (
+        Kind::Quoted,
+        "a",
+        "line: 1, column: 1: Unexpected `a`, expected `\"`|Some('a')",
+    ),
+    (Kind::Name, "a_1.b", "a_1|Some('.')"),
+    (
+        Kind::Name,
+        "1",
+        "line: 1, column: 1: Unexpected `1`, expected identifier|Some('1')",
+    ),
+    (Kind::Keyword, "to x", "to|Some(' ')"),
+    (
+        Kind::Keyword,
+        "too",
+        "line: 1, column: 1: Unexpected `t`, expected `to`|Some('t')",
+    ),
+    (Kind::Flag, "to", "to|None"),
+    (Kind::Flag, "too", "|Some('t')"),
+    (
+        Kind::Type,
+        "builtin.integer  si64",
+        "builtin.integer si64|None",
+    ),
+    (
+        Kind::Type,
+        "builtin.nothing",
+        "line: 1, column: 1: Unregistered type builtin.nothing!",
+    ),
+    (Kind::Pair, "< 1 :-2 >", "<1: -2>|None"),
+    (
+        Kind::Pair,
+        "<1, 2>",
+        "line: 1, column: 3: Unexpected `,`, expected `:`!",
+    ),
+    (
+        Kind::Pair,
+        "<1:",
+        "line: 1, column: 4: Unexpected end of input, expected digit!",
+    ),
+    (
+        Kind::Pair,
+        "1",
+        "line: 1, column: 1: Unexpected `1`, expected `<`|Some('1')",
+    ),
+    (
+        Kind::Arrow,
+        "a->builtin.integer i1",
+        "a -> builtin.integer i1|None",
+    ),
+    (
+        Kind::Arrow,
+        "a b",
+        "line: 1, column: 3: Unexpected `b`, expected `->`!",
+    ),
+    (Kind::Names, "[a, b]", "[a, b]|None"),
+    (Kind::Names, "[]", "[]|None"),
+    (Kind::Nested, "[( 1,2 ),()]", "[(1, 2), ()]|None"),
+    (
+        Kind::Nested,
+        "[(1,)]",
+        "line: 1, column: 5: Unexpected `)`, expected digit!",
+    ),
+    (
+        Kind::Nested,
+        "[(1)",
+        "line: 1, column: 5: Unexpected end of input, expected `]`!",
+    ),
+    (Kind::Maybe, "( )", "()|None"),
+    (Kind::Maybe, "({a})", "({ a })|None"),
+    (
+        Kind::Maybe,
+        "({a)",
+        "line: 1, column: 4: Unexpected `)`, expected `}`!",
+    ),
+];
+
+#[test]
+fn ready_parts_are_parsed_and_printed(rt: HostRuntime) -> Result<(), Fail> {
+    for line in TEXTS {
+        assert_eq!(rt; row(rt.alloc(), line.0, line.1)?.as_str(), line.2);
+    }
+    Ok(())
+}

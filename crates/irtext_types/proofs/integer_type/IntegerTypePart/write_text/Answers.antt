@@ -1,5 +1,0 @@
-use Rattle.irtext_types.specs.IntegerTypeLaws.{encodes-integer_type}
-use Rattle.irtext_types.proofs.integer_type.IntegerTypePart.write_text.Goals as goal
-
-pub returns : goal.returns
-returns g c = rw (encodes-integer_type c.args.self.now) c.in_ok-write.ensures.bytes

@@ -1,7 +1,0 @@
-use Rattle.std.proofs.Common.{sym}
-use Rattle.irtext_types.specs.WidthLaws.{width_found}
-use Rattle.irtext_types.proofs.width.Width.new.Goals as goal
-
--- src/width.rt:16:5
-pub returns : goal.returns
-returns c = sym (width_found _)
