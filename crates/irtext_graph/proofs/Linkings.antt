@@ -22,8 +22,8 @@ use Rattle.irtext_graph.specs.declared.object.Site.TheVariants.{AtOperand, AtSuc
 use Rattle.irtext_graph.specs.declared.objects.Use.{Use}
 use Rattle.irtext_graph.specs.declared.objects.Objects.{Objects}
 use Rattle.irtext_graph.specs.declared.objects.OperationData.{OperationData}
-use Rattle.irtext_graph.specs.declared.linking.Side.{Side}
-use Rattle.irtext_graph.specs.declared.linking.Side.TheVariants.{Operands, Successors}
+use Rattle.irtext_graph.specs.declared.new_uses.Side.{Side}
+use Rattle.irtext_graph.specs.declared.new_uses.Side.TheVariants.{Operands, Successors}
 use Rattle.irtext_graph.specs.Nest.{parent_in, children_in}
 use Rattle.irtext_graph.specs.Content.{node_of, operation_content, block_content, region_content}
 use Rattle.irtext_graph.specs.Graph.{seen}

@@ -12,8 +12,8 @@ use Rattle.irtext_graph.specs.declared.object.Site.TheVariants.{AtOperand, AtSuc
 use Rattle.irtext_graph.specs.declared.objects.Definition.{Definition}
 use Rattle.irtext_graph.specs.declared.objects.Use.{Use}
 use Rattle.irtext_graph.specs.declared.objects.OperationData.{OperationData}
-use Rattle.irtext_graph.specs.declared.linking.Side.{Side}
-use Rattle.irtext_graph.specs.declared.linking.Side.TheVariants.{Operands, Successors}
+use Rattle.irtext_graph.specs.declared.new_uses.Side.{Side}
+use Rattle.irtext_graph.specs.declared.new_uses.Side.TheVariants.{Operands, Successors}
 use Rattle.irtext_graph.specs.Content.{typed}
 use Rattle.irtext_graph.specs.Graph.{numbered}
 use Rattle.irtext_graph.specs.Uses.{first_of}

@@ -1,6 +1,6 @@
 use Rattle.std.proofs.Common.{◌∙◌, ◌+◌, ℕ, ap, subst, sym, refl, arith, IsSome}
-use Rattle.irtext_graph.specs.declared.linking.Side.{Side}
-use Rattle.irtext_graph.specs.declared.linking.Side.TheVariants.{Operands, Successors}
+use Rattle.irtext_graph.specs.declared.new_uses.Side.{Side}
+use Rattle.irtext_graph.specs.declared.new_uses.Side.TheVariants.{Operands, Successors}
 use Rattle.irtext_graph.specs.Uses.{val}
 use Rattle.irtext_graph.specs.Used.{without_uses}
 use Rattle.irtext_graph.specs.Linking.{site_of}
