@@ -32,9 +32,9 @@ use Rattle.irtext_graph.proofs.Arenas.{older_later, older_inserted, new_view, wa
 use Rattle.irtext_graph.proofs.Logs.{logged_same, logged_list, logged_kept, region_noted, region_ages}
 use Rattle.irtext_graph.proofs.Made.{regions_same}
 use Rattle.irtext_graph.proofs.Nests.{attached, renested, some_eq}
-use Rattle.irtext_graph.proofs.Numbers.{what_kept}
+use Rattle.irtext_graph.proofs.Numbers.{what_kept, moved_kept}
 use Rattle.irtext_graph.proofs.Same.{object_tells}
-use Rattle.irtext_graph.proofs.Sounds.{same_use, uses_kept, sound_moved, sound_same}
+use Rattle.irtext_graph.proofs.Sounds.{same_use, uses_kept, sound_same}
 use Rattle.irtext_graph.proofs.Stores.{inserts_seen, inserted-keeps, edited-keeps}
 
 -- the places of an arena that did not change are kept
@@ -84,12 +84,9 @@ module _ {O B T : Type 0} where
 
     -- with more room all is kept
     pub room_kept : (made : ℕ) (v : Counters) (log : List Made) → IsKept made v log x → IsKept made v log roomy
-    room_kept made v log i = record {
-      sound = sound_moved x roomy (record { operation_data = r.all_data; block_data = λ q. refl }) made i.sound (renested eq_object object_tells i.sound.forest room_kids room_up)
-          (record { operation_places = r.places; block_places = same_places x.blocks; region_places = same_places x.regions });
-      logged = logged_same made log x roomy i.logged room_what;
-      numbered = what_kept made made v x roomy room_what i.numbered;
-    }
+    room_kept made v log i =
+        moved_kept made v log x roomy (record { operation_data = r.all_data; block_data = λ q. refl }) (renested eq_object object_tells i.sound.forest room_kids room_up)
+        (record { operation_places = r.places; block_places = same_places x.blocks; region_places = same_places x.regions }) room_what i
 
     -- where the region is refused, all is kept too
     pub refused_kept : (made : ℕ) (v : Counters) (log after : List Made) (a : Arena (Nest Operation BasicBlock RegionData)) → after ≡ log → a.slots.items ≡ x.regions.slots.items → IsKept made v log x

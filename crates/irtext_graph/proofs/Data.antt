@@ -284,12 +284,20 @@ module _ {O B T : Type 0} (x : Objects O B T) (p : Ptr Operation) (n : Nest Basi
       kept_as made v log x after _ (sound_data made i.sound) same_age (data_seen made v)
       (edited_numbers (graph_of made v x) _ p (λ _. d) (edited (graph_of made v x) p n.data.«data» (λ _. d) (ap (option_map (λ c. c.data_of)) (operation_seen made v x p n e)))) i
 
+  -- the same from a view that is known
+  pub data_lent : (made : ℕ) (v : Counters) (g : GraphView O B T) → graph_of made v x ≡ g → graph_of made v after ≡ with_operation_data g p d
+  data_lent made v g is = data_seen made v ∙ ap (λ g. with_operation_data g p d) is
+
 module _ {O B T : Type 0} (x : Objects O B T) (p : Ptr BasicBlock) (n : Nest Region Operation (BlockData B T)) (e : option_map (λ o. o.content) (arena.get x.blocks p) ≡ Some n) (d : B) where
   abbrev with_b : Nest Region Operation (BlockData B T)
   with_b = record n { «data» = record n.data { «data» = d } }
 
   abbrev then : Objects O B T
   then = record x { blocks = with_content_at x.blocks p.index with_b }
+
+  block_use : (u : Site) → use_at then u ≡ use_at x u
+  block_use (AtOperand q i) = refl
+  block_use (AtSuccessor q i) = refl
 
   rb : Replaced x.blocks then.blocks p n with_b
   rb = replaced x.blocks p n with_b e
@@ -317,10 +325,6 @@ module _ {O B T : Type 0} (x : Objects O B T) (p : Ptr BasicBlock) (n : Nest Reg
   block_age (TheBlock q) = same_view born_in rb (λ b. refl) q
   block_age (TheRegion q) = refl
 
-  block_use : (u : Site) → use_at then u ≡ use_at x u
-  block_use (AtOperand q i) = refl
-  block_use (AtSuccessor q i) = refl
-
   -- what is seen of it is the graph with these data
   pub block_data_seen : (made : ℕ) (values : Counters) → graph_of made values then ≡ with_block_data (graph_of made values x) p d
   block_data_seen made values =
@@ -329,6 +333,10 @@ module _ {O B T : Type 0} (x : Objects O B T) (p : Ptr BasicBlock) (n : Nest Reg
 
   sound_block_data : (made : ℕ) → IsSound made x → IsSound made then
   sound_block_data made = sound_alike made x then block_kids block_up block_use block_head (record { operation_places = keeps_self x.operations; block_places = kb; region_places = keeps_self x.regions })
+
+  -- the same from a view that is known
+  pub block_data_lent : (made : ℕ) (v : Counters) (g : GraphView O B T) → graph_of made v x ≡ g → graph_of made v then ≡ with_block_data g p d
+  block_data_lent made v g is = block_data_seen made v ∙ ap (λ g. with_block_data g p d) is
 
   -- with other data of a block all is kept
   pub block_data_kept : (made : ℕ) (v : Counters) (log : List Made) → IsKept made v log x → IsKept made v log then

@@ -90,9 +90,9 @@ module _ {O B T : Type 0} where
   pub region_made : (m : ℕ) (v : Counters) (x : Objects O B T) (after : Arena (Nest Operation BasicBlock RegionData)) (p : Ptr Region) (e : Entry (Nest Operation BasicBlock RegionData)) → arena.Inserts x.regions after p e
       → e.born ≡ m → e.content.parent ≡ None → listed e.content.children ≡ [] → MakesRegion (graph_of m v x) (graph_of (m + 1) v (record x { regions = after })) p
   region_made m v x after p e i born none empty = record {
-    regions = subst (λ o. Inserts (store_of (node_of region_content) x.regions) (store_of (node_of region_content) after) p o) same (inserts_seen (node_of region_content) x.regions after p e i);
     operations = refl;
     blocks = refl;
+    regions = subst (λ o. Inserts (store_of (node_of region_content) x.regions) (store_of (node_of region_content) after) p o) same (inserts_seen (node_of region_content) x.regions after p e i);
     made = refl;
     values = refl;
     first_place = refl;
@@ -109,8 +109,8 @@ module _ {O B T : Type 0} where
       → e.born ≡ m → e.content.parent ≡ None → listed e.content.children ≡ [] → e.content.data.data ≡ value → map typed e.content.data.arguments ≡ numbered v.values types → n ≡ v.values + length types
       → MakesBlock (graph_of m v x) (graph_of (m + 1) (record v { values = n }) (record x { blocks = after })) p value types
   block_made m v n x after p e value types i born none empty same_value numbers count = record {
-    blocks = subst (λ o. Inserts (store_of (node_of block_content) x.blocks) (store_of (node_of block_content) after) p o) same (inserts_seen (node_of block_content) x.blocks after p e i);
     operations = refl;
+    blocks = subst (λ o. Inserts (store_of (node_of block_content) x.blocks) (store_of (node_of block_content) after) p o) same (inserts_seen (node_of block_content) x.blocks after p e i);
     regions = refl;
     made = refl;
     values = count;

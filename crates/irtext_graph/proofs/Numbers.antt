@@ -24,8 +24,14 @@ use Rattle.irtext_graph.specs.Parts.{value_at, results_of, arguments_of}
 use Rattle.irtext_graph.specs.Store.{get, object_of, object_in, cell_of}
 use Rattle.irtext_graph.specs.Used as used
 use Rattle.irtext_graph.specs.Used.{Replaces, without_uses_in}
+use Rattle.irtext_graph.proofs.Logs.{logged_same}
 use Rattle.irtext_graph.proofs.Nests.{told}
 use Rattle.irtext_graph.proofs.Same.{ptr_tells}
+use Rattle.irtext_graph.proofs.Sounds.{sound_moved}
+use Rattle.irtext_graph.specs.declared.log.Made.{Made}
+use Rattle.irtext_graph.specs.Objects as objects
+use Rattle.irtext_graph.specs.Objects.{SameData, IsForest}
+use Rattle.irtext_graph.specs.Sound.{IsKept}
 use Rattle.irtext_graph.proofs.Stores.{get_mapped, seen_mapped, edited_same}
 use Rattle.irtext_graph.proofs.Views.{what_seen}
 
@@ -112,6 +118,14 @@ module _ {O B T : Type 0} where
   -- the same by what the arenas hold
   pub what_kept : (m n : ℕ) (v : Counters) (x y : Objects O B T) → ((q : Object) → what y q ≡ what x q) → AreNumbered (graph_of m v x) → AreNumbered (graph_of n v y)
   what_kept m n v x y same k = numbers_kept _ _ (contents_keep (graph_of m v x) (graph_of n v y) refl (λ q. what_seen n v y q ∙ same q ∙ sym (what_seen m v x q))) k
+
+  -- where the same objects have other parents and children, all is kept
+  pub moved_kept : (made : ℕ) (v : Counters) (log : List Made) (x y : Objects O B T) → SameData x y → IsForest y → objects.SamePlaces x y → ((q : Object) → what y q ≡ what x q) → IsKept made v log x → IsKept made v log y
+  moved_kept made v log x y alike forest places same i = record {
+    sound = sound_moved x y alike made i.sound forest places;
+    logged = logged_same made log x y i.logged same;
+    numbered = what_kept made made v x y same i.numbered;
+  }
 
   -- without objects there are no values
   pub numbered_empty : (m : ℕ) (v : Counters) (x : Objects O B T) → x.operations.slots.items ≡ [] → x.blocks.slots.items ≡ [] → AreNumbered (graph_of m v x)

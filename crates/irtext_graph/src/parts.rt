@@ -87,14 +87,6 @@ impl<O: Drop, B: Drop, T: Drop> Graph<O, B, T> {
         self.objects.operations.content(op).data.successors.len()
     }
 
-    /// The number of arguments of a block.
-    pub fn num_arguments(&self, block: Ptr<BasicBlock>) -> usize
-        requires { IsLive self.now (TheBlock block) }
-        ensures { result ≡ length (arguments self.now block) }
-    {
-        self.objects.blocks.content(block).data.arguments.len()
-    }
-
     /// Whether a value is defined: its operation or block is live, and has a result or an argument with this index.
     pub fn contains_value(&self, v: Value) -> bool
         ensures { IsTrue result ↔ ValueStands self.now v }
@@ -124,6 +116,14 @@ impl<O: Drop, B: Drop, T: Drop> Graph<O, B, T> {
             }
         }
         true
+    }
+
+    /// The number of arguments of a block.
+    pub fn num_arguments(&self, block: Ptr<BasicBlock>) -> usize
+        requires { IsLive self.now (TheBlock block) }
+        ensures { result ≡ length (arguments self.now block) }
+    {
+        self.objects.blocks.content(block).data.arguments.len()
     }
 
     /// Returns the type of a value.

@@ -80,8 +80,8 @@ invariant_of-self-2 g c =
       logged = logged_bare (c.self.inside.made + 1) c.note.new.log.items (record x { operations = c.insert.new.self }) c.attach_all-2.new.self (ap without_uses (two.seen ∙ one.seen))
           (operation_noted c.self.inside.made c.self.inside.log.items c.note.new.log.items x c.insert.new.self c.in_ok-p.p _ (noted_list c.self.inside.log.items c.make_room.new.log.items c.note.new.log.items _ c.make_room.ensures.same c.note.ensures) c.self.invariant.logged e.inserts.updates refl);
       numbered = operation_numbers _ _ c.in_ok-p.p _ _ _ _
-          (operation_made_seen c.self.inside.made c.self.inside.counters c.in-Some.next x (record x { operations = c.insert.new.self }) c.attach_all-2.new.self c.in_ok-p.p _ _ _ _ (two.seen ∙ one.seen)
-          (operation_made c.self.inside.made c.self.inside.counters c.in-Some.next x c.insert.new.self c.in_ok-p.p _ _ _ _ _ e.inserts refl (blank _ _ _ _ _ _ _ _ _ c.blank_operation-blank.ensures.parent c.blank_operation-blank.ensures.children c.blank_operation-blank.ensures.value c.blank_operation-blank.ensures.operands c.blank_operation-blank.ensures.successors c.blank_operation-blank.ensures.results c.in_ok-used.ensures (c.in_ok-led_to.ensures ∙ c.in_ok-leads.ensures) c.in_ok-results.ensures) (omega (arith, c.in-Some.ensures.1, c.len.ensures))))
+          (operation_made_seen c.self.inside.made c.self.inside.counters c.in_ok-next.next x (record x { operations = c.insert.new.self }) c.attach_all-2.new.self c.in_ok-p.p _ _ _ _ (two.seen ∙ one.seen)
+          (operation_made c.self.inside.made c.self.inside.counters c.in_ok-next.next x c.insert.new.self c.in_ok-p.p _ _ _ _ _ e.inserts refl (blank _ _ _ _ _ _ _ _ _ c.blank_operation-blank.ensures.parent c.blank_operation-blank.ensures.children c.blank_operation-blank.ensures.value c.blank_operation-blank.ensures.operands c.blank_operation-blank.ensures.successors c.blank_operation-blank.ensures.results c.in_ok-used.ensures (c.in_ok-led_to.ensures ∙ c.in_ok-leads.ensures) c.in_ok-results.ensures) (omega (arith, c.in_ok-next.ensures, c.len.ensures))))
           c.self.invariant.numbered;
     }
   where
@@ -94,10 +94,10 @@ invariant_of-self-2 g c =
 pub returns-clause-made : goal.returns-clause-made
 returns-clause-made g c =
     rw (← c.self.view_is)
-    (operation_made_seen c.self.inside.made c.self.inside.counters c.in-Some.next c.self.inside.objects (record c.self.inside.objects { operations = c.insert.new.self }) c.attach_all-2.new.self c.in_ok-p.p _ _ _ _
+    (operation_made_seen c.self.inside.made c.self.inside.counters c.in_ok-next.next c.self.inside.objects (record c.self.inside.objects { operations = c.insert.new.self }) c.attach_all-2.new.self c.in_ok-p.p _ _ _ _
     (c.attach_all-2.ensures.seen ∙ c.attach_all.ensures.seen)
-    (operation_made c.self.inside.made c.self.inside.counters c.in-Some.next c.self.inside.objects c.insert.new.self c.in_ok-p.p _ _ _ _ _ c.in_ok-p.ensures.inserts refl (blank _ _ _ _ _ _ _ _ _ c.blank_operation-blank.ensures.parent c.blank_operation-blank.ensures.children c.blank_operation-blank.ensures.value c.blank_operation-blank.ensures.operands c.blank_operation-blank.ensures.successors c.blank_operation-blank.ensures.results c.in_ok-used.ensures (c.in_ok-led_to.ensures ∙ c.in_ok-leads.ensures) c.in_ok-results.ensures)
-    (omega (arith, c.in-Some.ensures.1, c.len.ensures))))
+    (operation_made c.self.inside.made c.self.inside.counters c.in_ok-next.next c.self.inside.objects c.insert.new.self c.in_ok-p.p _ _ _ _ _ c.in_ok-p.ensures.inserts refl (blank _ _ _ _ _ _ _ _ _ c.blank_operation-blank.ensures.parent c.blank_operation-blank.ensures.children c.blank_operation-blank.ensures.value c.blank_operation-blank.ensures.operands c.blank_operation-blank.ensures.successors c.blank_operation-blank.ensures.results c.in_ok-used.ensures (c.in_ok-led_to.ensures ∙ c.in_ok-leads.ensures) c.in_ok-results.ensures)
+    (omega (arith, c.in_ok-next.ensures, c.len.ensures))))
 
 pub returns-clause-kept : goal.returns-clause-kept
 returns-clause-kept g c = λ m up. operation-keeps m _ _ c.in_ok-p.p _ _ _ _ up (returns-clause-made g c)

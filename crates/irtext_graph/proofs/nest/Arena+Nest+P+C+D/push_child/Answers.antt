@@ -1,21 +1,12 @@
-use Rattle.std.proofs.Common.{ap, refl}
+use Rattle.std.proofs.Common.{ap}
 use Rattle.std.proofs.lemmas.Result.{on_err_weaker}
 use Rattle.irtext_graph.specs.Content.{node_of}
 use Rattle.irtext_graph.proofs.Stores.{content_same}
-use Rattle.irtext_graph.proofs.Children.{other_children}
+use Rattle.irtext_graph.proofs.Arenas.{places_kept}
 use Rattle.irtext_graph.proofs.nest.Arena+Nest+P+C+D.push_child.Goals as goal
 
 pub returns-clause-places : goal.returns-clause-places
-returns-clause-places g c = (other_children c.args.self.now c.args.p c.content_mut.result.now _ refl refl c.content_mut.ensures.value).places
-
-pub returns-clause-ups : goal.returns-clause-ups
-returns-clause-ups g c = (other_children c.args.self.now c.args.p c.content_mut.result.now _ refl refl c.content_mut.ensures.value).ups
-
-pub returns-clause-data : goal.returns-clause-data
-returns-clause-data g c = (other_children c.args.self.now c.args.p c.content_mut.result.now _ refl refl c.content_mut.ensures.value).datums
-
-pub returns-clause-others : goal.returns-clause-others
-returns-clause-others g c = (other_children c.args.self.now c.args.p c.content_mut.result.now _ refl refl c.content_mut.ensures.value).others
+returns-clause-places g c = places_kept c.args.self.now c.args.p c.content_mut.result.now _ c.content_mut.ensures.value
 
 pub returns-clause-refused : goal.returns-clause-refused
 returns-clause-refused g c =
