@@ -1,5 +1,5 @@
--- What a context holds of what was read so far, behind each item of nested text: where the item brings its object, or changes the
--- innermost of what is open alone, the context holds what the item builds.
+-- What a context contains of the text parsed so far, after each item of nested text: if the item creates its object, or changes only the
+-- innermost open frame, the context contains what the item builds.
 use Rattle.std.proofs.Common.{◌≡◌, ◌∙◌, ℕ, Bool, List, [], ◌∷◌, ◌++◌, Option, Some, None, IsSome, option_map, append-nil, refl, sym, ap, subst, inl, inr}
 use Rattle.irtext_base.specs.Format.{Format, Id}
 use Rattle.irtext_base.specs.declared.location.Location.{Location}
@@ -21,7 +21,7 @@ use Rattle.irtext_parse_spec.specs.Unchanged.{OwnSoFar, own_of, RegionsHold, Blo
 use Rattle.irtext_parse_spec.specs.Grows.{with_last_region, with_last_block, with_last_operation, RegionCame, OperationGains, RegionGains, BlockGains, OperationCame, BlockCame, OwnBecame}
 use Rattle.irtext_parse_spec.proofs.Kept.{there_still, uses_kept, regions_kept, blocks_kept, operations_kept, tree_kept, operation_kept, region_kept, block_kept, all_kept}
 
--- ---- one behind another
+-- ---- one after another
 module _ {T A : Type 0} (IsLocation : Object → ℕ → Location A → Type 0) (c : ContextView T A) (whole : List Object) where
   regions_behind : (ps qs : List (Ptr Region)) (rs more : Regions (Op ℕ T A) (Head ℕ T A) (Brace ℕ)) → RegionsHold IsLocation c whole ps rs → RegionsHold IsLocation c whole qs more
       → RegionsHold IsLocation c whole (ps ++ qs) (append_regions rs more)
@@ -70,24 +70,24 @@ apart_head k os (a, r) = a
 apart_tail : (k : Object) (os : List Object) → AreApart (k ∷ os) → AreApart os
 apart_tail k os (a, r) = r
 
--- one that changed is the innermost of what is open, whatever of what came besides was not there
+-- a changed object that was present is the innermost open one; objects created along with it were not present
 module _ {T A : Type 0} (c : ContextView T A) where
-  -- where nothing came
+  -- nothing was created
   first_within : (k : Object) (os : List Object) (o : Object) → Among o (k ∷ []) → IsThere c o → Among o (k ∷ os)
   first_within k os o (inl e) there = inl e
   first_within k os o (inr j) there = absurd j
 
-  -- where one came
+  -- one object was created
   behind_new : (n k : Object) (os : List Object) → (IsThere c n → ⊥) → (o : Object) → Among o (n ∷ k ∷ []) → IsThere c o → Among o (k ∷ os)
   behind_new n k os is_new o (inl e) there = absurd (is_new (subst (λ z. IsThere c z) e there))
   behind_new n k os is_new o (inr i) there = first_within k os o i there
 
-  -- an object that was there is none that came
+  -- an object that was present is not one that was created
   not_new : (n : Object) → (IsThere c n → ⊥) → (o : Object) → IsThere c o → Among o (n ∷ []) → ⊥
   not_new n is_new o there (inl e) = is_new (subst (λ z. IsThere c z) e there)
   not_new n is_new o there (inr i) = i
 
-  -- and none of one that came and one that changed, where it is not among those with it
+  -- an object that was present and is among `os` is neither the created one nor the changed one, if the changed one is not among `os`
   not_behind : (n k o : Object) (os : List Object) → (IsThere c n → ⊥) → (Among k os → ⊥) → Among o os → IsThere c o → Among o (n ∷ k ∷ []) → ⊥
   not_behind n k o os is_new apart i there (inl e) = is_new (subst (λ z. IsThere c z) e there)
   not_behind n k o os is_new apart i there (inr j) = is_none_of k o os apart i j
@@ -139,14 +139,14 @@ holds_nothing IsLocation c = record {
   apart = tt;
 }
 
--- ---- the items, each with what comes to the context
+-- ---- the items, each with what it adds to the context
 module _ {T A : Type 0} (IsLocation : Object → ℕ → Location A → Type 0) (old new : ContextView T A) (whole : List Object) where
   -- what is left where nothing is open
   nothing_inner : (c : ContextView T A) (us : List (Unfinished T A)) (i j : Option Object) → AreOpenAt IsLocation c whole [] us i → AreOpenAt IsLocation c whole [] us j
   nothing_inner c [] i j h = tt
   nothing_inner c (u ∷ us) i j h = absurd h
 
-  -- what came is an operation that is open and has no regions
+  -- an operation that was created is an open operation without regions
   operation_opens : (p : Ptr Operation) (own : OwnSoFar T A) → OperationCame old new (IsLocation (TheOperation p)) p own → OperationIsOpen IsLocation new whole p own no_regions None
   operation_opens p own came = record { view = came.view; is = came.is; has = came.has; uses = came.uses; done = []; regions = came.regions; hold = tt }
 
@@ -205,7 +205,7 @@ module _ {T A : Type 0} (IsLocation : Object → ℕ → Location A → Type 0) 
       hold = blocks_kept IsLocation old new whole whole (λ o i. i) same k.done bs k.hold;
     }
 
-    -- what came is a block that is open and has no operations
+    -- a block that was created is an open block without operations
     block_opens : (b : Ptr BasicBlock) (head : Head ℕ T A) → BlockCame old new (IsLocation (TheBlock b)) b head → BlockIsOpen IsLocation new whole b head no_operations None
     block_opens b head came = record { view = came.view; is = came.is; has = came.has; done = []; operations = came.operations; hold = tt }
 

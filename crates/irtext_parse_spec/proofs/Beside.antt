@@ -1,4 +1,5 @@
--- Two doings side by side: each tree does both, and each reading comes to its end or is stuck where each of the two does.
+-- Two sets of actions side by side: the actions of each tree are performed on both states, and each parse ends or is stuck where each of
+-- the two does.
 use Rattle.std.proofs.Common.{◌≡◌, ℕ, Bool, List, Option, refl, ap₂}
 use Rattle.irtext_base.specs.Text.{Text}
 use Rattle.irtext_base.specs.Format.{Id}

@@ -1,5 +1,5 @@
--- What calls of a context do, as what is open sees it: what is made is new, what comes to stand in an object is the last of it, and all
--- else is spared.
+-- What calls of a context do, as seen from the open frames: what is made is new, what is added to an object is its last child, and all else
+-- is unchanged.
 use Rattle.std.proofs.Common.{◌≡◌, ◌≢◌, ◌∙◌, ◌⊎◌, ℕ, ◌+◌, ◌==◌, Bool, true, false, cond, List, [], ◌∷◌, ◌++◌, map, Option, Some, None, IsSome, option_map, slice_get, suc, arith, eqb-true, refl, sym, ap, ap₂, subst, inl, inr}
 use Rattle.std.specs.Prelude.{option_and_then, length, ⊤}
 use Rattle.std.proofs.lemmas.List.{map_push}
@@ -86,7 +86,7 @@ module _ {O B T : Type 0} where
     as_many_successors = ap length (successors_are_seen k p ∙ (ap successors_seen e ∙ sym (successors_are_seen g p)));
   }
 
-  -- so it is where the same stands under its pointer
+  -- an operation uses as many values and blocks as before if the object under its pointer is unchanged
   pub kept_as_many : (g k : GraphView O B T) (p : Ptr Operation) → get k.operations p ≡ get g.operations p → UsesAsMany g k p
   kept_as_many g k p e = record {
     as_many_operands = ap (λ x. length (operands_of (option_map (λ e. e.content.content) x))) e;
@@ -135,8 +135,8 @@ module _ {O B T : Type 0} where
   many_same g k (TheBlock b) e = tt
   many_same g k (TheRegion r) e = tt
 
--- ---- objects seen by what they are, what stands in them, and where they stand
--- an object is the same apart from what it uses, uses as many, holds the same and stands in the same
+-- ---- objects seen by their data, their children and their parents
+-- an object is the same apart from what it uses: it uses as many values and blocks, and has the same children and the same parent
 pub record IsAlike {O B T : Type 0} (g k : GraphView O B T) (q : Object) : Type 0 where
   pub contents : option_map without_uses (content k q) ≡ option_map without_uses (content g q)
   pub as_many : HasAsMany g k q
@@ -219,18 +219,18 @@ module _ {T A : Type 0} (old new : ContextView T A) where
   there_before (TheBlock b) e h = (subst IsSome e.0 h.0, subst IsSome e.1 h.1)
   there_before (TheRegion r) e h = subst IsSome e h
 
-  -- what is as it was is spared, and nothing came, but for these
+  -- if all objects but these are unchanged, only these are modified or created
   pub spares_by : (but : List Object) → ((q : Object) → (Among q but → ⊥) → IsAsItWas old new q) → ModifiesOnly but old new
   spares_by but h = record {
     spared = λ q there apart. h q apart;
     brought = λ q there. elim (among_or_not q but) [ inl i ↦ inr i | inr apart ↦ inl (there_before q (h q apart) there) ];
   }
 
-  -- what is alike is spared, and nothing came, but for these
+  -- if all objects but these are alike, only these are modified or created
   pub spares_alike : (but : List Object) → ((q : Object) → (Among q but → ⊥) → IsAlike old.graph new.graph q) → ModifiesOnly but old new
   spares_alike but h = spares_by but (λ q apart. alike_as q (h q apart))
 
-  -- so is what stands under the same pointers
+  -- if the objects under all other pointers are unchanged, only these are modified or created
   spares_same : (but : List Object) → ((p : Ptr Operation) → (Among (TheOperation p) but → ⊥) → get new.graph.operations p ≡ get old.graph.operations p)
       → ((b : Ptr BasicBlock) → (Among (TheBlock b) but → ⊥) → get new.graph.blocks b ≡ get old.graph.blocks b)
       → ((r : Ptr Region) → (Among (TheRegion r) but → ⊥) → get new.graph.regions r ≡ get old.graph.regions r) → ModifiesOnly but old new
@@ -252,7 +252,7 @@ module _ {T A : Type 0} (old new : ContextView T A) where
   pub spares_fewer : (but : List Object) → ModifiesOnly [] old new → ModifiesOnly but old new
   spares_fewer but s = spares_wider [] but (λ q i. absurd i) s
 
--- one change behind another
+-- one change after another
 as_then : {T A : Type 0} (a b c : ContextView T A) (q : Object) → IsAsItWas a b q → IsAsItWas b c q → IsAsItWas a c q
 as_then a b c (TheOperation p) e f = (f.0 ∙ e.0, as_many_then a.graph b.graph c.graph p e.1 f.1)
 as_then a b c (TheBlock d) e f = (f.0 ∙ e.0, f.1 ∙ e.1)
@@ -286,7 +286,7 @@ module _ {T A : Type 0} (old new : ContextView T A) where
   operation_made_spares p held types m = spares_same old new (TheOperation p ∷ []) (λ q apart. m.graph.operations.updates.others q (λ e. apart (inl (ap TheOperation e))))
       (λ b apart. ap (λ s. get s b) m.graph.blocks) (λ r apart. ap (λ s. get s r) m.graph.regions)
 
-  -- a region that came to stand last in an operation
+  -- a region that was added as the last one of an operation
   pub region_added_came : (p : Ptr Operation) (r : Ptr Region) → AddsRegion old new p r → RegionCame old new r
   region_added_came p r a = record {
     is_new = λ there. let e = ap (option_map region_of) (inserted_new old.graph.regions new.graph.regions r _ a.graph.regions) in cc (subst IsSome e there);
@@ -307,7 +307,7 @@ module _ {T A : Type 0} (old new : ContextView T A) where
   region_added_spares p r a = spares_same old new (TheRegion r ∷ TheOperation p ∷ []) (λ q apart. a.graph.operations.updates.others q (λ e. apart (inr (inl (ap TheOperation e)))))
       (λ b apart. ap (λ s. get s b) a.graph.blocks) (λ q apart. a.graph.regions.updates.others q (λ e. apart (inl (ap TheRegion e))))
 
-  -- ---- an operation that came to stand last in a block
+  -- ---- an operation that was added as the last one of a block
   module _ (b : Ptr BasicBlock) (p : Ptr Operation) (a : Appends old.graph new.graph (TheBlock b) (TheOperation p)) where
     -- the block has it
     pub operation_placed_gains : BlockGains old new b p
@@ -337,7 +337,7 @@ module _ {T A : Type 0} (old new : ContextView T A) where
         go (TheBlock d) apart = alike_as old new (TheBlock d) (alike (TheBlock d) (λ e. apart (inl e)) (λ e. cc))
         go (TheRegion r) apart = alike_as old new (TheRegion r) (alike (TheRegion r) (λ e. cc) (λ e. cc))
 
-  -- ---- a block that stood nowhere and came to stand last in a region
+  -- ---- a block without a parent that was added as the last one of a region
   module _ (r : Ptr Region) (b : Ptr BasicBlock) (free : parent old.graph (TheBlock b) ≡ None) (a : Appends old.graph new.graph (TheRegion r) (TheBlock b)) where
     -- the region has it
     pub block_placed_gains : RegionGains old new r b
@@ -360,7 +360,7 @@ module _ {T A : Type 0} (old new : ContextView T A) where
       lists = a.others q (λ e. apart (inr (inl e)));
     })
 
-    -- what is seen of the block is the same, and it stands in the region
+    -- the view of the block is the same, and the region is its parent
     pub block_placed_view : block new b ≡ block old b
     block_placed_view =
         block_is (get new.graph.blocks b)

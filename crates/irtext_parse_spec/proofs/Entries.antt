@@ -42,7 +42,7 @@ use Rattle.irtext_parse_spec.proofs.Grows.{grows_entry, less_left}
 use Rattle.irtext_parse_spec.proofs.Pairs.{bracketed, attribute_begins, own_location}
 use Rattle.irtext_parse_spec.proofs.Stops.{stops_before, stops_as, stops_first, stops_second, stops_seen}
 
--- where a word begins no item's entry goes on
+-- if a word begins here, the entry does not go on as that of an item
 no_given_there : (text : Text) → begins begins_word text ≡ true → begins_given text ≡ false
 no_given_there [] e = absurd (true≢false (sym e))
 no_given_there (c ∷ text) e = other c e
@@ -51,7 +51,7 @@ no_given_there (c ∷ text) e = other c e
     other c e = grind (arith, nat_tests)
 
 -- ---- one entry
--- a head that is answered passed the test, where an item's entry goes on
+-- a head that parses passed the test, if the entry goes on as that of an item
 tested_read : (test : ℕ → Bool) (o : Outcome (Mark ℕ)) (m : Mark ℕ) (taken rest : Text) → tested test o ≡ Read m taken rest → (o ≡ Read m taken rest) × ((begins_given rest && not (test m.index)) ≡ false)
 tested_read test (Read n a r) m taken rest e = go (begins_given r && not (test n.index)) refl e
   where
@@ -67,7 +67,7 @@ passes true false e f = absurd (true≢false f)
 passes false b e f = absurd (true≢false (sym e))
 
 module _ {A X : Type 0} (test : ℕ → Bool) (rules : ℕ → Rule A) where
-  -- what is wrong with an entry as it stands, where this is the test of its index
+  -- the failures of an entry alone, without those of its references, given the test of its index
   abbrev pub wrong_entry : Entry ℕ A X → List (Failure Text ℕ)
   wrong_entry (of_item m x ps) = cond (test m.index) [] (record { cause = UnknownIndex m.index; at = Some m.place } ∷ []) ++ wrong_pairs (rules m.index) ps
   wrong_entry (of_once m a) = []
@@ -86,7 +86,7 @@ module _ {T A : Type 0} (types : Texts T) (reading : Text → Outcome A) (writte
   abbrev equals_next : Mark ℕ → Text → Outcome (Mark ℕ)
   equals_next m t = mapped (λ _. m) (spaced_at (codes "=") t)
 
-  -- an entry's head, as the grammar has it: what is left stands behind white space
+  -- an entry's head, as the grammar parses it; the rest is without leading white space
   record HeadRead (m : Mark ℕ) (text taken rest : Text) : Type 0 where
     pub mid : Text
     pub marks : reads.mark l m text mid
@@ -155,7 +155,7 @@ module _ {T A : Type 0} (types : Texts T) (reading : Text → Outcome A) (writte
               subst (λ e. wrong_entry test rules e ≡ []) k.2 refl,
             )
 
-    -- a bracket or `@` stands where an item's entry goes on
+    -- an item's entry goes on with a bracket or `@`
     goes_on : (x : Option (Written A)) (ps : List (Name ℕ × Item ℕ A)) (end rest : Text) → (section.located l (own_location reading) x ▹ bracketed l (own_location reading) ps) (after_space end) rest → begins_given (after_space end) ≡ true
     goes_on None ps end rest (mid, (f, same), (m, a, b)) =
         let e : after_space end ≡ 91 ∷ m = sym (after_twice is_whitespace end) ∙ (ap after_space (sym same) ∙ a) in
@@ -214,7 +214,7 @@ module _ {T A : Type 0} (types : Texts T) (reading : Text → Outcome A) (writte
               bad = ap (λ o. followed o choice) head;
             })
 
-  -- ---- entries, one behind the other
+  -- ---- entries, one after another
   module _ (marks : List ℕ) (rules : ℕ → Rule A) where
     abbrev test_behind : List (Entry ℕ A (Written A)) → ℕ → Bool
     test_behind earlier = may_have marks earlier
@@ -237,7 +237,7 @@ module _ {T A : Type 0} (types : Texts T) (reading : Text → Outcome A) (writte
     abbrev entry_next : ℕ → List (Entry ℕ A (Written A)) → Entry ℕ A (Written A) → Text → Outcome (List (Entry ℕ A (Written A)))
     entry_next n earlier e t = followed (space_at t) (more_next n earlier e)
 
-    -- entries that are answered behind others, as the grammar has them
+    -- entries that parse after others, as the grammar parses them
     pub record EntriesRead (earlier all : List (Entry ℕ A (Written A))) (text taken rest : Text) : Type 0 where
       pub es : List (Entry ℕ A (Written A))
       pub whole : all ≡ earlier ++ es
@@ -288,7 +288,7 @@ module _ {T A : Type 0} (types : Texts T) (reading : Text → Outcome A) (writte
     something [] e h = true≢false (sym e)
     something (c ∷ text) e h = omega (arith, h)
 
-    -- entries that the grammar reads are answered, up to the first thing that is wrong
+    -- entries that the grammar parses are parsed, up to the first failure
     pub entries_found : (n : ℕ) (earlier es : List (Entry ℕ A (Written A))) (text rest : Text) → length text ≤ n → repeated (the 33) (map An es) text rest
         → ReadOrStops text (entries_after attr marks rules n earlier text) (earlier ++ es) rest (wrong_entries marks rules (indices earlier) es)
     entries_found zero earlier [] text rest i (f, e) = inl (refl, ([], ap₂ (λ z t. Read z [] t) (sym (append-nil earlier)) (sym e)))

@@ -71,7 +71,7 @@ cuts_keeps = record {
 pub splits_location : {A : Type 0} (attr : Text → Outcome (AttrView A)) → Splits attr → Splits (location_at attr)
 splits_location attr h text x taken rest e = (keeps_within cuts_keeps (record { splits = h }) (length text)).splits text x taken rest e
 
--- a reader's answer stands, as the grammar looks at it
+-- the outcome, as the grammar uses it, is a value only if the parser succeeded
 standing_found : {X : Type 0} (o : Outcome X) (x : X) (rest : Text) → standing o ≡ found x rest → (taken : Text) × (o ≡ Read x taken rest)
 standing_found (Read y a r) x rest e = (a, ap₂ (λ y r. Read y a r) (cc e) (cc e))
 standing_found (Missing cause) x rest e = absurd (cc e)
@@ -111,7 +111,7 @@ module _ {A : Type 0} (attr : Text → Outcome (AttrView A)) (cut : Splits attr)
       go false e = let f : [] ≡ taken = cc e in let g : text ≡ rest = cc e in ap₂ ◌++◌ (sym f) (sym g)
 
   module _ {T : Type 0} (L : Language ℕ T A) (loc : Text → Standing (Written A)) (stands : (text : Text) → loc text ≡ standing (location_at attr text)) where
-    -- the location's text, where no white space stands in front
+    -- the location's text, without white space before it
     located_read : (text : Text) (x : Option (Written A)) (taken rest : Text) → after_space text ≡ text → entry_location_at attr text ≡ Read x taken rest
         → (m : Text) × section.located L loc x text m × (after_space m ≡ rest)
     located_read text x taken rest tight e = go (begins (the 64) text) refl e
@@ -187,7 +187,7 @@ module _ {T A : Type 0} (types : Texts T) (reading : Text → Outcome A) (writte
           ap (wrong_pairs rule) (sym (ap (λ g. g.1) m.2)) ∙ c.2,
         )
 
-    -- what the grammar reads is answered, up to the first key whose attribute may not stand there
+    -- what the grammar parses is parsed, up to the first key whose attribute is not allowed
     pub given_found : (text : Text) (g : Option (Written A) × List (Name ℕ × Item ℕ A)) (rest : Text) → after_space text ≡ text → Given g text rest → ReadOrStops text (given_at attr rule text) g rest (wrong_pairs rule g.1)
     given_found text g rest tight (mid, a, b) = go (pairs_found types reading written formats splits words rule (after_space mid) g.1 rest b)
       where

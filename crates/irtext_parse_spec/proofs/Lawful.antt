@@ -27,7 +27,7 @@ module _ {T A : Type 0} (types : Texts T) (reading : Text → Outcome A) (writte
       → section (language types (texts_of reading written) formats) (location_standing (attr_at reading)) es text rest × (taken ++ rest ≡ text) × (refused marks rules es ≡ [])
   section_read = whole.section_read types reading written formats sincere.reads (lawful_needs_word reading written lawful) (splits_attr reading sincere) marks rules
 
-  -- a section that the grammar reads is answered, or refused at the first thing that is refused of it
+  -- a section that the grammar parses is parsed, or rejected at the first failure
   pub section_found : (text : Text) (es : List (Entry ℕ A (Written A))) (rest : Text) → section (language types (texts_of reading written) formats) (location_standing (attr_at reading)) es text rest
       → ReadOrStops text (section_at (attr_at reading) marks rules text) es rest (refused marks rules es)
   section_found = whole.section_found types reading written formats sincere.reads (lawful_needs_word reading written lawful) (splits_attr reading sincere) marks rules

@@ -114,7 +114,7 @@ pub still_noted : {A : Type 0} (IsLocation : ℕ → Location A → Type 0) (ite
 still_noted IsLocation items n k o m l h = (inr h.0, h.1)
 
 module _ {T A : Type 0} (IsLocation : ℕ → Location A → Type 0) where
-  -- an operation that came is noted
+  -- an operation that was created is recorded
   pub came_noted : (old new : ContextView T A) (items : Made) (p : Ptr Operation) (own : OwnSoFar T A) → OperationCame old new IsLocation p own
       → OperationCame old new (noted ((own.place, TheOperation p) ∷ items) IsLocation (TheOperation p)) p own
   came_noted old new items p own h = record {

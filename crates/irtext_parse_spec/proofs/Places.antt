@@ -1,4 +1,4 @@
--- The references of entries and their keys stand in the text that the entries were read of.
+-- The references of entries and their keys have places in the text that the entries were parsed from.
 use Rattle.std.proofs.Common.{◌≡◌, ℕ, ◌≤◌, Bool, true, false, cond, Option, Some, List, [], ◌∷◌, ◌++◌, map, length, length-append, refl, sym, ap, subst, arith}
 use Rattle.std.specs.Prelude.{flat_map, is_some, ⊤}
 use Rattle.std.specs.Char.{is_whitespace}
@@ -30,8 +30,8 @@ use Rattle.irtext_parse_spec.proofs.Claims.{wrong, wrongs}
 use Rattle.irtext_parse_spec.proofs.Given.{splits_entry_location, located_found}
 use Rattle.irtext_parse_spec.proofs.Pairs.{exact_pair, own_location}
 
--- ---- what is wrong with references stands where they stand
--- a reference stands no farther from the end than this
+-- ---- the failures of references are at the places of the references
+-- the place of a reference is at most this far from the end
 abbrev IsNear : {A : Type 0} → ℕ → Item ℕ A → Type 0
 IsNear b (direct a) = ⊤
 IsNear b (reference m) = m.place ≤ b
@@ -45,7 +45,7 @@ abbrev pub EntryNear : {A X : Type 0} → ℕ → Entry ℕ A X → Type 0
 EntryNear b (of_item m x ps) = AreNear b ps
 EntryNear b (of_once m a) = ⊤
 
--- a failure stands no farther from the end than this
+-- the place of a failure is at most this far from the end
 pub record StandsNear (b : ℕ) (f : Failure Text ℕ) : Type 0 where
   pub place : ℕ
   pub at : f.at ≡ Some place
@@ -132,7 +132,7 @@ module _ {T A : Type 0} (types : Texts T) (reading : Text → Outcome A) (writte
       let v = pairs_near b ps (after_space f) j inside s in
       (v.0, omega (arith, v.1, space_near j, ap length w))
 
-  -- entries that the grammar reads of a text stand in it
+  -- entries that the grammar parses from a text have their places in it
   pub entries_near : (b : ℕ) (es : List (Entry ℕ A (Written A))) (text rest : Text) → length text ≤ b → repeated (the 33) (map (section.entry l (own_location reading)) es) text rest → Each (EntryNear b) es
   entries_near b [] text rest h r = tt
   entries_near b (e ∷ es) text rest h (mid, r, s) =

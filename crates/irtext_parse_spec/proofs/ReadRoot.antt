@@ -99,7 +99,7 @@ module _ {P T A X : Type 0} (L : Language P T A) (none : NoneLeftOut L) (C : Pri
       operations_accepted v u w l p q (suc i) (suc j) os xs f.2 m.2,
     )
 
-  -- the formats of what was read are accepted, where what stands for it fits
+  -- the formats in a parsed tree are accepted, if a root that represents the tree fits
   all_accepted : (t : Tree P T A) (g : Graph T A) → Fit C isolated g → StandsFor (stood C isolated g) (build isolated first es t) → AllAccepted L t
   all_accepted t g f s = (
     accepted_at g.own t.own (length (regions_list g.regions)) f.0 s.0.shape.id,

@@ -1,5 +1,5 @@
--- Worked rows: a context by hand in which an operation with one region of one block holds another operation. It holds the whole tree, and
--- what was read of it at points of the reading.
+-- Worked rows: a context by hand in which an operation with one region of one block has another operation in it. It contains the whole
+-- tree, and what was parsed of it at points of the parse.
 use Rattle.std.proofs.Common.{◌≡◌, ℕ, false, List, [], ◌∷◌, Option, Some, None, codes, refl, inl, inr}
 use Rattle.irtext_base.specs.Format.{Id}
 use Rattle.irtext_base.specs.Format as format
@@ -69,7 +69,7 @@ loc_at place = SrcPos InMemory (record { line = cut 1; column = cut place })
 abbrev IsLoc : Object → ℕ → Location ℕ → Type 0
 IsLoc o place loc = loc ≡ loc_at place
 
--- a context in which the inner operation stands in the block or not
+-- a context in which the inner operation is in the block or not
 abbrev context : List (Ptr Operation) → ContextView ℕ ℕ
 context inside = record {
   graph = record {
@@ -131,7 +131,7 @@ context inside = record {
 abbrev all_objects : List Object
 all_objects = TheOperation outer_ptr ∷ TheRegion region_ptr ∷ TheBlock block_ptr ∷ TheOperation inner_ptr ∷ []
 
--- where the whole tree was read, it stands under the pointer of its root
+-- after the whole tree was parsed, it is under the pointer of its root
 whole_row : TreeHolds IsLoc (context (inner_ptr ∷ [])) all_objects (Some outer_ptr) (Some whole_tree)
 whole_row = (
   inl refl,
@@ -166,7 +166,7 @@ mark_row = (
   ),
 )
 
--- where the block's header was read, nothing stands in it
+-- after the block's header was parsed, the block is empty
 head_row : AreOpenAt IsLoc (context []) [] (region_under region_ptr (Some block_ptr) ∷ [])
     (region_so_far no_blocks (Some (head, no_operations)) ∷ []) None
 head_row = (

@@ -41,7 +41,7 @@ module _ {A X : Type 0} (rules : ℕ → Rule A) where
   referred_read text (Missing cause) es taken rest e = absurd (cc e)
   referred_read text (Bad cause upto) es taken rest e = absurd (cc e)
 
-  -- entries that were read of a text, in which they stand, are answered, or the text is bad at the first reference that is wrong
+  -- entries that were parsed from a text, with places in it, are returned, or the text is bad at the first reference that fails
   referred_found : (text : Text) (o : Outcome (List (Entry ℕ A X))) (es : List (Entry ℕ A X)) (taken rest : Text) → o ≡ Read es taken rest → Each (EntryNear (length text)) es → ReadOrStops text (referred rules text o) es rest (wrong_references rules es)
   referred_found text o es taken rest e near = go (wrong_references rules es) refl (subst (Each (StandsNear (length text))) (sym (references_fail rules es)) (late_near (length text) rules es es near))
     where
@@ -85,7 +85,7 @@ module _ {T A : Type 0} (types : Texts T) (reading : Text → Outcome A) (writte
           refused_parts marks rules es ∙ ap₂ ◌++◌ (ap (wrong_entries marks rules []) k.whole ∙ k.fine) r.1,
         )
 
-    -- a section that the grammar reads is answered, or refused at the first thing that is refused of it
+    -- a section that the grammar parses is parsed, or rejected at the first failure
     pub section_found : (text : Text) (es : List (Entry ℕ A (Written A))) (rest : Text) → section.section l (own_location reading) es text rest → ReadOrStops text (section_at attr marks rules text) es rest (refused marks rules es)
     section_found text es rest (m, e, r) = go (entries_found types reading written formats splits words cut marks rules (length (after_space m)) [] es (after_space m) rest (omega arith) r)
       where

@@ -97,13 +97,13 @@ module _ {S U : Type 0} (see : S → U) where
   pub record ReadsSeen (f : Reads S) (g : Reads U) : Type 0 where
     pub at : (text : Text) (s : S) → seen_as see (f text s) ≡ g text (see s)
 
-  -- what comes behind a reading
+  -- what follows a parse
   pub seen_came : {X Y : Type 0} (o : Reached X S) (p : Reached X U) (next : X → S → Text → Reached Y S) (other : X → U → Text → Reached Y U) → seen_as see o ≡ p
       → ((x : X) (s : S) (rest : Text) → seen_as see (next x s rest) ≡ other x (see s) rest) → seen_as see (came o next) ≡ came p other
   seen_came (Advanced x s rest) p next other k h = h x s rest ∙ ap (λ z. came z other) k
   seen_came (Stopped s cause place) p next other k h = ap (λ z. came z other) k
 
-  -- what comes behind what must stand at a text
+  -- what follows a required value at a text
   pub seen_tells : {X Y : Type 0} (o : Outcome X) (text : Text) (s : S) (u : U) (next : X → Text → Reached Y S) (other : X → Text → Reached Y U) → see s ≡ u
       → ((x : X) (rest : Text) → seen_as see (next x rest) ≡ other x rest) → seen_as see (tells o text s next) ≡ tells o text u other
   seen_tells (Read x taken rest) text s u next other k h = h x rest
@@ -122,7 +122,7 @@ module _ {S U : Type 0} (see : S → U) where
     seen_regions (suc n) text s = seen_if (begins_region text) _ _ _ _
         (seen_came (f text s) (g text (see s)) (λ _ t rest. regions_by f n (after_space rest) t) (λ _ t rest. regions_by g n (after_space rest) t) (h.at text s) (λ _ t rest. seen_regions n (after_space rest) t)) refl
 
-    -- operations behind `;`
+    -- operations after `;`
     pub seen_more : (n : ℕ) (text : Text) (s : S) → seen_as see (more_by f n text s) ≡ more_by g n text (see s)
     seen_more zero text s = refl
     seen_more (suc n) text s =
@@ -143,7 +143,7 @@ module _ {S U : Type 0} (see : S → U) where
         (seen_came (f text s) (g text (see s)) (λ _ t rest. blocks_by f n (after_space rest) t) (λ _ t rest. blocks_by g n (after_space rest) t) (h.at text s) (λ _ t rest. seen_blocks n (after_space rest) t)) refl
 
 module _ {T A S U : Type 0} (dialects : List (Text × Table)) (types_at : Text → Outcome T) (attr : Text → Outcome (AttrView A)) (see : S → U) (d : Actions T A S) (e : Actions T A U) (shows : Shows see d e) where
-  -- parts in front of the first region
+  -- parts before the first region
   pub seen_front : (inside : Bool) (ss : List Step) (found : List (Part ℕ T A)) (text : Text) (s : S)
       → seen_as see (front_by dialects types_at attr d inside ss found text s) ≡ front_by dialects types_at attr e inside ss found text (see s)
   seen_front inside [] found text s = refl
@@ -171,7 +171,7 @@ module _ {T A S U : Type 0} (dialects : List (Text × Table)) (types_at : Text �
         seen_tells see ((space_at ▷ mark_if_at) text) text (d.closes place names id parts s) (e.closes place names id parts (see s)) _ _ closed
         (λ m rest. ap (λ z. Advanced tt z rest) (shows.marks m (d.closes place names id parts s) ∙ ap (e.marks m) closed))
 
-    -- what stands behind an operation's id
+    -- what follows an operation's id
     pub seen_body : (inside : Bool) (place : ℕ) (names : List (Name ℕ)) (id : Id) (text : Text) (s : S)
         → seen_as see (body_by dialects types_at attr d f inside place names id text s) ≡ body_by dialects types_at attr e g inside place names id text (see s)
     seen_body inside place names id text s =
@@ -253,7 +253,7 @@ module _ {T A S U : Type 0} (dialects : List (Text × Table)) (types_at : Text �
   seen_rest (a_block true) = record { at = λ text s. seen_item.at (after_space text) s }
   seen_rest (a_block false) = record { at = λ text s. seen_more see _ _ (seen_operation_at true) (length text) (after_space text) s }
 
-  -- what comes of the whole, where what is innermost came to this
+  -- the result of the whole parse, given that of the innermost frame
   pub seen_resume : (frames : List (Open T A)) (o : Reached Unit S) (p : Reached Unit U) → seen_as see o ≡ p → seen_as see (resume dialects types_at attr d frames o) ≡ resume dialects types_at attr e frames p
   seen_resume [] o p h = h
   seen_resume (f ∷ frames) o p h = seen_came see (resume dialects types_at attr d frames o) (resume dialects types_at attr e frames p) _ _ (seen_resume frames o p h) (λ _ s text. (seen_rest f).at text s)

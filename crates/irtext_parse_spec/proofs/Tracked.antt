@@ -1,5 +1,5 @@
--- What a context holds behind each item of nested text, with each item at its place and nothing else come: each turn's structure with the
--- premises of the lemmas on what is held alone.
+-- What a context contains after each item of nested text, with each item at its place and nothing else created: the structure of each turn,
+-- with the premises of the lemmas on what it contains.
 use Rattle.std.proofs.Common.{◌≡◌, ◌∙◌, ℕ, Bool, List, [], ◌∷◌, ◌++◌, Option, Some, None, option_map, refl, sym, ap, subst, inl, inr}
 use Rattle.irtext_base.specs.Format.{Format, Id}
 use Rattle.irtext_base.specs.declared.location.Location.{Location}
@@ -25,7 +25,7 @@ use Rattle.irtext_parse_spec.proofs.Kept.{there_still}
 use Rattle.irtext_parse_spec.proofs.Noted.{holds_wider, still_noted, came_noted, block_came_noted, became_noted}
 
 -- ---- children
--- what came last is among, and what was there
+-- the last element is a member of the list, and so are those before it
 among_last : {X : Type 0} (xs : List X) (x : X) → Among x (xs ++ x ∷ [])
 among_last xs x = among_right x xs (x ∷ []) (inl refl)
 
@@ -267,7 +267,7 @@ holds_nothing L c = record {
 
 -- ---- what ends in a context that does not change
 module _ {T A : Type 0} (start c : ContextView T A) (items : Made) (whole : List Object) (root : Option (Ptr Operation)) where
-  -- the innermost of what is open is whole, and stands in something that is held
+  -- the innermost open object is complete, and its parent is complete or open
   ends : (k : Object) (ats nexts : List (OpenAt T A)) → open_objects ats ≡ k ∷ open_objects nexts → Tracks start c items whole ats root → (j : Object) → Among j (open_objects nexts) → HasChild c j k
       → Tracks start c items (k ∷ whole) nexts root
   ends k ats nexts e t j at child =
@@ -322,7 +322,7 @@ module _ {T A : Type 0} (start c : ContextView T A) (items : Made) (whole : List
 
 -- ---- the children of what is open
 module _ {T A : Type 0} (I : Object → ℕ → Location A → Type 0) (c : ContextView T A) (whole : List Object) where
-  -- the block that is open in a region stands in it
+  -- the block that is open in a region is a child of the region
   block_in_region : (r : Ptr Region) (b : Ptr BasicBlock) (ats : List (OpenAt T A)) (us : List (Unfinished T A)) → AreOpenAt I c whole (region_under r (Some b) ∷ ats) us None → HasChild c (TheRegion r) (TheBlock b)
   block_in_region r b ats [] h = absurd h
   block_in_region r b ats (region_so_far bs None ∷ us) (f, h) = absurd f
@@ -330,7 +330,7 @@ module _ {T A : Type 0} (I : Object → ℕ → Location A → Type 0) (c : Cont
   block_in_region r b ats (but_its_mark o rs ∷ us) (f, h) = absurd f
   block_in_region r b ats (region_so_far bs (Some last) ∷ us) ((f, k), h) = subst (λ z. Among b (blocks_in z)) (sym f.is) (subst (Among b) (sym f.blocks) (among_last f.done b))
 
-  -- the region that is open in an operation stands in it
+  -- the region that is open in an operation is a child of the operation
   region_in_operation : (r : Ptr Region) (p : Ptr Operation) (own : OwnSoFar T A) (ats : List (OpenAt T A)) (us : List (Unfinished T A)) → AreOpenAt I c whole (region_under r None ∷ operation_under p own ∷ ats) us None → HasChild c (TheOperation p) (TheRegion r)
   region_in_operation r p own ats [] h = absurd h
   region_in_operation r p own ats (region_so_far bs (Some last) ∷ us) (f, h) = absurd f
@@ -342,7 +342,7 @@ module _ {T A : Type 0} (I : Object → ℕ → Location A → Type 0) (c : Cont
   region_in_operation r p own ats (region_so_far bs None ∷ operation_so_far at id rs ∷ us) (k, ((f, g, l), h)) =
       subst (λ z. Among r (regions_in z)) (sym l.is) (subst (Among r) (sym l.regions) (among_last l.done r))
 
-  -- the operation that waits for its mark in a block stands in it
+  -- the operation that waits for its mark in a block is a child of the block
   operation_in_block : (p : Ptr Operation) (r : Ptr Region) (b : Ptr BasicBlock) (ats : List (OpenAt T A)) (us : List (Unfinished T A)) → AreOpenAt I c whole (ended_under p ∷ region_under r (Some b) ∷ ats) us None → HasChild c (TheBlock b) (TheOperation p)
   operation_in_block p r b ats [] h = absurd h
   operation_in_block p r b ats (region_so_far bs last ∷ us) (f, h) = absurd f
@@ -407,7 +407,7 @@ module _ {T A : Type 0} (L : ℕ → Location A → Type 0) (start : ContextView
   abbrev builds : Actions T A (Building T A)
   builds = building {T = T} {A = A} formats
 
-  -- a block begins behind another, which ends
+  -- a block begins after another, which ends
   pub heads_next : (old new : ContextView T A) (r : Ptr Region) (before : Ptr BasicBlock) (ats : List (OpenAt T A)) (d : Ptr BasicBlock) (head : Head ℕ T A) (b : Building T A)
       → HoldsMade L start old items whole (region_under r (Some before) ∷ ats) root b → BlockCame old new L d head → RegionGains old new r d → ModifiesOnly (TheBlock d ∷ TheRegion r ∷ []) old new
       → HoldsMade L start new ((head.label.place, TheBlock d) ∷ items) (TheBlock before ∷ whole) (region_under r (Some d) ∷ ats) root (builds.heads head b)

@@ -19,23 +19,23 @@ module _ {T A : Type 0} (formats : Id → Option Format) where
   HasParts o rs = HasFormat formats o × Enough (parts_of o.body) rs
 
   abbrev mutual
-    -- each region is shown, and what stands in it is whole
+    -- each region is shown, and what is nested in it is whole
     pub WholeRegions : Regions (Op ℕ T A) (Head ℕ T A) (Brace ℕ) → Type 0
     WholeRegions no_regions = ⊤
     WholeRegions (region elided bs rs) = ⊥
     WholeRegions (region (shown place) bs rs) = WholeBlocks bs × WholeRegions rs
 
-    -- what stands in each block is whole
+    -- what is nested in each block is whole
     pub WholeBlocks : Blocks (Op ℕ T A) (Head ℕ T A) (Brace ℕ) → Type 0
     WholeBlocks no_blocks = ⊤
     WholeBlocks (block h os bs) = WholeOperations os × WholeBlocks bs
 
-    -- each operation has its parts, and what stands in it is whole
+    -- each operation has its parts, and what is nested in it is whole
     pub WholeOperations : Operations (Op ℕ T A) (Head ℕ T A) (Brace ℕ) → Type 0
     WholeOperations no_operations = ⊤
     WholeOperations (operation o rs os) = HasParts o rs × WholeRegions rs × WholeOperations os
 
-  -- the root has its parts, and what stands in it is whole
+  -- the root has its parts, and what is nested in it is whole
   abbrev pub IsWhole : Tree ℕ T A → Type 0
   IsWhole t = HasParts t.own t.regions × WholeRegions t.regions
 

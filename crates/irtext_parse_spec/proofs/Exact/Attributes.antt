@@ -39,7 +39,7 @@ starts_first c w (d ∷ text) e = go (the c d) refl e
     go true f e = f
     go false f e = absurd (true≢false (sym e))
 
--- where `!` stands no word begins
+-- where a text begins with `!`, no word begins
 pub no_word_there : (text : Text) → begins (the 33) text ≡ true → begins begins_word text ≡ false
 no_word_there [] e = refl
 no_word_there (c ∷ text) e = other c e
@@ -85,7 +85,7 @@ module _ {T A : Type 0} (types : Texts T) (reading : Text → Outcome A) (writte
       (λ es text rest (m, a, q). (m, a, loosened 44 exact_pair starts_pair es (literal (codes "]")) m rest q))
       (λ es text rest (m, a, q). (m, a, tightened 44 exact_pair starts_pair es (literal (codes "]")) m rest q))
 
-  -- a block's dictionary, where one stands
+  -- a block's dictionary, if there is one
   pub exact_dictionary_if : (types_at : Text → Outcome T) → Exact (dictionary_if_at types_at attr) (reads.dictionary_if l)
   exact_dictionary_if types_at = exact_if (the 91) exact_dictionary (λ es text rest r. ap (begins (the 91)) r.1) (reads.dictionary_if l) (λ text rest. (λ r. r, λ r. r)) (λ es text rest. (λ r. r, λ r. r))
 

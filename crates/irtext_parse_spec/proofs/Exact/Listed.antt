@@ -25,7 +25,7 @@ mapped_missing see (Missing c) cause e = let f : c ≡ cause = cc e in ap (λ c.
 mapped_missing see (Bad c upto) cause e = absurd (cc e)
 
 module _ {X Y : Type 0} where
-  -- one thing, and behind it another: the first one decides
+  -- one parser, and after it another: the first one decides whether anything is missing
   pub starts_so : {f : Reader X} {none : Text → Type 0} (k : X → Reader Y) → Starts f none → Starts (f ▶ k) none
   starts_so {f = f} k h = record {
     misses = λ text cause e. h.misses text cause (first_missing (f text) k cause e);
@@ -39,7 +39,7 @@ module _ {X Y : Type 0} where
     missed = λ text n. let m = h.missed text n in (m.0, ap (mapped (see text)) m.1);
   }
 
--- a fixed text is missing where its first character does not stand
+-- a fixed text is missing where the text does not begin with its first character
 pub starts_word : (c : ℕ) (w : Text) → Starts (word (c ∷ w)) (λ text. begins (the c) text ≡ false)
 starts_word c w = record { misses = misses; missed = missed }
   where
@@ -96,7 +96,7 @@ module _ {X : Type 0} {item : Reader X} {reading : X → Reading} {none : Text �
       back text xs rest (all_fine f taken e) = (taken, e ∙ ap (λ z. Read z taken rest) (map-id xs))
       back text xs rest (one_stops k) = absurd (true≢false k.refused)
 
-  -- behind a list that stands behind white space no white space is left, whatever follows
+  -- after a list that follows white space no white space is left, whatever follows
   pub loosened : (xs : List X) (next : Reading) (text rest : Text) → white (listed xs ▸ next) text rest → white (listed xs ▹ next) text rest
   loosened xs next text rest (mid, a, b) = (mid, a, subst (λ t. next t rest) (sym (list_tight separator items xs text mid a)) b)
 

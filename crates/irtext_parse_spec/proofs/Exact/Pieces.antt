@@ -100,7 +100,7 @@ module _ {T A : Type 0} (types_at : Text → Outcome T) (types_written : T → T
   abbrev attr : Text → Outcome (AttrView A)
   attr = attr_at reading
 
-  -- what a step reads, where its value tells the piece
+  -- what a step parses, if its value determines the piece
   by_step : {X : Type 0} {f : Reader X} {r : X → Reading} → Exact f r → (step : Step) (see : X → Piece ℕ T A) → ((x : X) → IsOfStep step (see x))
       → ((x : X) (text rest : Text) → reads.piece l (see x) text rest ↔ r x text rest) → ((p : Piece ℕ T A) → IsOfStep step p → (x : X) × (see x ≡ p)) → Exact (f ⇒ see) (step_piece l step)
   by_step {f = f} h step see is same back = record {
@@ -118,7 +118,8 @@ module _ {T A : Type 0} (types_at : Text → Outcome T) (types_written : T → T
   by_none : (step : Step) (cause : Text → Fault) → ((p : Piece ℕ T A) → IsOfStep step p → ⊥) → Exact (λ text. Missing (cause text)) (step_piece l step)
   by_none step cause none = record { read = λ text p taken rest e. absurd (cc e); found = λ text p rest r. absurd (none p r.0) }
 
-  -- What a step reads, the grammar reads as a piece of that step, and no other; where a marker may stand, each attribute begins as a word does.
+  -- A piece that a step parses, and no other, is what the grammar parses as a piece of that step; where a marker may be in place of an
+  -- attribute, each attribute begins as a word does.
   pub exact_piece : (step : Step) → (Marks step → NeedsWord reading) → Exact (piece_at types_at attr true step) (step_piece l step)
   exact_piece (flat (format.word s)) h = by_step (exact_word s) (flat (format.word s)) (λ _. tree.word s) (λ x. refl) (λ x text rest. (λ r. r, λ r. r)) (is_word s)
   exact_piece (flat (format.operand i)) h =

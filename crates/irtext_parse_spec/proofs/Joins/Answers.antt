@@ -3,7 +3,7 @@ use Rattle.std.proofs.Common.{◌≡◌, ◌++◌, refl, sym, ◌∙◌, ap, app
 use Rattle.irtext_base.specs.Text.{Text}
 use Rattle.irtext_base.specs.Answers.{Outcome, Read, Missing, Bad, prefixed, mapped, followed}
 
--- a reading that was answered, of one thing and behind it another
+-- a successful parse of one value and, after it, another
 pub record Followed {X Y : Type 0} (o : Outcome X) (next : X → Text → Outcome Y) (y : Y) (taken rest : Text) : Type 0 where
   pub value : X
   pub front : Text

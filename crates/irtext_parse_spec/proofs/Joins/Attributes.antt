@@ -88,7 +88,7 @@ names-reads all text rest h = go (list_found 44 given all text rest h)
     go (all_fine f taken e) = (taken, e ∙ ap (λ z. Read z taken rest) (map-id all))
     go (one_stops k) = absurd (true≢false k.refused)
 
--- behind names no white space stands
+-- no white space is left after names
 separated_tight : (names : List (Option Text)) (text rest : Text) → separated 44 reads.no_given_name (map reads.given_name names) (after_space text) rest → after_space rest ≡ rest
 separated_tight names text rest h = list_tight 44 given names text rest h
 
@@ -96,7 +96,7 @@ separated_tight names text rest h = list_tight 44 given names text rest h
 splits_names : Splits names_at
 splits_names = splits_separated 44 given_name_at given_name_takes
 
--- the bracket that closes, behind what was read
+-- the closing bracket, after what was parsed
 abbrev pub shut_next : {X : Type 0} → X → Text → Outcome X
 shut_next x text = mapped (λ _. x) (text_at (codes "]") text)
 

@@ -26,7 +26,7 @@ without_first_bound b [] h = space_bound b [] (omega arith)
 without_first_bound b (c ∷ text) h = space_bound b text (omega (arith, h))
 
 module _ {S : Type 0} where
-  -- what stands behind a `;`
+  -- what follows a `;`
   abbrev pub behind_semicolon : Reads S → Reads S
   behind_semicolon item text s = item (after_space (without_first text)) s
 
@@ -46,7 +46,7 @@ module _ {S : Type 0} where
   behind_semicolon_agree : (b : ℕ) (f g : Reads S) → Agree b f g → Shrink b (behind_semicolon f) (behind_semicolon g)
   behind_semicolon_agree b f g h = record { alike = λ text s k. h.alike (after_space (without_first text)) s (without_first_bound b text k) }
 
-  -- behind a `;` less is left
+  -- less text is left after a `;`
   pub semicolon_shrinks : (f : Reads S) → ((b : ℕ) → Shrink b f f) → (b : ℕ) → Shrink b (behind_semicolon f) (behind_semicolon f)
   semicolon_shrinks f h b = behind_semicolon_agree b f f (shrunk (h b))
 
@@ -172,11 +172,11 @@ module _ {T A S : Type 0} (dialects : List (Text × Table)) (types_at : Reader T
         ((region_agree (length text) _ _ (blocks_agree (length text) _ _ (λ iso. at_enough (suc (length text)) (length text) (omega arith) iso)) iso).alike (c ∷ text) s (omega arith)).same
 
     -- ---- what is left, and how many items are enough
-    -- behind a region less than its text is left
+    -- a region consumes at least one character
     pub region_shrinks : (b : ℕ) (iso : Bool) → Shrink b (region_at dialects types_at attr does iso) (region_at dialects types_at attr does iso)
     region_shrinks b iso = record { alike = λ text s k. (within_shrinks (suc (length text)) b iso).alike text s k }
 
-    -- behind an operation less than its text is left
+    -- an operation consumes at least one character
     pub operation_shrinks : (b : ℕ) (inside : Bool) → Shrink b (operation_at dialects types_at attr does inside) (operation_at dialects types_at attr does inside)
     operation_shrinks b inside = operation_agree b _ _ (λ iso. shrunk (region_shrinks b iso)) inside
 
@@ -184,6 +184,6 @@ module _ {T A S : Type 0} (dialects : List (Text × Table)) (types_at : Reader T
     abbrev pub block_at : Reads S
     block_at = block_by dialects types_at attr does (operations_by (operation_at dialects types_at attr does true))
 
-    -- behind a block less than its text is left
+    -- a block consumes at least one character
     pub block_shrinks : (b : ℕ) → Shrink b block_at block_at
     block_shrinks b = block_agree b _ _ (operations_agree b _ _ (shrunk (operation_shrinks b true)))

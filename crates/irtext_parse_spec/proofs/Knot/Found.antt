@@ -41,14 +41,14 @@ begins_by_word (c ∷ text) e = rw e refl
 -- ---- what an operation, a block and a region are made of
 module _ {T A S : Type 0} (texts : Texts T) (owns : Texts A) (dialects : List (Text × Table)) (types_at : Reader T) (attr : Reader (AttrView A)) (does : Actions T A S)
     (heads : FoundHeads texts owns dialects types_at attr) where
-  -- a piece is read behind white space
+  -- a piece is parsed after white space
   piece_found : (inside : Bool) (step : Step) (p : Piece ℕ T A) (text mid : Text) → IsOfStep step p → reads.piece (l texts owns dialects) p (after_space text) mid → MayUse inside p
       → (taken : Text) × ((space_at ▷ piece_at types_at attr inside step) text ≡ Read p taken mid)
   piece_found inside step p text mid is r may =
       let k = heads.piece inside step (after_space text) p mid (is, r) may in
       (_, followed-read (space_at text) (λ _ t. piece_at types_at attr inside step t) tt p (front is_whitespace text) (after_space text) k.0 mid refl k.1)
 
-  -- the parts in front of the first region are read, and the others stand behind them
+  -- the parts before the first region are parsed, and the other parts follow them
   record FrontFound (inside : Bool) (ss : List Step) (found : List (Part ℕ T A)) (ps : List (Part ℕ T A)) (rs : List Reading) (text rest : Text) (s : S) : Type 0 where
     pub mid : Text
     pub is : front_by dialects types_at attr does inside (front_steps ss) found text s ≡ Advanced (found ++ front_parts ps) s mid
@@ -143,7 +143,7 @@ module _ {T A S : Type 0} (texts : Texts T) (owns : Texts A) (dialects : List (T
       let k = heads.mark (after_space text) o.mark rest r in
       tells_found ((space_at ▷ mark_if_at) text) text _ _ o.mark _ rest (followed-read (space_at text) (λ _ t. mark_if_at t) tt o.mark (front is_whitespace text) (after_space text) k.0 rest refl k.1)
 
-  -- what stands behind an id, by these steps
+  -- what follows an id, given these steps
   abbrev body_with : Reads S → Bool → ℕ → List (Name ℕ) → Id → List Step → Reads S
   body_with inner inside place names id ss text s = came (front_by dialects types_at attr does inside (front_steps ss) [] text s) (λ found t rest.
       came (steps_by dialects types_at attr does inner inside place id (region_steps ss) found rest (does.uses place id found t)) (λ parts u left. end_by dialects types_at attr does place names id parts left u))

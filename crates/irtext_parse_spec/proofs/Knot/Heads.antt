@@ -16,7 +16,7 @@ use Rattle.irtext_parse_spec.specs.Exact.{UsesNone, step_piece, block_head, regi
 use Rattle.irtext_parse_spec.specs.Heads.{Step, piece_at, head_at, led_at, mark_if_at}
 
 module _ {P T A : Type 0} where
-  -- the names that a piece uses may stand inside of a region, and no name may outside of each
+  -- a piece inside a region may use names, and one outside of every region uses none
   abbrev pub MayUse : Bool → Piece P T A → Type 0
   MayUse true p = ⊤
   MayUse false p = UsesNone p

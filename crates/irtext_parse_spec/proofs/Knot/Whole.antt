@@ -1,5 +1,5 @@
--- What the readers of nested text answer is what the grammar reads: a caller's types and attributes are asked that what they take and
--- leave is the text, and where a marker may stand in an attribute's place, that attributes begin as a word does.
+-- What the parsers of nested text accept is what the grammar parses. Of a caller's types and attributes it is required that what they take
+-- and leave is the text and, where a marker may be in place of an attribute, that attributes begin as a word does.
 use Rattle.std.proofs.Common.{◌≡◌, ℕ, Bool, true, false, List, length, ap, arith, length-append}
 use Rattle.irtext_base.specs.Text.{Text}
 use Rattle.irtext_base.specs.Faults.{Fault}
@@ -78,7 +78,7 @@ module _ {T A : Type 0} (types_at : Text → Outcome T) (types_written : T → T
           (leaves_no_more (attr_at reading) (splits_attr reading splits)) accepted true text s t rest e in
           (k.0, k.1, k.3)
 
-      -- The same of a region, which stands at its `{`.
+      -- The same for a region, which begins at its `{`.
       pub region_read : ((id : Id) → IsAccepted dialects id) → (iso : Bool) (text : Text) (s t : S) (rest : Text) → region_at dialects types_at (attr_at reading) does iso text s ≡ Advanced tt t rest
           → (bs : Blocks (Op ℕ T A) (Head ℕ T A) (Brace ℕ)) × reads.region_read L (shown (length text)) (reads.block_readings L bs) text rest
           × (t ≡ does.leaves iso (length text) (do_blocks (isolated dialects) does bs (does.enters iso s)))

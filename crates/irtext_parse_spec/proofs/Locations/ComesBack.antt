@@ -23,12 +23,12 @@ use Rattle.irtext_parse_spec.proofs.Locations.GivesBack.{gives_followed, gives_n
 use Rattle.irtext_parse_spec.proofs.Locations.Kinds.{gives_behind, gives_row, kind_place, kind_fused, kind_noted, kind_named, kind_call_site, kind_unknown}
 
 module _ {A : Type 0} where
-  -- behind a location white space at most is taken
+  -- at most white space is taken after a location
   pub left_space : (l : Written A) (rest : Text) → after_space (left_behind l rest) ≡ after_space rest
   left_space (call_site callee caller) rest = after_twice _ rest
   left_space _ rest = refl
 
-  -- and nothing where none stands there
+  -- nothing is taken if no white space follows
   pub left_tight : (l : Written A) (rest : Text) → after_space rest ≡ rest → left_behind l rest ≡ rest
   left_tight (call_site callee caller) rest e = e
   left_tight _ rest e = refl
@@ -42,7 +42,7 @@ module _ {A : Type 0} where
   tight_text text_of _ rest = refl
 
 module _ {A : Type 0} (attr : Text → Outcome (AttrView A)) (text_of : A → Text) where
-  -- the location's text is read back under each bound that its length meets
+  -- the location's text is parsed back under each bound that its length is within
   abbrev IsBack : Written A → Type 0
   IsBack l = (rest : Text) → EndsLocation rest → (n : ℕ) → length (written_text text_of l ++ rest) ≤ n → GivesBack (location_within attr n (written_text text_of l ++ rest)) l (written_text text_of l ++ rest) (left_behind l rest)
 

@@ -1,4 +1,4 @@
--- Readings that give a value back, one behind another, and those of tokens.
+-- Parsers that return a given value, one after another, and those of tokens.
 use Rattle.std.proofs.Common.{◌≡◌, ℕ, suc, ◌≤◌, false, [], ◌∷◌, ◌++◌, length, refl, sym, ◌∙◌, ap, subst, append_assoc, length-append, arith}
 use Rattle.std.specs.Char.{is_whitespace}
 use Rattle.irtext_base.specs.Text.{Text, begins, front, after_space}
@@ -11,7 +11,7 @@ use Rattle.irtext_parse_spec.proofs.Joins.Answers.{followed-read}
 use Rattle.irtext_parse_spec.proofs.Joins.Tokens.{front-after, text-literal}
 
 module _ {X Y : Type 0} where
-  -- one reading behind another
+  -- one parser after another
   pub gives_followed : (o : Outcome X) (next : X → Text → Outcome Y) (x : X) (y : Y) (text mid left : Text) → GivesBack o x text mid → GivesBack (next x mid) y mid left
       → GivesBack (followed o next) y text left
   gives_followed o next x y text mid left h k = record {
@@ -57,10 +57,10 @@ pub tight : (text : Text) → begins is_whitespace text ≡ false → after_spac
 tight [] e = refl
 tight (c ∷ text) e = after_stops is_whitespace c text e
 
--- what stands behind a front is no longer than the bound of the whole
+-- what follows a prefix is no longer than the bound of the whole
 pub fits_behind : (a b text : Text) (n : ℕ) → text ≡ a ++ b → length text ≤ n → length b ≤ n
 fits_behind a b text n e small = let k : length text ≡ length (a ++ b) = ap length e in let j = length-append a b in omega (arith, k, j, small)
 
--- behind a front with a character the bound is one less
+-- after a prefix of at least one character the bound is one less
 pub shorter_behind : (c : ℕ) (a b text : Text) (n : ℕ) → text ≡ c ∷ (a ++ b) → length text ≤ suc n → length b ≤ n
 shorter_behind c a b text n e small = let k : length text ≡ suc (length (a ++ b)) = ap length e in let j = length-append a b in omega (arith, k, j, small)

@@ -1,4 +1,4 @@
--- How much a reading leaves of its text, and that what follows it is seen on such texts alone.
+-- How much of its text a parser leaves, and that what follows it depends on its result only for texts of that length.
 use Rattle.std.proofs.Common.{◌≡◌, ℕ, suc, ◌≤◌, Bool, true, false, cond, ◌∷◌, ◌++◌, length, refl, ap, length-append, arith}
 use Rattle.std.specs.Char.{is_whitespace}
 use Rattle.irtext_base.specs.Text.{Text, front, after, after_space}
@@ -28,14 +28,14 @@ module _ {X : Type 0} where
   leaves_either b true o p h k = h
   leaves_either b false o p h k = k
 
-  -- the same behind a text that was read
+  -- the same after a prefix that was taken
   pub leaves_prefixed : (b : ℕ) (front : Text) (o : Outcome X) → Leaves b o → Leaves b (prefixed front o)
   leaves_prefixed b front (Read x taken rest) h = leaves_read b x (front ++ taken) rest (h.by x taken rest refl)
   leaves_prefixed b front (Missing cause) h = leaves_bad b cause front
   leaves_prefixed b front (Bad cause upto) h = leaves_bad b cause (front ++ upto)
 
 module _ {X Y : Type 0} where
-  -- one reading behind another
+  -- one parser after another
   pub leaves_followed : (b : ℕ) (o : Outcome X) (next : X → Text → Outcome Y) → Leaves b o → ((x : X) (rest : Text) → length rest ≤ b → Leaves b (next x rest)) → Leaves b (followed o next)
   leaves_followed b (Read x taken rest) next h k = leaves_prefixed b taken (next x rest) (k x rest (h.by x taken rest refl))
   leaves_followed b (Missing cause) next h k = leaves_missing b cause
@@ -46,7 +46,7 @@ module _ {X Y : Type 0} where
   leaves_mapped b see (Missing cause) h = leaves_missing b cause
   leaves_mapped b see (Bad cause upto) h = leaves_bad b cause upto
 
-  -- two readings that agree on what is left are one, behind a third
+  -- two continuations that agree on texts within the bound give the same result after a parser
   pub followed_same : (b : ℕ) (o : Outcome X) (next other : X → Text → Outcome Y) → Leaves b o → ((x : X) (rest : Text) → length rest ≤ b → next x rest ≡ other x rest) → followed o next ≡ followed o other
   followed_same b (Read x taken rest) next other h k = ap (prefixed taken) (k x rest (h.by x taken rest refl))
   followed_same b (Missing cause) next other h k = refl

@@ -16,7 +16,7 @@ use Rattle.irtext_parse_spec.specs.Heads.{Step, one, all, front_steps, region_st
 use Rattle.irtext_parse_spec.specs.Reached.{Reached, Advanced, Stopped, came, tells, Actions, Reads, begins_operation, begins_region, begins_block, steps_in, regions_by, more_by, operations_by, blocks_by, front_by, steps_by, end_by, body_by, operation_by, block_by, region_by, region_within, region_at, operation_at}
 use Rattle.irtext_parse_spec.proofs.Naming.Keeps.{Keeps}
 
--- what had been done where the reading came to its end or is stuck
+-- the state at the point where the parse came to its end or is stuck
 abbrev pub done_in : {X S : Type 0} → Reached X S → S
 done_in (Advanced x s rest) = s
 done_in (Stopped s cause place) = s
@@ -31,7 +31,7 @@ module _ {S : Type 0} (s : S) where
   quiet_came (Advanced x t rest) next e h = ap (λ z. done_in (next x z rest)) e ∙ h x rest
   quiet_came (Stopped t cause place) next e h = e
 
-  -- what stands behind what must stand leaves it as it is, or the reading is stuck with it
+  -- what follows a required value leaves the state unchanged, or the parse is stuck with the state unchanged
   pub quiet_tells : {X Y : Type 0} (o : Outcome X) (text : Text) (next : X → Text → Reached Y S) → ((x : X) (rest : Text) → done_in (next x rest) ≡ s) → done_in (tells o text s next) ≡ s
   quiet_tells (Read x taken rest) text next h = h x rest
   quiet_tells (Missing cause) text next h = refl
@@ -47,7 +47,7 @@ module _ {S : Type 0} (s : S) where
   quiet_regions inner q zero text = refl
   quiet_regions inner q (suc n) text = quiet_if (begins_region text) _ _ (quiet_came (inner text s) _ (q.at text) (λ u rest. quiet_regions inner q n (after_space rest))) refl
 
-  -- operations behind `;`
+  -- operations after `;`
   pub quiet_more : (item : Reads S) → Quiet item → (n : ℕ) (text : Text) → done_in (more_by item n text s) ≡ s
   quiet_more item q zero text = refl
   quiet_more item q (suc n) text =
@@ -64,7 +64,7 @@ module _ {S : Type 0} (s : S) where
   quiet_blocks one_block q (suc n) text = quiet_if (begins_block text) _ _ (quiet_came (one_block text s) _ (q.at text) (λ u rest. quiet_blocks one_block q n (after_space rest))) refl
 
 module _ {T A S : Type 0} (dialects : List (Text × Table)) (types_at : Text → Outcome T) (attr : Text → Outcome (AttrView A)) (does : Actions T A S) (s : S) (keeps : Keeps does s) where
-  -- parts in front of the first region
+  -- parts before the first region
   pub quiet_front : (inside : Bool) (ss : List Step) (found : List (Part ℕ T A)) (text : Text) → done_in (front_by dialects types_at attr does inside ss found text s) ≡ s
   quiet_front inside [] found text = refl
   quiet_front inside (step ∷ ss) found text = quiet_tells s ((space_at ▷ piece_at types_at attr inside step) text) text _ (λ p rest. quiet_front inside ss (found ++ tree.piece p ∷ []) rest)
@@ -87,7 +87,7 @@ module _ {T A S : Type 0} (dialects : List (Text × Table)) (types_at : Text →
       ap (λ t. done_in (tells ((space_at ▷ mark_if_at) text) text t (λ m rest. Advanced tt (does.marks m t) rest))) (keeps.closes place names id parts)
       ∙ quiet_tells s ((space_at ▷ mark_if_at) text) text (λ m rest. Advanced tt (does.marks m s) rest) (λ m rest. keeps.marks m)
 
-  -- what stands behind an operation's id
+  -- what follows an operation's id
   pub quiet_body : (inner : Reads S) → Quiet s inner → (inside : Bool) (place : ℕ) (names : List (Name ℕ)) (id : Id) (text : Text) → done_in (body_by dialects types_at attr does inner inside place names id text s) ≡ s
   quiet_body inner q inside place names id text =
       quiet_came s (front_by dialects types_at attr does inside (front_steps (steps_in dialects id)) [] text s) _ (quiet_front inside (front_steps (steps_in dialects id)) [] text) (λ found rest.

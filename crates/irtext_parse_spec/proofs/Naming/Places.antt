@@ -1,5 +1,5 @@
--- The places of a tree's items fall along the text that reads as it, so each item has a place of its own, and a function from places to
--- paths says where each stands.
+-- The places of a tree's items decrease along the text that is parsed as the tree, so each item has a place of its own, and a function from
+-- places to paths gives each item's path.
 use Rattle.std.proofs.Common.{◌≡◌, ◌∙◌, ℕ, suc, true, false, cond, ◌≤◌, ◌<◌, ◌==◌, List, [], ◌∷◌, ◌++◌, length, Option, Some, None, codes, ap, arith}
 use Rattle.std.proofs.lemmas.Bool.Decides.{nat_tests}
 use Rattle.std.specs.Prelude.{⊤}

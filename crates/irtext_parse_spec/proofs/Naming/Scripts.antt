@@ -1,5 +1,5 @@
--- What a tree does that a text reads as: its operations have their formats, and what its items come to as they are read is what the
--- script of its names comes to.
+-- The actions of a tree that a text parses as: its operations have their formats, and the outcome of its items as they are parsed is that
+-- of the script of its names.
 use Rattle.std.proofs.Common.{◌≡◌, ℕ, Bool, ◌≤◌, Option, length, refl, ap, arith}
 use Rattle.std.specs.Prelude.{⊤}
 use Rattle.irtext_base.specs.Text.{Text, after_space}
@@ -50,7 +50,7 @@ module _ {T A : Type 0} (types : Texts T) (owns : Texts A) (formats : Id → Opt
   formats_read t text rest h = let f = operation_formed t.own t.regions text rest h in (f.0, regions_formed t.regions f.1)
 
   module _ (path : ℕ → Path) (isolated : Id → Bool) (t : Tree ℕ T A) (text rest : Text) (names : Names path t) (h : reads.reads L t text rest) where
-    -- what the items of a tree that a text reads as come to is what the script of its names comes to
+    -- the outcome of the items of a tree that a text parses as is that of the script of its names
     pub read_runs : (o : history.Outcome) → do_tree isolated (naming formats path) t o ≡ run o (events (tree_script isolated t done))
     read_runs o = runs_script formats path isolated t names (formats_read t text rest h) o
 

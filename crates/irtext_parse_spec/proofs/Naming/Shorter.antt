@@ -78,7 +78,7 @@ module _ {T A : Type 0} (types : Texts T) (owns : Texts A) (formats : Id → Opt
   leaves_target : (n : Name ℕ) → Leaves (reads.target L n)
   leaves_target n = record { by = λ t u h. omega (arith, word_shorter (codes "^") t h.0 h.1, (leaves_identifier n.text).by h.0 u h.2.1) }
 
-  -- a mark, where one stands
+  -- a mark, if there is one
   pub leaves_mark_if : (m : Option (Mark ℕ)) → Leaves (reads.mark_if L m)
   leaves_mark_if None = leaves_ends (the 33)
   leaves_mark_if (Some m) = record { by = λ t u h. omega (arith, word_shorter (codes "!") t h.1.0 h.1.1, number_shorter m.index h.1.0 u h.1.2) }
@@ -98,7 +98,7 @@ module _ {T A : Type 0} (types : Texts T) (owns : Texts A) (formats : Id → Opt
   leaves_dictionary : (es : List (Name ℕ × Attribute A)) → Leaves (reads.dictionary L es)
   leaves_dictionary es = leaves_then (leaves_literal (codes "[")) (leaves_then (leaves_list (reads.entry L) leaves_entry 44 reads.no_word es) (leaves_literal (codes "]")))
 
-  -- a dictionary, where one stands
+  -- a dictionary, if there is one
   pub leaves_dictionary_if : (es : Option (List (Name ℕ × Attribute A))) → Leaves (reads.dictionary_if L es)
   leaves_dictionary_if None = leaves_ends (the 91)
   leaves_dictionary_if (Some es) = leaves_dictionary es
@@ -128,6 +128,6 @@ module _ {T A : Type 0} (types : Texts T) (owns : Texts A) (formats : Id → Opt
   results_shorter ns t u (inl h) = (leaves_then (leaves_list (reads.name L) leaves_name 44 reads.no_word ns) (leaves_literal (codes "="))).by t u h
   results_shorter ns t u (inr h) = omega (arith, ap length h.1)
 
-  -- the names of an operation's results, where they stand
+  -- the names of an operation's results, if there are any
   pub leaves_results_if : (ns : List (Name ℕ)) → Leaves (reads.results_if L ns)
   leaves_results_if ns = record { by = results_shorter ns }

@@ -1,4 +1,4 @@
--- A refusal of what must be read, or may be read, alone or behind what was read.
+-- The error of a parser, required or optional, alone or after something that was parsed.
 use Rattle.std.proofs.Common.{◌≡◌, Bool, true, false, Err, refl, sym, ◌∙◌, ap, ◌⊎◌, inl, inr}
 use Rattle.irtext_base.specs.Text.{Text}
 use Rattle.irtext_base.specs.Stream.{StreamView}
@@ -34,6 +34,6 @@ module _ {A : Type 0} where
   pub refusal : {X Y : Type 0} {see : Y → X} {f : Text → Outcome X} {old new : StreamView} {fault : ParseFault A} → ((text : Text) → ModifiesOnly NotFailed (f text)) → ((text : Text) → FirstMissing (f text)) → MayRead {Y = Y} itself replaced see f old (Err fault) new → Refusal old fault new
   refusal {f = f} {old = old} {new = new} {fault = fault} s m h = refusal_of old.failed (f old.rest) old new fault refl (s old.rest) (m old.rest) h.answers
 
-  -- a refusal of what must be read, behind what was read
+  -- the error of a required parser, after something that was parsed
   pub demanded_refusal : {old mid new : StreamView} {fault : ParseFault A} → (mid.failed ≡ true → old.failed ≡ true) → CommittedRefusal mid fault new → Refusal old fault new
   demanded_refusal e h = record { committed = λ _. h.fails; uncommitted = λ q. absurd (cc (h.committed)); first = λ q. absurd (cc (h.committed)); failed = λ f. e (h.failed f) }

@@ -39,7 +39,7 @@ pub honest_source : Honest source_at
 honest_source = honest_either _ (seen _ honest_bytes)
     (honest_either _ (seen _ (honest_word (codes "<in-memory>"))) (honest_demand ASource))
 
--- what stands behind the word `name`, up to the location that it is for
+-- what follows the word `name`, up to the location that it names
 pub honest_title : Honest (spaced_at (codes ":") ▷ bytes_at ▶ λ name.
     spaced_at (codes ",") ▷ word (codes "loc") ▷ spaced_at (codes ":") ▷ word (codes "(") ⇒ λ _. name)
 honest_title = ◌then◌ (honest_spaced (codes ":")) (◌so◌ honest_bytes (λ name.

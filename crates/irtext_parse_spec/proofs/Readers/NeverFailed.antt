@@ -23,11 +23,11 @@ module _ {X : Type 0} where
   pub fine_read : (x : X) (taken rest : Text) → Fine (Read x taken rest)
   fine_read x taken rest = record { spares = tt }
 
-  -- what is missing for such a cause
+  -- a missing value with a cause other than a failed stream
   pub fine_missing : (cause : Fault) → NotFailed cause → Fine {X = X} (Missing cause)
   fine_missing cause h = record { spares = h }
 
-  -- what is bad for such a cause
+  -- a bad text with a cause other than a failed stream
   pub fine_bad : (cause : Fault) (upto : Text) → NotFailed cause → Fine {X = X} (Bad cause upto)
   fine_bad cause upto h = record { spares = h }
 
@@ -36,13 +36,13 @@ module _ {X : Type 0} where
   fine_either true o p h k = h
   fine_either false o p h k = k
 
-  -- the same behind a text that was read
+  -- the same after a prefix that was taken
   pub fine_prefixed : (t : Text) (o : Outcome X) → Fine o → Fine (prefixed t o)
   fine_prefixed t (Read x taken rest) h = fine_read _ _ _
   fine_prefixed t (Missing cause) h = fine_bad cause t h.spares
   fine_prefixed t (Bad cause upto) h = fine_bad cause _ h.spares
 
-  -- the same behind a lead
+  -- the same after a lead
   pub fine_behind : (lead : Text) (o : Outcome X) → Fine o → Fine (behind lead o)
   fine_behind [] o h = h
   fine_behind (c ∷ lead) o h = fine_prefixed (c ∷ lead) o h

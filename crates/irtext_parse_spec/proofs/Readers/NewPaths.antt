@@ -1,4 +1,4 @@
--- What reading a location does to a context, one reading behind another: it may keep more paths.
+-- What the parse of a location does to a context, one parser after another: it may keep more paths.
 use Rattle.std.proofs.Common.{◌∙◌, ap, refl, ℕ}
 use Rattle.irtext_context.specs.Context.{ContextView, KeepsOlder, with_paths}
 use Rattle.irtext_graph.proofs.Made.{same_keeps}

@@ -21,7 +21,7 @@ use Rattle.irtext_parse_spec.proofs.Exact.Outside.{outside_read}
 use Rattle.irtext_parse_spec.proofs.Resume.Frames.{tells_bad}
 use Rattle.irtext_parse_spec.proofs.Knot.Loops.{tells_found}
 
--- ---- which steps are in front of the first region
+-- ---- which steps are before the first region
 pub in_front : (step : Step) (ss : List Step) → is_flat step ≡ true → (front_steps (step ∷ ss) ≡ step ∷ front_steps ss) × (region_steps (step ∷ ss) ≡ region_steps ss)
 in_front (flat d) ss e = (refl, refl)
 in_front types ss e = (refl, refl)
@@ -34,8 +34,8 @@ behind_front types ss e = absurd (cc)
 behind_front (one i) ss e = (refl, refl)
 behind_front all ss e = (refl, refl)
 
--- ---- the front as one reading
--- white space and what stands behind it are the text
+-- ---- the front as one parser
+-- white space and what follows it are the text
 splits_behind_space : {X : Type 0} {reader : Reader X} → Splits reader → Splits (space_at ▷ reader)
 splits_behind_space {reader = reader} h = splits_followed space_at (λ _. reader) splits_space (λ _. h)
   where
@@ -57,7 +57,7 @@ module _ {X Y S : Type 0} (s : S) (next : X → Text → Reached Y S) where
   tells_prefixed taken rest text (Missing cause) e = ap (Stopped s cause) (omega (arith, e))
   tells_prefixed taken rest text (Bad cause upto) e = ap (Stopped s cause) (omega (arith, e, length-append taken upto))
 
--- one thing and another behind it are told one behind the other
+-- one value required after another, as one requirement or as two
 tells_followed : {W X Y S : Type 0} (o : Outcome W) (k : W → Text → Outcome X) (text : Text) (s : S) (next : X → Text → Reached Y S) → ((w : W) (taken rest : Text) → o ≡ Read w taken rest → taken ++ rest ≡ text)
     → tells (followed o k) text s next ≡ tells o text s (λ w rest. tells (k w rest) rest s next)
 tells_followed (Read w taken rest) k text s next h = tells_prefixed s next taken rest text (k w rest) (omega (arith, ap length (h w taken rest refl), length-append taken rest))

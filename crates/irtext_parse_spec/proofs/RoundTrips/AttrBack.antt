@@ -20,7 +20,7 @@ use Rattle.irtext_grammar.specs.Spelling.AttrText.{attr_text, IsSpellableAttr}
 use Rattle.irtext_grammar.specs.Spelling.Spellable.{Each, IsIdentifier, IsGiven}
 use Rattle.irtext_grammar.specs.Spelling.Spell.{joined, joined_from, comma, or_question}
 
--- what is behind a front does not begin so
+-- what follows the longest prefix of such characters does not begin with one
 after_begins : (test : ℕ → Bool) (text : Text) → begins test (after test text) ≡ false
 after_begins test [] = refl
 after_begins test (c ∷ text) = elim (test c) as (λ b. test c ≡ b → begins test (cond b (after test text) (c ∷ text)) ≡ false) [ true ↦ (λ e. after_begins test text) | false ↦ (λ e. e) ] refl
@@ -36,7 +36,7 @@ word_back n f w e = identifier_at-identifier n (n ++ f) f (identifier_begins n f
 word_no_question : (c : ℕ) → begins_word c ≡ true → the 63 c ≡ false
 word_no_question c e = grind (arith, nat_tests)
 
--- where a word begins, no `?` stands
+-- where a word begins, the text does not begin with `?`
 pub no_question : (text : Text) → begins begins_word text ≡ true → begins (the 63) text ≡ false
 no_question [] e = refl
 no_question (c ∷ text) e = word_no_question c e
@@ -46,12 +46,12 @@ name_back : (x : Option Text) (f : Text) → IsGiven x → begins in_word f ≡ 
 name_back None f h e = refl
 name_back (Some n) f h e = rw (no_question (n ++ f) (identifier_begins n f h), word_back n f h e) refl
 
--- white space that does not stand there
+-- a text that does not begin with white space has an empty prefix of it
 no_space : (f : Text) → begins is_whitespace f ≡ false → (front is_whitespace f ≡ []) × (after is_whitespace f ≡ f)
 no_space [] e = (refl, refl)
 no_space (c ∷ f) e = rw e (refl, refl)
 
--- no white space stands in front of a given name
+-- a given name does not begin with white space
 name_tight : (x : Option Text) (f : Text) → IsGiven x → after_space (or_question x ++ f) ≡ or_question x ++ f
 name_tight None f h = refl
 name_tight (Some n) f h = word_tight (n ++ f) (identifier_begins n f h)
