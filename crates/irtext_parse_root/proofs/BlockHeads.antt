@@ -54,7 +54,7 @@ use Rattle.irtext_parse_nested.proofs.Marking.{not_noted, noted_before}
 use Rattle.irtext_parse_root.proofs.Failing.{head_honest}
 use Rattle.irtext_parse_root.specs.Block.{outside_with, FailsOutside, MissesBlock, no_header, by_header, first_reserved, noted_twice}
 
--- ---- where no `^` stands, and where one does
+-- ---- where the text does not begin with `^`, and where it does
 stays_prefixed : {X : Type 0} (t : Text) (o : Outcome X) → demanded (prefixed t o) ≡ prefixed t o
 stays_prefixed t (Read x taken rest) = refl
 stays_prefixed t (Missing cause) = refl
@@ -78,7 +78,7 @@ no_caret : (text : Text) → begins (the 94) text ≡ false → word (codes "^")
 no_caret [] e = refl
 no_caret (c ∷ t) e = ap (λ b. cond b (prefixed (c ∷ []) (spelled_at (codes "^") [] t)) (Missing (Unexpected (Some c) (Word (codes "^"))))) e
 
--- a header without a part, where none was read
+-- an empty header, for when none was parsed
 nothing_read : {T A : Type 0} → Head ℕ T A
 nothing_read = record { label = record { place = 0; text = [] }; arguments = []; attributes = None; mark = None }
 
@@ -93,7 +93,7 @@ module _ {T A : Type 0} (types_at : Text → Outcome T) (attr : Text → Outcome
   head_missing text e = misses_first (label_at text) _ _ (ap (mapped (name_of (length text))) (misses_first (word (codes "^") text) _ _ (no_caret text e)))
 
   module _ {Y : Type 0} {Means : Y → Head ℕ T A → Type 0} (old new : StreamView) (fine : old.failed ≡ false) where
-    -- what must be a header where a `^` stands may be one
+    -- if the text begins with `^`, the parser that requires a header returns what the optional one does
     pub begun_mean : (r : Result Y (ParseFault A)) → begins (the 94) old.rest ≡ true → MustMean itself replaced Means (head_at types_at attr) old r new → MayMean itself replaced Means (head_at types_at attr) old r new
     begun_mean r e h =
         let o = head_at types_at attr old.rest in
@@ -107,7 +107,7 @@ module _ {T A : Type 0} (types_at : Text → Outcome T) (attr : Text → Outcome
       read = record { answers = subst (λ b. Answers itself replaced (λ (y : Y). nothing_read) (unless_failed b (head_at types_at attr old.rest)) old (Err fault) new) (sym fine) h };
     }
 
-    -- no `^` stands there
+    -- the text does not begin with `^`
     pub none_begins : (fault : ParseFault A) → begins (the 94) old.rest ≡ false → Passes itself replaced (Unexpected (first_of old.rest) (Word (codes "^"))) old fault new → MayMean {Y = Y} itself replaced Means (head_at types_at attr) old (Err fault) new
     none_begins fault e h = unread fault (inr (subst (λ o. Refuses itself replaced o old fault new) (sym (head_missing old.rest e)) h))
 
@@ -117,7 +117,7 @@ module _ {T A : Type 0} (types_at : Text → Outcome T) (attr : Text → Outcome
 
 -- ---- what is wrong with a header
 module _ {A : Type 0} (text : Text) (fault : ParseFault A) where
-  -- what is first behind these indices
+  -- the first failure after these indices
   abbrev First : List ℕ → List (Act Text ℕ) → Type 0
   First marks acts = IsFirst text (failures same_text (outside_with marks) (does_all acts done)) fault
 
@@ -133,7 +133,7 @@ module _ {A : Type 0} (text : Text) (fault : ParseFault A) where
       let k = bad refl in
       subst (λ b. KeyWith e.0 later b (marks ++ [])) (sym (ap₂ block_may_hold (sym i.0.named) (sym i.1) ∙ is)) (k.because ∙ ap causes.ReservedKey i.0.named, stands_there i.0.place k.place)
 
-  -- a key that is reserved, or what stands behind the keys
+  -- a key that is reserved, or the first failure after the keys
   keys_first : (marks : List ℕ) (more : List (Act Text ℕ)) (rs : List (Key × AttrObj A)) (es : List (Name ℕ × Attribute A)) → Each (IsEntry text) rs es → ((key : Key) → first_reserved rs ≡ Some key → IsKeyFault text key fault)
       → (first_reserved rs ≡ None → First marks more) → First marks (map (key_act block_may_hold) es ++ more)
   keys_first marks more [] [] i some none = none refl
@@ -144,7 +144,7 @@ module _ {A : Type 0} (text : Text) (fault : ParseFault A) where
       (λ bad. some r.0 (ap (λ b. cond b (first_reserved rs) (Some r.0)) bad))
       (λ good. let shown : first_reserved (r ∷ rs) ≡ first_reserved rs = ap (λ b. cond b (first_reserved rs) (Some r.0)) good in keys_first marks more rs es i.1 (λ key f. some key (shown ∙ f)) (λ f. none (shown ∙ f)))
 
-  -- a name that stands outside of each scope
+  -- a name outside of every scope
   outside_is : (names : List Text) (read : ReadName) (w : Name ℕ) → StandsFor names text read w → IsFaultOf names text causes.NoActiveScope read fault → IsOf text (record { cause = script.NoActiveScope w.text; at = Some w.place }) fault
   outside_is names read w s f = (f.because ∙ ap causes.NoActiveScope (some_same (sym f.named ∙ s.named)), stands_there s.place f.place)
 
@@ -165,7 +165,7 @@ module _ {A : Type 0} (text : Text) (fault : ParseFault A) where
       let there : lookup (same_index m.index) noted ≡ Some y = subst (λ j. lookup (same_index j) noted ≡ Some y) i.indexed e in
       subst (MarkWith m more (indices_of noted)) (sym (noted_before m.index noted (λ f. cc (f, there)))) (k.0 ∙ ap causes.DuplicateIndex i.indexed, stands_there i.place k.1)
 
-  -- a mark whose index is noted already, or what stands behind it
+  -- a mark whose index is already recorded, or the first failure after it
   mark_first : {X : Type 0} (noted : List (ℕ × X)) (more : List (Act Text ℕ)) (read : Option ReadMark) (m : Option (Mark ℕ)) → IsMarkIf text read m → ((k : ReadMark) → noted_twice read noted ≡ Some k → SaysTwice k)
       → (noted_twice read noted ≡ None → (marks : List ℕ) → First marks more) → First (indices_of noted) (mark_acts m ++ more)
   mark_first noted more None None i some none = none refl (indices_of noted)
@@ -175,7 +175,7 @@ module _ {A : Type 0} (text : Text) (fault : ParseFault A) where
       one_mark noted more r m i (lookup (same_index r.index) noted) refl (λ f. some r (ap (λ b. cond b (Some r) None) f)) (λ f. none (ap (λ b. cond b (Some r) None) f))
 
   module _ {T : Type 0} (names : List Text) (read : BlockHead T A) (head : Head ℕ T A) (is : IsHead names text read head) where
-    -- the acts behind the keys, and behind the arguments
+    -- the acts after the keys, and after the arguments
     abbrev late : List (Act Text ℕ)
     late = mark_acts head.mark ++ define_label (word_of head.label) (block_at []) ∷ []
 
@@ -230,7 +230,7 @@ module _ {A : Type 0} where
   entry_passes (x ∷ es) zero e g h = ap (λ b. cond b (first_reserved es) (Some x.0)) (subst (λ (z : Key × AttrObj A). block_may_hold z.0.name (attribute_of z.1) ≡ true) (sym (some_same g)) h)
   entry_passes (x ∷ es) (suc i) e g h = entry_passes es i e g h
 
-  -- an entry that may stand there is passed
+  -- an entry that is allowed is passed
   pub passes_entry : (es : List (Key × AttrObj A)) (i : ℕ) (e : Key × AttrObj A) → slice_get es i ≡ Some e → block_may_hold e.0.name (attribute_of e.1) ≡ true → first_reserved (drop (i + 1) es) ≡ first_reserved (drop i es)
   passes_entry es i e g h = let same : suc i ≡ i + 1 = omega arith in subst (λ k. first_reserved (drop k es) ≡ first_reserved (drop i es)) same (sym (entry_passes es i e g h))
 
@@ -241,7 +241,7 @@ module _ {A : Type 0} where
       ap (λ b. cond b (first_reserved es) (Some x.0)) (subst (λ (z : Key × AttrObj A). block_may_hold z.0.name (attribute_of z.1) ≡ false) (sym (some_same g)) h) ∙ ap (λ (z : Key × AttrObj A). Some z.0) (some_same g)
   stops_entry (x ∷ es) (suc i) e g h = stops_entry es i e g h
 
-  -- behind the last one none is left
+  -- after the last one none is left
   pub none_left : (es : List (Key × AttrObj A)) (i : ℕ) → length es ≤ i → first_reserved (drop i es) ≡ None
   none_left [] zero l = refl
   none_left [] (suc i) l = refl
@@ -261,12 +261,12 @@ argument_within names text [] hs first i e = absurd (cc)
 argument_within names text (r ∷ rs) [] first i e = absurd i
 argument_within names text (r ∷ rs) (h ∷ hs) first i e = subst (λ z. z.0.name < length names) (some_same e) (named_within names r.0.name h.0.text i.0.0.named)
 
--- names are words where there is none
+-- where there are no names, all names are identifiers
 pub no_words : {names : List Text} → names ≡ [] → (i : ℕ) (t : Text) → slice_get names i ≡ Some t → is_identifier t ≡ true
 no_words e i t f = let g = subst (λ ns. slice_get ns i ≡ Some t) e f in absurd (cc)
 
 module _ {T A : Type 0} (types_at : Text → Outcome T) (attr : Text → Outcome (AttrView A)) (names : List Text) (old : StreamView) (fine : old.failed ≡ false) where
-  -- a header was read: it stands in the text, and the stream behind it
+  -- a header was parsed: the text begins with it, and the stream is after it
   pub record HeadRead (read : BlockHead T A) (new : StreamView) : Type 0 where
     pub head : Head ℕ T A
     pub taken : Text

@@ -34,7 +34,7 @@ abbrev StuckFine : {X S : Type 0} → Reached X S → Type 0
 StuckFine (Advanced x s rest) = Unit {0}
 StuckFine (Stopped s cause place) = NotFailed cause
 
--- it is stuck at no such cause
+-- it is not stuck at such a cause
 record Never {X S : Type 0} (o : Reached X S) : Type 0 where
   pub says : StuckFine o
 
@@ -243,7 +243,7 @@ module _ {T A : Type 0} (types_at : Text → Outcome T) (reading : Text → Outc
     never_within (suc n) iso text s = never_region _ (λ rest t.
         never_blocks _ (never_block _ (never_operations _ (never_operation (region_within dialects types_at attr does n) (never_within n)))) (length rest) rest t) iso text s
 
-    -- a region's reader is stuck at no such cause
+    -- a region's parser is not stuck at such a cause
     pub region_never_failed : (iso : Bool) (text : Text) (s t : S) (cause : Fault) (place : ℕ) → region_at dialects types_at attr does iso text s ≡ Stopped t cause place → cause ≡ Failed → ⊥
     region_never_failed iso text s t cause place e = (subst Never e (never_within (suc (length text)) iso text s)).says
 

@@ -1,4 +1,4 @@
--- The loop: turns are put one behind the other, till nothing is open; or a fault stands behind them.
+-- The loop: turns are put one after another, until no frame is open; or a fault follows them.
 use Rattle.std.proofs.Common.{◌≡◌, ◌<◌, ℕ, List, [], ◌∷◌, length, Option, Some, None, refl, sym, subst, arith, le_refl}
 use Rattle.irtext_base.specs.Locations.{AttrView}
 use Rattle.irtext_base.specs.declared.parsable.fault.ParseFault.{ParseFault}
@@ -78,7 +78,7 @@ module _ {T A U : Type 0} (types_at : Reader T) (attr : Reader (AttrView A)) (n0
         let labels = there.labels in
         (omega (arith, values), omega (arith, labels), subst (λ z. Turned types_at attr s0.state.ctx.now.dialects s0.state.src (whole s0.stream) base ls n0 s0 z n1 s1) e a.turned)
 
--- where nothing was done, what is older stands
+-- where no action was performed, older objects are unchanged
 pub keeps_itself : {T A : Type 0} (m : ℕ) (c : ContextView T A) → KeepsOlder m c c
 keeps_itself m c = record {
   graph = record { operations = λ p. refl; blocks = λ p. refl; regions = λ p. refl; made = le_refl c.graph.made; values = le_refl c.graph.values; first_place = refl };

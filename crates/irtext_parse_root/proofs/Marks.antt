@@ -86,7 +86,7 @@ below_all high n x [] f i = absurd i
 below_all high n x (e ∷ es) f (inl s) = let k = f.0 in let l = ap (λ z. z.0) s in omega (arith, k, l)
 below_all high n x (e ∷ es) f (inr i) = let k = below_all e.0 n x es f.1 i in let l = f.0 in omega (arith, k, l)
 
--- one thing stands at a number
+-- at most one element has a number
 one_there : {X : Type 0} (high n : ℕ) (x y : X) (es : List (ℕ × X)) → Fall high (map (λ e. e.0) es) → Among (n, x) es → Among (n, y) es → x ≡ y
 one_there high n x y [] f i j = absurd i
 one_there high n x y (e ∷ es) f (inl s) (inl t) = ap (λ z. z.1) s ∙ sym (ap (λ z. z.1) t)
@@ -220,7 +220,7 @@ not_true : (a : Bool) → not a ≡ true → a ≡ true → ⊥
 not_true true e f = cc
 not_true false e f = cc
 
--- where no index stands twice, each is looked up
+-- if no index occurs twice, each is looked up
 pub found_there : {X : Type 0} (i : ℕ) (x : X) (ns : List (ℕ × X)) → distinct ◌==◌ (map (λ n. n.0) ns) ≡ true → Among (i, x) ns → lookup (same_index i) ns ≡ Some x
 found_there i x [] d a = absurd a
 found_there i x (n ∷ ns) d (inl e) =

@@ -49,7 +49,7 @@ module _ {T A U : Type 0} (types_at : Reader T) (attr : Reader (AttrView A)) (be
 
   -- ---- it was read
   module _ (op : Ptr Operation) (names : Names) (new : StateStream T A U) (r : ReadsNested types_at attr before old op names new) where
-    -- where the machine stands behind it
+    -- the state of the machine after it
     pub at_end : (path : ℕ → Path) → (z : Outcome) × StandsAs path (r.made ++ []) [] names new.state z
         × (operation_at dialects types_at attr (doing dialects path) true old.stream.rest (going (start_with earlier)) ≡ Advanced tt z new.stream.rest)
     at_end path = r.runs path [] (going (start_with earlier)) (begun_stands before old.state no_names no_values no_labels path)

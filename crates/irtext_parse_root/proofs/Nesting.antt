@@ -128,7 +128,7 @@ module _ {T A U : Type 0} (types_at : Reader T) (reading : Reader A) (h : Splits
       carried = tt;
     }
 
-    -- less stands behind it
+    -- the rest after it is shorter
     begun_falls : Falls (length old.stream.rest) (item ∷ []) (length s1.stream.rest)
     begun_falls =
         let q = bg.begins.read in

@@ -93,7 +93,7 @@ step_none (y ∷ xs) zero e = absurd (cc e)
 step_none (y ∷ xs) (suc n) e = step_none xs n e
 
 module _ {T A : Type 0} (names : List Text) (text : Text) (ctx : ContextView T A) (b next : BegunOperation) (o : OpenOperation T A) where
-  -- a region was read: the operation goes on behind it
+  -- a region was parsed: the operation goes on after it
   pub begun_region : (step : Step) (ss : List Step) (part : Part ℕ T A) → o.steps ≡ step ∷ ss → next ≡ record b { coming = None; step = b.step + 1 } → HasNoType part → IsBegun names text ctx b o
       → IsBegun names text ctx next (with_steps o ss (o.parts ++ part ∷ []))
   begun_region step ss part e is none h = subst (λ z. IsBegun names text ctx z (with_steps o ss (o.parts ++ part ∷ []))) (sym is) (record {

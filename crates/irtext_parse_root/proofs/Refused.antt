@@ -54,7 +54,7 @@ refusal_by old mid fault says unread = record {
 }
 
 module _ {T A U : Type 0} (names : Names) (s : code.State T A U) (no_names : names.names ≡ []) (no_values : names.values ≡ []) (no_labels : names.labels ≡ []) where
-  -- the machine stands behind no name, where these marks are noted
+  -- the state of the machine before any name, with these marks recorded
   abbrev begun : State
   begun = start_with (indices_of (marks_of s))
 

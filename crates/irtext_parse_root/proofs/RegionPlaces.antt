@@ -1,5 +1,5 @@
--- The places of a region's items fall along the text that reads as its blocks, so each item has a place of its own, and a function from
--- places to paths says where each stands.
+-- The places of a region's items decrease along the text that is parsed as its blocks, so each item has a place of its own, and a function
+-- from places to paths gives each item's path.
 use Rattle.std.proofs.Common.{◌≡◌, ℕ, suc, length, Option}
 use Rattle.irtext_base.specs.Text.{Text}
 use Rattle.irtext_base.specs.Format.{Format, Id}

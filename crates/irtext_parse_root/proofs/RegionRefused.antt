@@ -84,7 +84,7 @@ no_failure (script.UnknownPrintOnce i) cause h e = cc (h, e)
 no_failure (script.ReservedKey k) cause h e = cc (h, e)
 
 -- ---- the operation
--- where no location is told of it, an operation that is there is isolated
+-- if no location is reported for it, a live operation is isolated
 is_closed : {X : Type 0} (b : Bool) (x : X) → cond b None (Some x) ≡ None → b ≡ true
 is_closed true x e = refl
 is_closed false x e = absurd (cc)
@@ -104,12 +104,12 @@ closed_id {T} {A} c op here none = go (operation c op) here none
     go None h n = absurd (cc)
     go (Some view) h n = (id_of view.id, is_closed (isolated c.dialects (id_of view.id)) view.loc n)
 
--- where a position is answered, the operation stands there, and is not isolated
+-- if a position is reported, the operation has a location, and is not isolated
 pub reported : {A : Type 0} (loc : Option (Location A)) (pos : SourcePosition) → IsReportedAt loc (Some pos) → (l : Location A) × (loc ≡ Some l) × alone.IsOutermost l pos
 reported None pos h = absurd h
 reported (Some l) pos h = (l, refl, h)
 
--- where none is, it is isolated
+-- if none is reported, it is isolated
 pub unreported : {A : Type 0} (loc : Option (Location A)) → IsReportedAt loc None → loc ≡ None
 unreported None h = refl
 unreported (Some l) h = absurd h

@@ -1,4 +1,4 @@
--- What may stand in an entry by the items that carry marks is what may stand there by the tree.
+-- What is allowed in an entry by the items that carry marks is what is allowed by the tree.
 use Rattle.std.proofs.Common.{◌≡◌, ◌∙◌, ◌==◌, ◌⊎◌, ℕ, Bool, true, false, cond, List, [], ◌∷◌, ◌++◌, map, Option, Some, None, refl, sym, ap, subst, inl, inr, arith}
 use Rattle.std.specs.Prelude.{nat_eq}
 use Rattle.std.specs.Map.{lookup}

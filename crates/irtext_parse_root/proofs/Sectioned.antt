@@ -1,4 +1,4 @@
--- The promise of a root, from what the reading of its operation leaves, with the section behind it or without one.
+-- The promise of a root, from the result of parsing its operation, with a section after it or without one.
 use Rattle.std.proofs.Common.{◌≡◌, ◌∙◌, ◌==◌, ℕ, suc, true, false, List, [], ◌∷◌, ◌++◌, map, length, Option, Some, refl, sym, ap, subst, inl, inr}
 use Rattle.irtext_base.specs.Text.{Text}
 use Rattle.irtext_base.specs.Format.{distinct, Id}
@@ -150,7 +150,7 @@ module _ {T A U : Type 0} (types_at : Text → Outcome T) (types_written : T →
   whole_without = root_whole mid.state.ctx.now (first_of mid.state.ctx.now) [] op t
       (root_has L mid.state.ctx.now m.leaves.items (first_of mid.state.ctx.now) tells_first (pointers mid.state.ctx.now.graph op) t (is_tree (first_of mid.state.ctx.now)))
 
-  -- so does a root without a mark, behind which none is looked for
+  -- so does a root without a mark, after which no section is looked for
   pub root_unmarked : marks_of mid.state ≡ [] → BuildsRoot (texts_of types_at types_written) (texts_of reading written) (attr_at reading) op old mid
   root_unmarked none =
       let bare : marked t ≡ false = sym is_marked ∙ ap (λ (ms : List (ℕ × Item)). is_noted (indices_of ms)) none in
@@ -178,11 +178,11 @@ module _ {T A U : Type 0} (types_at : Text → Outcome T) (types_written : T →
     resolves_it : resolves.Resolves (isolated dialects) {X = Written A} t []
     resolves_it = resolved.resolves (isolated dialects) t [] (trees.whole (knot.L types_at types_written reading written dialects) (λ p q h. h) t old.stream.rest mid.stream.rest reads_it) tree_resolves
 
-    -- no mark stands twice
+    -- no mark occurs twice
     apart : distinct ◌==◌ (map (λ n. n.0) (marks_in t)) ≡ true
     apart = ap (distinct ◌==◌) (marks_are (isolated dialects) t) ∙ resolves_it.marks
 
-    -- what may stand in the entry of an item by its mark is what may stand there by the tree
+    -- what is allowed in the entry of an item by its mark is what is allowed by the tree
     same_rules : rules_of marks ≡ rule_of t
     same_rules = rules_are L mid.state.ctx.now m.leaves.items (pointers mid.state.ctx.now.graph op) t (is_tree (first_of mid.state.ctx.now)) marks m.carried (length old.stream.rest) (length mid.stream.rest) m.falls apart
 

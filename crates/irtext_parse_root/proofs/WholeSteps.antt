@@ -1,4 +1,4 @@
--- The end of a whole text, and what is left in front of it.
+-- The end of a whole text, and the text before it.
 use Rattle.std.proofs.Common.{◌≡◌, ◌∙◌, ◌-◌, ℕ, true, false, Option, Result, Ok, Err, [], ◌∷◌, ◌++◌, length, take, refl, sym, ap, subst, inl, inr, append-nil, append_assoc, is_some, true≢false}
 use Rattle.std.specs.Prelude.{OnOk}
 use Rattle.std.specs.Char.{is_whitespace}
@@ -39,7 +39,7 @@ none_first [] o e h = refl
 none_first (c ∷ text) o e h = absurd (true≢false (sym (ap is_some e) ∙ h))
 
 module _ {old new : StreamView} (passes : Takes itself replaced (front is_whitespace old.rest) (after_space old.rest) old new) (next : Option ℕ) (is_next : next ≡ first_of new.rest) where
-  -- what stands behind the white space
+  -- what follows the white space
   behind : new.rest ≡ after_space old.rest
   behind = ap (λ v. v.rest) passes.is
 
@@ -99,7 +99,7 @@ module _ {T A U : Type 0} (types_at : Text → Outcome T) (attr : Text → Outco
   misses_whole fault same (inr (wrong_section noted f)) = inr (no_root (any.no_section op mid tree noted f))
   misses_whole fault same (inr (not_ended rest is e)) = inr (more_left op mid tree rest is (subst (λ text. ExpectsEnd text rest fault) same e))
 
--- no root stood there, so no whole text
+-- no root was parsed, so no whole text
 pub whole_refused : {T A U : Type 0} (types : Texts T) (owns : Texts A) (types_at : Text → Outcome T) (attr : Text → Outcome (AttrView A)) {old : StateStream T A U} {fault : ParseFault A} → UnlessMemory (RefusesRoot types owns types_at attr old.state.ctx.now.dialects old.stream) fault → UnlessMemory (RefusesWhole types owns types_at attr old) fault
 whole_refused types owns types_at attr (inl e) = inl e
 whole_refused types owns types_at attr (inr h) = inr (inl h)

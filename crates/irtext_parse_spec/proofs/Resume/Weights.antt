@@ -66,7 +66,7 @@ module _ {T A : Type 0} where
   weighs (a_block true) = omega arith
   weighs (a_block false) = omega arith
 
-  -- ---- where some of the text is consumed, and where none need be
+  -- ---- where some of the text is consumed, and where the text may be unchanged
   module _ (k : ℕ) (next next' : Option (Open T A)) (frames frames' : List (Open T A)) (t t' : Text) where
     nearer_read : length t' < length t → to_do next' frames' < to_do next frames + k → work k next' frames' t' < work k next frames t
     nearer_read l w = let m = mul-le-mul_left k l in let n = mul-suc k (length t') in omega (arith, m, n, w)

@@ -60,7 +60,7 @@ returns-in_err-entries-clause-kept g c = λ mark n. adds_kept mark c.in_err-entr
 pub returns-in_err-entries-clause-unchanged : goal.returns-in_err-entries-clause-unchanged
 returns-in_err-entries-clause-unchanged g c = λ mark n. rw (handed_on c.from_residual.result c.from_residual.ensures.1) (adds_kept mark c.in_err-entries.ensures.adds)
 
--- ---- the text goes on behind it
+-- ---- the text goes on after it
 pub returns-in_err-end_demanded-clause-missed : goal.returns-in_err-end_demanded-clause-missed
 returns-in_err-end_demanded-clause-missed g c = λ fine.
     let old = c.args.s.now in
