@@ -43,7 +43,7 @@ module _ {T A : Type 0} (content : List (Text × Attribute A)) (a b : ContextVie
       → n ≡ label_in None content → EditsBlock a b p (with_block_attributes next) → Stores content (item.Block p) n a b
   block_swapped_in p n next there h l e = branch_true _ (is_some (block a p)) there (record { left = next; edits = e; stored = λ view is. h view.attributes (ap (option_map (λ b. b.attributes)) is) }, l)
 
--- a row that goes on behind one of its items
+-- a list split after one of its items
 joined : {X : Type 0} (xs : List X) (x : X) (left : List X) → xs ++ x ∷ left ≡ (xs ++ x ∷ []) ++ left
 joined [] x left = refl
 joined (y ∷ xs) x left = ap (λ z. y ∷ z) (joined xs x left)

@@ -1,4 +1,4 @@
--- What was read of entries stands for those of the text: one entry more, over the paths that are kept then.
+-- What was parsed of entries represents those of the text: one entry more, over the paths that are kept then.
 use Rattle.std.proofs.Common.{◌≡◌, ◌∙◌, ℕ, Bool, true, false, cond, not, ◌&&◌, ◌||◌, ◌==◌, nat_eq, is_some, List, [], ◌∷◌, ◌++◌, length, Option, Some, None, refl, sym, ap, ap₂, subst, append-nil, true≢false, arith}
 use Rattle.std.proofs.lemmas.Bool.Decides.{nat_tests}
 use Rattle.std.specs.Map.{lookup}
@@ -150,7 +150,7 @@ module _ {A : Type 0} where
     given_same (Some l) h = ap Some (written_same p q k (location_view l) h)
 
   module _ (marks : List (ℕ × Item)) (text : Text) where
-    -- they stand for the same over more paths
+    -- they represent the same over more paths
     items_on : (p q : List (List ℕ)) → KeepsPaths p q → (items : List (ItemEntry A)) (es : List (Entry ℕ A (Written A))) → AreItems marks p text items es → AreItems marks q text items es
     items_on p q k items [] h = h
     items_on p q k items (of_once m a ∷ es) h = items_on p q k items es h
@@ -242,7 +242,7 @@ none_there None e = refl
 none_there (Some x) e = absurd (true≢false e)
 
 module _ {A : Type 0} (attr : Text → Outcome (AttrView A)) (rules : ℕ → Rule A) where
-  -- what stands behind an entry's head
+  -- what follows an entry's head
   abbrev behind_head : Mark ℕ → Text → Outcome (Entry ℕ A (Written A))
   behind_head m t = cond (begins_given t) (mapped (λ g. of_item m g.0 g.1) (given_at attr (rules m.index) t)) (mapped (of_once m) (attribute_at attr t))
 

@@ -34,7 +34,7 @@ use Rattle.irtext_parse_section.specs.declared.said.ReadEntry.{ReadEntry}
 use Rattle.irtext_parse_section.specs.declared.said.ReadEntry.TheVariants as read
 use Rattle.irtext_parse_section.proofs.HeadSteps.{a_mark}
 
--- what stands behind the head
+-- what follows the head
 abbrev behind_head : {A : Type 0} → (Text → Outcome (AttrView A)) → (ℕ → Rule A) → Mark ℕ → Text → Outcome (Entry ℕ A (Written A))
 behind_head attr rules m t = cond (begins_given t) (mapped (λ g. of_item m g.0 g.1) (given_at attr (rules m.index) t)) (mapped (of_once m) (attribute_at attr t))
 

@@ -1,5 +1,5 @@
--- What takes no memory may come before what does: a location or a label that is set behind attributes that were put in might as well
--- have been set before them.
+-- A step that takes no memory may precede one that does: a location or a label that is set after attributes were put in might as well have
+-- been set before them.
 use Rattle.std.proofs.Common.{◌≡◌, ◌∙◌, inl, inr, Bool, true, false, cond, is_some, List, Option, Some, None, refl, sym, ap, subst}
 use Rattle.std.specs.Option.{option_map}
 use Rattle.std.specs.Prelude.{option_and_then}
@@ -29,7 +29,7 @@ use Rattle.irtext_parse_section.proofs.Swaps.{operations_swapped, blocks_swapped
 abbrev pub Attributes : Type 0 → Type 0
 Attributes A = List (Text × AttrObj A)
 
--- an operation's attributes, where it stands
+-- an operation's attributes, if it is live
 abbrev pub attributes_at : {T A : Type 0} → ContextView T A → Ptr Operation → Option (Attributes A)
 attributes_at c p = option_map (λ op. op.attributes) (operation c p)
 
@@ -47,7 +47,7 @@ module _ {T A : Type 0} (a b : ContextView T A) where
     stands_still None = refl
     stands_still (Some x) = stands_in x x.content.content.data_of
 
-    -- whatever is done to an operation's data, what stood stands, and nothing else does
+    -- whatever edit is made of an operation's data, the same operations are live
     pub operation_stands : (q : Ptr Operation) → is_some (operation b q) ≡ is_some (operation a q)
     operation_stands q = elim (ptr_or q p) [
       | inl f ↦ ap (λ z. is_some (operation b z)) f
@@ -199,7 +199,7 @@ module _ {T A : Type 0} (content : List (Text × Attribute A)) (n : Option Text)
           let d : EditsBlock a c q h = subst (λ z. EditsBlock z c q h) k e in
           (c, d, taken_false _ (is_some (block c p)) (block_stands a c q h d p ∙ f) refl)
 
-  -- attributes that are put into one item change nothing of what stands
+  -- putting attributes into one item does not change which objects are live
   operation_there : (x : Item) (a b : ContextView T A) → Stores content x n a b → (q : Ptr Operation) → is_some (operation b q) ≡ is_some (operation a q)
   operation_there (item.Operation p) a b r q = go (is_some (operation a p)) r
     where

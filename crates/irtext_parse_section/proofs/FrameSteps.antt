@@ -81,7 +81,7 @@ module _ {A : Type 0} where
         (ends alone progress_view (progress.Whole l) (turned alone (λ t. Read (whole (location_view l)) [] t) (ap (λ v. Read (whole v) [] mid.rest) (sym h.0)) p))
 
   module _ (m : Option (AttrView A)) (row : LocationsOf Source A) {old mid : StreamView} (fine : old.failed ≡ false) (space : Takes itself replaced (front is_whitespace old.rest) (after is_whitespace old.rest) old mid) where
-    -- `,` in front of one location more, or the bracket
+    -- `,` before one more location, or the bracket
     abbrev behind_space : Unit {0} → Text → Outcome (ProgressOf Source A)
     behind_space u text = cond (begins (the 44) text) (followed (text_at (codes ",") text) (λ _ t. mapped (λ _. inside (for_row m row)) (space_at t))) (mapped (λ _. whole (fused m row)) (text_at (codes "]") text))
 
@@ -98,7 +98,7 @@ module _ {A : Type 0} where
         turned alone (row_end_at m row)
         (ap (λ z. cond z (followed (text_at (codes ",") mid.rest) (λ _ u. mapped (λ _. inside (for_row m row)) (space_at u))) (mapped (λ _. whole (fused m row)) (text_at (codes "]") mid.rest))) b) spaced_row
 
--- memory is refused for a call site behind its bracket
+-- out of memory for a call site after its bracket
 pub caller_starves : {A B : Type 0} (f : FrameOf Source A) (callee caller : LocationOf Source A) {old mid new : StreamView} {fault : ParseFault B} → f ≡ for_caller callee → old.failed ≡ false
     → MustRead {A = B} {Y = Unit {0}} itself replaced (λ u. u) (spaced_at (codes ")")) old (Ok tt) mid → StarvesHere itself replaced mid fault new → MustRead {Y = Progress A} itself replaced progress_view (behind_at f caller) old (Err fault) new
 caller_starves f callee caller {old = old} {new = new} {fault = fault} e fine h k =
@@ -132,7 +132,7 @@ module _ {S R A : Type 0} (see : S → R) where
       step : Unit {0} → Text → Outcome (ProgressOf S A)
       step u t = cond (begins (the 44) t) (followed (text_at (codes ",") t) (λ _ u. mapped (λ _. inside (for_row m row)) (space_at u))) (mapped (λ _. whole (fused m row)) (text_at (codes "]") t))
 
-  -- what stands behind a location is the same over other sources
+  -- what follows a location is the same over other sources
   behind_natural : (f : FrameOf S A) (l : LocationOf S A) (text : Text) → mapped (progress_sourced see) (behind_at f l text) ≡ behind_at (frame_sourced see f) (sourced see l) text
   behind_natural (for_name name) l text = word_natural (text_at (codes ")") text) (whole (named name l))
   behind_natural for_callee l text = word_natural (spaced_at (codes "at") text) (inside (for_caller l))
@@ -195,7 +195,7 @@ module _ {X : Type 0} {Q : X → Type 0} where
   says_followed (Bad cause upto) k h = says_bad cause upto
 
 module _ {S A : Type 0} where
-  -- what stands behind a location in a frame may end the frame, or lead to the next location in it
+  -- what follows a location in a frame may end the frame, or lead to the next location in it
   abbrev IsNext : FrameOf S A → LocationOf S A → ProgressOf S A → Type 0
   IsNext (for_name name) l p = whole (named name l) ≡ p
   IsNext for_callee l p = inside (for_caller l) ≡ p
@@ -340,7 +340,7 @@ seen_so : {B X Y V : Type 0} {see : Y → X} {sees : Y → V} (k : X → V) {f :
 seen_so {see = see} k {f = f} g {old = old} {new = new} (Ok y) s e h = record { answers = subst (λ v. Gives itself replaced (demanded (unless_failed old.failed (g old.rest))) old v new) (sym (s y)) (gives_so k old new old.failed (f old.rest) (g old.rest) (see y) e h.answers) }
 seen_so k {f = f} g {old = old} {new = new} (Err fault) s e h = record { answers = refuses_so k old new old.failed (f old.rest) (g old.rest) fault e h.answers }
 
--- where the first thing is refused, all is
+-- if the first part is an error, all is
 first_so : {B X V : Type 0} (old new : StreamView) (fault : ParseFault B) (b : Bool) (o : Outcome X) (p : Outcome V) (k : X → Text → Outcome V) → p ≡ followed o k → Starves itself replaced old fault new ⊎ Refuses itself replaced (demanded (unless_failed b o)) old fault new
     → Starves itself replaced old fault new ⊎ Refuses itself replaced (demanded (unless_failed b p)) old fault new
 first_so old new fault b o p k e (inl h) = inl h
@@ -390,7 +390,7 @@ module _ {A : Type 0} (attr : Reader (AttrView A)) (no_more : LeavesNoMore attr)
       ∙ (ap (resumed attr (frames ++ f ∷ [])) (opening_is attr no_more text)
       ∙ resumed_followed (frames ++ f ∷ []) (opening_at attr text) (λ p t. progress_rest attr p t))
 
-  -- what stands behind the location inside a frame
+  -- what follows the location inside a frame
   step_behind : (frames : List (FrameOf (Option (List ℕ)) A)) (f : FrameOf (Option (List ℕ)) A) (l : Written A) (text : Text) → demanded (left_in (frames ++ f ∷ []) (whole l) text) ≡ demanded (followed (behind_at f l text) (left_in frames))
   step_behind frames f l text =
       ap demanded (resumed_pushed frames f (Read l [] text))
@@ -420,7 +420,7 @@ module _ {A : Type 0} (attr : Reader (AttrView A)) (no_more : LeavesNoMore attr)
   not_begun {old = old} h = first_refused (location_at attr) (λ p t. progress_rest attr p t) (opening_is attr no_more old.rest) h.read
 
   module _ {before paths : List (List ℕ)} {old now : StreamView} (frames : List (Frame A)) where
-    -- memory is refused where the stream stands
+    -- out of memory at the stream's position
     pub starves_so_far : {B : Type 0} {p : Progress A} (other : List (List ℕ)) {new : StreamView} {fault : ParseFault B} → SoFar before old paths frames p now → StarvesHere itself replaced now fault new
         → MustRead itself replaced (location_over other) (location_at attr) old (Err fault) new
     starves_so_far other s h = starved alone s.passed h
@@ -461,7 +461,7 @@ module _ {A : Type 0} (attr : Reader (AttrView A)) (no_more : LeavesNoMore attr)
           → MustRead itself replaced (progress_over paths) (behind_at (frame_over paths f) (location_over paths l)) now r new
       over_paths r h = seen_so (progress_sourced (path_of paths)) (behind_at (frame_over paths f) (location_over paths l)) r (λ y. refl) (behind_natural (path_of paths) (frame_view f) (location_view l) now.rest) h
 
-      -- what stands behind the location inside a frame was read
+      -- what follows the location inside a frame was parsed
       pub came_behind : {B : Type 0} {p : Progress A} {new : StreamView} → MustRead {A = B} itself replaced progress_view (behind_at (frame_view f) (location_view l)) now (Ok p) new → SoFar before old paths frames p new
       came_behind {B = B} {p = p} {new = new} h =
           let o = known_popped (length paths) frames f s.open_known in
@@ -498,7 +498,7 @@ module _ {A : Type 0} (attr : Reader (AttrView A)) (no_more : LeavesNoMore attr)
         none (f ∷ fs) e s = absurd (omega (arith, e))
 
   module _ {B : Type 0} (paths : List (List ℕ)) {old new : StreamView} where
-    -- at every bound that the text meets a location is read as at its length
+    -- at every bound that the text is within, a location is parsed as at its length
     read_any : (r : Result (Location A) (ParseFault B)) (depth : ℕ) → length old.rest ≤ depth → MustRead itself replaced (location_over paths) (location_at attr) old r new → MustRead itself replaced (location_over paths) (location_within attr depth) old r new
     read_any r depth h m = record { answers = subst (λ o. Answers itself replaced (location_over paths) (demanded (unless_failed old.failed o)) old r new) (sym (at_any attr no_more depth old.rest h)) m.answers }
 
@@ -510,7 +510,7 @@ module _ {A : Type 0} (attr : Reader (AttrView A)) (no_more : LeavesNoMore attr)
 
 -- ---- several locations as one, as a location that is opened
 module _ {A B : Type 0} (attr : Reader (AttrView A)) {old new : StreamView} where
-  -- where `f` stands and no source, several locations as one are opened
+  -- if the text begins with `f` and no source, a fused location is opened
   pub fused_opens : (paths : List (List ℕ)) {r : Result (Progress A) (ParseFault B)} → begins begins_source old.rest ≡ false → begins (the 102) old.rest ≡ true → MustRead itself replaced progress_view (fused_opening_at attr) old r new
       → MustReadOver known_progress progress_over (opening_at attr) paths old r new
   fused_opens paths {r = r} a b h =
@@ -597,7 +597,7 @@ module _ {A : Type 0} (attr : Reader (AttrView A)) (no_more : LeavesNoMore attr)
   pub opened_shorter : {B : Type 0} {paths : List (List ℕ)} {old new : StreamView} {p : Progress A} → begins begins_source old.rest ≡ false → MustReadOver {A = B} known_progress progress_over (opening_at attr) paths old (Ok p) new → length new.rest < length old.rest
   opened_shorter {paths = paths} {old = old} {new = new} {p = p} n h = let a = answered h.read in opening_shorter old.rest (progress_over paths p) a.taken new.rest n a.is
 
--- what stands behind a location takes a character
+-- what follows a location takes a character
 pub behind_less : {A B : Type 0} (f : FrameOf Source A) (l : LocationOf Source A) {old new : StreamView} {p : Progress A} → MustRead {A = B} itself replaced progress_view (behind_at f l) old (Ok p) new → length new.rest < length old.rest
 behind_less f l {old = old} {new = new} {p = p} h = let a = answered h in behind_shorter f l old.rest (progress_view p) a.taken new.rest a.is
 

@@ -108,7 +108,7 @@ module _ {A : Type 0} where
     unread false (Missing cause) old new fault (inr h) = inr h
     unread false (Bad cause upto) old new fault (inr h) = inr h
 
-    -- no item's entry goes on behind the index
+    -- after the index, the entry does not go on as that of an item
     pub head_short : {old mid : StreamView} {mark : ReadMark} (x : Option Item) → MustMean {A = A} itself replaced (IsMark (whole old)) entry_head_at old (Ok mark) mid → begins_given mid.rest ≡ false
         → MustMean {A = A} itself replaced (IsHead (whole old)) (λ t. tested test (entry_head_at t)) old (Ok (record { mark = mark; item = x })) mid
     head_short {old = old} {mid = mid} {mark = mark} x h e =
@@ -124,7 +124,7 @@ module _ {A : Type 0} where
           read = record { answers = passes test old.failed (entry_head_at old.rest) (h.meant mark) old mid h.read.answers e (subst (λ i. test i ≡ true) h.means.indexed f) };
         }
 
-    -- one goes on whose index does not
+    -- an item's entry goes on, but its index fails
     pub head_fails : {old mid new : StreamView} {mark : ReadMark} {fault : ParseFault A} → MustMean {A = A} itself replaced (IsMark (whole old)) entry_head_at old (Ok mark) mid → begins_given mid.rest ≡ true → test mark.index ≡ false
         → StandsBehind mark.at old.passed → RefusesAt itself replaced (UnknownIndex mark.index) mark.at mid fault new
         → MustMean {A = A} itself replaced (IsHead (whole old)) (λ t. tested test (entry_head_at t)) old (Err fault) new

@@ -53,12 +53,12 @@ rest_stays s = record { src = refl; aux_data = refl }
 pub rest_joins : {T A U : Type 0} {old mid new : State T A U} → KeepsRest old mid → KeepsRest mid new → KeepsRest old new
 rest_joins a b = record { src = b.src ∙ a.src; aux_data = b.aux_data ∙ a.aux_data }
 
--- one entry comes to none
+-- one entry is recorded where none was
 notes_one : {A : Type 0} (e : ReadEntry A) → Notes nothing e (one_noted e)
 notes_one (read.OfItem i e) = (refl, λ _. refl, refl)
 notes_one (read.OfOnce i a) = (refl, refl, refl)
 
--- what one entry comes to, where there was none, is that entry alone
+-- if no entry was recorded before, the record is that entry alone
 pub noted_first : {A : Type 0} (old new : Noted A) (e : ReadEntry A) → old ≡ nothing → Notes old e new → new ≡ one_noted e
 noted_first {A} old new e none n = go e (subst (λ z. Notes z e new) none n)
   where
@@ -72,13 +72,13 @@ noted_first {A} old new e none n = go e (subst (λ z. Notes z e new) none n)
     go (read.OfOnce i a) n = three [] [] ((i, a) ∷ []) n.0 n.1 n.2
 
 module _ {A : Type 0} (attr : Text → Outcome (AttrView A)) where
-  -- less is left behind an entry and its white space
+  -- an entry and its white space consume at least one character
   pub entries_shorter : {E : Type 0} {Means : ReadEntry A → Entry ℕ A (Written A) → Type 0} (test : ℕ → Bool) (rules : ℕ → Rule A) {now mid new : StreamView} {e : ReadEntry A} → MustMean {A = E} itself replaced Means (entry_at attr test rules) now (Ok e) mid
       → Takes itself replaced (front is_whitespace mid.rest) (after is_whitespace mid.rest) mid new → length new.rest < length now.rest
   entries_shorter test rules k left = entry_shorter attr [] rules test k.read left
 
 module _ {T A U : Type 0} (attr : Text → Outcome (AttrView A)) where
-  -- all entries of a text, behind a root of the marks of a state
+  -- all entries of a text, after a root with the marks of a state
   abbrev pub all_of : StateStream T A U → Text → Outcome (List (Entry ℕ A (Written A)))
   all_of s t = entries_after attr (indices_of (marks_of s.state)) (rules_of (marks_of s.state)) (length t) [] t
 
@@ -103,7 +103,7 @@ module _ {T A U : Type 0} (attr : Text → Outcome (AttrView A)) where
     same_whole : whole now.stream ≡ whole old.stream
     same_whole = takes_whole alone old.stream now.stream h.so_far.moves.taken now.stream.rest h.so_far.moves.takes
 
-    -- memory was refused behind them
+    -- out of memory after them
     pub starved_so_far : {E : Type 0} {Means : Entries A → List (Entry ℕ A (Written A)) → Type 0} {new : StreamView} {fault : ParseFault E} → StarvesHere itself replaced now.stream fault new → MustMean itself replaced Means (all_of old) old.stream (Err fault) new
     starved_so_far s = must_refuse alone (text_starved_here attr (indices_of marks) (rules_of marks) h.so_far (λ _. []) s)
 
@@ -146,12 +146,12 @@ module _ {T A U : Type 0} (attr : Text → Outcome (AttrView A)) where
         read_there : MustMean {A = E} itself replaced (IsEntry marks mid.state.ctx.now.paths (whole old.stream)) by_marks now.stream (Ok e) mid.stream
         read_there = moved mid.state.ctx.now.paths (Ok e) mid.stream k
 
-        -- it was read, and memory was refused behind it
+        -- it was parsed, and then out of memory
         pub entries_starved : {F : Type 0} {Means : Entries A → List (Entry ℕ A (Written A)) → Type 0} {new : StreamView} {fault : ParseFault F} → StarvesHere itself replaced mid.stream fault new → MustMean itself replaced Means (all_of old) old.stream (Err fault) new
         entries_starved s = must_refuse alone (text_starved attr (indices_of marks) (rules_of marks) h.so_far go (may_follow marks entries.seen) same_test read_there.read (λ _. []) s)
 
         module _ (new : StreamView) (left : Takes itself replaced (front is_whitespace mid.stream.rest) (after is_whitespace mid.stream.rest) mid.stream new) where
-          -- it was read, and noted behind the others
+          -- it was parsed, and recorded after the others
           pub entries_more : (next : Noted A) → KeepsRest now.state mid.state → marks_of mid.state ≡ marks_of now.state → AddsPaths now.state.ctx.now mid.state.ctx.now
               → mid.state.ctx.now.paths ≡ entry_kept now.state.ctx.now.paths mid.state.ctx.now.paths e → Notes entries e next → EntriesSoFar attr old (record mid { stream = new }) next
           entries_more next rest same adds kept noted =

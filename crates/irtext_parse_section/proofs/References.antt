@@ -52,7 +52,7 @@ use Rattle.irtext_parse_section.specs.declared.said.GivenAttr.{GivenAttr}
 use Rattle.irtext_parse_section.specs.declared.said.GivenAttr.TheVariants as given
 use Rattle.irtext_parse_section.specs.declared.said.ItemEntry.{ItemEntry}
 
--- what is wrong with what was read is the failure, where it stands in the text
+-- a failure of the parsed entries is the failure of the grammar, at its place in the text
 pub record IsWrong (text : Text) (w : Wrong) (f : Failure Text ℕ) : Type 0 where
   pub cause : w.cause ≡ f.cause
   pub place : ℕ
@@ -120,7 +120,7 @@ module _ {A : Type 0} (text : Text) (once : List (ℕ × AttrObj A)) (all : List
   pub references_same : (items : List (ItemEntry A)) → AreItems marks paths text items all → Each (IsWrong text) (items_wrong once items) (wrong_references (rules_of marks) all)
   references_same items k = subst (λ fs. Each (IsWrong text) (items_wrong once items) fs) (sym (references_fail (rules_of marks) all)) (items_same items all k)
 
--- ---- references stand in the text of the section
+-- ---- the places of references are in the text of the section
 module _ {T A : Type 0} (types : Texts T) (reading : Text → Outcome A) (written : A → Text) (sincere : Sincere reading) (lawful : Lawful A (texts_of reading written)) (marks : List ℕ) (rules : ℕ → Rule A) where
   abbrev all_next : Unit {0} → Text → Outcome (List (Entry ℕ A (Written A)))
   all_next _ t = entries_after (attr_at reading) marks rules (length t) [] t
@@ -145,7 +145,7 @@ same_front [] b (y ∷ c) d e l = absurd (omega (arith, ap length e, l, length-a
 same_front (x ∷ a) b [] d e l = absurd (omega (arith, ap length e, l, length-append a b))
 same_front (x ∷ a) b (y ∷ c) d e l = let f : x ≡ y = cc e in let g : a ++ b ≡ c ++ d = cc e in ap₂ ◌∷◌ f (same_front a b c d g l)
 
--- a place of the text stands behind so many of its characters
+-- a place of the text is after this many of its characters
 stands_there : (first text : Text) (place : Place) (left : ℕ) → left ≤ length text → Leaves (first ++ text) place left → StandsBehind place (first ++ take (length text - left) text)
 stands_there first text place left near l =
     let n = length text - left in

@@ -31,11 +31,11 @@ use Rattle.irtext_parse_section.proofs.AppliedEntries.{applies_all, entries_newe
 pub adds_closed : {T A : Type 0} (mark : ℕ) (old new : ContextView T A) → AddsPaths old new → IsClosedBelow mark old.graph → IsClosedBelow mark new.graph
 adds_closed {T} {A} mark old new a h = subst (λ g. IsClosedBelow mark g) (sym (ap (λ (c : ContextView T A). c.graph) a.rest)) h
 
--- memory was refused behind what was read
+-- out of memory after what was parsed
 pub starved_refusal : {A : Type 0} {old mid new : StreamView} {fault : ParseFault A} → StarvesHere itself replaced mid fault new → CommittedRefusal old fault new
 starved_refusal h = record { committed = h.committed; fails = ap (λ v. v.failed) h.left; failed = λ f. absurd (cc (h.because)) }
 
--- for want of memory
+-- out of memory
 pub starved_there : {A : Type 0} {mid new : StreamView} {fault : ParseFault A} → StarvesHere itself replaced mid fault new → IsStarved fault
 starved_there h = record { because = h.because; flag = h.committed }
 
