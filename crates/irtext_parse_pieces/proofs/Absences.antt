@@ -16,7 +16,7 @@ use Rattle.irtext_parse_pieces.specs.declared.lists.NameKind.TheVariants as kind
 use Rattle.irtext_parse_pieces.specs.Kinds.{beginning, named_at}
 use Rattle.irtext_parse_pieces.specs.Named.{MustMean}
 
--- the thing is missing, and nothing was read of it
+-- the value is missing, and nothing was taken
 abbrev pub IsMissing : {X : Type 0} → Outcome X → Type 0
 IsMissing o = (cause : Fault) × (o ≡ Missing cause)
 
@@ -27,7 +27,7 @@ missing_followed k m = (m.0, ap (λ z. followed z k) m.1)
 missing_outside : {o : Outcome (Name ℕ)} → IsMissing o → IsMissing (outside o)
 missing_outside m = (m.0, ap outside m.1)
 
--- a name is missing where no letter and no `_` stands
+-- a name is missing if the text begins with neither a letter nor `_`
 pub no_name_begins : (text : Text) → begins begins_word text ≡ false → IsMissing (name_at text)
 unfolding word_at
 no_name_begins text b = (Unexpected (first_of text) AnIdentifier, rw b refl)

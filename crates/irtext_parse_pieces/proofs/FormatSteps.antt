@@ -45,7 +45,7 @@ next_left [] n step e = absurd (cc)
 next_left (s ∷ steps) zero step e = let same : s ≡ step = cc in ap (λ z. z ∷ steps) same
 next_left (s ∷ steps) (suc n) step e = next_left steps n step e
 
--- where there is none, none is left
+-- at a place past the end, none is left
 pub none_left : {X : Type 0} (steps : List X) (n : ℕ) → slice_get steps n ≡ None → drop n steps ≡ []
 none_left [] zero e = refl
 none_left [] (suc n) e = refl
@@ -76,7 +76,7 @@ module _ {X : Type 0} (steps : List Step) (found : List X) (x : X) where
   one_more : suc (length found) ≡ length (found ++ (x ∷ []))
   one_more = omega (arith, length-append found (x ∷ []))
 
-  -- behind one piece more, the steps from the next place on are left
+  -- after one more piece, the steps from the next place on are left
   pub left_more : drop (suc (length found)) steps ≡ drop (length (found ++ (x ∷ []))) steps
   left_more = ap (λ n. drop n steps) one_more
 
@@ -89,7 +89,7 @@ module _ {X : Type 0} (steps : List Step) (found : List X) (x : X) where
         let same : length (front_steps (drop (suc (length found)) steps)) ≡ length (front_steps (drop (length (found ++ (x ∷ []))) steps)) = ap (λ ss. length (front_steps ss)) left_more in
         omega (arith, h, front, same, one_more)
 
-    -- fewer are left behind it
+    -- fewer are left after it
     pub fewer_left : (more : List X) → more ≡ found ++ (x ∷ []) → length (drop (length more) steps) < length (drop (length found) steps)
     fewer_left more e =
         let front : length (drop (length found) steps) ≡ suc (length (drop (suc (length found)) steps)) = ap length (next_left steps (length found) step there) in

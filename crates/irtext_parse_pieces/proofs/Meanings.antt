@@ -1,4 +1,4 @@
--- What names that were read stand for, while more is read behind them.
+-- What parsed names represent, while more text is parsed after them.
 use Rattle.std.proofs.Common.{◌≡◌, ℕ, true, Result, Ok, Err, List, [], ◌++◌, refl, ◌∙◌, ap, subst, append_assoc, inr}
 use Rattle.std.specs.Prelude.{IfOk}
 use Rattle.irtext_base.specs.Text.{Text}
@@ -14,11 +14,11 @@ use Rattle.irtext_grammar.specs.Grammar.Tree.{Name}
 use Rattle.irtext_parse_pieces.specs.declared.names.ReadName.{ReadName}
 use Rattle.irtext_parse_pieces.specs.Named.{whole, Leaves, StandsFor, NamesRead, MayMean, MustMean, Misses}
 
--- a name stands for the same while more names come and more is read
+-- a name represents the same when more names are added and more text is parsed
 pub stands_on : (names more : List Text) {text other : Text} (n : ReadName) (x : Name ℕ) → KeepsNames names more → text ≡ other → StandsFor names text n x → StandsFor more other n x
 stands_on names more n x keeps e h = record { named = keeps n.name x.text h.named; place = subst (λ t. Leaves t n.at x.place) e h.place }
 
--- what a value stands for is said in another way
+-- what a value represents, stated in another way
 pub means_on : {X Y A : Type 0} (Means Other : Y → X → Type 0) → ((y : Y) (x : X) → Means y x → Other y x) → (meant : Y → X) (r : Result Y (ParseFault A)) → IfOk r (λ y. Means y (meant y)) → IfOk r (λ y. Other y (meant y))
 means_on Means Other on meant (Ok y) h = on y (meant y) h
 means_on Means Other on meant (Err fault) h = tt
@@ -52,7 +52,7 @@ module _ {S : Type 0} (l : Lens S) where
   may_whole {see = see} {f = f} {old = old} {new = new} {y = y} h = gives_whole (unless_failed (l.view old).failed (f (l.view old).rest)) old new (see y) h.answers
 
   module _ {X Y A : Type 0} {Means : Y → X → Type 0} {f : Text → Outcome X} where
-    -- what may stand there is insisted on
+    -- an optional value is required
     pub insisted_mean : {old mid new : S} (a r : Result Y (ParseFault A)) → MayMean l.view l.at Means f old a mid → DemandsOf l.view l.at a mid r new → MustMean l.view l.at Means f old r new
     insisted_mean (Ok y) r h d = record { meant = h.meant; means = rw d.0 h.means; read = insisted l h.read d }
     insisted_mean (Err fault) r h d = record { meant = h.meant; means = rw d.1 tt; read = insisted l h.read d }
@@ -61,7 +61,7 @@ module _ {S : Type 0} (l : Lens S) where
     pub read_mean : {old new : S} {y : Y} → MayMean {A = A} l.view l.at Means f old (Ok y) new → MustMean {A = A} l.view l.at Means f old (Ok y) new
     read_mean {y = y} h = insisted_mean (Ok y) (Ok y) h (refl, refl)
 
-    -- a refusal stands for nothing
+    -- an error represents nothing
     pub may_refuse : {see : Y → X} {old new : S} {fault : ParseFault A} → MayRead l.view l.at see f old (Err fault) new → MayMean l.view l.at Means f old (Err fault) new
     may_refuse {see = see} h = record { meant = see; means = tt; read = h }
 
@@ -79,14 +79,14 @@ module _ {S : Type 0} (l : Lens S) where
     pub must_fail : {old new : S} {fault : ParseFault A} → X → (l.view old).failed ≡ true → Commits l.view l.at Failed [] old fault new → MustMean l.view l.at Means f old (Err fault) new
     must_fail x e h = record { meant = λ _. x; means = tt; read = record { answers = rw e (inr h) } }
 
-    -- what must stand behind a first thing answers for both
+    -- the result of a required parser after a first one is the result of both
     pub behind_may : {V U : Type 0} {see : V → U} {first : Text → Outcome U} {old mid new : S} {v : V} {r : Result Y (ParseFault A)} (Other : Y → X → Type 0) → ((y : Y) (x : X) → Means y x → Other y x)
         → MayRead {A = A} l.view l.at see first old (Ok v) mid → MustMean l.view l.at Means f mid r new → MayMean l.view l.at Other (λ t. followed (first t) (λ _ u. f u)) old r new
     behind_may {r = r} Other on h m =
         let next : _ → Text → Outcome X = λ _ u. f u in
         record { meant = m.meant; means = means_on Means Other on m.meant r m.means; read = begun_by l next h (last l (begins_with l next h) m.read) }
 
-  -- a fault behind a first thing stands for nothing
+  -- an error after a first value represents nothing
   pub may_unread : {X U V Y A : Type 0} {Means : Y → V → Type 0} {first : Text → Outcome U} {see : X → U} {sees : Y → V} {old mid new : S} {x : X} {fault : ParseFault A} (k : U → Text → Outcome V) → MayRead {A = A} l.view l.at see first old (Ok x) mid → MustRead l.view l.at sees (λ t. followed (first t) k) old (Err fault) new
       → MayMean l.view l.at Means (λ t. followed (first t) k) old (Err fault) new
   may_unread {sees = sees} k h m = record { meant = sees; means = tt; read = begun_by l k h m }

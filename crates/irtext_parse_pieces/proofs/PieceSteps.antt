@@ -33,12 +33,12 @@ same_the c d e = grind (arith, nat_tests)
 the-same : (c : ℕ) → the c c ≡ true
 the-same c = grind (arith, nat_tests)
 
--- a text in front of which the word stands begins with it
+-- a text with the word as its prefix begins with the word
 starts_whole : (w rest : Text) → starts_with w (w ++ rest) ≡ true
 starts_whole [] rest = refl
 starts_whole (c ∷ w) rest = rw (the-same c) (starts_whole w rest)
 
--- where a text begins with the word, the rest stands behind it
+-- if a text begins with the word, it is the word and a rest
 starts_rest : (w text : Text) → starts_with w text ≡ true → (rest : Text) × (text ≡ w ++ rest)
 starts_rest [] text e = (text, refl)
 starts_rest (c ∷ w) [] e = absurd (cc)
@@ -72,11 +72,11 @@ itself (Ok x) = refl
 itself (Err e) = tt
 
 module _ {S A : Type 0} (l : Lens S) where
-  -- what was read stands for itself
+  -- what was parsed represents itself
   pub may_itself : {X : Type 0} {f : Text → Outcome X} {old new : S} (r : Result X (ParseFault A)) → MayRead l.view l.at (λ x. x) f old r new → MayMean l.view l.at ◌≡◌ f old r new
   may_itself r h = record { meant = λ x. x; means = itself r; read = h }
 
-  -- there is a first type, and what stands behind it
+  -- there is a first type, and what follows it
   pub list_types : {T : Type 0} (item : Text → Outcome T) {old mid new last : S} {first : T} {r : Result (List T) (ParseFault A)} → MayMean {A = A} l.view l.at ◌≡◌ item old (Ok first) mid → Takes l.view l.at (front is_whitespace (l.view mid).rest) (after is_whitespace (l.view mid).rest) mid new
       → TypesBehind l.view l.at item first new r last → MustTypes l.view l.at (separated_at 44 item) old r last
   list_types item {new = new} {last = last} {first = n} {r = r} h k rest =
@@ -91,7 +91,7 @@ module _ {S A : Type 0} (l : Lens S) where
   pub piece_refused : {X Y V W : Type 0} {Other : W → V → Type 0} {see : Y → X} {f : Text → Outcome X} (k : X → V) → V → {old new : S} {fault : ParseFault A} → MustRead l.view l.at see f old (Err fault) new → MustMean l.view l.at Other (λ t. mapped k (f t)) old (Err fault) new
   piece_refused {f = f} k v {old = old} {new = new} {fault = fault} h = record { meant = λ _. v; means = tt; read = record { answers = refuses_mapped_demanded l.view l.at l.view_at l.at_at k (l.view old).failed (f (l.view old).rest) old new fault h.answers } }
 
--- a piece without meaning, where none was read
+-- a piece without meaning, for when none was parsed
 pub no_tree : {T A : Type 0} → Piece ℕ T A
 no_tree = tree.word []
 
@@ -100,7 +100,7 @@ module _ {S A : Type 0} (l : Lens S) where
   pub plain_there : {X Y V W : Type 0} {Other : W → V → Type 0} {see : Y → X} {f : Text → Outcome X} (k : X → V) (w : W) {old new : S} {y : Y} → MustRead {A = A} l.view l.at see f old (Ok y) new → Other w (k (see y)) → MustMean {A = A} l.view l.at Other (λ t. mapped k (f t)) old (Ok w) new
   plain_there {see = see} k w {y = y} h m = record { meant = λ _. k (see y); means = m; read = seen_alone l {A = A} (λ _. k (see y)) k w refl h }
 
-  -- memory is refused behind what was read
+  -- out of memory after what was parsed
   pub piece_starved : {X Y V W : Type 0} {Other : W → V → Type 0} {see : Y → X} {f : Text → Outcome X} (k : X → V) → V → {old mid new : S} {y : Y} {fault : ParseFault A} → MustRead {A = A} l.view l.at see f old (Ok y) mid → StarvesHere l.view l.at mid fault new → MustMean l.view l.at Other (λ t. mapped k (f t)) old (Err fault) new
   piece_starved {W = W} {f = f} k v {old = old} h s =
       let q = starved l {W = W} {sees = λ _. v} (first l (λ x t. Read (k x) [] t) h) s in
@@ -122,7 +122,7 @@ module _ {S A : Type 0} (l : Lens S) where
         let g : MustRead {A = A} l.view l.at (λ (u : Unit {0}). u) (text_at marker) old (Ok tt) new = record { answers = gives_demanded l (text_at marker) old new tt f (whole_gives l.view l.at l.view_at l.at_view l.at_at marker h.0 old new h.1 h.2) } in
         record { answers = rw b (seen_alone l {A = A} seen_attribute (λ _. None) None refl g).answers }
 
-    -- it doesn't stand there, and an attribute was read
+    -- the marker does not follow, and an attribute was parsed
     pub not_outlined : {old mid new : S} {a : AttrObj A} → BeginsOtherwise marker (l.view old).rest × (mid ≡ old) → MustRead {A = A} l.view l.at attribute_of (attribute_at attr) mid (Ok a) new → MustRead {A = A} l.view l.at seen_attribute (outlined_or_at attr) old (Ok (Some a)) new
     not_outlined {old = old} {mid = mid} {new = new} {a = a} h m =
         let here : MustRead {A = A} l.view l.at attribute_of (attribute_at attr) old (Ok a) new = subst (λ s. MustRead {A = A} l.view l.at attribute_of (attribute_at attr) s (Ok a) new) h.1 m in
