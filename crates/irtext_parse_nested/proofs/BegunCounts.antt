@@ -1,4 +1,4 @@
--- How many operands and successors the whole body of an operation names: as many as were used of the pieces in front of its first region.
+-- How many operands and successors the whole body of an operation names: as many as were used by the pieces before its first region.
 use Rattle.std.proofs.Common.{◌≡◌, ◌∙◌, ◌+◌, ℕ, suc, Bool, List, [], ◌∷◌, ◌++◌, length, map, flat_map, Some, refl, sym, ap, ap₂, subst, arith, append-nil, length-append}
 use Rattle.irtext_base.specs.Text.{Text}
 use Rattle.irtext_base.specs.Format as format

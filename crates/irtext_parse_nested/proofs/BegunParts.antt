@@ -1,5 +1,5 @@
--- What was read in front of an operation's first region: what its pieces show, which can be gathered, and which types and attributes its
--- body has.
+-- What was parsed before an operation's first region: what its pieces show, which of them can be gathered, and which types and attributes
+-- its body has.
 use Rattle.std.proofs.Common.{◌≡◌, ◌∙◌, ◌+◌, ◌<◌, ℕ, zero, suc, Bool, true, false, not, nat_lt, List, [], ◌∷◌, ◌++◌, drop, length, map, flat_map, slice_get, Some, None, refl, sym, ap, ap₂, subst, arith, true≢false, append-nil, append_assoc, length-append, ltb-true}
 use Rattle.std.specs.List.{All, list_all}
 use Rattle.irtext_base.specs.Text.{Text}
@@ -32,7 +32,7 @@ use Rattle.irtext_parse_nested.proofs.Gathers.{map_both, none_left}
 use Rattle.irtext_parse_nested.proofs.StepParts.{AreOfSteps, shown_by_steps, operand_shown, operand_step, successor_shown, successor_step, operands_shown, operands_step, successors_shown, successors_step, types_shown, types_step, operand_agrees, successor_agrees, operands_agree, successors_agree, types_agree, is_early, front_operand_places, front_successor_places, front_operands, front_successors, marked, accepted_places}
 
 -- ---- steps
--- the steps from the first region on stand behind those in front of it
+-- the steps from the first region on follow those before it
 pub steps_behind : (ss : List Step) → region_steps ss ≡ drop (length (front_steps ss)) ss
 steps_behind [] = refl
 steps_behind (flat d ∷ ss) = steps_behind ss
@@ -460,7 +460,7 @@ module _ {T A : Type 0} where
   none_listed (tree.piece (tree.header n) ∷ ps) h = none_listed ps (all_behind (tree.piece (tree.header n)) ps h)
 
 -- ---- bodies
--- the types that were made are those by their places where no list came, and else the last list
+-- the types that were made are those by their places if no list was parsed, and otherwise the last list
 made_placed : {T : Type 0} (typed : List (ℕ × T)) (listed : List T) → listed ≡ [] → in_order typed ≡ types_made typed listed
 made_placed [] listed e = sym e
 made_placed (t ∷ ts) listed e = refl
@@ -481,7 +481,7 @@ canonical_stores [] ps e = absurd (omega (arith, e))
 canonical_stores (xs ∷ []) ps e = absurd (omega (arith, e))
 canonical_stores (xs ∷ ys ∷ ls) ps e = append-nil (map plain_entry (views entries_shown ps))
 
--- behind the regions of the body that any operation can have nothing comes
+-- nothing follows the regions of the body that any operation can have
 pub only_regions : {T A : Type 0} (later : List (Part ℕ T A)) → ArePartsOf (all ∷ []) later → later ≡ tree.regions ∷ []
 only_regions [] a = absurd a
 only_regions (tree.regions ∷ []) a = refl

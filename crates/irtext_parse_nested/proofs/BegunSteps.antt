@@ -12,7 +12,7 @@ use Rattle.irtext_parse_spec.specs.Unchanged.{OwnSoFar}
 use Rattle.irtext_parse_nested.specs.Beginning.{HasBegun, IsPartOf, ArePartsOf}
 use Rattle.irtext_parse_nested.proofs.BegunParts.{views_both}
 
--- entries that are put behind others
+-- entries that are put in after others
 put_both : {V : Type 0} (ds es cs : List (Text × V)) → put_all es (ds ++ cs) ≡ put_all (put_all es ds) cs
 put_both [] es cs = refl
 put_both (d ∷ ds) es cs = put_both ds (put d es) cs

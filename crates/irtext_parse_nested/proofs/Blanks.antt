@@ -34,7 +34,7 @@ module _ {T A : Type 0} where
       go None e = absurd (cc)
       go (Some e) f = (refl, unseen (view_of e.content.content.results e.content.children) e.content.content.data_of f)
 
-  -- what is there and of which nothing is seen has no data
+  -- a live operation without a view has no data
   unseen_blank : (c : ContextView T A) (p : Ptr Operation) → IsSome (get c.graph.operations p) → operation c p ≡ None → option_map (λ c. c.data_of) (operation_at c.graph p) ≡ Some None
   unseen_blank c p i h = go (get c.graph.operations p) i h
     where

@@ -1,4 +1,4 @@
--- A block that was begun, as what is open sees it: it came last into its region, with its header, and all else is as it was.
+-- A block that was begun, as seen from the open frames: it was appended to its region, with its header, and all else is unchanged.
 use Rattle.std.proofs.Common.{◌≡◌, ◌≤◌, ◌∙◌, inl, inr, ℕ, List, [], ◌∷◌, ◌++◌, map, length, Option, Some, None, IsSome, option_map, arith, refl, sym, ap, ap₂, subst}
 use Rattle.irtext_base.specs.Text.{Text}
 use Rattle.irtext_base.specs.declared.base.attributes.AttrObj.{AttrObj}

@@ -1,4 +1,5 @@
--- A block that was made and came last into its region leaves the machine where it stands, with the block and its arguments at places of the text.
+-- A block that was made and appended to its region: names and graph still agree with the state of the machine, with the block and its
+-- arguments at places of the text.
 use Rattle.std.proofs.Common.{◌≡◌, ◌<◌, ◌+◌, ◌∙◌, inl, inr, ℕ, zero, suc, List, [], ◌∷◌, ◌++◌, length, Option, IsSome, refl, sym, ap, subst, arith, slice_get}
 use Rattle.std.specs.Option.{option_map}
 use Rattle.irtext_graph.specs.declared.arena.Ptr.{Ptr}
@@ -71,7 +72,7 @@ module _ {O B T : Type 0} {g m k : GraphView (Option O) B T} (r : Ptr Region) (b
     λ n j e. ((placed_ties vs ls t).value_ties.held n j (Argument b i) e).blank,
   )
 
-  -- all stands where the machine stands
+  -- names and graph agree with the state of the machine
   pub placed_stands : (names : NameTracker Value (Ptr BasicBlock)) (known : Known) (p : Path) (held : List (User × Defined)) (st : State) → StandsAt names g known held st → StandsAt names k (with_block p b types known) held st
   placed_stands names known p held st s = block_placed r b a names (with_block p b types known) held st (block_none names.values names.labels s.tied)
       (block_made g m names known held st b x types (arguments_made p b 0 types) ((block_at p, b) ∷ []) make arguments blocks s)

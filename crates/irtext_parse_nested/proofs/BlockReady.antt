@@ -38,7 +38,7 @@ use Rattle.irtext_parse_nested.proofs.Losing.{blanks_by}
 use Rattle.irtext_parse_nested.specs.Placing.{PlacesBlock}
 use Rattle.irtext_parse_nested.proofs.BlockPlaced.{placed_ties, placed_waits, arguments_ready}
 
--- what stands in a list is within it
+-- an index at which a list has an element is below its length
 pub within : {X : Type 0} (xs : List X) (i : ℕ) (x : X) → slice_get xs i ≡ Some x → i < length xs
 within [] i x e = absurd (cc)
 within (y ∷ xs) zero x e = omega arith

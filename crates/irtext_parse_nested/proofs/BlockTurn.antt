@@ -52,7 +52,7 @@ pub if_ok : {X E : Type 0} {P Q : X → Type 0} (r : Result X E) → ((x : X) �
 if_ok (Ok x) f p = f x p
 if_ok (Err e) f p = tt
 
--- a starved stream's fault is want of memory
+-- a starved stream's error is out of memory
 pub starves : {A : Type 0} {old new : StreamView} {f : ParseFault A} → StarvesHere itself replaced old f new → IsStarved f
 starves s = record { because = s.because; flag = s.committed }
 
@@ -101,7 +101,7 @@ module _ {T A U : Type 0} (types_at : Text → Outcome T) (attr : Text → Outco
   same_text : whole v ≡ whole old.stream
   same_text = must_whole alone {A = A} h.read
 
-  -- it is the one that stands there
+  -- it is the header in the text
   pub is_head : IsHead names.names (whole old.stream) read head
   is_head = h.means
 

@@ -38,8 +38,8 @@ use Rattle.irtext_parse_nested.proofs.OperationClosed.{noted_is}
 use Rattle.irtext_parse_nested.proofs.Faults.{StaysWithin, must_demand}
 use Rattle.irtext_parse_nested.proofs.Marking.{acts_then, fails_then, note_acts, mark_fails}
 
--- ---- the reader of the end
--- white space, and a mark where one stands
+-- ---- the parser of the end
+-- white space, and a mark if there is one
 abbrev end_at : Text → Outcome (Option (Mark ℕ))
 end_at = space_at ▷ mark_if_at
 
@@ -53,7 +53,7 @@ honest_end = ◌then◌ honest_space (honest_either (begins (the 33)) (seen Some
 pub within_honest : {X : Type 0} {f : Text → Outcome X} → Honest f → StaysWithin f
 within_honest h = record { within = λ text cause upto e. (subst (Of text) e (h.of text)).says.1 }
 
--- what must stand there is refused with a committed fault
+-- the error of a required parser is committed
 pub must_commit : {X Y A : Type 0} {see : Y → X} {f : Text → Outcome X} {old new : StreamView} {fault : ParseFault A} → old.failed ≡ false → MustRead {Y = Y} itself replaced see f old (Err fault) new → fault.committed ≡ true
 must_commit {X} {f = f} {old = old} {new = new} {fault = fault} fine h = elim h.answers [
   | inl starved ↦ starved.committed
@@ -102,7 +102,7 @@ module _ {T A U X : Type 0} (types_at : Text → Outcome T) (attr : Text → Out
     | inr d ↦ inr (no_mark names m (subst (λ z. Acts (closes_at o old.state) before old.state (pledge_of b o.place ∷ []) names z []) (sym e) closes) (rw (← same) d))
   ]
 
--- the mark that was noted is the one that stands there
+-- the mark that was recorded is the one in the text
 pub end_noted : {T A U X : Type 0} (old : StateStream T A U) (mid : code.State T A U) (item : X) (s v : StreamView) (same : s ≡ old.stream) {were later : List (ℕ × X)} {before : List (ℕ × X)} → were ≡ before → (new : StateStream T A U) (read : Option ReadMark) → new.stream ≡ v
     → MustMean {A = A} itself replaced (IsMarkIf (whole s)) end_at s (Ok read) v → NotesMark read item were later → (mark : Option (Mark ℕ)) (taken : Text) → end_at old.stream.rest ≡ Read mark taken new.stream.rest → later ≡ before ++ noted_as mark item
 end_noted {A = A} {X = X} old mid item s v same {were} {later} {before} marks new read e h n mark taken is =

@@ -35,7 +35,7 @@ use Rattle.irtext_parse_nested.proofs.Faults.{must_demand}
 use Rattle.irtext_parse_nested.proofs.RegionBegun.{region_stands, region_there}
 use Rattle.irtext_parse_nested.proofs.Standing.{stands_on, stands_fails}
 
--- the first brace, with white space behind it
+-- the first brace, with white space after it
 abbrev brace_at : Reader (Unit {0})
 brace_at = word (codes "{") ▷ space_at
 
@@ -67,7 +67,7 @@ module _ {T A U : Type 0} (types_at : Reader T) (attr : Reader (AttrView A)) (is
           (stands_on before names old.state old.state (enter iso) (history.entered iso) takes (marks_same iso) refl refl h);
     }
 
-    -- no brace stands there
+    -- no brace follows
     pub unbraced : (f : ParseFault A) (v : StreamView) → old.stream.failed ≡ false → MustRead {Y = Unit {0}} itself replaced (λ u. u) brace_at mid.stream (Err f) v → UnlessMemory (RefusesRegion types_at attr iso before old) f
     unbraced f v fine h = elim (must_demand alone brace_at (within_honest (◌then◌ (honest_word (codes "{")) honest_space)) (ap (λ s. s.failed) same ∙ fine) h) [
       | inl s ↦ inl s

@@ -35,12 +35,12 @@ nothing_there None e h = cc
 nothing_there (Some x) e h = cc
 
 module _ {O B T : Type 0} where
-  -- a block that stands in a region is no placeholder
+  -- a block with a parent is no placeholder
   pub waits_for_none : (g : GraphView (Option O) B T) (b : Ptr BasicBlock) (vs : List (Scope Value)) (ls : List (Scope (Ptr BasicBlock))) → MatchesGraph vs ls g → IsSome (parent g (TheBlock b)) → IsNoPlaceholder ls b
   waits_for_none g b vs ls t h = λ k n e. nothing_there (parent g (TheBlock b)) (t.label_ties.held k n b e).free h
 
   module _ (g k : GraphView (Option O) B T) (l : LosesPlaceholders g k) (b : Ptr BasicBlock) where
-    -- it stands where it stood
+    -- it has the same parent
     pub parent_stays : IsSome (parent g (TheBlock b)) → parent k (TheBlock b) ≡ parent g (TheBlock b)
     parent_stays h = go (parent g (TheBlock b)) refl h
       where

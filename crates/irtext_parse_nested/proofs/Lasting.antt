@@ -57,7 +57,7 @@ module _ {T A : Type 0} where
       go None s = absurd (cc)
       go (Some e) s = data_in (view_of e.content.content.results e.content.children) e.content.content.data_of s
 
-  -- a block that is seen stands, and the other way
+  -- a block with a view is live, and conversely
   pub block_stands : (c : ContextView T A) (b : Ptr BasicBlock) → IsSome (block c b) → IsLive c.graph (TheBlock b)
   block_stands c b h = go (get c.graph.blocks b) h
     where

@@ -1,4 +1,4 @@
--- A piece behind a region of its operation: what it does with names and keys, and where its reader refuses.
+-- A piece after a region of its operation: what it does with names and keys, and where its parser fails.
 use Rattle.std.proofs.Common.{◌≡◌, ◌∙◌, ℕ, zero, suc, Bool, true, List, [], ◌∷◌, drop, slice_get, Option, Some, None, option_map, Result, IfOk, false, refl, sym, ap, subst}
 use Rattle.irtext_base.specs.Text.{Text}
 use Rattle.std.specs.Char.{is_whitespace}
@@ -60,7 +60,7 @@ pub flat_next : (o : Option Step) → IsFlatNext o → (step : Step) × (o ≡ S
 flat_next None h = absurd h
 flat_next (Some step) h = (step, refl)
 
--- the first of what is left has its place, and the others are left behind it
+-- the first of what is left has its place, and the others are left after it
 pub first_left : {X : Type 0} (xs : List X) (n : ℕ) (x : X) (ys : List X) → x ∷ ys ≡ drop n xs → (slice_get xs n ≡ Some x) × (ys ≡ drop (suc n) xs)
 first_left [] zero x ys e = absurd (cc e)
 first_left [] (suc n) x ys e = absurd (cc e)
@@ -93,7 +93,7 @@ module _ {T A : Type 0} (types_at : Reader T) (attr : Reader (AttrView A)) where
   piece_late inside (one i) n = refl
   piece_late inside all n = refl
 
-  -- what a step reads behind white space is a piece of it
+  -- what a step parses after white space is a piece of this step
   pub spaced_of : (inside : Bool) (step : Step) (text : Text) (p : Piece ℕ T A) (taken rest : Text) → (space_at ▷ piece_at types_at attr inside step) text ≡ Read p taken rest → IsOfStep step p
   spaced_of inside step text p taken rest e =
       let q = followed_read (space_at text) (λ _. piece_at types_at attr inside step) p taken rest e in
@@ -184,8 +184,8 @@ module _ {T A O B : Type 0} (names : Names) (g : GraphView (Option O) B (Option 
       let f = entries_fail names g text d.0.items i.0 key i.2 d.2 in
       (f.0, f.1, λ p k l. subst (λ z. FailsUses (piece_acts p k l z) names g (record { cause = ReservedKey f.0.text; at = Some f.0.place })) (sym i.1) f.2)
 
--- ---- its reader
--- white space is passed in front of it
+-- ---- its parser
+-- white space is consumed before it
 pub piece_spaced : {T A : Type 0} (types_at : Reader T) (attr : Reader (AttrView A)) (inside : Bool) (step : Step) (names : List Text) {old mid new : StreamView} {result : Result (ReadPiece T A) (ParseFault A)} → old.failed ≡ false
     → Takes itself replaced (front is_whitespace old.rest) (after is_whitespace old.rest) old mid → MustPiece itself replaced names (piece_at types_at attr inside step) mid result new → MustPiece itself replaced names (space_at ▷ piece_at types_at attr inside step) old result new
 piece_spaced types_at attr inside step names {old} {mid} {new} {result} fine k h =

@@ -1,4 +1,4 @@
--- What a mark comes to that was read, and acts one after another.
+-- The effect of a mark that was parsed, and acts one after another.
 use Rattle.std.proofs.Common.{◌≡◌, ◌==◌, ◌∙◌, ℕ, Bool, true, false, cond, List, [], ◌∷◌, ◌++◌, map, Option, Some, None, is_some, Result, Ok, Err, OnOk, OnErr, IfErr, refl, sym, ap, subst, append-nil, nat_eq, eqb-true, eq-eqb}
 use Rattle.std.specs.Map.{lookup}
 use Rattle.irtext_base.specs.Text.{Text}
@@ -97,17 +97,17 @@ noted_before {X} i ms ne = noted_among i ms ∙ go (lookup (same_index i) ms) re
     go None e = absurd (ne e)
     go (Some x) e = refl
 
--- none came
+-- no mark was added
 pub gains_nothing : {X : Type 0} {old new : List (ℕ × X)} → new ≡ old → GainsMarks old new
 gains_nothing {old = old} e = ([], e ∙ sym (append-nil old))
 
--- one came, where one was read
+-- a mark was added if one was parsed
 pub gains_mark : {X : Type 0} (read : Option ReadMark) (x : X) {old b c new : List (ℕ × X)} → b ≡ old → NotesMark read x b c → new ≡ c → GainsMarks old new
 gains_mark None x e n f = gains_nothing (f ∙ (n ∙ e))
 gains_mark (Some r) x e n f = ((r.index, x) ∷ [], f ∙ (n.1 ∙ ap (λ ms. ms ++ (r.index, x) ∷ []) e))
 
 module _ {O B T : Type 0} where
-  -- a mark leaves the scopes as they stand
+  -- a mark leaves the scopes unchanged
   pub mark_stands : (names : NameTracker Value (Ptr BasicBlock)) (g : GraphView (Option O) B T) (known : Known) (held : List (User × Defined)) (st : State) (i p : ℕ) → StandsAt names g known held st → StandsAt names g known held (after st (fact_of (mark i p)))
   mark_stands names g known held st i p s = record {
     distinct = s.distinct;

@@ -75,7 +75,8 @@ module _ {T A : Type 0} where
               regions = λ was e. became.regions was (stays was e);
             }
 
--- where the results were defined, and the attributes written, the machine stands behind the operation's end
+-- after the results are defined and the attributes written, names, graph and marks agree with the state of the machine after the
+-- operation's end
 pub close_acts : {T A U : Type 0} (names new : Names) (s m z : code.State T A U) (b : BegunOperation) (o : OpenOperation T A) → Acts (closes_at o s) names s (pledge_of b o.place ∷ []) new m []
     → WritesAttributes m.ctx.now z.ctx.now b.op → marks_of z ≡ marks_of m → MatchesGraph new.values new.labels m.ctx.now.graph → Acts (closes_at o s) names s (pledge_of b o.place ∷ []) new z []
 close_acts names new s m z b o acts w same tied = record {

@@ -1,4 +1,4 @@
--- Names, graph and marks that stand where the machine stands, through acts and edits.
+-- Names, graph and marks that agree with the state of the machine, after acts and edits.
 use Rattle.std.proofs.Common.{◌≡◌, ◌∙◌, ℕ, List, [], sym, ap, subst}
 use Rattle.irtext_graph.specs.declared.object.Defined.{Defined}
 use Rattle.irtext_graph.specs.declared.object.Site.{Site}

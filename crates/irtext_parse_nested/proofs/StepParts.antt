@@ -1,4 +1,4 @@
--- The parts in front of an operation's first region are those of its steps.
+-- The parts before an operation's first region are those of its steps.
 use Rattle.std.proofs.Common.{◌≡◌, ◌∙◌, ℕ, suc, Bool, true, false, cond, not, ◌&&◌, List, [], ◌∷◌, ◌++◌, length, map, flat_map, if◌then◌else◌, Some, refl, sym, ap, ap₂, subst, append_assoc, append-nil, true≢false}
 use Rattle.std.specs.Prelude.{⊤}
 use Rattle.std.specs.List.{list_all}
@@ -199,8 +199,8 @@ module _ {T A : Type 0} where
   pub types_agree : (s : Step) (p : Piece ℕ T A) → IsOfStep s p → types_shown p ≡ types_step s
   types_agree = agree_flat types_shown types_step (by_piece types_shown types_step (λ s. refl) (λ i n. refl) (λ ns. refl) (λ i n. refl) (λ ns. refl) (λ k a. refl) (λ es. refl) (λ i t. refl) (λ n. refl)) (λ ts. refl)
 
--- ---- the steps in front of the first region show what the format does
--- the directive reads a name or a type
+-- ---- the steps before the first region show what the format does
+-- the directive parses a name or a type
 abbrev pub is_early : Directive → Bool
 is_early d = elim d [ format.operand i ↦ true | format.operands ↦ true | format.successor i ↦ true | format.successors ↦ true | format.result_type i ↦ true | _ ↦ false ]
 

@@ -13,7 +13,7 @@ use Rattle.irtext_parse_nested.proofs.Marking.{gains_nothing}
 use Rattle.irtext_parse_state.specs.States.{marks_of}
 use Rattle.irtext_parse_nested.proofs.blocks.block_begin.Goals as goal
 
--- ---- no header stands there
+-- ---- the text has no header there
 pub returns-in_err-label-clause-refused : goal.returns-in_err-label-clause-refused
 returns-in_err-label-clause-refused g c =
     rw (handed_on c.from_residual.result c.from_residual.ensures.1)
