@@ -108,7 +108,7 @@ module _ {P T A : Type 0} (L : Language P T A) (types : Lawful T L.types) (owns 
   pub back_dictionary : (es : List (Name P × Attribute A)) (f : Text) → Each IsSpellableEntry es → Reaches (reads.dictionary L es) (spell.dictionary L es ++ f) f
   back_dictionary es f g = back_bracketed (reads.entry L) (spell.entry L) IsSpellableEntry back_entry reads.no_word (λ f. refl) es f g
 
-  -- what stands behind a piece ends it, and does not go on with it
+  -- what follows a piece ends it, and does not continue it
   abbrev pub FollowsWell : Piece P T A → Text → Type 0
   FollowsWell (tree.word s) f = ⊤
   FollowsWell p f = Ends f × NoneOf (continuing p) (after_space f)
@@ -197,7 +197,7 @@ module _ {P T A : Type 0} (L : Language P T A) (types : Lawful T L.types) (owns 
   unwhite (tree.region i ∷ ps) (r ∷ rs) m u a = (u, subst (λ s. (r ▸ reads.parts L ps rs) s u) (after_twice is_whitespace m) a, refl)
   unwhite (tree.regions ∷ ps) rs m u a = (u, subst (λ s. (repeated (the 123) rs ▸ reads.parts L ps []) s u) (after_twice is_whitespace m) a, refl)
 
-  -- a part's reading, and then those of the parts behind it
+  -- a part is parsed, and then the parts after it
   pub reaches_part : {R : Reading} {t g f : Text} (ps : List (Part P T A)) (rs : List Reading) → Reaches R t g → Reaches (reads.parts L ps rs) g f → Reaches (white (R ▸ reads.parts L ps rs)) t f
   reaches_part {R} {t} ps rs r s =
       let a = unwhite ps rs r.left s.left (subst (λ w. reads.parts L ps rs w s.left) (sym r.same) s.reading) in
@@ -213,7 +213,7 @@ module _ {P T A : Type 0} (L : Language P T A) (types : Lawful T L.types) (owns 
   oneof_right xs ys [] (inr e) = absurd (true≢false (sym e))
   oneof_right xs ys (c ∷ t) (inr e) = inr (has_right (kind c) xs ys e)
 
-  -- what stands where a thing is written, or behind it where nothing was written
+  -- what the text begins with, if something is written here, or the text after it, if nothing is written
   oneof_behind : (xs ys : List ℕ) (b : Bool) (t t' : Text) → (b ≡ true) × (t ≡ t') ⊎ Begins xs t → OneOf ys t' → OneOf (xs ++ cond b ys []) t
   oneof_behind xs ys b t t' (inl (e, q)) o = oneof_right xs (cond b ys []) t (subst (λ b. OneOf (cond b ys []) t) (sym e) (subst (λ s. OneOf ys s) (sym q) o))
   oneof_behind xs ys b t t' (inr e) o = oneof_left xs (cond b ys []) t e
@@ -269,7 +269,7 @@ module _ {P T A : Type 0} (L : Language P T A) (types : Lawful T L.types) (owns 
         let k = newline (n + width) ++ (joined (10 ∷ newline (n + width)) ss ++ (newline n ++ codes "}")) in
         ap (begins (λ c. has ◌==◌ (kind c) (codes "{"))) (ap after_space (append_assoc (newline n) (123 ∷ k) f) ∙ newline_white n (123 ∷ (k ++ f)))
 
-    -- the parts are read back, and what stands at their beginning is among what can begin them
+    -- the parts are parsed back, and their text begins with one of what can begin them
     pub record BackParts (last : List ℕ) (n : ℕ) (ps : List (Part P T A)) (rs : Inner) (f : Text) : Type 0 where
       pub thru : Reaches (reads.parts L ps (reads.region_readings L rs)) (spell.parts L ps (spell.region_texts L width n rs) ++ f) f
       pub begin : OneOf (starts last ps rs) (after_space (spell.parts L ps (spell.region_texts L width n rs) ++ f))

@@ -17,7 +17,7 @@ use Rattle.irtext_grammar.proofs.Grammar.Nested.{EachRegion, EachBlock, EachOper
 abbrev pub Placed : {X Y : Type 0} → (X → Reading) → (X → Y) → Y → Text → Text → Type 0
 Placed {X} F bare y t u = (x : X) × F x t u × (bare x ≡ y)
 
--- what reads without places reads with some places, of which it is the bare thing
+-- what parses without places parses with some places, as a value of which it is the bare value
 abbrev pub Places : {X Y : Type 0} → (X → Reading) → (X → Y) → (Y → Reading) → Type 0
 Places {X} {Y} F bare G = (y : Y) (t u : Text) → G y t u → Placed F bare y t u
 

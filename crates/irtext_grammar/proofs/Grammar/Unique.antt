@@ -21,7 +21,7 @@ Agree C R S = (t u v : Text) → R t u → S t v → C × (u ≡ v)
 abbrev pub Sure : {X : Type 0} → (X → Reading) → Type 0
 Sure {X} F = (x y : X) → Agree (x ≡ y) (F x) (F y)
 
--- readings that agree on one thing agree on what follows from it
+-- readings that agree on a value agree on a function of it
 pub agree_map : {C D : Type 0} {R S : Reading} → (C → D) → Agree C R S → Agree D R S
 agree_map f h t u v a b = let r = h t u v a b in (f r.0, r.1)
 
@@ -252,7 +252,7 @@ module _ {P T A : Type 0} (L : Language P T A) (types : Lawful T L.types) (owns 
   sure_repeated (region brace bs rs) no_regions s t u v (m, b, c) a = absurd (brace_begins brace _ t m b a.0)
   sure_repeated (region brace bs rs) (region brace' bs' ss) s t u v a b = agree_map (λ p. λ i. region (p.0.0 i) (p.0.1 i) (p.1 i)) (agree_then (s.0 brace' bs') λ _. sure_repeated rs ss s.1) t u v a b
 
-  -- readings that agree do so behind white space
+  -- readings that agree do so after white space
   pub agree_white : {C : Type 0} {R S : Reading} → Agree C R S → Agree C (white R) (white S)
   agree_white h t u v a b = h (after_space t) u v a b
 
@@ -319,7 +319,7 @@ module _ {P T A : Type 0} (L : Language P T A) (types : Lawful T L.types) (owns 
   repeated_blocks (block h os bs) no_blocks s t u v (m, b, c) a = absurd (block_begins h _ t m b a.0)
   repeated_blocks (block h os bs) (block h' os' cs) s t u v a b = agree_map (λ p. λ i. block (p.0.0 i) (p.0.1 i) (p.1 i)) (agree_then (s.0 h' os') λ _. repeated_blocks bs cs s.1) t u v a b
 
-  -- behind its brace a region that is shown has a block or the other brace
+  -- after its brace a region that is shown has a block or the other brace
   not_both_braces : (p : P) (bs : Leaves) (t u v : Text) → reads.region_read L (shown p) (reads.block_readings L bs) t u → literal (codes "{..}") t v → ⊥
   not_both_braces p no_blocks t u v (at, (m, o, (k, a, c))) e =
       let s : m ≡ codes "..}" ++ v = cc in

@@ -42,7 +42,7 @@ module _ {P T A X : Type 0} (L : Language P T A) (types : Lawful T L.types) (own
   abbrev pairs : List (Name P × Item P A) → Text → Text → Type 0
   pairs es = separated 44 reads.no_word (map (read.pair L location_at) es)
 
-  -- what an item's entry has behind `=` begins as no attribute does
+  -- what follows `=` in the entry of an item does not begin as an attribute does
   no_attribute : (x : Option X) (es : List (Name P × Item P A)) (a : Attribute A) (t u v : Text) → (read.located L location_at x ▹ literal (codes "[") ▹ pairs es ▹ literal (codes "]")) t u → reads.attribute L a t v → ⊥
   no_attribute (Some x) es a t u v (m, r, s) k = attribute_begins L owns a t v k (ap (begins begins_word) r.1)
   no_attribute None es a t u v (m, r, (n, e, s)) k = go (begins begins_word t) refl

@@ -118,7 +118,7 @@ keys_good : {A : Type 0} (rule : Rule A) (es : List (Name ⊤ × Attribute A)) �
 keys_good rule [] h = tt
 keys_good rule (e ∷ es) h = (claimed _ _ h.0, keys_good rule es h.1)
 
--- the entries that pass a test may stand where all may
+-- the entries that pass a test are allowed if all entries are
 pub keeps_filter : {A : Type 0} (rule : Rule A) (test : Text × Attribute A → Bool) (es : List (Text × Attribute A)) → KeepsRule rule es → KeepsRule rule (filter test es)
 keeps_filter rule test [] h = refl
 keeps_filter rule test (e ∷ es) h = go (test e) (keeps_filter rule test es (and_right (rule e.0 e.1) _ h))

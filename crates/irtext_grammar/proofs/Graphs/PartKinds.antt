@@ -11,7 +11,7 @@ use Rattle.irtext_grammar.specs.Grammar.Tree.{Name, Piece, Part, Body, custom, c
 use Rattle.irtext_grammar.proofs.Graphs.FitsFormat.{meets, and_left, and_right, below}
 use Rattle.irtext_grammar.proofs.Lists.InOrder.{firsts}
 
--- what is there, spread, if something is
+-- a list if there is a value, and otherwise the empty list
 abbrev pub spread_if : {X Y : Type 0} → (Y → List X) → Option Y → List X
 spread_if f None = []
 spread_if f (Some y) = f y

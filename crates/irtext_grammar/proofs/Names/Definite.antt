@@ -24,7 +24,7 @@ Names done = ⊤
 Names (does a k) = Naming a × Names k
 Names (within iso p body k) = Names body × Names k
 
--- nothing stands outside of regions, and these are isolated
+-- no act is outside of regions, and these are isolated
 abbrev pub OnlyRegions : {N P : Type 0} → Script N P → Type 0
 OnlyRegions done = ⊤
 OnlyRegions (does a k) = ⊥

@@ -14,7 +14,7 @@ module _ {P : Type 0} where
   does_follow [] x y = refl
   does_follow (a ∷ xs) x y = ap (does a) (does_follow xs x y)
 
-  -- each of the scripts goes on with what is done then
+  -- a script that follows one of these may be moved inside it
   abbrev pub AllFollow : List (Script Text P → Script Text P) → Type 0
   AllFollow [] = ⊤
   AllFollow (r ∷ rs) = ((x y : Script Text P) → r (follow x y) ≡ follow (r x) y) × AllFollow rs
@@ -35,7 +35,7 @@ module _ {P T A : Type 0} where
   parts_follow p k l (tree.region i ∷ ps) (r ∷ rs) x y h = ap r (parts_follow p k l ps rs x y h.1) ∙ h.0 (parts_script p k l ps rs x) y
   parts_follow p k l (tree.regions ∷ ps) rs x y h = ap (all_of rs) (parts_follow p k l ps [] x y tt) ∙ all_follow rs (parts_script p k l ps [] x) y h
 
-  -- an operation's script goes on with what is done then
+  -- a script that follows an operation's script may be moved inside it
   pub operation_follow : (p : Path) (o : Op P T A) (rs : List (Script Text P → Script Text P)) (x y : Script Text P) → AllFollow rs → operation_script p o rs (follow x y) ≡ follow (operation_script p o rs x) y
   operation_follow p o rs x y h =
       ap (parts_script p (singles (parts_of o.body)) (single_labels (parts_of o.body)) (parts_of o.body) rs) (does_follow (closing_acts p o) x y)

@@ -12,7 +12,7 @@ use Rattle.irtext_grammar.proofs.Lists.SameText.{same_text_refl, same_text_true,
 use Rattle.irtext_grammar.proofs.Lists.Lists.{among, or_else, or_else-none, lookup-append, lookup-use, lookup-define, add, name_of, names_from, names-append, among-new, among-differs, among-added, among-names, entries, shown, entries-append, shown-append, find-entries, same_entries, same_shown}
 use Rattle.irtext_grammar.proofs.Lists.Sets.{Same, same_refl, same_path, same_then, same_both, same_map, same_swap}
 
--- what a name stands for: its definition, or else a placeholder of this number
+-- what a name refers to: its definition, or else a placeholder of this number
 abbrev pub held_of : Option Place → ℕ → Held
 held_of (Some p) k = bound p
 held_of None k = hole k
@@ -27,7 +27,7 @@ pub record Scope : Type 0 where
   pub number : Text → ℕ
   pub base : ℕ
 
--- what a name stands for in a scope
+-- what a name refers to in a scope
 abbrev pub means : Scope → Text → Held
 means g = held g.number g.facts
 
@@ -64,13 +64,13 @@ pub record Pending (f : List Fact) (n : Text) : Type 0 where
   pub there : among n (names f) ≡ true
   pub open_yet : lookup n f ≡ None
 
--- the placeholders of a scope differ, and lie between two bounds
+-- the placeholders of a scope differ, and are between two bounds
 pub record Apart (g : Scope) (high : ℕ) : Type 0 where
   pub low : g.base ≤ high
   pub within : (n : Text) → Pending g.facts n → (g.base ≤ g.number n) × (g.number n < high)
   pub apart : (m n : Text) → Pending g.facts m → Pending g.facts n → g.number m ≡ g.number n → m ≡ n
 
--- the placeholders of open scopes lie one scope's above the other's
+-- the placeholders of each open scope have higher numbers than those of the scope outside of it
 abbrev pub Stacked : ℕ → List Scope → Type 0
 Stacked high [] = Unit {0}
 Stacked high (g ∷ gs) = Apart g high × Stacked g.base gs

@@ -164,7 +164,7 @@ module _ {P : Type 0} where
   Entryless (does _ k) = Entryless k
   Entryless (within iso p body k) = Entryless body × Entryless k
 
-  -- the regions that stand in no other are isolated
+  -- the regions that are in no other region are isolated
   abbrev pub OuterIsolated : Script Text P → Type 0
   OuterIsolated done = ⊤
   OuterIsolated (does a k) = OuterIsolated k
@@ -297,7 +297,7 @@ module _ {P : Type 0} where
             ((new_once (F body).values b.values, resolved_of p (F body).values (F body).values e.0), ((new_once (F body).labels b.labels, resolved_of p (F body).labels (F body).labels e.1), d.scopes));
       }
 
-  -- a script that is not refused meets it
+  -- a script without failures satisfies the conditions
   pub good_of : (s : Scopes Text) (x : Script Text P) → Entryless x → failures same_text s x ≡ [] → Good s x
   good_of s done n e = record { claims = tt; values = new_nothing s.values; labels = new_nothing s.labels; marks = tt; outer = λ h. tt; scopes = tt }
   good_of s (does a k) n e =
@@ -318,7 +318,7 @@ module _ {P : Type 0} where
   open_shared None h = absurd (true≢false (sym (h refl)))
   open_shared (Some fs) h = refl
 
-  -- a script that meets it is not refused
+  -- a script that satisfies the conditions has no failures
   pub of_good : (s : Scopes Text) (x : Script Text P) → Entryless x → Good s x → failures same_text s x ≡ []
   of_good s done n g = refl
   of_good s (does a k) n g =

@@ -36,7 +36,7 @@ module _ {P : Type 0} where
   index_of (entry i p) = i ∷ []
   index_of _ = []
 
-  -- what entries and claims ask, where these marks and these entries stand before them
+  -- what entries and claims require, after these marks and these entries
   abbrev Right : List ℕ → List ℕ → List (Act Text P) → Type 0
   Right ms ns acts = Each Holds acts × Fresh ◌==◌ ns (flat_map index_of acts) × Each (λ i. has ◌==◌ i ms ≡ true) (flat_map index_of acts)
 
@@ -76,7 +76,7 @@ module _ {P A X : Type 0} (rules : ℕ → Rule A) (all : List (Entry P A X)) wh
   abbrev Pair : Type 0
   Pair = Name P × Item P A
 
-  -- what the pairs of one entry do, as they stand and behind the last entry
+  -- what the pairs of one entry do, at the entry and after the last entry
   abbrev Known : List Pair → Type 0
   Known = Each (λ i. is_known all i ≡ true)
 

@@ -37,7 +37,7 @@ module _ {T A X : Type 0} (types : Texts T) (owns : Texts A) (types_law : Lawful
   abbrev pub RootRead : Tree ⊤ T A → List (Entry ⊤ A Text) → Text → Type 0
   RootRead t es text = (t' : Tree ℕ T A) × (es' : List (Entry ℕ A X)) × (u : Text) × reads_root L location_at t' es' text u × (bare t' ≡ t) × (bare_section K.text es' ≡ es) × (after_space u ≡ [])
 
-  -- a section that was found behind a tree
+  -- a section that was found after a tree
   section_behind : (t : Tree ℕ T A) (all : List (graph.Entry C)) (f : Text) → is_some_list all ≡ marked t → after_space f ≡ after_space (section.section B C all)
       → length all + length (shared C all) < 2 ^ 64 → AreSpellableItems all
       → (es : List (Entry ℕ A X)) × (u : Text) × section_if L location_at (marked t) es f u × (bare_section K.text es ≡ written_section C all) × (after_space u ≡ [])

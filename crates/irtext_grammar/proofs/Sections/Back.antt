@@ -1,4 +1,4 @@
--- The text of a section reads as its entries, behind whatever it stands, before anything but `!`.
+-- The text of a section parses as its entries, whatever precedes it, and whatever follows except `!`.
 use Rattle.std.proofs.Common.{◌≡◌, ℕ, suc, ◌+◌, ◌<◌, ◌^◌, Bool, true, false, cond, List, [], ◌∷◌, ◌++◌, map, length, Option, Some, None, option_map, refl, sym, ap, ap₂, subst, inr, append_assoc, arith}
 use Rattle.std.specs.Prelude.{⊤, codes, decimal}
 use Rattle.std.specs.Char.{is_whitespace}

@@ -22,7 +22,7 @@ length-both : {X : Type 0} (xs ys : List X) → length (xs ++ ys) ≡ length xs 
 length-both [] ys = omega arith
 length-both (x ∷ xs) ys = let e = length-both xs ys in omega arith
 
--- a list stands in another at a place
+-- a list is part of another, from a place on
 pub record Stands {X : Type 0} (all : List X) (n : ℕ) (xs : List X) : Type 0 where
   pub before : List X
   pub after : List X
@@ -115,7 +115,7 @@ module _ {T A : Type 0} (C : Printing T A) where
         apart : (n i : ℕ) → n < i → (n == i) ≡ false
         apart n i h = grind (arith, nat_tests)
 
-    -- the entry that stands at a place has its index
+    -- the entry at a place has its index
     content_there : (n : ℕ) (e : graph.Entry C) → Stands all n (e ∷ []) → content {P = ⊤} W (Some (mark_of n)) ≡ Some (e.location, e.attributes)
     content_there n e s =
         let once = shared C all in
