@@ -138,7 +138,7 @@ module _ {O B T : Type 0} where
     childless : kids x (TheRegion p) ≡ []
     childless = ap (λ s. map TheBlock (children_in s)) (was_none x.regions after p e i)
 
-    -- nothing stands in what is not there yet
+    -- nothing is nested in an object that is not there yet
     apart : IsForest x → Within (up x) (TheRegion p) (TheOperation op) → ⊥
     apart f w = elim (reached (up x) w.0 (Some (TheOperation op)) (TheRegion p) w.1) [
       | inl same ↦ let k : TheOperation op ≡ TheRegion p = some_eq same in cc
@@ -208,7 +208,7 @@ module _ {O B T : Type 0} where
         like : object_of (node_of region_content) e ≡ record { born = made; content = record { parent = Some op; children = []; content = record {} } }
         like = rw (born, stands, empty) refl
 
-  -- what is older than the region and its operation stands as it did
+  -- what is older than the region and its operation is unchanged
   pub added-keeps : (m : ℕ) (old new : GraphView O B T) (op : Ptr Operation) (p : Ptr Region) → m ≤ old.made → before m old.operations op ≡ None → AddsRegion old new op p → KeepsOlder m old new
   added-keeps m old new op p up none k = record {
     operations = edited-keeps m old.operations new.operations op (with_child p) none k.operations;

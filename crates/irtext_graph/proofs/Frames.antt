@@ -1,4 +1,4 @@
--- What is older than a mark stands as it did, where newer objects come to stand in newer ones.
+-- What is older than a mark is unchanged if newer objects are added only to newer ones.
 use Rattle.std.proofs.Common.{◌≡◌, ◌≤◌, ◌∙◌, ◌∷◌, ◌⊎◌, ℕ, refl, sym, ap, arith, inl, inr, false, cond, nat_lt, Option, Some, None, List, [], map, Result, Ok, Err, OnOk, OnErr}
 use Rattle.std.specs.Option.{option_map}
 use Rattle.irtext_graph.specs.Arena.{older}
@@ -48,7 +48,7 @@ pub operation_same : (a b : Ptr Operation) → TheOperation a ≡ TheOperation b
 operation_same a b e = cc
 
 module _ {P C E : Type 0} where
-  -- an object is known by what it stands in, what stands in it, and what it is
+  -- an object is determined by its parent, its children and its content
   pub entry_same : (x y : Option (Entry (Node P C E))) → parent_of x ≡ parent_of y → children_of x ≡ children_of y → content_of x ≡ content_of y → x ≡ y
   entry_same None None p c e = refl
   entry_same None (Some y) p c e = absurd (cc)

@@ -1,4 +1,4 @@
--- Steps that leave the places and the data as they were, one behind the other.
+-- Steps that leave the places and the data unchanged, one after another.
 use Rattle.std.proofs.Common.{◌≡◌, ◌≢◌, ◌∙◌, inl, inr, sym, ap, length, ℕ, refl, Option, Some, None, IsSome}
 use Rattle.std.specs.Option.{option_map}
 use Rattle.irtext_graph.specs.Arena.{get, generation_at, KeepsPlaces, ShedsPlaces}

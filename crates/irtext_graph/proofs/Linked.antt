@@ -1,4 +1,4 @@
--- Tests of equality for uses and values, what a use tells of its place, and lists with another item at one index.
+-- Tests of equality for uses and values, what a use determines of its place, and lists with another item at one index.
 use Rattle.std.proofs.Common.{◌≡◌, ◌≢◌, ◌∙◌, inl, inr, Bool, true, false, refl, sym, ap, Option, Some, None, IsSome, cond, option_map}
 use Rattle.std.proofs.lemmas.Bool.{eqb-true, eq-eqb}
 use Rattle.irtext_graph.specs.declared.object.Defined.{Defined}

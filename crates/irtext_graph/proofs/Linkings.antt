@@ -67,7 +67,7 @@ blank n value types from operands successors uses leads results alone childless 
   results = subst (λ ds. Defines ds types from) (sym r) d;
 }
 
--- what stands at an index of new uses
+-- the element at an index of new uses
 new_use : {D : Type 0} (f : D → Defined) (ds : List D) (i : ℕ) → option_map (either f) (slice_get (map unlinked ds) i) ≡ option_map unlinked (option_map f (slice_get ds i))
 new_use f ds i = ap (option_map (either f)) (slice_get-map unlinked ds i) ∙ go (slice_get ds i)
   where
@@ -154,7 +154,7 @@ module _ {O B T : Type 0} (x : Objects O B T) (made : ℕ) (after : Arena (Nest 
   use_elsewhere Operands q j ne = ap (λ s. option_map (either OfValue) (operand_in s j)) (i.updates.others q ne)
   use_elsewhere Successors q j ne = ap (λ s. option_map (either OfBlock) (successor_in s j)) (i.updates.others q ne)
 
-  -- a use stands at the new operation, or is as it was
+  -- a use is at the new operation, or is unchanged
   at_site : (s : Side) (q : Ptr Operation) (j : ℕ) → (site_of s q j ≡ site_of s p j) ⊎ ((use_at with_operation (site_of s q j) ≡ use_at x (site_of s q j)) × ((t : Side) (k : ℕ) → site_of s q j ≢ site_of t p k))
   at_site s q j = elim (told ptr_tells q p) [
     | inl same ↦ inl (ap (λ q. site_of s q j) same)

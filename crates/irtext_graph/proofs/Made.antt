@@ -1,4 +1,4 @@
--- What is seen of an object that was made, and that what is older stands as it did.
+-- The view of an object that was made; and what is older is unchanged.
 use Rattle.std.proofs.Common.{◌≡◌, ◌≤◌, ◌+◌, ℕ, refl, sym, ap, subst, arith, ◌∙◌, None, List, [], map, length, Result, Ok, Err, OnErr}
 use Rattle.irtext_few.specs.Growing.{listed}
 use Rattle.irtext_graph.specs.declared.graph.Counters.{Counters}
