@@ -40,7 +40,7 @@ module _ {O : Type 0} where
   pub within_on : (up : O → Option O) (o c x : O) → Within up o c → Within up c x → Within up o x
   within_on up o c x w v = (v.0 + w.0, climb-add up v.0 w.0 (Some x) ∙ ap (climb up w.0) v.1 ∙ w.1)
 
-  -- an object n + 1 levels below o has an ancestor that is a child of o
+  -- if an object is nested in o, o has a child
   pub last_step : (up : O → Option O) (o : O) (n : ℕ) (x : O) → climb up (suc n) (Some x) ≡ Some o → (y : O) × (up y ≡ Some o)
   last_step up o zero x e = (x, e)
   last_step up o (suc n) x e = elim (seen (up x)) [

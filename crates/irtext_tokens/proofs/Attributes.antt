@@ -54,7 +54,7 @@ text_takes word text taken rest u e =
     let t : word ≡ taken = cc in
     rw (← t) (sym l)
 
--- a given name that was read stood there
+-- a given name that was parsed is what the text begins with
 pub given_name_takes : (text : Text) (x : Option Text) (taken rest : Text) → given_name_at text ≡ Read x taken rest → taken ++ rest ≡ text
 given_name_takes [] x taken rest e = mapped_takes Some (identifier_at []) x [] taken rest (λ name. identifier_takes [] name taken rest) e
 given_name_takes (c ∷ text) x taken rest e =
@@ -96,25 +96,25 @@ dotted_bytes word u d =
     let whole : front in_dotted (word ++ []) ≡ word = front_all in_dotted word [] d refl in
     sym (chars_from_encodes word word u (subst (λ z. encode_utf8_all z ≡ z) whole (encodes-front in_dotted in_dotted_ascii (word ++ []))))
 
--- what is left behind a front begins with nothing that passes
+-- what follows the longest prefix of characters that pass does not begin with one that passes
 begins_after : (p : ℕ → Bool) (text : Text) → begins p (after p text) ≡ false
 begins_after p [] = refl
 begins_after p (c ∷ text) =
     elim (p c) as (λ b. p c ≡ b → begins p (cond b (after p text) (c ∷ text)) ≡ false) [ true ↦ (λ e. begins_after p text) | false ↦ (λ e. e) ] refl
 
 module _ (word text : Text) where
-  -- a word that leads stands at the beginning, and goes no further
+  -- a word that leads is what the text begins with, and no dotted word continues it
   led_word : leads word text ≡ true → text ≡ word ++ after in_dotted text
   led_word e = sym (front_after in_dotted text) ∙ ap (λ z. z ++ after in_dotted text) ((bytes_eq-Decides (front in_dotted text) word).0 e)
 
   unled : (leads word text ≡ true → ⊥) → leads word text ≡ false
   unled h = elim (leads word text) as (λ b. leads word text ≡ b → b ≡ false) [ true ↦ (λ e. absurd (h e)) | false ↦ (λ e. refl) ] refl
 
-  -- a word that doesn't stand at the beginning leads nowhere
+  -- a word that the text does not begin with does not lead
   pub leads_not : ((rest : Text) → text ≡ word ++ rest → ⊥) → leads word text ≡ false
   leads_not h = unled (λ e. h (after in_dotted text) (led_word e))
 
-  -- nor does one that goes on
+  -- nor does one that a dotted word continues
   pub leads_less : (rest : Text) → text ≡ word ++ rest → begins in_dotted rest ≡ true → leads word text ≡ false
   leads_less rest s e = unled (λ d.
       let same : rest ≡ after in_dotted text = append_cancel_left word rest (after in_dotted text) (sym s ∙ led_word d) in
@@ -132,7 +132,7 @@ module _ {S : Type 0} (l : Lens S) where
       let g : Gives l.view l.at (text_at word (l.view old).rest) old tt mid = rw (text_at-literal word (l.view old).rest rest (sym k.same)) (refl, k) in
       record { answers = rw f g }
 
-  -- what must stand behind a fixed text that was passed is read, and the whole with it
+  -- a required value after a fixed text that was consumed is parsed, and the whole with it
   pub behind_word : {V W A : Type 0} {sees : W → V} {next : Text → Outcome V} {word rest : Text} {old mid new : S} {r : Result W (ParseFault A)} → (l.view old).failed ≡ false → Takes l.view l.at word rest old mid → ((l.view mid).failed ≡ false → MustRead l.view l.at sees next mid r new) → MayRead l.view l.at sees (text_at word ▷ next) old r new
   behind_word {A = A} {next = next} {word = word} {rest = rest} {old = old} {mid = mid} f k h =
       let fine : (l.view mid).failed ≡ false = ap (λ v. v.failed) (seen_after l.view l.at l.view_at l.at_at old mid word rest k) ∙ f in

@@ -11,7 +11,7 @@ use Rattle.irtext_tokens.specs.Tokens.{word_at, identifier_at, spelled_at, text_
 same_read : {X : Type 0} (x y : X) (t u r s : Text) → ◌≡◌ {A = Outcome X} (Read x t r) (Read y u s) → (x ≡ y) × (t ≡ u) × (r ≡ s)
 same_read x y t u r s e = (cc, cc, cc)
 
--- what is read behind characters taken was read there
+-- what is parsed after characters that were taken was parsed there
 prefixed_read : {X : Type 0} (t : Text) (o : Outcome X) (x : X) (taken rest : Text) → prefixed t o ≡ Read x taken rest → (more : Text) × (o ≡ Read x more rest)
 prefixed_read t (Read y more r) x taken rest e = let p = same_read y x (t ++ more) taken r rest e in (more, rw (p.0, p.2) refl)
 prefixed_read t (Missing cause) x taken rest e = absurd (cc)
@@ -36,7 +36,7 @@ word_at-identifier demand name text rest h = rw (h.0, h.1, h.2) refl
 pub identifier_at-identifier : (name text rest : Text) → identifier name text rest → identifier_at text ≡ Read name name rest
 identifier_at-identifier name text rest h = word_at-identifier AnIdentifier name text rest h
 
--- a fixed text that was read stands there
+-- a fixed text that was parsed is what the text begins with
 spelled_from_at : (whole word text taken rest : Text) (u : Unit {0}) → spelled_at whole word text ≡ Read u taken rest → literal word text rest
 spelled_from_at whole [] text taken rest u e = (same_read tt u [] taken text rest e).2
 spelled_from_at whole (c ∷ word) [] taken rest u e = absurd (cc)
@@ -48,7 +48,7 @@ spelled_from_at whole (c ∷ word) (d ∷ text) taken rest u e =
 pub literal_from_at : (word text taken rest : Text) (u : Unit {0}) → text_at word text ≡ Read u taken rest → literal word text rest
 literal_from_at word text taken rest u e = spelled_from_at word word text taken rest u e
 
--- a fixed text that stands there is read
+-- a fixed text that the text begins with is parsed
 spelled_at-literal : (whole word rest : Text) → spelled_at whole word (word ++ rest) ≡ Read tt word rest
 spelled_at-literal whole [] rest = refl
 spelled_at-literal whole (c ∷ word) rest = rw (the-same c, spelled_at-literal whole word rest) refl

@@ -90,7 +90,7 @@ module _ {X : Type 0} (separator : ℕ) (item : Reader X) (h : Honest item) wher
   pub honest_separated : Honest (separated_at separator item)
   honest_separated = record { of = λ text. of_or_empty _ text (of_followed text (item_after separator item [] text) (λ found t. items_after separator item (length t) found t) ((honest_item []).of text) (λ found t. (honest_items (length t) found).of t)) }
 
--- ---- tokens that must stand one behind the other
+-- ---- required tokens that follow one another
 pub honest_spaced : (w : Text) → Honest (spaced_at w)
 honest_spaced w = ◌then◌ honest_space (◌then◌ (honest_word w) honest_space)
 

@@ -20,20 +20,20 @@ module _ {X : Type 0} (sep : ℕ) (item : Text → Outcome X) where
   items_stop zero found text e = refl
   items_stop (suc n) found text e = rw e refl
 
-  -- what stands behind a separator
+  -- what follows a separator
   abbrev pub behind_separator : ℕ → List X → Unit {0} → Text → Outcome (List X)
   behind_separator n found u t = followed (space_at t) (λ _ u. followed (item_after sep item found u) (λ more v. items_after sep item n more v))
 
-  -- an item behind a separator and white space
+  -- an item after a separator and white space
   abbrev pub behind_space : ℕ → List X → Unit {0} → Text → Outcome (List X)
   behind_space n found u t = followed (item_after sep item found t) (λ more v. items_after sep item n more v)
 
-  -- a separator, and what stands behind it
+  -- a separator, and what follows it
   items_go_on : (n : ℕ) (found : List X) (text : Text) → begins (the sep) text ≡ true → items_after sep item (suc n) found text ≡ followed (text_at (sep ∷ []) text) (behind_separator n found)
   items_go_on n found text e = rw e refl
 
   module _ {S : Type 0} (l : Lens S) where
-    -- the items found so far, of those behind the first ones
+    -- the items found so far, of those after the first ones
     pub record Found (first : List X) (old now : S) (found : List X) : Type 0 where
       pub room : ℕ
       pub enough : length (l.view now).rest ≤ room
@@ -70,7 +70,7 @@ module _ {S : Type 0} (l : Lens S) where
   given_le (Missing cause) old new x h = absurd h
   given_le (Bad cause upto) old new x h = absurd h
 
-  -- less is left behind a character, white space and something more
+  -- less text is left after a character, white space and a value
   pub falls_behind : {X Y A : Type 0} {see : Y → X} {f : Text → Outcome X} {now mid later new : S} {y : Y} (c : ℕ) → begins (the c) (l.view now).rest ≡ true → mid ≡ l.at now (advanced (l.view now)) → Takes l.view l.at (front is_whitespace (l.view mid).rest) (after is_whitespace (l.view mid).rest) mid later → MustRead {A = A} l.view l.at see f later (Ok y) new → length (l.view new).rest < length (l.view now).rest
   falls_behind {see = see} {f = f} {now = now} {mid = mid} {later = later} {new = new} {y = y} c b n k h =
       let first = begins_the c (l.view now).rest b in

@@ -38,7 +38,7 @@ appended-fitting r n d =
 pub value_in-push : (r : Radix) (digits : Text) (c : ℕ) → appended (base r) (value_in (base r) digits) (digit_value c) ≡ value_in (base r) (digits ++ (c ∷ []))
 value_in-push r digits c = appended-fitting r (digits_value (base r) digits) (digit_value c) ∙ ap fitting (sym (digits_value_push (base r) digits c))
 
--- digits behind a number that doesn't fit are passed over
+-- further digits after a number that doesn't fit are consumed, and it still doesn't fit
 value_in-none : (r : Radix) (digits more : Text) → value_in (base r) digits ≡ None → value_in (base r) (digits ++ more) ≡ None
 value_in-none r digits [] e = ap (value_in (base r)) (append-nil digits) ∙ e
 value_in-none r digits (c ∷ more) e =
@@ -152,20 +152,20 @@ module _ {S A : Type 0} (view : S → StreamView) (at : S → StreamView → S) 
   as_number (Bad cause upto) old new (Err fault) (inr h) = inr h
 
   module _ (view_at : (s : S) (v : StreamView) → view (at s v) ≡ v) (at_at : (s : S) (v w : StreamView) → at (at s v) w ≡ at s w) (old mid new : S) where
-    -- an unsigned number of 64 bits that must stand there is the grammar's
+    -- a required unsigned number of 64 bits is the grammar's
     pub number_must : (a r : Result ℕ (ParseFault A)) → Answers view at pos (unless_failed (view old).failed (int_at (unsigned_below 64) (view old).rest)) old a mid → DemandsOf view at a mid r new → MustRead view at (λ n. n) number_at old r new
     number_must a r h d =
         let e = ap (λ o. demanded (unless_failed (view old).failed o)) (number_is (view old).rest) ∙ mapped_unless (view old).failed (number_at (view old).rest) in
         let k = answers_demanded view at view_at at_at pos (unless_failed (view old).failed (int_at (unsigned_below 64) (view old).rest)) old mid new a r h d in
         record { answers = as_number (demanded (unless_failed (view old).failed (number_at (view old).rest))) old new r (rw e at k) }
 
-    -- a signed number of 32 bits that must stand there is the grammar's
+    -- a required signed number of 32 bits is the grammar's
     pub integer_must : (a r : Result ℤ (ParseFault A)) → Answers view at (λ z. z) (unless_failed (view old).failed (int_at (signed_below 32) (view old).rest)) old a mid → DemandsOf view at a mid r new → MustRead view at (λ z. z) integer_at old r new
     integer_must a r h d =
         let k = answers_demanded view at view_at at_at (λ z. z) (unless_failed (view old).failed (int_at (signed_below 32) (view old).rest)) old mid new a r h d in
         record { answers = rw (integer_is (view old).rest) at k }
 
-    -- where it stands, no memory is asked for
+    -- if it is there, no memory is needed
     pub number_spares : (a r : Result ℕ (ParseFault A)) → SparesMemory view (int_at (unsigned_below 64)) old a → DemandsOf view at a mid r new → SparesMemory view number_at old r
     number_spares a r h d =
         let k = demanded_spares view at mid new (unless_failed (view old).failed (int_at (unsigned_below 64) (view old).rest)) a r h d in

@@ -1,4 +1,4 @@
--- Units of a quoted text, one behind another.
+-- Units of a quoted text, one after another.
 use Rattle.std.proofs.Common.{◌≡◌, ℕ, ◌<◌, Bool, true, false, not, ◌&&◌, ◌==◌, Option, Some, None, cond, length, [], ◌∷◌, ◌++◌, codes, refl, sym, ◌∙◌, ap, subst, append_assoc, append-nil, arith}
 use Rattle.std.proofs.lemmas.Bool.{eqb-true}
 use Rattle.std.specs.Char.{is_ascii_hexdigit}
@@ -13,7 +13,7 @@ use Rattle.irtext_base.proofs.Along.{front_after}
 use Rattle.irtext_base.proofs.Characters.{is_false}
 use Rattle.irtext_tokens.specs.QuotedTexts.{is_plain, escape_of, escaped, named, closed, braced, unicode_at, escape_at, unit_at, behind_first, unit_before, units_at}
 
--- a unit takes the first character, and what it takes stands at the front of the text
+-- a unit takes the first character, and what it takes is a prefix of the text
 abbrev pub OpenOperation : ℕ → Text → Outcome ℕ → Type 0
 OpenOperation c text (Read d taken rest) = (more : Text) × (taken ≡ c ∷ more) × (more ++ rest ≡ text)
 OpenOperation c text (Missing cause) = ⊥
@@ -93,7 +93,7 @@ units_skip : (left rest : Text) → units_at left (left ++ rest) ≡ units_at []
 units_skip [] rest = refl
 units_skip (d ∷ left) rest = units_skip left rest
 
--- a unit, and what the text behind it means
+-- a unit, and the meaning of the text after it
 abbrev pub unit_and : Outcome ℕ → Outcome Text
 unit_and u = followed u (λ c rest. mapped (λ cs. c ∷ cs) (units_at [] rest))
 
@@ -109,7 +109,7 @@ unfolding unit_at
 units_more [] e = refl
 units_more (c ∷ text) e = rw e (by_unit c text (unit_at (c ∷ text)) (unit_begun c text))
 
--- characters that were read and taken, in front of what follows
+-- characters that were parsed and taken, before what follows
 abbrev pub whole : Text → Text → Outcome Text → Outcome Text
 whole cs taken o = prefixed taken (mapped (λ more. cs ++ more) o)
 
@@ -138,7 +138,7 @@ plain_tests true b e = absurd (cc)
 plain_tests false true e = absurd (cc)
 plain_tests false false e = (refl, refl)
 
--- a character that stands for itself
+-- a character that represents itself
 units_plain : (c : ℕ) (text : Text) → is_plain c ≡ true → units_at [] (c ∷ text) ≡ whole (c ∷ []) (c ∷ []) (units_at [] text)
 unfolding unit_at
 units_plain c text e = let p = plain_tests (c == 34) (c == 92) e in rw (p.0, p.1) refl
@@ -154,17 +154,17 @@ units_run (c ∷ text) =
       | false ↦ (λ e. whole_nil (units_at [] (c ∷ text)))
     ] refl
 
--- a run of them behind what was read
+-- a run of them after what was parsed
 pub whole_run : (cs t text : Text) → whole cs t (units_at [] text) ≡ whole (cs ++ front is_plain text) (t ++ front is_plain text) (units_at [] (after is_plain text))
 whole_run cs t text =
     whole_demanded cs t (units_at [] text) ∙ (ap (whole cs t) (units_run text) ∙ whole_whole cs t (front is_plain text) (front is_plain text) (units_at [] (after is_plain text)))
 
--- a unit behind what was read
+-- a unit after what was parsed
 pub whole_unit : (cs t text : Text) (c : ℕ) (u r : Text) → begins (the 34) text ≡ false → unit_at text ≡ Read c u r → whole cs t (units_at [] text) ≡ whole (cs ++ (c ∷ [])) (t ++ u) (units_at [] r)
 whole_unit cs t text c u r q e =
     ap (whole cs t) (units_more text q ∙ ap unit_and e) ∙ whole_whole cs t (c ∷ []) u (units_at [] r)
 
--- a bad unit behind what was read
+-- a bad unit after what was parsed
 pub whole_bad : (cs t text : Text) → begins (the 34) text ≡ false → (cause : _) (upto : Text) → unit_at text ≡ Bad cause upto → whole cs t (units_at [] text) ≡ Bad cause (t ++ upto)
 whole_bad cs t text q cause upto e = ap (whole cs t) (units_more text q ∙ ap unit_and e)
 
@@ -176,7 +176,7 @@ unit_unescaped text e = rw e refl
 not_eqb : (a b : ℕ) → (a ≡ b → ⊥) → (a == b) ≡ false
 not_eqb a b h = is_false (a == b) (λ e. h (eqb-true a b e))
 
--- a character behind a backslash that stands for none
+-- a character after a backslash that is no escape
 pub unit_unknown : (text rest : Text) (b : ℕ) → 92 ∷ b ∷ rest ≡ text → (b ≡ 117 → ⊥) → None ≡ escape_of b → unit_at text ≡ Bad (BadEscape b) []
 unfolding unit_at
 unit_unknown text rest b e q h =

@@ -21,7 +21,7 @@ module _ {S X Y A : Type 0} (view : S → StreamView) (at : S → StreamView →
 
 module _ {S F X Y A : Type 0} (view : S → StreamView) (at : S → StreamView → S) (view_at : (s : S) (v : StreamView) → view (at s v) ≡ v) (at_view : (s : S) → at s (view s) ≡ s) (at_at : (s : S) (v w : StreamView) → at (at s v) w ≡ at s w)
     (calls : F → S → Result X (ParseFault A) → F → S → Type 0) (see : X → Y) (R : Text → Outcome Y → Type 0) where
-  -- one item in front of what comes behind it
+  -- one item before the items that follow it
   joined_by : (P Q : Text → Outcome (List Y) → Type 0) (s mid u : S) (x : X) (k0 q0 : Text) (r : Result (List X) (ParseFault A)) → Takes view at k0 q0 s mid
       → ((o q : Outcome (List Y)) → P (view mid).rest o → q ≡ item_before (see x) k0 o → Q (view s).rest q) → Whole {A = A} view at see P mid r u → Whole {A = A} view at see Q s (prepended (x ∷ []) r) u
   joined_by P Q s mid u x k0 q0 (Ok xs) all mk a =
@@ -33,7 +33,7 @@ module _ {S F X Y A : Type 0} (view : S → StreamView) (at : S → StreamView �
   skips_take : (s t : S) → Skips view at s t → Takes view at (spaces (view s).rest) (after_space (view s).rest) s t
   skips_take s t e = record { is = e; same = front_after is_whitespace (view s).rest }
 
-  -- a separator and the white space behind it are taken
+  -- a separator and the white space after it are taken
   opens_take : (sep : ℕ) (s b : S) → Opens view at sep s b → (left : Text) × ((view s).rest ≡ sep ∷ left) × Takes view at (sep ∷ spaces left) (after_space left) s b
   opens_take sep s b o =
       let f = begins_the sep (view s).rest o.begins_so in
@@ -61,7 +61,7 @@ module _ {S F X Y A : Type 0} (view : S → StreamView) (at : S → StreamView �
     left = record { seen = after_failure (view s); is = i.failing k.committed ∙ ap (λ z. at z (after_failure (view z))) k.left; fails = refl; same = refl };
   }
 
-  -- a fault of an item behind a separator
+  -- an error of an item after a separator
   refused_behind : (sep : ℕ) (s b t u : S) (fault last : ParseFault A) → Opens view at sep s b → Each {A = A} view at see R b (Err fault) t → Insisted view at fault t last u → Whole {A = A} view at see (TailAt R sep) s (Err last) u
   refused_behind sep s b t u fault last o (inl st) i =
       let k = opens_take sep s b o in

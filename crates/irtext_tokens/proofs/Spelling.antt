@@ -37,7 +37,7 @@ the-same c = grind (arith, nat_tests)
 
 module _ {S : Type 0} (view : S → StreamView) (at : S → StreamView → S) where
   module _ (view_at : (s : S) (v : StreamView) → view (at s v) ≡ v) (at_view : (s : S) → at s (view s) ≡ s) (at_at : (s : S) (v w : StreamView) → at (at s v) w ≡ at s w) where
-    -- where none is taken, the stream is as it was
+    -- if nothing is taken, the stream is unchanged
     pub takes_none_is : (old now : S) (rest : Text) → Takes view at [] rest old now → now ≡ old
     takes_none_is old now rest k =
         k.is ∙ (ap (λ (p : Text). at old (let v : StreamView = record { passed = p; rest = rest; failed = (view old).failed } in v)) (append-nil (view old).passed)
@@ -99,6 +99,6 @@ module _ {S : Type 0} (view : S → StreamView) (at : S → StreamView → S) wh
           let q : text_at word (view old).rest ≡ Missing (Unexpected (first_of (view now).rest) (Word word)) = h.spelling.so_far ∙ spelled-misses word h.left (view now).rest h.next h.other in
           rw q tt
 
-      -- memory is refused behind the characters taken
+      -- out of memory after the characters that were taken
       pub spelling_starved : (word : Text) (old now new : S) (begun : Bool) (fault : ParseFault A) → (view old).failed ≡ false → Differs view at word old begun now → StarvesHere view at now fault new → Starves view at old fault new
       spelling_starved word old now new begun fault f h s = starves_behind view at view_at at_at old now new h.taken (view now).rest fault f h.spelling.takes s
