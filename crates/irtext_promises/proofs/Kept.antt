@@ -80,7 +80,7 @@ module _ {T A : Type 0} (types_at : Text → Outcome T) (types_written : T → T
   pub behind : StandsBehind types_at (attr_at reading) dialects leaves.items marks new text rest named.0
   behind = leaves.machine named.0
 
-  -- the machine came through the tree's script
+  -- the machine ran the tree's script without failure
   pub ran : run (going start) (events (tree_script (isolated dialects) leaves.tree done)) ≡ going behind.state
   ran =
       let found = knot.tree_found types_at types_written reading written dialects types_split splits (naming (format_of dialects) named.0) words leaves.tree text rest (going start) reads_tree in
@@ -96,7 +96,7 @@ module _ {T A : Type 0} (types_at : Text → Outcome T) (types_written : T → T
   marks_are = sym behind.marked ∙ ap (λ (z : history.State). z.marks) (ran_through (tree_script (isolated dialects) leaves.tree done) behind.state ran).1
 
   module _ (closed : LeavesClosed old new) (first : ℕ → Written A) (tells : (n : ℕ) (l : Location A) → L n l → location_over new.paths l ≡ first n) where
-    -- what it builds stands under the pointer
+    -- what it builds is under the pointer
     pub tree_builds : held_root new op ≡ Some (build (isolated dialects) first [] leaves.tree)
     tree_builds = builds.builds L old new leaves.items leaves.whole op leaves.tree leaves.held closed.nest named.0 named.1 first (isolated dialects) formed behind.names behind.known behind.are behind.state behind.stands ran tells
 

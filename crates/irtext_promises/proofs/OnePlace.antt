@@ -1,4 +1,4 @@
--- Each object under an operation of a context stands there at one place, and what defines a value at a place is one.
+-- Each object under an operation of a context is there at one place, and at most one definition is at a place.
 use Rattle.std.proofs.Common.{◌≡◌, ◌∙◌, ◌⊎◌, ◌+◌, ℕ, zero, suc, Bool, true, false, cond, List, [], ◌∷◌, ◌++◌, length, Option, Some, None, option_map, slice_get, refl, sym, ap, ap₂, subst, inl, inr, arith}
 use Rattle.irtext_graph.specs.declared.arena.Ptr.{Ptr}
 use Rattle.irtext_graph.specs.declared.object.Operation.{Operation}
@@ -33,7 +33,7 @@ tail_same j k p q e = cc
 not_nothing : (k : ℕ) (p : Path) → ◌≡◌ {A = Path} (k ∷ p) [] → ⊥
 not_nothing k p e = cc
 
--- a path that is found is that of an object that stands there
+-- a path that is found is that of an object in the list
 pub path_there : (all : List (Object × Path)) (o : Object) (q : Path) → path_of all o ≡ Some q → Among (o, q) all
 path_there [] o q e = absurd (cc)
 path_there (x ∷ xs) o q e = go (path_there xs o q) (eq_object x.0 o) refl e
@@ -46,7 +46,7 @@ module _ {O B T : Type 0} (g : GraphView O B T) (nest : Nested (children g) (par
   abbrev Children : Object → List Object
   Children k = children g k
 
-  -- each object of these is a child of what stands at the rest of its path: of the holder of them all, or of another
+  -- each of these objects is a child of the object at the rest of its path: of the parent of them all, or of another one of them
   record Stems (h : Object) (p : Path) (xs : List (Object × Path)) : Type 0 where
     each : (o : Object) (r : Path) → Among (o, r) xs → (k : ℕ) × (s : Path) × (m : Object) × (r ≡ k ∷ s) × ((◌≡◌ {A = Object × Path} (m, s) (h, p)) ⊎ Among (m, s) xs) × (slice_get (Children m) k ≡ Some o)
 
@@ -126,7 +126,7 @@ module _ {O B T : Type 0} (g : GraphView O B T) (nest : Nested (children g) (par
     at_root o (inl e) = ap (λ z. z.0) e
     at_root o (inr i) = let x = stems.each o [] i in absurd (not_nothing x.0 x.1 (sym x.3))
 
-    -- what stands at the rest of an object's path holds it
+    -- the object at the rest of an object's path is its parent
     held_by : (o : Object) (k : ℕ) (s : Path) → Among (o, k ∷ s) all → (m : Object) × Among (m, s) all × (slice_get (Children m) k ≡ Some o)
     held_by o k s (inl e) = absurd (not_nothing k s (ap (λ z. z.1) e))
     held_by o k s (inr i) =
@@ -142,7 +142,7 @@ module _ {O B T : Type 0} (g : GraphView O B T) (nest : Nested (children g) (par
     root_alone : (o : Object) (k : ℕ) (s : Path) → Among (o, []) all → Among (o, k ∷ s) all → ⊥
     root_alone o k s a b = let h = held_by o k s b in not_above nest h.0 o (nest.down h.0 k o h.2) (length s, climbs s h.0 h.1 ∙ ap Some (sym (at_root o a)))
 
-    -- each object stands at one place
+    -- each object has one path
     one_path : (q r : Path) (o : Object) → Among (o, q) all → Among (o, r) all → q ≡ r
     one_path [] [] o a b = refl
     one_path [] (k ∷ s) o a b = absurd (root_alone o k s a b)
@@ -155,7 +155,7 @@ module _ {O B T : Type 0} (g : GraphView O B T) (nest : Nested (children g) (par
         let first = nest.once h.0 k l o h.2 (subst (λ m. slice_get (Children m) l ≡ Some o) same i.2) in
         ap₂ (λ (n : ℕ) (u : Path). n ∷ u) first rest
 
-    -- the path of an object that stands there is found
+    -- the path of an object in the list is found
     pub path_is : (o : Object) (q : Path) → Among (o, q) all → path_of all o ≡ Some q
     path_is o q a = let x = path_found all o q a in x.1 ∙ ap Some (one_path x.0 q o x.2 a)
 

@@ -60,7 +60,7 @@ module _ {T A U : Type 0} (types : Texts T) (reading : Text → Outcome A) (text
     pub builds_there : held_root after.state.ctx.now p ≡ Some (build iso first built.entries built.tree)
     builds_there = subst (λ d. held_root after.state.ctx.now p ≡ Some (build (isolated d) first built.entries built.tree)) (sym built.only.dialects) built.builds
 
-    -- what printing sees stands for it
+    -- what printing sees represents it
     pub stands_there : StandsFor (stood C iso g) (build iso first built.entries built.tree)
     stands_there =
         let t = built.tree in

@@ -64,7 +64,7 @@ module _ {T A : Type 0} (types_at : Text → Outcome T) (types_written : T → T
         ap is_noted (kept.marks_are types_at types_written reading written dialects types_split splits words short_types short_owns accepted L op marks old mid text rest leaves)
         ∙ tree_noted (isolated dialects) leaves.tree (trees.whole (knot.L types_at types_written reading written dialects) (λ p q h. h) leaves.tree text rest reads_it)
 
-    -- what is wrong with a section behind it is what is wrong with both
+    -- the failures of a section after it are the failures of both
     pub section_failures : (es : List (Entry ℕ A (Written A))) → failures_of (isolated dialects) leaves.tree es ≡ refused marks (rule_of leaves.tree) es
     section_failures es =
         section_alone (isolated dialects) leaves.tree es (trees.whole (knot.L types_at types_written reading written dialects) (λ p q h. h) leaves.tree text rest reads_it)
@@ -89,7 +89,7 @@ module _ {T A : Type 0} (types_at : Text → Outcome T) (types_written : T → T
     first = λ tree es rest (between, r, s). refuses_root types_at types_written reading written dialects types_split splits words short_types short_owns old fault h tree es between r;
   }
 
-  -- and where it was read, and the section behind it is refused
+  -- and if it was parsed, and the section after it is an error
   pub root_refused_behind : ((id : Id) → IsAccepted dialects id) → (L : ℕ → Location A → Type 0) (op : Ptr Operation) (marks : List ℕ) (before mid : ContextView T A) (old : StreamView) (rest : Text) (leaves : LeavesTree types_at (attr_at reading) dialects L op marks before mid old.rest rest) (fault : ParseFault A)
       → ((es : List (Entry ℕ A (Written A))) (left : Text) → section_if (knot.L types_at types_written reading written dialects) (location_standing (attr_at reading)) (marked leaves.tree) es rest left → IsFirst (whole old) (refused marks (rule_of leaves.tree) es) fault)
       → RefusesRoot (texts_of types_at types_written) (texts_of reading written) types_at (attr_at reading) dialects old fault

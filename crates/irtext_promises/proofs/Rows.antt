@@ -1,5 +1,5 @@
--- Worked rows: a context by hand in which an operation with one region of one block holds two operations; the second uses the result of
--- the first, and its own block as a successor. What stands under the pointer of the outermost says where each of these stands.
+-- Worked rows: a context by hand in which an operation with one region of one block has two operations in it; the second uses the result of
+-- the first, and its own block as a successor. The view of the outermost pointer shows at which path each of these is.
 use Rattle.std.proofs.Common.{◌≡◌, ℕ, List, [], ◌∷◌, Some, None, codes, refl}
 use Rattle.irtext_base.specs.Format.{Id}
 use Rattle.irtext_base.specs.Paths.{Written}
@@ -28,7 +28,7 @@ pointer i = record { index = i; generation = 1; of = record {} }
 abbrev loc_at : ℕ → Location ℕ
 loc_at place = SrcPos InMemory (record { line = cut 1; column = cut place })
 
--- the outermost stands at 0, the one with a result at 1, the one that uses it at 2
+-- the outermost operation is at index 0, the one with a result at 1, the one that uses it at 2
 abbrev context : ContextView ℕ ℕ
 context = record {
   graph = record {
@@ -97,7 +97,7 @@ context = record {
   dialects = [];
 }
 
--- what a location is told as there
+-- the location of this place, as it is written
 abbrev told_at : ℕ → Written ℕ
 told_at place = location_over [] (loc_at place)
 

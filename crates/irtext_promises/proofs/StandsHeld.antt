@@ -1,4 +1,5 @@
--- What printing sees of a root that was read stands for what the tree built: each number that is used means what the name meant.
+-- What printing sees of a root that was parsed represents what the tree built: each number that is used refers to what the name referred
+-- to.
 use Rattle.std.proofs.Common.{◌≡◌, ◌∙◌, ◌+◌, ◌-◌, ◌&&◌, ℕ, suc, Bool, true, false, cond, List, [], ◌∷◌, map, filter_map, length, Option, Some, None, is_some, option_map, eqb-true, eq-eqb, refl, sym, ap, ap₂, subst, inl, inr, true≢false, arith}
 use Rattle.std.specs.Prelude.{⊤, unwrap_or, option_and_then}
 use Rattle.std.specs.List.{list_all, cons_option}
@@ -48,7 +49,7 @@ thing_itself : (x : Thing) → same_thing x x ≡ true
 thing_itself (a_value v) = eq-eqb v v refl
 thing_itself (a_block b) = ap₂ ◌&&◌ (eq-eqb b.0 b.0 refl) (eq-eqb b.1 b.1 refl)
 
--- a definition that is found stands among the places of the scope
+-- a definition that is found is among the places of the scope
 lookup_spot : (n : Text) (v : List (Fact Text)) (q : Place) → lookup same_text n v ≡ Some q → Among q (spots v)
 lookup_spot n [] q e = absurd (cc)
 lookup_spot n (uses m u ∷ v) q e = lookup_spot n v q e
@@ -61,7 +62,7 @@ lookup_spot n (defines m p ∷ v) q e = go (same_text m n) e (λ f. lookup_spot 
 -- ---- what has a name by number, and a place
 module _ {D : Type 0} (name : D → Option Thing) (place : D → Option Place)
     (one_name : (d e : D) (x : Thing) → name d ≡ Some x → name e ≡ Some x → d ≡ e) (one_place : (d e : D) (q : Place) → place d ≡ Some q → place e ≡ Some q → d ≡ e) where
-  -- something of this name stands at this place
+  -- a definition with this name is at this place
   abbrev Is : Fact Thing → Type 0
   Is (uses n u) = ⊤
   Is (defines x q) = (d : D) × (name d ≡ Some x) × (place d ≡ Some q)
@@ -87,7 +88,7 @@ module _ {D : Type 0} (name : D → Option Thing) (place : D → Option Place)
       go false e (inr j) later = later j
 
   module _ (v : List (Fact Text)) (w : List (Fact Thing)) (same : spots v ≡ spots w) (true_all : Each Is w) where
-    -- what a name of the text means is what the number of the same thing means
+    -- a name of the text refers to what the number of the same value or block refers to
     looked : (n : Name ℕ) (d : D) → place d ≡ lookup same_text n.text v → is_some (lookup same_text n.text v) ≡ true → (x : Thing) × (name d ≡ Some x) × (lookup same_thing x w ≡ lookup same_text n.text v)
     looked n d e some = go (lookup same_text n.text v) refl e some
       where
@@ -160,7 +161,8 @@ module _ {T A : Type 0} (c : ContextView T A) (counters : KeepsCounters c.graph)
   are_blocks (defines (a_value n) q ∷ w) t = absurd t.0
   are_blocks (defines (a_block at) q ∷ w) t = ((t.0.0, ap (λ z. Some (a_block z)) t.0.1, t.0.2), are_blocks w t.1)
 
-  -- the names of a text and the numbers of what printing sees are defined at the same places, and these are those of what stands there
+  -- the names of a text and the numbers of what printing sees are defined at the same places, and these are the places of the definitions
+  -- there
   record Scoped (v : List (Fact Text)) (w : List (Fact Thing)) : Type 0 where
     same : spots v ≡ spots w
     are : Each IsValue w
@@ -314,7 +316,7 @@ module _ {T A : Type 0} (c : ContextView T A) (counters : KeepsCounters c.graph)
       )
 
     -- ---- the whole
-    -- each object has the path under which it stands here
+    -- each object has the path that this list gives it
     abbrev Into : List (Object × Path) → Type 0
     Into xs = (o : Object) (q : Path) → Among (o, q) xs → path_of all o ≡ Some q
 
@@ -420,7 +422,7 @@ module _ {T A : Type 0} (c : ContextView T A) (counters : KeepsCounters c.graph)
                 (ap isolated (sym (id_is p o (built_op isolated first es [] [] t.own) own_seen own_held))) inner,
           )
 
-      -- what printing sees stands for what the tree built
+      -- what printing sees represents what the tree built
       pub stands_held : Linked (build isolated first es t) → (g : Graph T A) → seen_root text_of c p ≡ Some g → Fit C isolated g → StandsFor (stood C isolated g) (build isolated first es t)
       stands_held linked g sees fit = subst (λ z. StandsFor (stood C isolated z) (build isolated first es t)) (seen_is g sees) (stands_seen linked (subst (Fit C isolated) (sym (seen_is g sees)) fit))
 

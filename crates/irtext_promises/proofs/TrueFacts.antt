@@ -1,5 +1,5 @@
--- What the script of a graph that printing sees says of values and blocks is true of the context: each place that it says is that of what
--- stands there.
+-- What the script of a graph that printing sees states of values and blocks is true of the context: each place that it states is that of
+-- the definition there.
 use Rattle.std.proofs.Common.{◌≡◌, ◌∙◌, ◌+◌, ℕ, suc, Bool, true, false, List, [], ◌∷◌, map, filter_map, drop, length, slice_get, Option, Some, None, option_map, refl, sym, ap, subst, inl, inr, arith}
 use Rattle.std.specs.Prelude.{⊤}
 use Rattle.std.specs.List.{cons_option}
@@ -31,7 +31,7 @@ use Rattle.irtext_promises.specs.Held.{PtrRegions, PtrBlocks, PtrOperations, pla
 use Rattle.irtext_promises.proofs.Shown.{SeenRegions, SeenBlocks, SeenOperations, results_seen, arguments_seen, unlike, first_is, rest_is}
 
 module _ {T A : Type 0} (c : ContextView T A) (all : List (Object × Path)) where
-  -- a value of this number stands at the place that is said
+  -- a value with this number is at the place that is stated
   abbrev pub TrueValue : Fact Thing → Type 0
   TrueValue (uses n u) = ⊤
   TrueValue (defines (a_value n) q) = (v : Value) × (number_of c v ≡ Some n) × (value_place all v ≡ Some q)
@@ -121,7 +121,7 @@ module _ {T A : Type 0} (c : ContextView T A) (all : List (Object × Path)) wher
   body_true (Some (format.custom ds)) p o ss a h = directives_true ds p o h ds ss a
 
   -- ---- the forest
-  -- each object has the path under which it stands here
+  -- each object has the path that this list gives it
   abbrev Into : List (Object × Path) → Type 0
   Into xs = (o : Object) (q : Path) → Among (o, q) xs → path_of all o ≡ Some q
 
