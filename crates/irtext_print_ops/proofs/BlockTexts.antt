@@ -1,4 +1,4 @@
--- What stands in front of a block's operations, as it is appended and as the definitions of printing have it.
+-- What precedes a block's operations, as it is appended and as the definitions of printing have it.
 use Rattle.std.proofs.Common.{◌≡◌, ◌∙◌, ◌++◌, ◌||◌, ℕ, refl, sym, ap, Bool, true, false, cond, not, IfSome, option_map, None, Some, List, [], ◌∷◌, map, filter, codes}
 use Rattle.std.proofs.lemmas.List.{append_assoc}
 use Rattle.std.specs.List.{list_any}

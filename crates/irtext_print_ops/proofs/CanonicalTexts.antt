@@ -31,7 +31,7 @@ all_kept : {X : Type 0} (xs : List X) → filter (λ x. true) xs ≡ xs
 all_kept [] = refl
 all_kept (x ∷ xs) = ap (λ z. x ∷ z) (all_kept xs)
 
--- the parts, one behind the other
+-- the parts, one after another
 together : (a b r t u : Text) → (codes " (" ++ (a ++ (codes ") [" ++ (b ++ codes "]")))) ++ ((codes " [" ++ (r ++ codes "]")) ++ (codes ": <(" ++ (t ++ (codes ") -> (" ++ (u ++ codes ")>")))))
     ≡ codes " (" ++ (a ++ (codes ") [" ++ (b ++ (codes "] " ++ ((codes "[" ++ (r ++ codes "]")) ++ (codes ": <(" ++ (t ++ (codes ") -> (" ++ (u ++ codes ")>")))))))))
 together a b r t u = simp append_assoc
@@ -57,7 +57,7 @@ module _ {T A : Type 0} (L : Language ⊤ T A) (outlined once : A → Bool) (sam
       ++ (dictionary_text L.owns.written outlined [] (entries_of es)
       ++ (codes ": <(" ++ (list_text L.types.written ctx (OperandTypes p) 0 ++ (codes ") -> (" ++ (list_text L.types.written ctx (ResultTypes p) 0 ++ codes ")>")))))
 
-  -- what stands behind the id, of these texts
+  -- what follows the id, of these texts
   abbrev whole : Text → Text → Text → Text → Text → Text
   whole a b r t u = codes " (" ++ (a ++ (codes ") [" ++ (b ++ (codes "] " ++ ((codes "[" ++ (r ++ codes "]")) ++ (codes ": <(" ++ (t ++ (codes ") -> (" ++ (u ++ codes ")>")))))))))
 

@@ -1,4 +1,4 @@
--- Turns one behind the other are one turn: what the first leaves innermost is replaced by what the next leaves of it.
+-- Turns one after another are one turn: the innermost frame that the first leaves is replaced by what the next leaves of it.
 use Rattle.std.proofs.Common.{◌≡◌, ◌<◌, ◌+◌, ◌==◌, ℕ, zero, suc, List, [], ◌∷◌, ◌++◌, length, map, drop, Bool, true, false, cond, Option, Some, None, arith, refl, ap, sym, subst, ◌∙◌, append_assoc, append-nil, length-append, inl, inr, ◌⊎◌, true≢false}
 use Rattle.std.specs.Prelude.{⊤}
 use Rattle.std.proofs.lemmas.List.{append_cancel_left, map-append}
@@ -141,7 +141,7 @@ module _ {T A : Type 0} (C : Printing T A) (L : Language ⊤ T A) (ctx : Context
     fewer = s.fewer;
   }
 
-  -- ---- several turns of the same thing
+  -- ---- several turns of the same frame
 
   -- nothing was done so far
   pub record Untouched (first here : Frame) (items items' : List Item) (old now : List ℕ) : Type 0 where
@@ -181,7 +181,7 @@ module _ {T A : Type 0} (C : Printing T A) (L : Language ⊤ T A) (ctx : Context
         subst (λ z. Steps C L ctx width first items items2 gs z old new) (sym t.stack)
         (inside_others first items items2 gs t.pushed old new (left_more here items1 items2 t.pushed mid new l (alone here items1 items2 gs gs' mid new t)))
 
-    -- one turn more, which leaves the same thing alone, and what is outside as it was
+    -- one more turn, which leaves the same frame as the innermost, and the outer frames unchanged
     pub left_on : (here next : Frame) (items1 items2 : List Item) (gs gs' : List Frame) (mid new : List ℕ) → Left here items1 mid →
         Steps C L ctx width here items1 items2 gs (gs' ++ next ∷ []) mid new → gs' ≡ gs → Steps C L ctx width first items items2 [] (next ∷ []) old new
     left_on here next items1 items2 gs gs' mid new l t k =

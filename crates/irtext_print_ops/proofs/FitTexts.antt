@@ -22,7 +22,7 @@ use Rattle.irtext_print_ops.proofs.ListTexts.{none_left}
 
 -- ---- the first test that fails
 
--- a test that passes, and those behind it
+-- a test that passes, and those after it
 record Passing (b : Bool) (others : Type 0) : Type 0 where
   is : b ≡ true
   rest : others
@@ -114,7 +114,7 @@ module _ {A : Type 0} (is_outlined : A → Bool) (ds : List Directive) (counts :
 -- ---- what the definitions ask
 
 module _ {T A : Type 0} (C : Printing T A) (isolated : Id → Bool) (ds : List Directive) (o : GraphOp T A) (n : ℕ) where
-  -- all attributes are written where none is found that is not
+  -- all attributes are written if none is found that is not
   covered : (not (count is_dictionary ds == 0) || list_all (λ e. has same_text e.0 (written_keys C ds) || outlined C e.1) o.attributes) ≡ is_none (uncovered_key C.own_outlined ds o.attributes)
   covered =
       go (count is_dictionary ds == 0)
@@ -161,7 +161,7 @@ module _ {T A : Type 0} (C : Printing T A) (isolated : Id → Bool) (ds : List D
 
 -- ---- what a check answers
 
--- what holds of what is there
+-- what holds of a value that is present
 pub given : {X : Type 0} (P : X → Type 0) (o : Option X) (x : X) → o ≡ Some x → IfSome o P → P x
 given P o x e h = subst (λ z. IfSome z P) e h
 

@@ -40,7 +40,7 @@ use Rattle.irtext_print_ops.specs.declared.frame.BlockFrame.{BlockFrame}
 use Rattle.irtext_print_ops.proofs.Tests.{is_there}
 use Rattle.irtext_print_ops.proofs.Turned.{seen_some, block_there, regions_seen}
 
--- what is known of an error that is handed on
+-- what holds of an error that is returned by `?`
 pub handed_on : {R E : Type 0} (P : E → Type 0) (r : Result R E) (e : E) → IsErrAnd r (λ y. y ≡ e) → P e → IfErr r P
 handed_on P r e h p = let q = err_from_is_err_and r h in subst (λ z. IfErr z P) (sym (q.1 ∙ ap Err q.2)) p
 

@@ -9,7 +9,7 @@ pub not_there : {X : Type 0} (o : Option X) (b : Bool) → (IsTrue b ↔ IsSome 
 not_there None b t e = refl
 not_there (Some x) b t e = absurd (true≢false (sym (t.1 refl) ∙ e))
 
--- what is there
+-- the value, if it is present
 pub is_there : {X : Type 0} (o : Option X) → IsSome o → (x : X) × (o ≡ Some x)
 is_there None h = absurd (true≢false (sym h))
 is_there (Some x) h = (x, refl)
@@ -29,7 +29,7 @@ pub if_none : {X P : Type 0} (o : Option X) → P → IfNone o P
 if_none None p = p
 if_none (Some x) p = tt
 
--- nothing is left behind the last
+-- after the last nothing is left
 pub none_left : {X : Type 0} (xs : List X) (i : ℕ) → slice_get xs i ≡ None → drop i xs ≡ []
 none_left [] zero e = refl
 none_left [] (suc i) e = refl

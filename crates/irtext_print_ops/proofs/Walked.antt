@@ -33,7 +33,7 @@ use Rattle.irtext_context.specs.declared.base.item.Item.{Item}
 use Rattle.irtext_print_ops.proofs.Turned.{opened_is, same_mark, fits_covered, regions_counted}
 
 module _ {T A : Type 0} (C : Printing T A) (L : Language ⊤ T A) (ctx : ContextView T A) (width : ℕ) where
-  -- the text that is left of frames, behind so many marks
+  -- the text that is left of frames, after this many marks
   abbrev pub frames_text : List Frame → List Item → List ℕ
   frames_text frames items = encode_utf8_all (open_rest C L width (map (open_of C L ctx) frames) (length items))
 
@@ -134,7 +134,7 @@ module _ {T A : Type 0} (C : Printing T A) (L : Language ⊤ T A) (ctx : Context
     abbrev first_frame : Frame
     first_frame = frame.Operation (record { op = p; directives = known; directive = 0; region = 0; repeats = is_canonical (C.format_of (seen_at C L ctx p).id); marked = marked; indent = i; limit = limit })
 
-    -- what stands in front of the parts of the outermost operation, and what is left then
+    -- what precedes the parts of the outermost operation, and the text that is left then
     pub first_text : (items : List Item) (old new : List ℕ) → n ≡ length items → new ≡ old ++ encode_utf8_all (operation_front L (tree_op C 0 (seen_at C L ctx p))) →
         new ++ frames_text (first_frame ∷ []) items
         ≡ old ++ encode_utf8_all (concrete L (tree_op C (n + marks_in_regions C (levels limit) (seen_regions L.owns.written ctx (regions_left C L ctx p 0))) (seen_at C L ctx p))
