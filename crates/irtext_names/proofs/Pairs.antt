@@ -21,7 +21,7 @@ use Rattle.irtext_names.proofs.Settled.{settled_if}
 use Rattle.irtext_names.proofs.Ties.{tied_kept, tied_defined, tied_made, tied_gained, waiting_kept, waiting_defined, waiting_made, waiting_gained}
 
 module _ {O B T V : Type 0} (of : V → Defined) {g : GraphView (Option O) B T} (n : ℕ) (ss : List (Scope V)) (t : Tied of ss g) where
-  -- what a name stands for is there
+  -- what a name refers to is live
   pub there_here : (v : V) → option_map value_of (find n (innermost ss)) ≡ Some v → IsDefined g (of v)
   there_here v e = go (find n (innermost ss)) refl e
     where
@@ -131,7 +131,7 @@ module _ {O B T V : Type 0} {Makes : GraphView (Option O) B T → GraphView (Opt
   pub uses_new : (ss ss' : List (Scope V)) (g k : GraphView (Option O) B T) → find n (innermost ss) ≡ None → ss' ≡ in_innermost (mentioned n (Pending v)) ss → Makes g k v → Uses Makes ss ss' g k n v
   uses_new ss ss' g k e f m = record { known = λ x h. absurd (cc); unknown = λ h. (f, m) }
 
--- ---- a refusal that is handed on
+-- ---- an error that is returned by `?`
 pub handed_on : {T E : Type 0} {e : E} (r : Result T E) → IsErrAnd r (λ y. y ≡ e) → r ≡ Err e
 handed_on r h = let p = err_from_is_err_and r h in p.1 ∙ ap Err p.2
 
