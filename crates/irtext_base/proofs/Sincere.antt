@@ -34,7 +34,7 @@ module _ {X : Type 0} where
   pub of_bad : (text : Text) (cause : Fault) (upto left : Text) → is_text_fault cause ≡ true → upto ++ left ≡ text → Of {X = X} text (Bad cause upto)
   of_bad text cause upto left e f = record { says = (e, (left, f)) }
 
-  -- where it stands is in each text
+  -- an empty prefix is in each text
   pub of_here : (text : Text) (cause : Fault) → is_text_fault cause ≡ true → Of {X = X} text (Bad cause [])
   of_here text cause e = of_bad text cause [] text e refl
 
