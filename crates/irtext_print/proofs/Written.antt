@@ -110,7 +110,7 @@ module _ {T A : Type 0} (L : Language ⊤ T A) (C : Printing T A) where
   once_alone n (a ∷ rest) = ap (λ z. codes "!" ++ (decimal n ++ (codes " = " ++ (L.owns.written a ++ (10 ∷ z))))) (once_alone (suc n) rest)
 
   module _ {X : Type 0} (gives : X → Option (Entry C)) (items : ℕ) (all : List X) (first_known : List A) where
-    -- what is known behind all items
+    -- what is known after all items
     abbrev last_known : List A
     last_known = items_noted C first_known (map gives all)
 
