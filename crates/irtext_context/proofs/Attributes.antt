@@ -1,4 +1,4 @@
--- Attributes that are lent for writing: what the context holds behind them, and what stays.
+-- Attributes that are borrowed for writing: what the context holds once the borrow has ended, and what is unchanged.
 use Rattle.std.proofs.Common.{◌≡◌, ◌∙◌, refl, sym, ap, subst, List, Option, None, Some}
 use Rattle.std.specs.Option.{option_map}
 use Rattle.std.specs.Prelude.{option_and_then}

@@ -13,7 +13,7 @@ use Rattle.irtext_base.specs.Format.{distinct, has}
 use Rattle.irtext_base.specs.Text.{Text}
 
 module _ {K V : Type 0} (t : K → Bool) where
-  -- no key passes where none has a place
+  -- if no key has a place, no key passes the test
   pub absent_from_place : (es : List (K × V)) → position t (keys_of es) ≡ None → IsAbsent t es
   absent_from_place es e = absent_from_none t es (Missing-position t es e).value
 

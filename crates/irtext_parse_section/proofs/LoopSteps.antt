@@ -53,7 +53,7 @@ rest_stays s = record { src = refl; aux_data = refl }
 pub rest_joins : {T A U : Type 0} {old mid new : State T A U} → KeepsRest old mid → KeepsRest mid new → KeepsRest old new
 rest_joins a b = record { src = b.src ∙ a.src; aux_data = b.aux_data ∙ a.aux_data }
 
--- one entry, recorded where none was recorded
+-- one entry, recorded after no other
 notes_one : {A : Type 0} (e : ReadEntry A) → Notes nothing e (one_noted e)
 notes_one (read.OfItem i e) = (refl, λ _. refl, refl)
 notes_one (read.OfOnce i a) = (refl, refl, refl)

@@ -1,4 +1,4 @@
--- Marks that count from 0 on with others behind them: look-up, one more, and the first ones.
+-- Marks that count from 0 on with others after them: look-up, one more, and the first ones.
 use Rattle.std.specs.Prelude.{◌≡◌, ℕ, zero, suc, ◌+◌, ◌-◌, ◌<◌, ◌≤◌, Bool, true, false, cond, List, [], ◌∷◌, ◌++◌, length, take, Some, None, slice_index_or, refl}
 use Rattle.std.specs.List.{enumerate_from}
 use Rattle.std.specs.Map.{lookup}

@@ -1,4 +1,4 @@
--- A name that comes to be kept stands under its number, and no name comes to stand under two.
+-- A name that is interned is under its number, and no name has two numbers.
 use Rattle.std.proofs.Common.{◌≡◌, ◌∙◌, ap, refl, sym, subst, ℕ, ◌<◌, ◌≤◌, Bool, true, false, cond, nat_lt, Option, Some, None, Result, Ok, Err, List, [], length, position, get_or, arith, true≢false, ltb-false, ⊎_elim}
 use Rattle.std.proofs.lemmas.List.Quantifiers.{position-Some}
 use Rattle.std.proofs.lemmas.List.Sums.{fails_before_first}
@@ -10,7 +10,7 @@ use Rattle.std.specs.Str.{bytes_eq}
 use Rattle.irtext_scopes.specs.Names.{number_or_next, found_or_last, number_of, with_name, KeepsNames, AreDistinct}
 use Rattle.irtext_scopes.proofs.Lists.{get_within, get_or_there, get_snoc, get_last, get_front}
 
--- a name that is not found stands nowhere
+-- a name that is not found is not in the list
 absent : (names : List (List ℕ)) (text : List ℕ) (i : ℕ) → position (bytes_eq text) names ≡ None → slice_get names i ≡ Some text → ⊥
 absent names text i e h =
     let l = get_within names i text h in

@@ -39,7 +39,7 @@ module _ (x y : GraphOp Text Text) where
   abbrev pub module_of : Graph Text Text
   module_of = record { own = module_m None; regions = region tt (block first_block (operation x no_regions (operation y no_regions no_operations)) no_blocks) no_regions }
 
-  -- its dictionaries hold what may stand in them
+  -- its dictionaries contain only entries that are allowed
   pub keeps : OpKeepsKeys x → OpKeepsKeys y → GraphKeepsKeys module_of
   keeps a b = (refl, (tt, (refl, (a, tt, (b, tt, tt)), tt), tt))
 

@@ -43,12 +43,12 @@ use Rattle.irtext_promises.proofs.PrintedBack.{stands_back, stands_whole, not_re
 use Rattle.pliron_text.specs.Calls.{IsClosed, IsPrinted, ComesBack, ComesBackWhole, ReadsText, RefusesText}
 use Rattle.pliron_text.proofs.Fitting.{fits_whole}
 
--- what is said of a refusal that was none for want of memory
+-- what holds of an error that is not out of memory
 pub refused_as : {X A : Type 0} (P Q : ParseFault A → Type 0) → ((f : ParseFault A) → P f → Q f) → (r : Result X (ParseFault A)) → IfErr r (UnlessMemory P) → IfErr r (UnlessMemory Q)
 refused_as P Q as-q (Ok x) h = tt
 refused_as P Q as-q (Err f) h = elim h [ inl m ↦ inl m | inr p ↦ inr (as-q f p) ]
 
--- a root that stands alone is closed where its operations fit
+-- a root that is alone is closed if its operations fit
 pub closed_where_fits : {T A : Type 0} (written : A → Text) (C : Printing T A) (ctx : ContextView T A) (p : Ptr Operation) (g : Graph T A) → IsClosed written C ctx p g → Distinct C (isolated ctx.dialects) g → Fit C (isolated ctx.dialects) g → ClosedRoot C (isolated ctx.dialects) g
 closed_where_fits written C ctx p g h d f = record { closed = found_closed C (isolated ctx.dialects) g h.found d h.results h.operands h.successors h.alone; fits = f; unlabelled = h.unlabelled }
 
@@ -124,7 +124,7 @@ module _ {T A : Type 0} (types : ir_text.Ghosts T A) (owns : ir_text.Ghosts A A)
             (ap (λ (v : ContextView T A). v.dialects) r.starts.context ∙ same_dialects) k.1 q r.new r.builds),
       )
 
-      -- and it is refused for want of memory alone
+      -- and it is an error only if out of memory
       pub memory_alone : (Fit C (isolated ctx.dialects) g → ClosedRoot C (isolated ctx.dialects) g) → (f : ParseFault A) → UnlessMemory (RefusesText texts own_texts attr text other types.reading) f → fault_of f.cause ≡ faults.Memory
       memory_alone closed f h =
           elim h [
