@@ -15,7 +15,7 @@ advanced_behind v w taken rest c e b =
 pub ruleset fronts = front_after
 
 module _ {S : Type 0} (view : S → StreamView) (at : S → StreamView → S) where
-  -- what was taken since the reader began, all of it passing the test
+  -- what was taken since the parser began, all of it passing the test
   pub record Along (p : ℕ → Bool) (old now : S) (taken : Text) : Type 0 where
     pub is : now ≡ at old (behind (view old) taken (view now).rest)
     pub same : taken ++ (view now).rest ≡ (view old).rest

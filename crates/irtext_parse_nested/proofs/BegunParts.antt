@@ -68,7 +68,7 @@ custom_neither (format.dictionary ∷ ds) e = custom_neither ds e
 custom_neither (format.result_type i ∷ ds) e = custom_neither ds e
 custom_neither (format.header ∷ ds) e = custom_neither ds e
 
--- from the first region on no step of an accepted format reads a name or a type
+-- from the first region on no step of an accepted format parses a name or a type
 pub behind_neither : (f : Format) → Accepted f → ReadNeither (region_steps (steps_of f))
 behind_neither format.canonical a = (tt, tt)
 behind_neither (format.custom ds) a = custom_neither ds (accepted_places ds a).behind
@@ -117,7 +117,7 @@ module _ {T A : Type 0} where
   counted (tree.result_type i t ∷ ps) = counted ps
   counted (tree.header n ∷ ps) = counted ps
 
--- no list of types is read by a directive
+-- no list of types is parsed by a directive
 untyped_front : (ds : List Directive) → flat_map types_step (front_steps (map step_of ds)) ≡ []
 untyped_front [] = refl
 untyped_front (format.region i ∷ ds) = refl
@@ -132,7 +132,7 @@ untyped_front (format.dictionary ∷ ds) = untyped_front ds
 untyped_front (format.result_type i ∷ ds) = untyped_front ds
 untyped_front (format.header ∷ ds) = untyped_front ds
 
--- ---- parts of lists, and what was read of them
+-- ---- parts of lists, and what was parsed of them
 -- ---- which can be gathered
 below_of : (ns : List Text) (i : ℕ) (t : Text) → slice_get ns i ≡ Some t → i < length ns
 below_of [] zero t e = absurd (cc)
@@ -168,7 +168,7 @@ numbers_known names text (n ∷ ns) (m ∷ ms) e = (below_of names n.name m.text
 same_step : {X : Type 0} (test : Step → X) (d e : Directive) → Some d ≡ Some e → test (flat d) ≡ test (flat e)
 same_step test d e f = let g : d ≡ e = cc f in ap (λ z. test (flat z)) g
 
--- ---- what was read shows what the parts show
+-- ---- what was parsed shows what the parts show
 module _ {T A : Type 0} (names : List Text) (text : Text) where
   module _ {X : Type 0} (F : ReadPiece T A → List X) (G : Piece ℕ T A → List X) (agree : (r : ReadPiece T A) (p : Piece ℕ T A) → IsPiece names text r p → F r ≡ G p) where
     pub seen_alike : (rs : List (ReadPiece T A)) (ps : List (Piece ℕ T A)) → Each (IsPiece names text) rs ps → flat_map F rs ≡ flat_map G ps
@@ -318,7 +318,7 @@ module _ {T A : Type 0} (names : List Text) (text : Text) where
   successors_once (read.Header s ∷ rs) (p ∷ ps) e l = successors_once rs ps e.1 (few_behind (successors_shown p) (flat_map successors_shown ps) l)
   successors_once (read.Types ts ∷ rs) (p ∷ ps) e l = successors_once rs ps e.1 (few_behind (successors_shown p) (flat_map successors_shown ps) l)
 
--- ---- a step reads what it shows
+-- ---- a step parses what it shows
 -- the step is no type of a result, no list of types, or no attribute and no symbol
 abbrev pub is_untyped : Step → Bool
 is_untyped (flat (format.result_type i)) = false

@@ -1,4 +1,4 @@
--- What an operation that was begun has so far, as its steps are read, and at its end.
+-- What an operation that was begun has so far, as its steps are parsed, and at its end.
 use Rattle.std.proofs.Common.{◌≡◌, ◌∙◌, ℕ, List, [], ◌∷◌, ◌++◌, length, Option, refl, sym, ap, subst, append_assoc}
 use Rattle.irtext_base.specs.Text.{Text}
 use Rattle.irtext_base.specs.Format.{Format, Id}
@@ -22,7 +22,7 @@ abbrev pub with_entries : {T A : Type 0} → OwnSoFar T A → List (Text × Attr
 with_entries own es = record { place = own.place; id = own.id; operands = own.operands; successors = own.successors; types = own.types; entries = es }
 
 module _ {T A : Type 0} (formats : Id → Option Format) (o : OpenOperation T A) (own : OwnSoFar T A) (h : HasBegun formats o own) where
-  -- ---- one more step was read
+  -- ---- one more step was parsed
   module _ (s : Step) (ss : List Step) (steps : o.steps ≡ s ∷ ss) (part : Part ℕ T A) (is : IsPartOf s part) where
     behind : (later : List (Part ℕ T A)) → ArePartsOf ss later → ArePartsOf o.steps (part ∷ later)
     behind later a = subst (λ zs. ArePartsOf zs (part ∷ later)) (sym steps) (is, a)

@@ -1,4 +1,4 @@
--- A block that is begun: its header was read, it was made, and its names are defined.
+-- A block that is begun: its header was parsed, it was made, and its names are defined.
 use Rattle.std.proofs.Common.{◌≡◌, ◌<◌, ◌≤◌, ◌∙◌, ℕ, true, List, [], ◌∷◌, ◌++◌, map, length, Ok, IsSome, refl, sym, ap, subst}
 use Rattle.std.proofs.lemmas.List.{length-map}
 use Rattle.irtext_base.specs.Text.{Text}
@@ -47,7 +47,7 @@ use Rattle.irtext_parse_nested.proofs.HeadNamed.{inside_stays, block_stays}
 use Rattle.irtext_parse_nested.proofs.Headers.{arguments_named}
 use Rattle.irtext_parse_nested.proofs.Lasting.{stands_block}
 
--- ---- names that were read besides
+-- ---- names that were parsed besides
 -- they are tied to the graph
 pub read_tied : {T A : Type 0} (before names : Names) → NamesRead before names → (c : ContextView T A) → MatchesGraph before.values before.labels c.graph → MatchesGraph names.values names.labels c.graph
 read_tied before names reads c t = subst (λ ls. MatchesGraph names.values ls c.graph) (sym reads.labels) (subst (λ vs. MatchesGraph vs before.labels c.graph) (sym reads.values) t)

@@ -1,4 +1,4 @@
--- The turn that begins a block: what was read and done, or what is refused.
+-- The turn that begins a block: what was parsed and done, or what is refused.
 use Rattle.std.proofs.Common.{◌≡◌, ◌∙◌, inl, inr, ℕ, true, false, List, [], ◌∷◌, ◌++◌, codes, map, length, Some, None, IsSome, Result, Ok, Err, sym, ap, subst}
 use Rattle.irtext_base.specs.Text.{Text, begins}
 use Rattle.irtext_base.specs.Reading.{the}
@@ -56,7 +56,7 @@ if_ok (Err e) f p = tt
 pub starves : {A : Type 0} {old new : StreamView} {f : ParseFault A} → StarvesHere itself replaced old f new → IsStarved f
 starves s = record { because = s.because; flag = s.committed }
 
--- ---- the reader of a header
+-- ---- the parser of a header
 honest_name_at : Honest name_at
 honest_name_at = record { of = λ text. of_mapped text (name_of (length text)) (identifier_at text) ((honest_name _).of text) }
 
@@ -81,7 +81,7 @@ module _ {A : Type 0} (attr : Text → Outcome (AttrView A)) (honest : Honest at
         (◌so◌ (honest_either (begins (the 91)) (seen Some honest_dictionary) (honest_nothing None)) (λ attributes. ◌then◌ honest_space
         (◌so◌ (honest_either (begins (the 33)) (seen Some honest_mark) (honest_nothing None)) (λ mark. ◌then◌ honest_space (seen (λ _. record { label = label; arguments = arguments; attributes = attributes; mark = mark }) (honest_word (codes ":")))))))))))
 
--- a header that can't be read
+-- a header that can't be parsed
 pub head_unread : {T A U : Type 0} (types_at : Text → Outcome T) (reading : Text → Outcome A) → Sincere types_at → Sincere reading → (before : Names) (names : List Text) (old : StateStream T A U) (v : StreamView) (fault : ParseFault A) → old.stream.failed ≡ false
     → MustHead {T = T} itself replaced names types_at (attr_at reading) old.stream (Err fault) v → UnlessMemory (RefusesBlock types_at (attr_at reading) before old) fault
 head_unread types_at reading sincere_types sincere before names old v fault fine h =
@@ -156,6 +156,6 @@ module _ {T A U : Type 0} (types_at : Text → Outcome T) (attr : Text → Outco
               (head_acts before names (whole old.stream) old.state.src old.state m read head reads distinct is_head r b made same after new.state named);
         }
 
-    -- its mark was noted
+    -- its mark was recorded
     pub block_noted : (z : code.State T A U) (after : Names) → NamesHead b read.label (map (λ a. a.0) read.arguments) read.mark names m after z → marks_of z ≡ marks_of old.state ++ noted_as head.mark (item.Block b)
     block_noted z after named = noted_is (whole old.stream) (item.Block b) read.mark head.mark (marks_of m) (marks_of z) is_head.mark named.notes ∙ ap (λ ms. ms ++ noted_as head.mark (item.Block b)) same

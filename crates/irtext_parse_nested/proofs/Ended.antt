@@ -67,14 +67,14 @@ must_commit {X} {f = f} {old = old} {new = new} {fault = fault} fine h = elim h.
 
 module _ {T A U X : Type 0} (types_at : Text → Outcome T) (attr : Text → Outcome (AttrView A)) (o : OpenOperation T A) (b : BegunOperation) (before names : Names) (old : StateStream T A U) (mid : code.State T A U) (item : X) (marks : List (ℕ × X))
     (closes : Acts (closes_at o old.state) before old.state (pledge_of b o.place ∷ []) names mid []) (were : indices_of (marks_of mid) ≡ indices_of marks) (s v : StreamView) (same : s ≡ old.stream) where
-  -- the mark was read
+  -- the mark was parsed
   there : (read : Option ReadMark) (h : MustMean {A = A} itself replaced (IsMarkIf (whole s)) end_at s (Ok read) v) → Answered (end_at old.stream.rest) old.stream (h.meant read) v
   there read h = subst (λ w. Answered (end_at w.rest) w (h.meant read) v) same (answered {A = A} h.read)
 
   means : (read : Option ReadMark) (h : MustMean {A = A} itself replaced (IsMarkIf (whole s)) end_at s (Ok read) v) → IsMarkIf (whole old.stream) read (h.meant read)
   means read h = subst (λ w. IsMarkIf (whole w) read (h.meant read)) same h.means
 
-  -- it was noted
+  -- it was recorded
   pub end_read : (new : StateStream T A U) (read : Option ReadMark) (later : List (ℕ × X)) → new.stream ≡ v → MustMean {A = A} itself replaced (IsMarkIf (whole s)) end_at s (Ok read) v → NotesMark read item marks later
       → indices_of (marks_of new.state) ≡ indices_of later → new.state.ctx.now ≡ mid.ctx.now → EndsOperation types_at attr o b before old names new
   end_read new read later e h n are ctx =
@@ -87,7 +87,7 @@ module _ {T A U X : Type 0} (types_at : Text → Outcome T) (attr : Text → Out
         acts = acts_then closes (note_acts names (whole old.stream) mid new.state item read (h.meant read) marks later (means read h) n were are ctx);
       }
 
-  -- its index is noted already
+  -- its index is recorded already
   pub end_marked : (fault : ParseFault A) (read : Option ReadMark) → MustMean {A = A} itself replaced (IsMarkIf (whole s)) end_at s (Ok read) v → UnlessMemory (RefusesMark (whole v) read marks) fault
       → UnlessMemory (RefusesEnd types_at attr o b before old) fault
   end_marked fault read h u = elim u [
@@ -95,7 +95,7 @@ module _ {T A U X : Type 0} (types_at : Text → Outcome T) (attr : Text → Out
     | inr r ↦ let a = there read h in inr (same_mark (h.meant read) a.taken v.rest a.is (fails_then closes (mark_fails names (whole old.stream) mid mid fault read (h.meant read) marks (means read h) (subst (λ t. RefusesMark t read marks fault) (must_whole alone {A = A} h.read ∙ ap whole same) r) were)))
   ]
 
-  -- none can be read
+  -- none can be parsed
   pub end_unread : (fault : ParseFault A) (m : StateStream T A U) → m.state ≡ mid → s.failed ≡ false → MustMean {A = A} {Y = Option ReadMark} itself replaced (IsMarkIf (whole s)) end_at s (Err fault) v → UnlessMemory (RefusesEnd types_at attr o b before old) fault
   end_unread fault m e fine h = elim (must_demand alone end_at (within_honest honest_end) fine h.read) [
     | inl starved ↦ inl starved

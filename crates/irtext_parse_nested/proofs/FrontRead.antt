@@ -1,4 +1,4 @@
--- The front of an operation was read, or why it was not.
+-- The front of an operation was parsed, or why it was not.
 use Rattle.std.proofs.Common.{◌≡◌, ◌∙◌, ◌||◌, inl, inr, ℕ, Bool, true, false, cond, List, [], ◌∷◌, ◌++◌, length, Some, None, Ok, Err, refl, sym, ap, subst, append-nil, true≢false}
 use Rattle.std.specs.Option.{option_map}
 use Rattle.irtext_base.specs.Text.{Text}
@@ -86,7 +86,7 @@ module _ {T A : Type 0} (types_at : Text → Outcome T) (reading : Text → Outc
             lacks_lead (record { cause = cause; upto = upto; bad = ap demanded is; fault_is = text_fault old cause upto front.0 last front.1 (ap fault_of same.cause ∙ r.because) (placed upto r.place) })
             (same.flag ∙ ap (λ b. wanted || b) (r.committed ∙ sym (ap is_committed is)))
 
-    -- where the fault is not committed, nothing was read
+    -- where the fault is not committed, nothing was parsed
     pub lead_unread : last.committed ≡ false → new ≡ old
     lead_unread flag = go wanted c
       where

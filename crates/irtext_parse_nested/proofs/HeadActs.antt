@@ -176,7 +176,7 @@ module _ {T A U : Type 0} (before names : Names) (text : Text) (source : Source)
             → MarkOn mid g d.front.made text d.state head.mark (indices_of later)
         marked path items pledges o x old later notes are d = mark_on mid g d.front.made text x read.mark head.mark old later d.state is.mark notes (d.marks ∙ are) d.stands
 
-        -- the mark's index is noted already
+        -- the mark's index is recorded already
         pub mark_refused : (fault : ParseFault A) → RefusesMark text read.mark (marks_of m) fault → ActFails text heads before s [] fault
         mark_refused fault q =
             let k = mark_there text read.mark head.mark q.read is.mark q.is in

@@ -48,7 +48,7 @@ run_both o (x ∷ xs) ys = run_both (next o (act x)) xs ys
 
 -- ---- keys
 module _ {A : Type 0} (rule : Rule A) (text : Text) where
-  -- the rule says the same of the entry that was read
+  -- the rule says the same of the entry that was parsed
   same_rule : (r : Key × AttrObj A) (e : Name ℕ × Attribute A) → IsEntry text r e → rule e.0.text e.1 ≡ rule r.0.name (attribute_of r.1)
   same_rule r e i = ap₂ rule (sym i.0.named) (sym i.1)
 
@@ -147,7 +147,7 @@ module _ {O B T : Type 0} (names : Names) (g : GraphView (Option O) B T) (made :
         marks = ap (λ ms. ms ++ m.index ∷ []) e ∙ (sym (map-through (λ z. z.0) old (m.index, x) []) ∙ ap indices_of (sym k.1));
       }
 
--- a mark whose index is noted already fails
+-- a mark whose index is recorded already fails
 pub mark_taken : (m : Option (Mark ℕ)) (k : Mark ℕ) (st : State) → m ≡ Some k → is_among k.index st.marks ≡ true → run (going st) (map act (mark_acts m)) ≡ failed (record { cause = script.DuplicateIndex k.index; at = Some k.place })
 mark_taken m k st e there =
     let f : Failure = record { cause = script.DuplicateIndex k.index; at = Some k.place } in

@@ -71,9 +71,9 @@ first_left (z ∷ xs) (suc n) x ys e = first_left xs n x ys e
 pub registered_steps : (dialects : List (Text × Table)) (id : OpId) (info : OpInfo) → registered dialects id ≡ Some (known_of info) → steps_in dialects (id_of id) ≡ steps_of (format_of info.format)
 registered_steps dialects id info known = ap (λ o. elim o [ Some f ↦ steps_of f | None ↦ [] ]) (ap (λ o. option_map (λ k. k.format) o) known)
 
--- ---- what is read
+-- ---- what is parsed
 module _ {T A : Type 0} (types_at : Reader T) (attr : Reader (AttrView A)) where
-  -- a directive without names reads the same inside of some region and outside of each
+  -- a directive without names parses the same inside of some region and outside of each
   directive_late : (inside : Bool) (d : Directive) → (WritesNamesOrType d → ⊥) → directive_at types_at attr inside d ≡ directive_at types_at attr true d
   directive_late inside (format.word s) n = refl
   directive_late inside (format.operand i) n = absurd (n tt)
@@ -113,7 +113,7 @@ late_within {T} {A} types_at reading sincere_types sincere inside step n =
     subst (λ (f : Reader (Piece ℕ T A)). StaysWithin (space_at ▷ f)) (sym (piece_late types_at (attr_at reading) inside step n)) (spaced_within types_at reading sincere_types sincere step)
 
 -- ---- what it does
--- what names values or labels, or gives a result its type, is no piece of a step that reads neither
+-- what names values or labels, or gives a result its type, is no piece of a step that parses neither
 never_late : {T A : Type 0} (step : Step) (d : Directive) (q : Piece ℕ T A) → directive_of_piece q ≡ Some d → WritesNamesOrType d → ReadsNeither step → IsOfStep step q → ⊥
 never_late (flat c) d q e w n o = let same : d ≡ c = let f = sym e ∙ o in cc f in n (subst WritesNamesOrType same w)
 never_late types d q e w n o = n

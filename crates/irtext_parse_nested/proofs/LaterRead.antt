@@ -94,7 +94,7 @@ module _ {T A U : Type 0} (types_at : Reader T) (attr : Reader (AttrView A)) (ol
     neither : ReadNeither (step ∷ ss)
     neither = subst ReadNeither left is.late
 
-    -- ---- it was read
+    -- ---- it was parsed
     module _ (read : NamesRead before middle) (distinct : AreDistinct middle.names) (piece : ReadPiece T A) (mid : StreamView)
         (must : MustPiece {A = A} itself replaced middle.names (space_at ▷ piece_at types_at attr b.inside step) old.stream (Ok piece) mid) where
       there : Answered ((space_at ▷ piece_at types_at attr b.inside step) old.stream.rest) old.stream (must.meant piece) mid
@@ -225,7 +225,7 @@ module _ {T A U : Type 0} (types_at : Reader T) (attr : Reader (AttrView A)) (ol
           ))
 
   -- ---- the turn
-  -- no piece could be read
+  -- no piece could be parsed
   pub next_missing : {names : List Text} {fault : ParseFault A} {mid : StreamView} → old.stream.failed ≡ false → Sincere types_at → (reading : Text → Outcome A) → attr ≡ attr_at reading → Sincere reading
       → ReadsNext types_at attr dialects b names old.stream (Err fault) mid → (o : OpenOperation T A) (step : Step) (ss : List Step) → IsBegun before.names (whole old.stream) old.state.ctx.now b o → o.steps ≡ step ∷ ss
       → UnlessMemory (RefusesPiece types_at attr o step before old) fault
@@ -243,7 +243,7 @@ module _ {T A U : Type 0} (types_at : Reader T) (attr : Reader (AttrView A)) (ol
         let a = answered {A = A} m.read in
         record { taken = a.taken; takes = a.takes }
 
-    -- some of the text was read
+    -- some of the text was parsed
     pub next_moves : (new : StreamView) → new ≡ mid → IsFlatNext (slice_get (steps_in dialects (id_of b.id)) b.step) → Moves old.stream new
     next_moves new same flat = subst (Moves old.stream) (sym same) (next_answered flat)
 

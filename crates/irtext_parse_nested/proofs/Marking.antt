@@ -139,7 +139,7 @@ module _ {T A U : Type 0} (names : Names) (text : Text) (s z : code.State T A U)
         results = h.results;
       }
 
-  -- the mark was noted, where one was read
+  -- the mark was recorded, where one was parsed
   pub note_acts : {X : Type 0} (item : X) (read : Option ReadMark) (m : Option (Mark ℕ)) (old new : List (ℕ × X)) → IsMarkIf text read m → NotesMark read item old new → indices_of (marks_of s) ≡ indices_of old → indices_of (marks_of z) ≡ indices_of new
       → z.ctx.now ≡ s.ctx.now → Acts (marking m) names s [] names z []
   note_acts item None None old new i n was are same = record {
@@ -159,7 +159,7 @@ module _ {T A U : Type 0} (names : Names) (text : Text) (s z : code.State T A U)
       let k : (lookup (same_index m.index) old ≡ None) × (new ≡ old ++ (m.index, item) ∷ []) = subst (λ j. (lookup (same_index j) old ≡ None) × (new ≡ old ++ (j, item) ∷ [])) i.indexed n in
       record { so = λ path items more o h. one_mark m.index m.place item old new k.0 k.1 was are (ap (λ c. c.graph) same) path items (more ++ []) o h }
 
-  -- its index is noted already
+  -- its index is recorded already
   pub mark_fails : {X : Type 0} (fault : ParseFault A) (read : Option ReadMark) (m : Option (Mark ℕ)) (old : List (ℕ × X)) → IsMarkIf text read m → RefusesMark text read old fault → indices_of (marks_of s) ≡ indices_of old
       → ActFails text (marking m) names s [] fault
   mark_fails fault read m old i r was = go m (subst (λ q. IsMarkIf text q m) r.is i)

@@ -1,4 +1,4 @@
--- An operation that begins: its front was read, its names were used, and it was made; or how it is refused.
+-- An operation that begins: its front was parsed, its names were used, and it was made; or how it is refused.
 use Rattle.std.proofs.Common.{◌≡◌, ◌<◌, ◌+◌, ◌-◌, ◌∙◌, inl, inr, ℕ, zero, suc, Bool, true, List, [], ◌∷◌, ◌++◌, length, map, flat_map, drop, take, Option, Some, None, IsSome, refl, sym, ap, subst, arith, length-append, slice_get}
 use Rattle.std.specs.Prelude.{IfSome}
 use Rattle.std.specs.List.{All}
@@ -274,7 +274,7 @@ module _ {T A U : Type 0} (types_at : Text → Outcome T) (attr : Text → Outco
     same_dialects : new_ctx.dialects ≡ old_ctx.dialects
     same_dialects = (begun_lasts block front at loc middle old_ctx names new_ctx b m all_older).dialects
 
-    -- what was begun is what was read
+    -- what was begun is what was parsed
     pub front_is_begun : front.steps ≡ length (steps_in dialects (id_of front.id)) → IsStep front.coming (slice_get (steps_in dialects (id_of front.id)) (length front.pieces)) → front.isolated ≡ isolated dialects (id_of front.id) → (rest : Text) (e : mid.rest ≡ rest) → Leaves (whole old.stream) at (length old.stream.rest) → IsBegun names.names (whole old.stream) new_ctx b (begun_by types_at attr true old rest (front_reads f rest e))
     unfolding front_reads
     front_is_begun counted comes iso rest e left = record {
@@ -366,13 +366,13 @@ module _ {T A U : Type 0} (types_at : Text → Outcome T) (attr : Text → Outco
   ungathered_commits pieces names text fault (refused (refusal.NoActiveScope name) r (inl s)) = s.flag
   ungathered_commits pieces names text fault (refused (refusal.NoActiveScope name) r (inr s)) = s.flag
 
-  -- nothing was read
+  -- nothing was parsed
   pub front_lacks : (before : Names) (wanted : Bool) (fault : ParseFault A) → UnlessMemory (LacksFront types_at attr old.state.ctx.now.dialects true wanted old.stream) fault → UnlessMemory (RefusesOperation types_at attr true wanted before old) fault
   front_lacks before wanted fault (inl s) = inl s
   front_lacks before wanted fault (inr (lacks_lead d c)) = inr (no_lead d c)
   front_lacks before wanted fault (inr (lacks_piece names id lead middle e d c)) = inr (no_front names id lead middle e d c)
 
-  -- what was read fails
+  -- what was parsed fails
   module _ {before middle : Names} {rs : List ReadName} {id : OpId} {pieces : List (ReadPiece T A)} {mid : StreamView} (f : FrontStands types_at attr old.state.ctx.now.dialects true middle.names old.stream rs id pieces mid)
       (read : NamesRead before middle) (distinct : AreDistinct middle.names) where
     module _ {Is : Text → Name ℕ → Type 0} {cause : Text → script.Cause Text} (fails : FailsAt pieces middle old.state.ctx.now.graph Is cause) where

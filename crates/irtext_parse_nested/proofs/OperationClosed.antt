@@ -46,7 +46,7 @@ module _ {T A : Type 0} where
   }
 
   module _ (old mid new : ContextView T A) (op : Ptr Operation) (spares : ModifiesOnly [] old mid) where
-    -- all else is spared
+    -- all else is unchanged
     pub close_spares : WritesAttributes mid new op → ModifiesOnly (TheOperation op ∷ []) old new
     close_spares w = spares_then old mid new (TheOperation op ∷ []) (spares_fewer old mid (TheOperation op ∷ []) spares) (attributes_written_spares (λ n l. Unit {0}) mid new op w.left w.edits)
 
@@ -89,7 +89,7 @@ close_sound names m z op w n h = edited_sound m.ctx.now z.ctx.now op (with_attri
 pub close_lasts : {T A : Type 0} (old mid new : ContextView T A) (op : Ptr Operation) → KeepsLive old mid → WritesAttributes mid new op → KeepsLive old new
 close_lasts old mid new op l w = lasts_more l (edited_lasts mid new op (with_attributes w.left) w.edits)
 
--- the mark that was noted is that of the text
+-- the mark that was recorded is that of the text
 pub noted_is : {X : Type 0} (text : Text) (x : X) (read : Option ReadMark) (m : Option (Mark ℕ)) (old new : List (ℕ × X)) → IsMarkIf text read m → NotesMark read x old new → new ≡ old ++ noted_as m x
 noted_is text x None None old new i n = n ∙ sym (append-nil old)
 noted_is text x None (Some m) old new i n = absurd i

@@ -48,7 +48,7 @@ use Rattle.irtext_parse_nested.proofs.Steady.{length_names}
 use Rattle.irtext_parse_nested.proofs.Gathers.{grows_itself, map_both, takes_none, takes_both, fails_then, fails_first, fails_at_first}
 
 -- ---- names
--- names that were read have their texts under their numbers
+-- names that were parsed have their texts under their numbers
 pub named_row : (table : List Text) (text : Text) (ns : List ReadName) (ms : List (Name ℕ)) → Each (StandsFor table text) ns ms → AreNamed table (map (λ n. n.name) ns) ms
 named_row table text [] [] e = tt
 named_row table text [] (m ∷ ms) e = absurd e

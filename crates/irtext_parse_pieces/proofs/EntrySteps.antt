@@ -1,4 +1,4 @@
--- Steps of the reader of dictionaries.
+-- Steps of the parser of dictionaries.
 use Rattle.std.proofs.Common.{◌≡◌, ℕ, true, false, Result, Ok, Err, Option, Some, None, List, [], ◌∷◌, ◌++◌, length, refl, sym, subst, ◌∙◌, codes}
 use Rattle.std.specs.Char.{is_whitespace}
 use Rattle.std.specs.Prelude.{Vec}
@@ -28,7 +28,7 @@ use Rattle.irtext_parse_pieces.specs.Named.{whole, Optional, MayMean, MustMean}
 use Rattle.irtext_parse_pieces.proofs.Listings.{list_some}
 use Rattle.irtext_parse_pieces.proofs.Meanings.{takes_whole, may_whole}
 
--- an attribute that was read, as trees hold it
+-- an attribute that was parsed, as trees hold it
 tree_of_view : {A : Type 0} (a : AttrObj A) → attr_tree (attr_view a) ≡ attribute_of a
 tree_of_view (GivenNames names) = refl
 tree_of_view (Ident name) = refl
@@ -44,7 +44,7 @@ unfolding dictionary_at word_at
 no_entry attr rest = refl
 
 module _ {S A : Type 0} (l : Lens S) where
-  -- an attribute that was read, as trees hold it
+  -- an attribute that was parsed, as trees hold it
   pub as_tree : {f : Text → Outcome (AttrView A)} {old new : S} (r : Result (AttrObj A) (ParseFault A)) → MustRead l.view l.at attr_view f old r new → MustRead l.view l.at attribute_of (λ t. mapped attr_tree (f t)) old r new
   as_tree (Ok a) h = seen_alone l attribute_of attr_tree a (sym (tree_of_view a)) h
   as_tree {f = f} {old = old} {new = new} (Err fault) h = record { answers = refuses_mapped_demanded l.view l.at l.view_at l.at_at attr_tree (l.view old).failed (f (l.view old).rest) old new fault h.answers }
@@ -85,7 +85,7 @@ module _ {S A : Type 0} (l : Lens S) where
     pub no_dictionary : {Means : Option (Vec (Key × AttrObj A) Global) → Option (List (Name ℕ × Attribute A)) → Type 0} {old : S} → (l.view old).failed ≡ false → begins (the 91) (l.view old).rest ≡ false → Means None None → MustMean {A = A} l.view l.at Means (dictionary_if attr) old (Ok None) old
     no_dictionary {old = old} f b h = record { meant = λ _. None; means = h; read = record { answers = rw (f, b) (refl, takes_none l.view l.at l.view_at l.at_at l.at_view old) } }
 
-    -- one was read
+    -- one was parsed
     pub dictionary_there : {text : Text} {old new : S} {entries : Vec (Key × AttrObj A) Global} → begins (the 91) (l.view old).rest ≡ true → MustMean {A = A} l.view l.at (AreEntries text) (dictionary_at attr) old (Ok entries) new
         → MustMean {A = A} l.view l.at (Optional (AreEntries text)) (dictionary_if attr) old (Ok (Some entries)) new
     dictionary_there {old = old} {new = new} {entries = es} b h = record {

@@ -97,7 +97,7 @@ module _ {S T A : Type 0} (l : Lens S) (types : Text → Outcome T) (attr : Text
     pub each : Each (IsPart names (whole (l.view old))) found parts
     pub passed : Passed l (front_of types attr inside all []) (front_of types attr inside left parts) old now
 
-  -- nothing was read so far
+  -- nothing was parsed so far
   pub front_begins : (names : List Text) (all : List Step) (old : S) → (l.view old).failed ≡ false → Fronting names all all old old []
   front_begins names all old fine = record { parts = []; each = tt; passed = starts l (front_of types attr inside all []) (front_of types attr inside all []) old fine refl }
 
@@ -115,7 +115,7 @@ module _ {S T A : Type 0} (l : Lens S) (types : Text → Outcome T) (attr : Text
     front_next rest step e b p k =
         spaced l (λ _ u. followed (piece_at types attr inside step u) (behind_piece rest p.parts)) (turned l (λ t. followed (space_at t) (λ _ u. followed (piece_at types attr inside step u) (behind_piece rest p.parts))) (next_is left rest step p.parts (l.view now).rest e b) p.passed) k
 
-    -- it was read
+    -- it was parsed
     pub front_more : {mid new : S} {more_found : List (ReadPiece T A)} (rest : List Step) (step : Step) (more_names : List Text) → left ≡ step ∷ rest → is_flat step ≡ true → (p : Fronting names all left old now found) → Takes l.view l.at (front is_whitespace (l.view now).rest) (after is_whitespace (l.view now).rest) now mid
         → KeepsNames names more_names → MustFind {A = A} l.view l.at more_names (piece_at types attr inside step) found more_found mid (Ok tt) new → Fronting more_names all rest old new more_found
     front_more {mid = mid} {more_found = more_found} rest step more_names e b p k keeps h =

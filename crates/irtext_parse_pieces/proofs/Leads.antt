@@ -148,7 +148,7 @@ module _ {S A : Type 0} (dialects : List (Text × Table)) (l : Lens S) where
   unregistered lead (Missing cause) old new fault (inr h) = inr h
   unregistered lead (Bad cause upto) old new fault (inr h) = inr h
 
-  -- an id that is found is read, unless memory is refused
+  -- an id that is found is parsed, unless memory is refused
   pub found_behind : {X : Type 0} {mid now new : S} {i : OpId} (start : Place) (led : Bool) (r : Result (OpId × X) (ParseFault A)) → TakesId l.view l.at mid i now → is_some (registered dialects i) ≡ true → IfOk r (λ op. op.0 ≡ i) → OnOk r (new ≡ now) → IfErr r (λ fault. StarvesHere l.view l.at now fault new)
       → AnswersLed {A = A} l.view l.at dialects start led mid (id_in r) new
   found_behind {mid = mid} {now = now} {new = new} {i = i} start led (Ok op) h known e n s = record {
@@ -168,7 +168,7 @@ module _ {S A : Type 0} (dialects : List (Text × Table)) (l : Lens S) where
         unregistered lead (behind lead (id_at (l.view mid).rest)) old new fault (led_answered lead (l.view mid).rest old mid next new a (Err fault) fine takes h (subst (λ b. cond b (DemandsOf l.view l.at a next (Err fault) new) ((Err fault ≡ a) × (new ≡ next))) same d));
   }
 
-  -- the id is read, and looked up
+  -- the id is parsed, and looked up
   pub registered_led : {mid new : S} (next now : S) (a : Result OpId (ParseFault A)) (i : OpId) (start place : Place) (led : Bool) (r : Result OpId (ParseFault A)) → Answers l.view l.at id_of (unless_failed (l.view mid).failed (id_at (l.view mid).rest)) mid a next → cond led (DemandsOf l.view l.at a next (Ok i) now) ((Ok i ≡ a) × (now ≡ next))
       → StandsBehind place (l.view mid).passed → Registers l.view l.at dialects start place i now r new → AnswersLed {A = A} l.view l.at dialects start led mid r new
   registered_led {mid = mid} {new = new} next now a i start place led r h d q k = record {
@@ -188,7 +188,7 @@ led_refused l dialects false t (Read x u r) old new fault (inr h) = absurd h
 led_refused l dialects false t (Missing cause) old new fault (inr h) = inr h
 led_refused l dialects false t (Bad cause upto) old new fault (inr h) = inr h
 
--- what was taken of a text that was read
+-- what was taken of a text that was parsed
 pub record TookOf {S X : Type 0} (l : Lens S) (outcome : Text → Outcome X) (old : S) (x : X) (new : S) : Type 0 where
   pub fine : (l.view old).failed ≡ false
   pub taken : Text

@@ -59,7 +59,7 @@ begun_read t text (Missing cause) e = refl
 begun_read t text (Bad cause upto) e = refl
 
 module _ {S : Type 0} (l : Lens S) where
-  -- what is to be read is not there
+  -- what is to be parsed is not there
   pub passed_unread : {V : Type 0} {outcome next : Text → Outcome V} {old mid : S} → Passed l outcome next old mid → is_read (next (l.view mid).rest) ≡ false → is_read (outcome (l.view old).rest) ≡ false
   passed_unread {outcome = outcome} {next = next} {old = old} {mid = mid} p e = sym (read_demanded (outcome (l.view old).rest)) ∙ (ap is_read p.so_far ∙ (read_prefixed p.taken (next (l.view mid).rest) ∙ e))
 
@@ -88,7 +88,7 @@ module _ {S A : Type 0} (l : Lens S) where
   unread false (Missing cause) see old new fault c (inr h) = (refl, h.left)
   unread false (Bad cause upto) see old new fault c (inr h) = absurd (true≢false (sym h.committed ∙ c))
 
-  -- what is missing is not read, and the stream stays
+  -- what is missing is not parsed, and the stream stays
   pub missing_unread : {X Y : Type 0} {see : Y → X} {f : Text → Outcome X} {old new : S} {fault : ParseFault A} → MayRead l.view l.at see f old (Err fault) new → fault.committed ≡ false → (is_read (f (l.view old).rest) ≡ false) × (new ≡ old)
   missing_unread {see = see} {f = f} {old = old} {new = new} {fault = fault} h c = unread (l.view old).failed (f (l.view old).rest) see old new fault c h.answers
 

@@ -1,4 +1,4 @@
--- Steps of the reader of marks.
+-- Steps of the parser of marks.
 use Rattle.std.proofs.Common.{◌≡◌, ℕ, true, false, Ok, Err, Option, Some, None, length, refl}
 use Rattle.irtext_base.specs.Text.{Text, begins}
 use Rattle.irtext_base.specs.Reading.{the}

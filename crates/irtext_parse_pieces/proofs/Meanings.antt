@@ -36,7 +36,7 @@ module _ {S : Type 0} (l : Lens S) where
   pub takes_whole : (old mid : S) (t r : Text) → Takes l.view l.at t r old mid → whole (l.view mid) ≡ whole (l.view old)
   takes_whole old mid t r k = ap whole (seen_after l.view l.at l.view_at l.at_at old mid t r k) ∙ (append_assoc (l.view old).passed t r ∙ ap (λ z. (l.view old).passed ++ z) k.same)
 
-  -- what is read leaves the whole text
+  -- what is parsed leaves the whole text
   pub passed_whole : {V : Type 0} {outcome next : Text → Outcome V} {old mid : S} → Passed l outcome next old mid → whole (l.view mid) ≡ whole (l.view old)
   passed_whole {old = old} {mid = mid} p = takes_whole old mid p.taken (l.view mid).rest p.takes
 
@@ -57,7 +57,7 @@ module _ {S : Type 0} (l : Lens S) where
     insisted_mean (Ok y) r h d = record { meant = h.meant; means = rw d.0 h.means; read = insisted l h.read d }
     insisted_mean (Err fault) r h d = record { meant = h.meant; means = rw d.1 tt; read = insisted l h.read d }
 
-    -- what was read may be demanded
+    -- what was parsed may be demanded
     pub read_mean : {old new : S} {y : Y} → MayMean {A = A} l.view l.at Means f old (Ok y) new → MustMean {A = A} l.view l.at Means f old (Ok y) new
     read_mean {y = y} h = insisted_mean (Ok y) (Ok y) h (refl, refl)
 

@@ -1,4 +1,4 @@
--- Steps of the readers of names.
+-- Steps of the parsers of names.
 use Rattle.std.proofs.Common.{◌≡◌, ℕ, Bool, true, false, Result, Ok, Err, IsErrAnd, List, [], Some, length, codes, refl, sym, ◌∙◌, inl, inr}
 use Rattle.std.specs.List.{slice_get}
 use Rattle.irtext_base.specs.Text.{Text, begins, front, after, begins_word, in_word}
@@ -104,7 +104,7 @@ module _ {S A : Type 0} (l : Lens S) where
       let first : MayRead {A = A} l.view l.at (λ (u : Unit {0}). u) (text_at (codes "^")) old (Ok tt) mid = record { answers = h } in
       behind_may l (StandsFor names (whole (l.view old))) (λ n x k. stands_on names names n x (λ i text e. e) (may_whole l first) k) first m
 
-  -- a symbol was read
+  -- a symbol was parsed
   pub symbol_read : {old new : S} (symbol : Symbol) → MustRead {A = A} l.view l.at (λ name. name) mark_and_name old (Ok symbol.name) new → StandsBehind symbol.at (l.view old).passed → MustMean {A = A} l.view l.at (IsSymbol (whole (l.view old))) symbol_at old (Ok symbol) new
   symbol_read {old = old} symbol h p =
       let place = length (l.view old).rest in

@@ -1,4 +1,4 @@
--- Steps of the readers of pieces.
+-- Steps of the parsers of pieces.
 use Rattle.std.proofs.Common.{◌≡◌, ℕ, Bool, true, false, cond, Result, Ok, Err, Some, None, IfOk, List, [], ◌∷◌, ◌++◌, length, refl, ap, subst, ◌∙◌, arith, inr}
 use Rattle.std.proofs.lemmas.Bool.Decides.{nat_tests}
 use Rattle.std.specs.Char.{is_whitespace}
@@ -83,7 +83,7 @@ module _ {S A : Type 0} (l : Lens S) where
       list_some l item h.read k (λ fine. subst (λ x. MustMean l.view l.at (Each ◌≡◌) (λ t. items_after 44 item (length t) (x ∷ []) t) new r last) h.means (rest fine))
 
   module _ {X Y V W : Type 0} {Means : Y → X → Type 0} {Other : W → V → Type 0} {f : Text → Outcome X} (k : X → V) where
-    -- what was read is a piece
+    -- what was parsed is a piece
     pub piece_there : (w : W) {old new : S} {y : Y} → (h : MustMean {A = A} l.view l.at Means f old (Ok y) new) → Other w (k (h.meant y)) → MustMean {A = A} l.view l.at Other (λ t. mapped k (f t)) old (Ok w) new
     piece_there w {y = y} h m = record { meant = λ _. k (h.meant y); means = m; read = seen_alone l {A = A} (λ _. k (h.meant y)) k w refl h.read }
 
@@ -96,7 +96,7 @@ pub no_tree : {T A : Type 0} → Piece ℕ T A
 no_tree = tree.word []
 
 module _ {S A : Type 0} (l : Lens S) where
-  -- what was read as it is is a piece
+  -- what was parsed as it is is a piece
   pub plain_there : {X Y V W : Type 0} {Other : W → V → Type 0} {see : Y → X} {f : Text → Outcome X} (k : X → V) (w : W) {old new : S} {y : Y} → MustRead {A = A} l.view l.at see f old (Ok y) new → Other w (k (see y)) → MustMean {A = A} l.view l.at Other (λ t. mapped k (f t)) old (Ok w) new
   plain_there {see = see} k w {y = y} h m = record { meant = λ _. k (see y); means = m; read = seen_alone l {A = A} (λ _. k (see y)) k w refl h }
 
@@ -106,7 +106,7 @@ module _ {S A : Type 0} (l : Lens S) where
       let q = starved l {W = W} {sees = λ _. v} (first l (λ x t. Read (k x) [] t) h) s in
       record { meant = λ _. v; means = tt; read = record { answers = rw (mapped_is_followed k (f (l.view old).rest)) q.answers } }
 
-  -- nothing can be read there
+  -- nothing can be parsed there
   pub must_miss : {V W : Type 0} {Other : W → V → Type 0} {cause : Text → Fault} → V → {old new : S} {fault : ParseFault A} → (l.view old).failed ≡ false → Commits l.view l.at (cause (l.view old).rest) [] old fault new → MustMean l.view l.at Other (λ t. Missing (cause t)) old (Err fault) new
   must_miss v f h = record { meant = λ _. v; means = tt; read = record { answers = rw f (inr h) } }
 

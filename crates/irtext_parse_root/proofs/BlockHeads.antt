@@ -1,4 +1,4 @@
--- What a block's header is refused for where no region is open, and what its reader says of a text.
+-- What a block's header is refused for where no region is open, and what its parser says of a text.
 use Rattle.std.proofs.Common.{◌≡◌, ◌<◌, ◌≤◌, ◌+◌, ◌∙◌, ◌⊎◌, inl, inr, ℕ, zero, suc, Bool, true, false, cond, List, [], ◌∷◌, ◌++◌, length, map, drop, Option, Some, None, is_some, Result, Ok, Err, codes, refl, sym, ap, ap₂, subst, arith, append-nil, slice_get}
 use Rattle.std.specs.Map.{lookup}
 use Rattle.irtext_base.specs.Text.{Text, begins, is_identifier}
@@ -148,11 +148,11 @@ module _ {A : Type 0} (text : Text) (fault : ParseFault A) where
   outside_is : (names : List Text) (read : ReadName) (w : Name ℕ) → StandsFor names text read w → IsFaultOf names text causes.NoActiveScope read fault → IsOf text (record { cause = script.NoActiveScope w.text; at = Some w.place }) fault
   outside_is names read w s f = (f.because ∙ ap causes.NoActiveScope (some_same (sym f.named ∙ s.named)), stands_there s.place f.place)
 
-  -- the fault says that the mark's index is noted already
+  -- the fault says that the mark's index is recorded already
   abbrev SaysTwice : ReadMark → Type 0
   SaysTwice k = (fault_of fault.cause ≡ causes.DuplicateIndex k.index) × AtOffset k.at.offset text (λ passed rest. IsAt fault.pos.line fault.pos.column passed)
 
-  -- a mark, whose index is noted already or not
+  -- a mark, whose index is recorded already or not
   abbrev MarkWith : Mark ℕ → List (Act Text ℕ) → List ℕ → Bool → Type 0
   MarkWith m more marks b = IsFirst text (cond b (record { cause = script.DuplicateIndex m.index; at = Some m.place } ∷ []) [] ++ failures same_text (outside_with (marks ++ m.index ∷ [])) (does_all more done)) fault
 
@@ -209,7 +209,7 @@ module _ {A : Type 0} (text : Text) (fault : ParseFault A) where
     bare marks (r ∷ rs) hs i e h = absurd (omega (arith, e))
 
     module _ {X : Type 0} (noted : List (ℕ × X)) (none : None ≡ first_reserved (entries_in read.attributes)) (no_arguments : length read.arguments ≡ 0) where
-      -- the mark's index is noted already
+      -- the mark's index is recorded already
       pub mark_outside : (k : ReadMark) → Some k ≡ noted_twice read.mark noted → SaysTwice k → keyed (indices_of noted)
       mark_outside k e says =
           allowed (indices_of noted) none (bare (indices_of noted) read.arguments head.arguments is.arguments no_arguments
@@ -248,7 +248,7 @@ module _ {A : Type 0} where
   none_left (x ∷ es) zero l = absurd (omega (arith, l))
   none_left (x ∷ es) (suc i) l = none_left es i (omega (arith, l))
 
--- ---- what is read
+-- ---- what is parsed
 -- a name that has a text is one of these
 pub named_within : (names : List Text) (i : ℕ) (t : Text) → slice_get names i ≡ Some t → i < length names
 named_within [] i t e = absurd (cc)
@@ -318,7 +318,7 @@ first_missing (Missing cause) h = record { says = h.says }
 first_missing (Bad cause upto) h = record { says = tt }
 
 module _ {T A : Type 0} (types_at : Text → Outcome T) (attr : Text → Outcome (AttrView A)) (old new : StreamView) (fault : ParseFault A) where
-  -- the header is not read
+  -- the header is not parsed
   pub unread_missed : {Y : Type 0} {Means : Y → Head ℕ T A → Type 0} (marks : List ℕ) → old.failed ≡ false → MayMean {Y = Y} itself replaced Means (head_at types_at attr) old (Err fault) new → UnlessMemory (MissesBlock types_at attr marks old new) fault
   unread_missed marks fine m = elim (subst (λ b. Starves itself replaced old fault new ⊎ Refuses itself replaced (unless_failed b (head_at types_at attr old.rest)) old fault new) fine m.read.answers) [
     | inl s ↦ inl (record { because = s.because; flag = s.committed })
@@ -345,7 +345,7 @@ module _ {T A : Type 0} (types_at : Text → Outcome T) (attr : Text → Outcome
       failed = λ e. absurd (elim said [ inl starved ↦ cc (starved.because, e) | inr f ↦ first_fine (whole mid) (failures same_text (outside_with marks) (does_all (header_acts [] h.head) done)) fault f.first e ]);
     }
 
-  -- where no mark was noted, that is what is promised of a fresh reading
+  -- where no mark was recorded, that is what is promised of a fresh reading
   pub misses_fresh : (marks : List ℕ) → marks ≡ [] → UnlessMemory (MissesBlock types_at attr marks old new) fault → UnlessMemory (RefusesBlock types_at attr old) fault
   misses_fresh marks none (inl starved) = inl starved
   misses_fresh marks none (inr (no_header r)) = inr (record { first = λ head taken rest e. absurd (subst (λ o. Refuses itself replaced o old fault new) e r) })
@@ -357,7 +357,7 @@ module _ {T A : Type 0} (types_at : Text → Outcome T) (attr : Text → Outcome
             (subst (λ ms. IsFirst (whole old) (failures same_text (outside_with ms) (does_all (header_acts [] h) done)) fault) none f.first);
       })
 
--- the fault of a header that is not read, where types and attributes say of a text what is of it
+-- the fault of a header that is not parsed, where types and attributes say of a text what is of it
 pub unread_refusal : {T A Y : Type 0} {Means : Y → Head ℕ T A → Type 0} (types_at : Text → Outcome T) (reading : Text → Outcome A) → Sincere types_at → Sincere reading → {old new : StreamView} {fault : ParseFault A}
     → MayMean {Y = Y} itself replaced Means (head_at types_at (attr_at reading)) old (Err fault) new → Refusal old fault new
 unread_refusal types_at reading sincere_types sincere m =

@@ -146,7 +146,7 @@ module _ {T A : Type 0} (formats : Id → Option Format) (L : ℕ → Location A
   region_leaves iso place r (Some k) p own ats ds h =
       record { whole = TheRegion r ∷ TheBlock k ∷ h.whole; holds = leaves_with_block L start items h.whole None formats c iso place r k p own ats (built formats L base start c items ds) h.holds; carried = leave_carried iso place r (Some k) p own ats ds h }
 
--- ---- the region that is read
+-- ---- the region that is parsed
 module _ {T A : Type 0} (L : Object → ℕ → Location A → Type 0) (c : ContextView T A) where
   same_still : (o : Object) → IsAsItWas c c o
   same_still (TheOperation p) = (refl, record { as_many_operands = refl; as_many_successors = refl })
@@ -218,7 +218,7 @@ module _ {T A : Type 0} (formats : Id → Option Format) (L : ℕ → Location A
   alone_carried last ds bs l e h = carried_still items (marks_so_far (built formats L (within r) start c items ds)) (marks_in_blocks (whole_blocks bs l)) marks
       (alone_carry formats (noted items L) c h.whole bs l (built formats L (within r) start c items ds) e h.holds.so_far.tree) h.carried
 
-  -- the region that is read is left
+  -- the region that is parsed is left
   pub region_alone : (iso : Bool) (place : ℕ) (last : Option (Ptr BasicBlock)) (ds : List (Did T A)) → IsHeld formats L (within r) start c items marks (region_under r last ∷ []) None ds
       → HoldsRegion formats L (within r) start c items (marks ++ []) r (did_leave iso place ∷ ds)
   region_alone iso place None ds h =

@@ -77,7 +77,7 @@ module _ {T A U : Type 0} where
   fails_besides {before = before} {s = s} {held = held} others h path items more o k = h.so path items (more ++ others) o (subst (λ ps. StandsAs path items ps before s o) (sym (append_assoc more others held)) k)
 
 -- ---- streams
--- what is read leaves the whole text
+-- what is parsed leaves the whole text
 pub moved_whole : (old new : StreamView) → Moves old new → whole new ≡ whole old
 moved_whole old new m = takes_whole alone old new m.taken new.rest m.takes
 

@@ -58,7 +58,7 @@ module _ {T A U : Type 0} (types_at : Reader T) (attr : Reader (AttrView A)) (is
       | inr d ↦ inr (no_brace names mid acts_entered (subst (λ s. Demands (whole s) (brace_at s.rest) s.rest f) same d))
     ]
 
-    -- its brace was read
+    -- its brace was parsed
     pub alone_braced : (b : BegunRegion) (new : StateStream T A U) → new.state ≡ mid.state → MustRead {A = A} itself replaced (λ u. u) brace_at mid.stream (Ok tt) new.stream → b.region ≡ r → b.isolated ≡ iso → Leaves (whole old.stream) b.at (length old.stream.rest)
         → BeginsRegion types_at attr iso b before old names new
     alone_braced b new state h region isolated placed =

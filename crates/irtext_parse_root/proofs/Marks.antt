@@ -1,4 +1,5 @@
--- Each item of a tree that was read carries its own mark, and no other: the marks that are noted are those of the tree, one item a place.
+-- Each item of a tree that was parsed carries its own mark, and no other: the marks that are recorded are those of the tree, one item a
+-- place.
 use Rattle.std.proofs.Common.{◌≡◌, ◌∙◌, ◌<◌, ◌==◌, ◌||◌, ◌&&◌, ℕ, suc, Bool, true, false, not, cond, List, [], ◌∷◌, ◌++◌, map, Option, Some, None, refl, sym, ap, subst, arith, inl, inr}
 use Rattle.std.specs.Map.{lookup}
 use Rattle.std.proofs.lemmas.Bool.Decides.{nat_tests}
@@ -242,7 +243,7 @@ carried_back items (m ∷ ms) (n ∷ ns) i x (e, made, h) (inl s) =
     (m.1, inl (ap (λ z. (z, m.1)) (ap (λ z. z.0) s ∙ e)), subst (λ z. Among (m.1, object_of z) items) (sym (ap (λ z. z.1) s)) made)
 carried_back items (m ∷ ms) (n ∷ ns) i x (e, made, h) (inr a) = let r = carried_back items ms ns i x h a in (r.0, inr r.1, r.2)
 
--- the indices that are noted are those of the marks
+-- the indices that are recorded are those of the marks
 pub indices_carried : (items : Made) (ms : List (ℕ × ℕ)) (ns : List (ℕ × Item)) → AreCarried items ms ns → map (λ n. n.0) ns ≡ map (λ m. m.0) ms
 indices_carried items [] [] h = refl
 indices_carried items [] (n ∷ ns) h = absurd h

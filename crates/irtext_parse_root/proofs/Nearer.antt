@@ -54,7 +54,7 @@ module _ {T A : Type 0} {types_at : Reader T} {attr : Reader (AttrView A)} (no_m
 pub led_fewer : (dialects : List (Text × Table)) (text : Text) (lead : List (Name ℕ) × Id) (taken rest : Text) → begins (λ z. true) text ≡ true → led_at dialects text ≡ Read lead taken rest → length rest < length text
 led_fewer dialects text lead taken rest b e = less_left (led_at dialects text) text (λ n l. led_leaves n dialects text l) b lead taken rest e
 
--- whether something was read
+-- whether something was parsed
 abbrev is_read : {X : Type 0} → Outcome X → Bool
 is_read (Read x taken rest) = true
 is_read (Missing cause) = false

@@ -1,5 +1,5 @@
--- What the nested reader leaves where no name was known, and which faults it answers: the machine of names begins with the marks that are
--- noted.
+-- What the nested parser leaves where no name was known, and which faults it answers: the machine of names begins with the marks that are
+-- recorded.
 use Rattle.std.proofs.Common.{◌≡◌, ◌∙◌, ℕ, true, List, [], ◌++◌, ap, subst, append-nil, inl, inr}
 use Rattle.irtext_base.specs.Text.{Text}
 use Rattle.irtext_base.specs.Faults.{Fault, fault_of}
@@ -47,7 +47,7 @@ module _ {T A U : Type 0} (types_at : Reader T) (attr : Reader (AttrView A)) (be
   abbrev earlier : List ℕ
   earlier = indices_of (marks_of old.state)
 
-  -- ---- it was read
+  -- ---- it was parsed
   module _ (op : Ptr Operation) (names : Names) (new : StateStream T A U) (r : ReadsNested types_at attr before old op names new) where
     -- the state of the machine after it
     pub at_end : (path : ℕ → Path) → (z : Outcome) × StandsAs path (r.made ++ []) [] names new.state z

@@ -1,4 +1,4 @@
--- What is known of an operation that is open, by the parts that were read of it.
+-- What is known of an operation that is open, by the parts that were parsed of it.
 use Rattle.std.proofs.Common.{◌≡◌, ◌∙◌, ◌+◌, ℕ, suc, zero, true, List, [], ◌∷◌, ◌++◌, map, drop, length, slice_get, Option, Some, None, refl, sym, ap, subst, append-nil, append_assoc, arith}
 use Rattle.std.proofs.lemmas.List.Elements.{All-cons}
 use Rattle.irtext_base.specs.Text.{Text}
@@ -35,7 +35,7 @@ own_same x y a b c d e f =
     ∙ ap (λ z. record { place = y.place; id = y.id; operands = y.operands; successors = y.successors; types = y.types; entries = z }) f))))
 
 module _ {T A : Type 0} (formats : Id → Option Format) (o : OpenOperation T A) (own : OwnSoFar T A) where
-  -- all of it was read: its own, with the names of its results
+  -- all of it was parsed: its own, with the names of its results
   pub own_whole : o.steps ≡ [] → HasBegun formats o own
       → own_of (unmarked o.place o.names o.id (body_of (formats o.id) o.parts)) ≡ record own { entries = put_all own.entries (read_names (map (λ n. n.text) o.names)) }
   own_whole e h =
@@ -52,7 +52,7 @@ module _ {T A : Type 0} (formats : Id → Option Format) (o : OpenOperation T A)
       ap (λ ps. length (successor_labels (unmarked o.place o.names o.id (body_of (formats o.id) ps)))) (sym (append-nil o.parts)) ∙ h.successors [] none in
       own_same (own_of (unmarked o.place o.names o.id (body_of (formats o.id) o.parts))) (record own { entries = put_all own.entries (read_names (map (λ n. n.text) o.names)) }) (sym h.place) (sym h.id) operands successors types entries
 
-  -- a region was read, which stores nothing
+  -- a region was parsed, which stores nothing
   pub own_region : (step : Step) (ss : List Step) (part : Part ℕ T A) → o.steps ≡ step ∷ ss → IsPartOf step part → views stored (part ∷ []) ≡ [] → HasBegun formats o own
       → HasBegun formats (with_steps o ss (o.parts ++ part ∷ [])) own
   own_region step ss part e is none h = record {

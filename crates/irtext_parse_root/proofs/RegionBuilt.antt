@@ -54,7 +54,7 @@ accepts : (o : Option Format) (f : Format) → IfSome o Accepted → o ≡ Some 
 accepts None f h e = absurd (cc)
 accepts (Some g) f h e = let same : g ≡ f = cc in subst Accepted same h
 
--- each operation that a text reads as has a body of an accepted format
+-- each operation that a text parses as has a body of an accepted format
 module _ {T A : Type 0} (dialects : List (Text × Table)) (accepted : (id : Id) → IsAccepted dialects id) where
   mutual
     regions_formed : (rs : Regions (Op ℕ T A) (Head ℕ T A) (Brace ℕ)) → WholeRegions (format_of dialects) rs → FormedRegions rs

@@ -17,7 +17,8 @@ module _ {T A : Type 0} (types : Texts T) (owns : Texts A) (formats : Id → Opt
   abbrev L : Language ℕ T A
   L = language types owns formats
 
-  -- the places of the items of blocks that a text reads as in braces fall along the text, so there is a function that says the path of each
+  -- the places of the items of blocks that a text parses as in braces fall along the text, so there is a function that says the path of
+  -- each
   pub paths_exist : (p : Path) (brace : Brace ℕ) (bs : Blocks (Op ℕ T A) (Head ℕ T A) (Brace ℕ)) (text rest : Text) → reads.region_read L brace (reads.block_readings L bs) text rest
       → (path : ℕ → Path) × Each (λ item. path item.0 ≡ item.1) (paths_in_blocks p 0 bs)
   paths_exist p brace bs text rest h =

@@ -1,4 +1,4 @@
--- A region that was read alone: its text reads as blocks in braces, they resolve, and its marks are noted.
+-- A region that was parsed alone: its text parses as blocks in braces, they resolve, and its marks are recorded.
 use Rattle.std.proofs.Common.{◌≡◌, ◌∙◌, ℕ, Bool, true, false, List, [], ◌∷◌, ◌++◌, map, length, Option, Some, None, IsSome, append-nil, refl, sym, ap, subst}
 use Rattle.irtext_base.specs.Text.{Text, after_space}
 use Rattle.irtext_base.specs.Reading.{the}
@@ -74,12 +74,12 @@ use Rattle.irtext_parse_root.proofs.RegionRuns.{region_runs}
 came_same : {X S : Type 0} (x y : X) (s t : S) (a b : Text) → Advanced x s a ≡ Advanced y t b → s ≡ t
 came_same x y s t a b e = cc
 
--- ---- what is known of blocks that a text reads as
+-- ---- what is known of blocks that a text parses as
 module _ {T A : Type 0} (types : Texts T) (owns : Texts A) (formats : Id → Option Format) where
   abbrev L : Language ℕ T A
   L = language types owns formats
 
-  -- blocks that a text reads as in braces are whole
+  -- blocks that a text parses as in braces are whole
   blocks_whole : (place : ℕ) (bs : Blocks (Op ℕ T A) (Head ℕ T A) (Brace ℕ)) (text rest : Text) → grammar.region_read L (shown place) (grammar.block_readings L bs) text rest → WholeBlocks formats bs
   blocks_whole place bs text rest (at, (m, a, (w, b, c))) = blocks_read types owns formats bs (repeated_used (the 94) (grammar.block_readings L bs) (after_space m) w b)
 
@@ -168,7 +168,7 @@ module _ {T A U : Type 0} (types_at : Reader T) (types_written : T → Text) (re
         same = so_far_same u.holds.blocks (blocks_after no_blocks None x.0) u.holds.last (last_after None x.0) f ∙ whole_after no_blocks None x.0;
       }
 
-  -- its text reads as these
+  -- its text parses as these
   pub region_reads : grammar.region_read (knot.L types_at types_written reading written ds) (shown place) (grammar.block_readings (knot.L types_at types_written reading written ds) blocks) old.stream.rest new.stream.rest
   region_reads = subst (λ bs. grammar.region_read (knot.L types_at types_written reading written ds) (shown place) (grammar.block_readings (knot.L types_at types_written reading written ds) bs) old.stream.rest new.stream.rest) (sym text_is.same) text_is.is_read
 
@@ -200,7 +200,7 @@ module _ {T A U : Type 0} (types_at : Reader T) (types_written : T → Text) (re
   abbrev round : Tree ℕ T A
   round = record { own = record { place = 0; names = []; id = record { dialect = []; name = [] }; body = custom (tree.region 0 ∷ []); mark = None }; regions = region (shown place) blocks no_regions }
 
-  -- the indices that are noted are those that the blocks say
+  -- the indices that are recorded are those that the blocks say
   pub region_marks : indices_of (marks_of new.state) ≡ (facts (region_alone ds place blocks)).marks
   region_marks =
       let whole = blocks_enough (format_of ds) blocks (blocks_whole types owns (format_of ds) place blocks old.stream.rest new.stream.rest region_reads) in

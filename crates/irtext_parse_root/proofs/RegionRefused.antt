@@ -1,5 +1,5 @@
--- What a refusal of a region that is read alone says: of its cause, that it is the first fault of the text, and that it is the first failure
--- of whatever blocks the text reads as.
+-- What a refusal of a region that is parsed alone says: of its cause, that it is the first fault of the text, and that it is the first
+-- failure of whatever blocks the text parses as.
 use Rattle.std.proofs.Common.{◌≡◌, ◌∙◌, ℕ, Bool, true, false, cond, List, [], ◌∷◌, length, Option, Some, None, IsSome, option_map, codes, ◌++◌, refl, sym, ap, subst, inl, inr}
 use Rattle.irtext_base.specs.Text.{Text}
 use Rattle.irtext_base.specs.Format.{Id}
@@ -115,7 +115,7 @@ unreported None h = refl
 unreported (Some l) h = absurd h
 
 module _ {T A : Type 0} (c : ContextView T A) (op : Ptr Operation) (id : OpId) (is : option_map (λ (view : OperationView T A). view.id) (operation c op) ≡ Some id) where
-  -- so nothing is answered of an operation that is isolated
+  -- so nothing is parsed of an operation that is isolated
   pub none_reported : isolated c.dialects (id_of id) ≡ true → IsReportedAt (unisolated c op) None
   none_reported closed = go (operation c op) is
     where
@@ -201,7 +201,7 @@ module _ {T A U : Type 0} (types_at : Reader T) (attr : Reader (AttrView A)) (be
   fault_missed iso is fault (under.by_names begins failure f so) = region.by_names begins failure (same_cause failure.cause (fault_of fault.cause) f.cause, f.place) f.committed
       (λ path. subst (λ b. EndsIn (failed failure) (reached b path)) is (so path [] begun (begun_there path)))
 
-  -- what is read under an operation that is isolated has no fault
+  -- what is parsed under an operation that is isolated has no fault
   pub region_read : (r : Ptr Region) (names : Names) (new : StateStream T A U) → ReadsUnder types_at attr op before old r names new → ReadsRegion types_at attr op old new
   region_read r names new u = record {
     isolated = none;
@@ -233,12 +233,12 @@ module _ {T A : Type 0} (types_at : Text → Outcome T) (types_written : T → T
   begins_there : (bs : Blocks (Op ℕ T A) (Head ℕ T A) (Brace ℕ)) (text rest : Text) → IsRead bs text rest → begins_region text ≡ true
   begins_there bs text rest (at, (m, opened, more)) = begins_so text m opened
 
-  -- where the text is at fault, it reads as no blocks in braces
+  -- where the text is at fault, it parses as no blocks in braces
   stuck_unread : (text : Text) (s t : history.Outcome) (cause : Fault) (place : ℕ) (path : ℕ → Path) → region_at dialects types_at (attr_at reading) (doing dialects path) true text s ≡ Stopped t cause place → (bs : Blocks (Op ℕ T A) (Head ℕ T A) (Brace ℕ)) (rest : Text) → IsRead bs text rest → ⊥
   stuck_unread text s t cause place path e bs rest r =
       let f = knot.region_found types_at types_written reading written dialects types_split splits (naming (format_of dialects) path) words true bs text rest s r in cc (e, f)
 
-  -- where a name fails so, that is the first failure of whatever blocks the text reads as
+  -- where a name fails so, that is the first failure of whatever blocks the text parses as
   region_first : (text rest : Text) (f : Failure Text ℕ) (fault : ParseFault A) → IsOf text f fault → ((path : ℕ → Path) → EndsIn (failed f) (region_at dialects types_at (attr_at reading) (doing dialects path) true rest (going start)))
       → (bs : Blocks (Op ℕ T A) (Head ℕ T A) (Brace ℕ)) (left : Text) → IsRead bs rest left → IsFirst text (failures no_scope (region_alone dialects (length rest) bs)) fault
   region_first text rest f fault is ends bs left r =

@@ -41,7 +41,7 @@ module _ {A X : Type 0} (all passed rest : Text) (whole : passed ++ rest ≡ all
       subst (λ z. IsFirst all z fault) (sym s.is)
       (subst (IsCause s.first.cause) (k.0 ∙ sym because) (is_own s.first.cause), subst (λ z. IsPlace all z fault.pos) (sym s.at) place)
 
-  -- whatever is read there, the fault is the first of what is wrong with it
+  -- whatever is parsed there, the fault is the first of what is wrong with it
   pub first_wrong : (o : Outcome X) (x : X) (left : Text) (fs : List (Failure Text ℕ)) → ReadOrStops rest o x left fs → RefusedAs o cause upto → IsFirst all fs fault
   first_wrong o x left fs (inl (none, (taken, e))) h = absurd (subst (λ z. RefusedAs z cause upto) e h)
   first_wrong o x left fs (inr s) h = is_first o fs s h

@@ -104,7 +104,7 @@ module _ {T A U : Type 0} (types_at : Text → Outcome T) (types_written : T →
   first_of c = location_of c.paths old.state.src (whole old.stream)
 
   -- ---- no section
-  -- an operation that was read with no section keeps its promise
+  -- an operation that was parsed with no section keeps its promise
   pub tree_built : BuildsTree (texts_of types_at types_written) (texts_of reading written) (attr_at reading) op old mid
   tree_built = kept.builds_tree types_at types_written reading written types_split splits words short_types short_owns L op old mid accepted m.leaves m.closed
       (λ n l e. place_told mid.state.ctx.now.paths old.state.src (whole old.stream) n l e) moves
@@ -190,7 +190,7 @@ module _ {T A U : Type 0} (types_at : Text → Outcome T) (types_written : T →
     carries = carries_only t (suc (length old.stream.rest)) (suc (length mid.stream.rest)) (places_fall (texts_of types_at types_written) (texts_of reading written) (format_of dialects) short_types short_owns t old.stream.rest mid.stream.rest reads_it)
         m.leaves.items marks m.carried (length old.stream.rest) (length mid.stream.rest) m.falls m.leaves.held.tracks.once apart
 
-    -- ---- it was read
+    -- ---- it was parsed
     -- what the text is then, whatever the items have
     module _ (entries : List (Entry ℕ A (Written A))) (taken rest : Text) (reads : section_at (attr_at reading) noted (rules_of marks) mid.stream.rest ≡ Read entries taken rest) where
       read : section (knot.L types_at types_written reading written dialects) (location_standing (attr_at reading)) entries mid.stream.rest rest

@@ -45,7 +45,7 @@ use Rattle.irtext_parse_root.proofs.Owns.{piece_comes, region_comes, regions_com
 use Rattle.irtext_parse_root.proofs.Proceeding.{loops, operation_first, region_first, block_first}
 use Rattle.irtext_parse_root.proofs.Turning.{with_stream}
 
--- ---- names that were read are known
+-- ---- names that were parsed are known
 number_within : (names : List Text) (n : ℕ) (x : Text) → slice_get names n ≡ Some x → n < length names
 number_within [] zero x e = absurd (cc e)
 number_within [] (suc n) x e = absurd (cc e)

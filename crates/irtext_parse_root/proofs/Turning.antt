@@ -69,7 +69,7 @@ module _ {T A U : Type 0} (types_at : Reader T) (attr : Reader (AttrView A)) (ba
   abbrev Makes : List (Level T A) → List (Level T A) → Names → StateStream T A U → Type 0
   Makes ls later names new = Turned types_at attr dialects old.state.src text base ls before old later names new
 
-  -- no mark was noted
+  -- no mark was recorded
   same_marks : (new : StateStream T A U) → marks_of new.state ≡ marks_of old.state → marks_of new.state ≡ marks_of old.state ++ []
   same_marks new e = e ∙ sym (append-nil (marks_of old.state))
 
@@ -244,7 +244,7 @@ module _ {T A U : Type 0} (types_at : Reader T) (attr : Reader (AttrView A)) (ba
       end_acts : Acts (λ path z. (doing {T = T} {A = A} dialects path).marks h.mark ((doing {T = T} {A = A} dialects path).closes o.place o.names o.id o.parts z)) before old.state (pledges_of more ++ pledge_of b o.place ∷ []) names new.state (pledges_of more)
       end_acts = acts_close [] (λ path z. (doing {T = T} {A = A} dialects path).marks h.mark ((doing {T = T} {A = A} dialects path).closes o.place o.names o.id o.parts z)) before names old.state new.state (pledges_of more) (pledge_of b o.place) h.acts
 
-      -- of what is read itself
+      -- of what is parsed itself
       pub root_over : more ≡ [] → base ≡ outermost b.op → Makes (at_operation b o own ∷ []) [] names new
       root_over alone is = record {
         did = at_end;
@@ -322,7 +322,7 @@ module _ {T A U : Type 0} (types_at : Reader T) (attr : Reader (AttrView A)) (ba
             (region_leaves (format_of dialects) (IsLocated old.state.src text) base start old.state.ctx.now items marks iso place r.region last b.op own (ats_of outside) ds (record { whole = held.whole; holds = held.holds; carried = held.carried }));
       }
 
-      -- or it is what is read
+      -- or it is what is parsed
       pub base_over : more ≡ [] → base ≡ within r.region → Makes (at_region r iso place last ∷ []) [] names new
       base_over alone is = record {
         did = did_leave iso place ∷ [];

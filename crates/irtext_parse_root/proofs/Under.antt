@@ -138,7 +138,7 @@ module _ {T A S : Type 0} (dialects : List (Text × Table)) (types_at : Reader T
       → region_at dialects types_at attr does iso u s ≡ Stopped (does.enters iso s) cause (length u - length upto)
   region_lacks iso s u cause upto e = k.region_is iso u s ∙ tells_bad ((word (codes "{") ▷ space_at) u) u (does.enters iso s) (behind_brace iso (length u) (does.enters iso s)) cause upto e
 
-  -- it is entered before its brace is read
+  -- it is entered before its brace is parsed
   entered_once : (iso : Bool) (s z : S) (u : Text) → does.enters iso s ≡ z → does.enters iso z ≡ z → region_at dialects types_at attr does iso u s ≡ region_at dialects types_at attr does iso u z
   entered_once iso s z u f g = k.region_is iso u s ∙ (ap (λ y. tells ((word (codes "{") ▷ space_at) u) u y (behind_brace iso (length u) y)) (f ∙ sym g) ∙ sym (k.region_is iso u z))
 
@@ -279,7 +279,7 @@ module _ {T A U : Type 0} (types_at : Reader T) (reading : Reader A) (h : Splits
   held : IsHeld (format_of dialects) L (within b.region) old.state.ctx.now s1.state.ctx.now [] [] (region_under b.region None ∷ []) None []
   held = record { whole = []; holds = holds; carried = tt }
 
-  -- what is read and done from its brace on
+  -- what is parsed and done from its brace on
   begun_stands : (path : ℕ → Path) (items : Made) (o : Machine) → StandsAs path items [] before old.state o → StandsAs path items [] n1 s1.state ((does path).enters iso o)
   begun_stands path items o st = bg.acts.so path items [] o st
 

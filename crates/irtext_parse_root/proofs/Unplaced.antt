@@ -163,7 +163,7 @@ module _ {T A : Type 0} (old new : ContextView T A) (r : Ptr Region) (makes : Ma
     blocks = refl;
   }
 
-  -- and all else is spared
+  -- and all else is unchanged
   pub alone_spares : ModifiesOnly (TheRegion r ∷ []) old new
   alone_spares = spares_by old new (TheRegion r ∷ []) go
     where

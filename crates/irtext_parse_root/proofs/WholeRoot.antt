@@ -34,7 +34,7 @@ use Rattle.irtext_parse_root.specs.WholeAny.{HasSection}
 use Rattle.irtext_parse_root.proofs.Sectioned.{root_unmarked, root_marked, section_refused, reads_marked, resolves_marked}
 use Rattle.irtext_parse_root.proofs.WholeSteps.{whole_refused}
 
--- where some mark is noted, there are marks
+-- where some mark is recorded, there are marks
 some_noted : {X : Type 0} (marks : List X) → is_noted marks ≡ true → marks ≡ [] → ⊥
 some_noted marks e none = true≢false (sym e ∙ ap is_noted none)
 

@@ -73,7 +73,7 @@ pub end_refused : {A : Type 0} {old mid new : StreamView} {next : Option ℕ} {f
 end_refused k = record { committed = k.committed; fails = ap (λ v. v.failed) k.left.is ∙ k.left.fails; failed = λ f. absurd (cc (k.because)) }
 
 -- ---- what follows the operation
--- a section was read, then only white space was left, and then each item got what its entry gives
+-- a section was parsed, then only white space was left, and then each item got what its entry gives
 module _ {T A U : Type 0} (E : Type 0) (attr : Text → Outcome (AttrView A)) (old mid : StateStream T A U) (entries : Entries A) (k : SectionRead E attr old mid entries) (a : AddsPaths old.state.ctx.now mid.state.ctx.now) (noted : is_noted (marks_of old.state) ≡ true)
     (spaced : StreamView) (ends : OnlySpace mid.stream spaced) where
   pub section_ends : {X F : Type 0} (new : StateStream T A U) (r : Result X F) → OnOk r (GivesAll (once_of entries) (items_of entries) mid.state.ctx.now new.state.ctx.now) → OnOk r (new.stream ≡ spaced) → OnOk r (marks_of new.state ≡ []) → OnOk r (EndsAny attr old new)

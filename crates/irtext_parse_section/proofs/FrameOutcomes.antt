@@ -1,4 +1,4 @@
--- A location that is read step by step: what each step leaves to be read is what the location's definition says.
+-- A location that is parsed step by step: what each step leaves to be parsed is what the location's definition says.
 use Rattle.std.proofs.Common.{◌≡◌, ◌∙◌, ap, refl, sym, ℕ, suc, ◌≤◌, Bool, true, false, cond, Option, List, [], ◌∷◌, ◌++◌, codes, length, append-nil, true≢false}
 use Rattle.std.proofs.Math.Nat.{le_refl}
 use Rattle.irtext_base.specs.Text.{Text, begins}

@@ -1,4 +1,4 @@
--- The loop that reads a location: what it has read so far, with what is open, is all of what the definition has read.
+-- The loop that parses a location: what it has read so far, with what is open, is all of what the definition has read.
 use Rattle.std.proofs.Common.{◌≡◌, ◌∙◌, ap, ap₂, refl, sym, subst, ℕ, suc, ◌≤◌, ◌<◌, Bool, true, false, cond, Result, Ok, Err, IfOk, Option, List, [], ◌∷◌, ◌++◌, Box, Vec, map, codes, length, arith, ◌⊎◌, inl, inr, append-nil, true≢false}
 use Rattle.std.proofs.Math.Nat.{le_refl}
 use Rattle.std.specs.Global.{Global}
@@ -161,7 +161,7 @@ module _ {S R A : Type 0} (see : S → R) where
         opened m v = followed (text_at (codes "[") v) (λ _ w. followed (space_at w) (λ _ x. row_opening_at m x))
 
 -- ---- what a step may answer
--- each value that is read is so
+-- each value that is parsed is so
 record Says {X : Type 0} (Q : X → Type 0) (o : Outcome X) : Type 0 where
   pub by : (x : X) (taken rest : Text) → o ≡ Read x taken rest → Q x
 
@@ -353,16 +353,16 @@ first_refused : {B X Y W V : Type 0} {see : Y → X} {sees : W → V} {f : Text 
 first_refused {f = f} {old = old} {new = new} {fault = fault} g k e h = record { answers = first_so old new fault old.failed (f old.rest) (g old.rest) k e h.answers }
 
 module _ {V : Type 0} {outcome next : Text → Outcome V} {old mid : StreamView} where
-  -- what is to be read may be said in other words, since it is demanded
+  -- what is to be parsed may be said in other words, since it is demanded
   turned_alike : (other : Text → Outcome V) → demanded (next mid.rest) ≡ demanded (other mid.rest) → Passed alone outcome next old mid → Passed alone outcome other old mid
   turned_alike other e p = record { fine = p.fine; taken = p.taken; takes = p.takes; so_far = p.so_far ∙ prefixed_demanded p.taken (next mid.rest) (other mid.rest) e }
 
-  -- what was to be read may be said in other words
+  -- what was to be parsed may be said in other words
   said_as : (other : Text → Outcome V) → other old.rest ≡ outcome old.rest → Passed alone outcome next old mid → Passed alone other next old mid
   said_as other e p = record { fine = p.fine; taken = p.taken; takes = p.takes; so_far = ap demanded e ∙ p.so_far }
 
 -- ---- the loop
--- the caller's reader leaves no more than its text
+-- the caller's parser leaves no more than its text
 pub attr_leaves : {A : Type 0} (reading : Text → Outcome A) → Sincere reading → LeavesNoMore (attr_at reading)
 attr_leaves reading s = record { by = λ text. record { by = λ x taken rest e. leaves_no_more (honest_attr (record { of = of_sincere reading s })) text x taken rest e } }
 
@@ -379,7 +379,7 @@ module _ {A : Type 0} (attr : Reader (AttrView A)) (no_more : LeavesNoMore attr)
   resumed_alike [] o p e = e
   resumed_alike (g ∷ frames) o p e = demanded_followed (resumed attr frames o) (resumed attr frames p) (frame_rest attr g) (resumed_alike frames o p e)
 
-  -- what is left, as a function of how far the innermost was read
+  -- what is left, as a function of how far the innermost was parsed
   abbrev left_in : List (FrameOf (Option (List ℕ)) A) → ProgressOf (Option (List ℕ)) A → Text → Outcome (Written A)
   left_in frames p text = left_of attr frames p text
 
@@ -397,7 +397,7 @@ module _ {A : Type 0} (attr : Reader (AttrView A)) (no_more : LeavesNoMore attr)
       ∙ (resumed_alike frames (prefixed [] (frame_rest attr f l text)) (followed (behind_at f l text) (λ p t. progress_rest attr p t)) (demanded_none (frame_rest attr f l text) ∙ behind_is attr no_more f l text)
       ∙ ap demanded (resumed_followed frames (behind_at f l text) (λ p t. progress_rest attr p t)))
 
-  -- what was read so far, and where: what is open and how far the innermost was read, over the paths that are kept now
+  -- what was parsed so far, and where: what is open and how far the innermost was parsed, over the paths that are kept now
   pub record SoFar (before : List (List ℕ)) (old : StreamView) (paths : List (List ℕ)) (frames : List (Frame A)) (p : Progress A) (now : StreamView) : Type 0 where
     pub open_known : FramesKnown (length paths) frames
     pub known : known_progress (length paths) p ≡ true
@@ -482,7 +482,7 @@ module _ {A : Type 0} (attr : Reader (AttrView A)) (no_more : LeavesNoMore attr)
           → MustRead itself replaced (location_over other) (location_at attr) old (Err fault) new
       not_behind other {fault = fault} h = refuses alone (left_in (frames_over paths frames)) at_behind (over_paths (Err fault) h)
 
-    -- nothing is open, and all was read
+    -- nothing is open, and all was parsed
     pub all_read : {B : Type 0} {l : Location A} → length frames ≡ 0 → SoFar before old paths frames (progress.Whole l) now → MustReadOver {A = B} known_location location_over (location_at attr) paths old (Ok l) now
     all_read {l = l} e s = none frames e s
       where

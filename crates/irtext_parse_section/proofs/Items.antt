@@ -298,7 +298,7 @@ module _ {T A : Type 0} (marks : List (ℕ × Item)) (rules : ℕ → Rule A) (p
         go false e again =
             again (ap (option_map block_of) (block_beside p one.item one.location given a mid (not_mark marks k m.index (item.Block p) one.item e one.carries only) one.gives) ∙ is) more
 
--- ---- once a section was read
+-- ---- once a section was parsed
 module _ {T A U : Type 0} (attr : Text → Outcome (AttrView A)) (old new : StateStream T A U) (r : ReadsSection attr old new) where
   abbrev c : ContextView T A
   c = old.state.ctx.now

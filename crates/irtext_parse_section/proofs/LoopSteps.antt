@@ -82,7 +82,7 @@ module _ {T A U : Type 0} (attr : Text → Outcome (AttrView A)) where
   abbrev pub all_of : StateStream T A U → Text → Outcome (List (Entry ℕ A (Written A)))
   all_of s t = entries_after attr (indices_of (marks_of s.state)) (rules_of (marks_of s.state)) (length t) [] t
 
-  -- no entry was read yet
+  -- no entry was parsed yet
   pub so_far_none : (s : StateStream T A U) → s.stream.failed ≡ false → EntriesSoFar attr s s nothing
   so_far_none s fine = record {
     rest = record { src = refl; aux_data = refl };
@@ -128,7 +128,7 @@ module _ {T A U : Type 0} (attr : Text → Outcome (AttrView A)) where
     abbrev by_marks : Text → Outcome (Entry ℕ A (Written A))
     by_marks = entry_at attr (may_follow marks entries.seen) (rules_of marks)
 
-    -- the next entry, by what was noted at the beginning
+    -- the next entry, by what was recorded at the beginning
     moved : {E : Type 0} (paths : List (List ℕ)) (r : Result (ReadEntry A) (ParseFault E)) (new : StreamView) → MustMean itself replaced (IsEntry (marks_of now.state) paths (whole now.stream)) by_now now.stream r new
         → MustMean itself replaced (IsEntry marks paths (whole old.stream)) by_marks now.stream r new
     moved paths r new k =
@@ -167,7 +167,7 @@ module _ {T A U : Type 0} (attr : Text → Outcome (AttrView A)) where
                 so_far = text_more attr (indices_of marks) (rules_of marks) h.so_far go (may_follow marks entries.seen) same_test read_there.read left;
               }
 
-  -- a first entry was read, and alone is noted
+  -- a first entry was parsed, and alone is recorded
   pub first_so_far : (begin mid : StateStream T A U) {E : Type 0} (e : ReadEntry A) (new : StreamView) → begin.stream.failed ≡ false → begins (the 33) begin.stream.rest ≡ true
       → MustMean {A = E} itself replaced (IsEntry (marks_of begin.state) mid.state.ctx.now.paths (whole begin.stream)) (entry_at attr (may_follow {Y = Unit {0}} (marks_of begin.state) []) (rules_of (marks_of begin.state))) begin.stream (Ok e) mid.stream
       → Takes itself replaced (front is_whitespace mid.stream.rest) (after is_whitespace mid.stream.rest) mid.stream new

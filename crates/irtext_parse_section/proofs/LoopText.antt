@@ -1,4 +1,4 @@
--- How far the text of entries was read: one entry more, or none, or a refusal.
+-- How far the text of entries was parsed: one entry more, or none, or a refusal.
 use Rattle.std.proofs.Common.{◌≡◌, ◌∙◌, ◌<◌, ◌≤◌, ℕ, zero, suc, Bool, true, false, Ok, Err, List, [], ◌∷◌, ◌++◌, length, length-append, refl, sym, ap, arith, true≢false}
 use Rattle.std.specs.Char.{is_whitespace}
 use Rattle.irtext_base.specs.Text.{Text, begins, front, after}
@@ -55,7 +55,7 @@ module _ {A : Type 0} (attr : Text → Outcome (AttrView A)) (marks : List ℕ) 
       let left : new.rest ≡ after is_whitespace mid.rest = ap (λ v. v.rest) s.is in
       omega (arith, less, ap length left, ap length s.same, length-append (front is_whitespace mid.rest) (after is_whitespace mid.rest))
 
-  -- no entry was read yet
+  -- no entry was parsed yet
   pub text_begins : (old : StreamView) → old.failed ≡ false → TextSoFar attr marks rules old old []
   text_begins old fine =
       let p = starts alone all_at (entries_after attr marks rules (length old.rest) []) old fine refl in
@@ -77,7 +77,7 @@ module _ {A : Type 0} (attr : Text → Outcome (AttrView A)) (marks : List ℕ) 
       room_left : (k : ℕ) × (h.room ≡ suc k)
       room_left = some_left h.room now.rest go h.enough
 
-      -- an entry is to be read, by this test of its index
+      -- an entry is to be parsed, by this test of its index
       to_entry : Passed alone all_at (λ t. followed (entry_at attr test rules t) (behind_entry room_left.0 found)) old now
       to_entry = turned alone (λ t. followed (entry_at attr test rules t) (behind_entry room_left.0 found))
           (ap (λ n. entries_after attr marks rules n found now.rest) room_left.1 ∙ (entries_go_on room_left.0 found now.rest go

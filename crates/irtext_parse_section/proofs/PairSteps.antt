@@ -1,4 +1,4 @@
--- Steps of the readers of pairs.
+-- Steps of the parsers of pairs.
 use Rattle.std.proofs.Common.{◌≡◌, ◌∙◌, ℕ, Bool, true, false, Result, Ok, Err, [], ◌∷◌, length, refl, sym, ap, ap₂, subst, ◌⊎◌, inl, inr}
 use Rattle.std.specs.Prelude.{IfOk}
 use Rattle.std.specs.Char.{is_whitespace}
@@ -64,7 +64,7 @@ module _ {A : Type 0} (attr : Text → Outcome (AttrView A)) where
   reference_refused {old = old} {new = new} {fault = fault} any b h =
       record { meant = λ _. any; means = tt; read = record { answers = rw (item_is_index old.rest b) (refuses_mapped_demanded itself replaced alone.view_at alone.at_at (reference_of (length old.rest)) old.failed (index_at old.rest) old new fault h.answers) } }
 
-  -- an attribute was read
+  -- an attribute was parsed
   pub attribute_there : {old new : StreamView} (a : AttrObj A) → begins (the 33) old.rest ≡ false → MustRead {A = A} itself replaced attribute_of (attribute_at attr) old (Ok a) new
       → MustMean {A = A} itself replaced (IsGiven (whole old)) (item_at attr) old (Ok (given.Direct a)) new
   attribute_there a b h = record {
@@ -127,7 +127,7 @@ module _ {A : Type 0} (rule : Rule A) where
   if_ok text meant (Ok d) h = h d refl
   if_ok text meant (Err fault) h = tt
 
-  -- a pair that was read is kept, or its key is reserved; one that was not read is refused as it was
+  -- a pair that was parsed is kept, or its key is reserved; one that was not parsed is refused as it was
   pub may_keep : {raw : Text → Outcome (Name ℕ × Item ℕ A)} {old mid new : StreamView} (place : Place) (a r : Result (Key × GivenAttr A) (ParseFault A)) → MayMean itself replaced (IsPair (whole old)) raw old a mid → StandsBehind place old.passed → Allows rule place a mid r new
       → MayMean itself replaced (IsPair (whole old)) (λ t. kept rule (raw t)) old r new
   may_keep {raw = raw} {old = old} {mid = mid} {new = new} place a r h p k =

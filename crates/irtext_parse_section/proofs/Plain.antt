@@ -1,4 +1,4 @@
--- Numbers, lines and columns as they are mostly written are those that the readers of their parts read.
+-- Numbers, lines and columns as they are mostly written are those that the parsers of their parts read.
 use Rattle.std.proofs.Common.{◌≡◌, ℕ, ℤ, pos, true, false, cond, nat_lt, Option, Some, None, Ok, [], ◌∷◌, ◌++◌, codes, refl, sym, ◌∙◌, ap, subst, arith}
 use Rattle.std.proofs.lemmas.Bool.Decides.{nat_tests}
 use Rattle.std.specs.Str.{chars}
@@ -131,7 +131,7 @@ mapped_gives f (Bad cause upto) old new x g = absurd g
 abbrev at_line : ℤ → ℤ → SourcePosition
 at_line line column = record { line = line; column = column }
 
--- a line and a column were read
+-- a line and a column were parsed
 pub position_taken : (old mid new : StreamView) (line column : ℤ) → Gets line_at old mid line → Gets column_at mid new column → Gets behind_source_at old new (at_line line column)
 position_taken old mid new line column g h =
     let last : ℤ → Text → Outcome SourcePosition = λ n t. followed (spaced_at (codes ",") t) (λ _ u. mapped (at_line n) (labelled_at (codes "column") u)) in
@@ -144,7 +144,7 @@ gives_demanded (Read y t r) old new x g = g
 gives_demanded (Missing cause) old new x g = absurd g
 gives_demanded (Bad cause upto) old new x g = absurd g
 
--- what was read on a stream that has not failed
+-- what was parsed on a stream that has not failed
 pub gets_must : {X A : Type 0} (reader : Reader X) (old new : StreamView) (x : X) → old.failed ≡ false → Gets reader old new x → MustRead {A = A} itself replaced (λ (y : X). y) reader old (Ok x) new
 gets_must reader old new x fine g =
     record { answers = subst (λ b. Gives itself replaced (demanded (unless_failed b (reader old.rest))) old x new) (sym fine) (gives_demanded (reader old.rest) old new x g) }

@@ -1,4 +1,4 @@
--- Steps of a section whose entries were read: its references are right, or the first that is wrong is refused.
+-- Steps of a section whose entries were parsed: its references are right, or the first that is wrong is refused.
 use Rattle.std.proofs.Common.{◌≡◌, ◌∙◌, ◌≤◌, ◌⊎◌, inl, inr, ℕ, Bool, true, false, cond, nat_eq, is_some, List, [], ◌∷◌, ◌++◌, length, length-append, Option, Some, None, Ok, Err, refl, sym, ap, ap₂, subst, append_assoc, arith}
 use Rattle.std.proofs.lemmas.List.{take-append-drop, length-drop}
 use Rattle.std.specs.Prelude.{codes, ◌-◌, take, drop, flat_map}
@@ -116,7 +116,7 @@ module _ {A : Type 0} (text : Text) (once : List (ℕ × AttrObj A)) (all : List
       subst (λ fs. Each (IsWrong text) (pairs_wrong once of_block e.pairs.items ++ items_wrong once items) fs) (sym (flat_both wrong acts more))
       (each_join (IsWrong text) (pairs_wrong once of_block e.pairs.items) (items_wrong once items) (wrongs acts) (wrongs more) first (items_same items es k))
 
-  -- what is wrong with the references that were read is what is wrong with those of the text
+  -- what is wrong with the references that were parsed is what is wrong with those of the text
   pub references_same : (items : List (ItemEntry A)) → AreItems marks paths text items all → Each (IsWrong text) (items_wrong once items) (wrong_references (rules_of marks) all)
   references_same items k = subst (λ fs. Each (IsWrong text) (items_wrong once items) fs) (sym (references_fail (rules_of marks) all)) (items_same items all k)
 
@@ -138,7 +138,7 @@ module _ {T A : Type 0} (types : Texts T) (reading : Text → Outcome A) (writte
       let near = entries_near types reading written no_formats sincere.reads words cut (length text) k.es a.middle rest (omega (arith, ap length split, length-append a.front a.middle)) k.reads in
       subst (single.Each (StandsNear (length text))) (sym (references_fail rules es)) (late_near (length text) rules es es (subst (λ es. single.Each (EntryNear (length text)) es) (sym k.whole) near))
 
--- ---- a section whose entries were read
+-- ---- a section whose entries were parsed
 same_front : (a b c d : Text) → a ++ b ≡ c ++ d → length b ≡ length d → a ≡ c
 same_front [] b [] d e l = refl
 same_front [] b (y ∷ c) d e l = absurd (omega (arith, ap length e, l, length-append c d))

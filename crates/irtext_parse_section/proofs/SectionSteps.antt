@@ -44,7 +44,7 @@ pub either_way : {P : Type 0} (t : Bool) → (t ≡ true → P) → (t ≡ false
 either_way true f g = f refl
 either_way false f g = g refl
 
--- a section was read, to be given
+-- a section was parsed, to be given
 abbrev pub SectionRead : {T A U : Type 0} → Type 0 → (Text → Outcome (AttrView A)) → StateStream T A U → StateStream T A U → Entries A → Type 0
 SectionRead E attr old mid entries = MustMean {A = E} itself replaced (AreEntriesOver (marks_of old.state) old.state.ctx.now.paths mid.state.ctx.now.paths (whole old.stream)) (section_at attr (indices_of (marks_of old.state)) (rules_of (marks_of old.state))) old.stream (Ok entries) mid.stream
 
@@ -59,7 +59,7 @@ module _ {T A U : Type 0} (E : Type 0) (attr : Text → Outcome (AttrView A)) (o
       let newer = still_newer mark old.state.ctx.now mid.state.ctx.now kept (marks_of old.state) n in
       kept_trans kept (h (entries_newer mark mid.state.ctx.now (whole old.stream) (marks_of old.state) mid.state.ctx.now.paths (items_of entries) found k.means.are.items newer))
 
-  -- the section was read and given
+  -- the section was parsed and given
   pub reads_section : (new : StateStream T A U) → GivesAll (once_of entries) (items_of entries) mid.state.ctx.now new.state.ctx.now → new.stream ≡ mid.stream → marks_of new.state ≡ [] → ReadsSection attr old new
   reads_section new gives stream fresh =
       let r = answered k.read in

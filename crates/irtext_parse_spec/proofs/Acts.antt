@@ -44,7 +44,7 @@ module _ {T A : Type 0} (IsLocation : Object → ℕ → Location A → Type 0) 
   operations_behind (p ∷ ps) qs no_operations more h k = absurd h
   operations_behind (p ∷ ps) qs (forest.operation o rs os) more (i, v, h) k = (i, v, operations_behind ps qs os more h k)
 
--- ---- objects that are spared
+-- ---- objects that are unchanged
 module _ {T A : Type 0} (IsLocation : Object → ℕ → Location A → Type 0) (old new : ContextView T A) (whole : List Object) (ats : List (OpenAt T A)) (root : Option (Ptr Operation)) (b : Building T A)
     (h : HoldsSoFar IsLocation old whole ats root b) (but : List Object) (s : ModifiesOnly but old new) where
   -- what is whole is as it was, where no object of it is one that changed
@@ -128,7 +128,7 @@ module _ {T A : Type 0} (IsLocation : Object → ℕ → Location A → Type 0) 
         apart = h.apart;
       }
 
--- where nothing was read, nothing is held
+-- where nothing was parsed, nothing is held
 pub holds_nothing : {T A : Type 0} (IsLocation : Object → ℕ → Location A → Type 0) (c : ContextView T A) → HoldsSoFar IsLocation c [] [] None nothing_open
 holds_nothing IsLocation c = record {
   are_open = tt;

@@ -164,6 +164,6 @@ module _ {T A : Type 0} (formats : Id → Option Format) (isolated : Id → Bool
   pub tree_builds : (x : Tree ℕ T A) → IsWhole formats x → (b : Building T A) → do_tree isolated does x b ≡ operation_added x.own x.regions b.unfinished b.tree
   tree_builds x w b = operation_builds x.own (do_regions isolated does (isolated x.own.id) x.regions) x.regions w.0 (regions_build (isolated x.own.id) x.regions w.1) b
 
-  -- a tree, where nothing was read before, is what is finished
+  -- a tree, where nothing was parsed before, is what is finished
   pub tree_finished : (x : Tree ℕ T A) → IsWhole formats x → do_tree isolated does x nothing_open ≡ finished x
   tree_finished x w = tree_builds x w nothing_open

@@ -281,7 +281,7 @@ module _ {T A : Type 0} (old new : ContextView T A) where
     regions = refl;
   }
 
-  -- what was there is spared
+  -- what was there is unchanged
   pub operation_made_spares : (p : Ptr Operation) (held : OperationData A) (types : List T) {operands : List Value} {successors : List (Ptr BasicBlock)} → MakesOperation old new p held types operands successors → ModifiesOnly (TheOperation p ∷ []) old new
   operation_made_spares p held types m = spares_same old new (TheOperation p ∷ []) (λ q apart. m.graph.operations.updates.others q (λ e. apart (inl (ap TheOperation e))))
       (λ b apart. ap (λ s. get s b) m.graph.blocks) (λ r apart. ap (λ s. get s r) m.graph.regions)
@@ -302,7 +302,7 @@ module _ {T A : Type 0} (old new : ContextView T A) where
     uses = edited_as_many old.graph new.graph p (with_child r) (λ n. refl) (λ n. refl) a.graph.operations.updates.changed;
   }
 
-  -- and all else is spared
+  -- and all else is unchanged
   pub region_added_spares : (p : Ptr Operation) (r : Ptr Region) → AddsRegion old new p r → ModifiesOnly (TheRegion r ∷ TheOperation p ∷ []) old new
   region_added_spares p r a = spares_same old new (TheRegion r ∷ TheOperation p ∷ []) (λ q apart. a.graph.operations.updates.others q (λ e. apart (inr (inl (ap TheOperation e)))))
       (λ b apart. ap (λ s. get s b) a.graph.blocks) (λ q apart. a.graph.regions.updates.others q (λ e. apart (inl (ap TheRegion e))))
@@ -320,7 +320,7 @@ module _ {T A : Type 0} (old new : ContextView T A) where
           stays = a.parents (TheBlock b) (λ e. cc);
         }
 
-    -- all else is spared
+    -- all else is unchanged
     pub operation_placed_spares : ModifiesOnly (TheBlock b ∷ []) old new
     operation_placed_spares = spares_by old new (TheBlock b ∷ []) go
       where
@@ -351,7 +351,7 @@ module _ {T A : Type 0} (old new : ContextView T A) where
               ∙ (ap₂ (λ u w. region_seen_in z u w) above inside ∙ (region_more z (parent_of x) (children_of x) b ∙ ap (option_map (with_last_block b)) (sym (region_is T A x)))));
         }
 
-    -- all else is spared
+    -- all else is unchanged
     pub block_placed_spares : ModifiesOnly (TheBlock b ∷ TheRegion r ∷ []) old new
     block_placed_spares = spares_alike old new (TheBlock b ∷ TheRegion r ∷ []) (λ q apart. record {
       contents = ap (option_map without_uses) (a.objects.contents q);
@@ -404,7 +404,7 @@ module _ {T A : Type 0} (IsLocation : ℕ → Location A → Type 0) (old mid ne
         stays = placed.stays ∙ ap (λ s. option_map TheRegion (parent_of (get s b))) m.graph.blocks;
       }
 
-  -- and all else is spared
+  -- and all else is unchanged
   pub operation_came_spares : ModifiesOnly (TheOperation p ∷ TheBlock b ∷ []) old new
   operation_came_spares =
       let but = TheOperation p ∷ TheBlock b ∷ [] in
@@ -437,7 +437,7 @@ module _ {T A : Type 0} (IsLocation : ℕ → Location A → Type 0) (old mid ne
     gains = (block_placed_gains mid new r b free_at_first a).gains ∙ ap (λ s. option_map (with_last_block b) (option_map region_of (get s r))) m.graph.regions;
   }
 
-  -- and all else is spared
+  -- and all else is unchanged
   pub block_came_spares : ModifiesOnly (TheBlock b ∷ TheRegion r ∷ []) old new
   block_came_spares = spares_then old mid new (TheBlock b ∷ TheRegion r ∷ [])
       (spares_same old mid (TheBlock b ∷ TheRegion r ∷ []) (λ q apart. ap (λ s. get s q) m.graph.operations) (λ d apart. m.graph.blocks.updates.others d (λ e. apart (inl (ap TheBlock e))))
@@ -456,7 +456,7 @@ module _ {T A : Type 0} (IsLocation : ℕ → Location A → Type 0) (old new : 
     regions = λ w k. let f : was ≡ w = some_eq (sym is ∙ k) in ap (λ (v : OperationView T A). v.regions) f;
   }
 
-  -- and all else is spared
+  -- and all else is unchanged
   pub attributes_written_spares : ModifiesOnly (TheOperation p ∷ []) old new
   attributes_written_spares = spares_same old new (TheOperation p ∷ []) (λ q apart. e.graph.operations.updates.others q (λ k. apart (inl (ap TheOperation k))))
       (λ b apart. ap (λ s. get s b) e.graph.blocks) (λ r apart. ap (λ s. get s r) e.graph.regions)

@@ -1,4 +1,4 @@
--- The readers of entries answer what the grammar reads, up to the first that is wrong.
+-- The parsers of entries return what the grammar parses, up to the first that is wrong.
 use Rattle.std.proofs.Common.{◌≡◌, ◌∙◌, ◌≤◌, inl, inr, ℕ, zero, suc, Bool, true, false, cond, not, ◌&&◌, ◌||◌, Option, Some, None, List, [], ◌∷◌, ◌++◌, map, length, refl, sym, ap, ap₂, subst, true≢false, append_assoc, append-nil, length-append, arith}
 use Rattle.std.proofs.lemmas.Bool.Decides.{nat_tests}
 use Rattle.std.specs.Prelude.{codes}
@@ -126,7 +126,7 @@ module _ {T A : Type 0} (types : Texts T) (reading : Text → Outcome A) (writte
     abbrev choice : Mark ℕ → Text → Outcome (Entry ℕ A (Written A))
     choice m t = cond (begins_given t) (item_next m t) (once_next m t)
 
-    -- an entry that is answered the grammar reads, and nothing is wrong with it
+    -- an entry that is parsed the grammar parses, and nothing is wrong with it
     pub entry_read : (text : Text) (e : Entry ℕ A (Written A)) (taken rest : Text) → entry_at attr test rules text ≡ Read e taken rest → An e text rest × (taken ++ rest ≡ text) × (wrong_entry test rules e ≡ [])
     entry_read text e taken rest is =
         let a = followed_read (tested test (entry_head_at text)) choice e taken rest is in
@@ -162,7 +162,7 @@ module _ {T A : Type 0} (types : Texts T) (reading : Text → Outcome A) (writte
         ap begins_given e
     goes_on (Some x) ps end rest (mid, (t, a, b), c) = ap begins_given a
 
-    -- an entry that the grammar reads is answered, where nothing is wrong with it
+    -- an entry that the grammar parses is parsed, where nothing is wrong with it
     pub entry_found : (text : Text) (e : Entry ℕ A (Written A)) (rest : Text) → An e text rest → ReadOrStops text (entry_at attr test rules text) e rest (wrong_entry test rules e)
     entry_found text (of_once m a) rest (mid, r, (end, q, s)) =
         let h = head_found text m mid end r q in

@@ -1,4 +1,4 @@
--- The reader of what an item's entry gives answers what the grammar reads: its location, and its pairs.
+-- The parser of what an item's entry gives returns what the grammar parses: its location, and its pairs.
 use Rattle.std.proofs.Common.{◌≡◌, ◌∙◌, inl, inr, ℕ, Bool, true, false, cond, Option, Some, None, List, [], ◌++◌, length, refl, sym, ap, ap₂, subst, append_assoc}
 use Rattle.std.specs.Prelude.{codes}
 use Rattle.std.specs.Char.{is_whitespace}
@@ -34,7 +34,7 @@ use Rattle.irtext_parse_spec.proofs.Pairs.{bracketed, pairs_read, pairs_found, o
 use Rattle.irtext_parse_spec.proofs.Stops.{stops_seen, stops_second}
 
 -- ---- what is taken of a location and what is left make up the text
--- a reader that takes a front of its text
+-- a parser that takes a front of its text
 pub record Cuts {X : Type 0} (f : Reader X) : Type 0 where
   pub splits : Splits f
 
@@ -78,7 +78,7 @@ standing_found (Missing cause) x rest e = absurd (cc e)
 standing_found (Bad cause upto) x rest e = absurd (cc e)
 
 module _ {A : Type 0} (attr : Text → Outcome (AttrView A)) (cut : Splits attr) where
-  -- ---- an entry's location: what its reader does, step by step
+  -- ---- an entry's location: what its parser does, step by step
   abbrev last_next : Written A → Unit {0} → Text → Outcome (Option (Written A))
   last_next x _ text = mapped (λ _. Some x) (space_at text)
 
@@ -173,7 +173,7 @@ module _ {T A : Type 0} (types : Texts T) (reading : Text → Outcome A) (writte
     abbrev pairs_next : Option (Written A) → Text → Outcome (Option (Written A) × List (Name ℕ × Item ℕ A))
     pairs_next x t = mapped (λ ps. (x, ps)) (pairs_at attr rule t)
 
-    -- what is answered the grammar reads, and nothing is wrong with it
+    -- what is parsed the grammar parses, and nothing is wrong with it
     pub given_read : (text : Text) (g : Option (Written A) × List (Name ℕ × Item ℕ A)) (taken rest : Text) → after_space text ≡ text → given_at attr rule text ≡ Read g taken rest
         → Given g text rest × (taken ++ rest ≡ text) × (wrong_pairs rule g.1 ≡ [])
     given_read text g taken rest tight e =

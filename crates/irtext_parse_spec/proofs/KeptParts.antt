@@ -89,7 +89,7 @@ accepted_in : (r : Option (Bor OpInfo)) → IfSome r (λ info. Accepted (directi
 accepted_in None h = tt
 accepted_in (Some info) h = h
 
--- the format of an operation, if it is registered, reads uniquely
+-- the format of an operation, if it is registered, parses uniquely
 pub accepted_of : (dialects : List (Text × Table)) (id : OpId) (r : Option (Bor OpInfo)) → option_map (λ info. known_of info.now) r ≡ registered dialects id → IfSome r (λ info. Accepted (directives.format_of info.now.format)) → IsAccepted dialects (id_of id)
 accepted_of dialects id r e h = subst (λ o. IfSome (option_map (λ (known : Known). known.format) o) Accepted) e (accepted_in r h)
 

@@ -1,4 +1,4 @@
--- What a context holds of what was read so far is held with more said of the locations.
+-- What a context holds of what was parsed so far is held with more said of the locations.
 use Rattle.std.proofs.Common.{ℕ, List, [], ◌∷◌, Option, Some, None, inl, inr, refl}
 use Rattle.irtext_base.specs.declared.location.Location.{Location}
 use Rattle.irtext_context.specs.Context.{ContextView, OperationView, BlockView}
@@ -109,7 +109,7 @@ module _ {T A : Type 0} (I J : Object → ℕ → Location A → Type 0) (wider 
     apart = h.apart;
   }
 
--- what is noted stays noted where one item more is
+-- what is recorded stays recorded where one item more is
 pub still_noted : {A : Type 0} (IsLocation : ℕ → Location A → Type 0) (items : Made) (n : ℕ) (k : Object) (o : Object) (m : ℕ) (l : Location A) → noted items IsLocation o m l → noted ((n, k) ∷ items) IsLocation o m l
 still_noted IsLocation items n k o m l h = (inr h.0, h.1)
 
@@ -138,7 +138,7 @@ module _ {T A : Type 0} (IsLocation : ℕ → Location A → Type 0) where
     inside = h.inside;
   }
 
-  -- an operation whose own changed is noted where it was
+  -- an operation whose own changed is recorded where it was
   pub became_noted : (old new : ContextView T A) (items : Made) (p : Ptr Operation) (own : OwnSoFar T A) → Among (own.place, TheOperation p) items → OwnBecame old new IsLocation p own
       → OwnBecame old new (noted items IsLocation (TheOperation p)) p own
   became_noted old new items p own i h = record {

@@ -186,7 +186,7 @@ module _ {T A : Type 0} (types : Texts T) (reading : Text → Outcome A) (writte
     abbrev space_next : Unit {0} → Text → Outcome (List (Name ℕ × Item ℕ A))
     space_next _ text = followed (space_at text) list_next
 
-    -- pairs that are answered the grammar reads, and nothing is wrong with them
+    -- pairs that are parsed the grammar parses, and nothing is wrong with them
     pub pairs_read : (text : Text) (ps : List (Name ℕ × Item ℕ A)) (taken rest : Text) → pairs_at attr rule text ≡ Read ps taken rest → bracketed l loc ps text rest × (taken ++ rest ≡ text) × (wrong_pairs rule ps ≡ [])
     unfolding pairs_at
     pairs_read text ps taken rest e =

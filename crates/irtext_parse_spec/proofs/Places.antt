@@ -71,7 +71,7 @@ module _ (b : ℕ) where
         subst (Each (StandsNear b)) (sym (flat_both wrong (flat_map (reference_acts (rules m.index) all) ps) (flat_map (late_acts rules all) es)))
         (each_both (StandsNear b) (wrongs (flat_map (reference_acts (rules m.index) all) ps)) (wrongs (flat_map (late_acts rules all) es)) (references_near (rules m.index) all ps h.0) (late_near rules all es h.1))
 
--- ---- what is read leaves no more than its text
+-- ---- what is parsed leaves no more than its text
 split_near : (taken rest text : Text) → taken ++ rest ≡ text → length rest ≤ length text
 split_near taken rest text e = omega (arith, ap length e, length-append taken rest)
 

@@ -1,4 +1,4 @@
--- A root that was read is closed, where its operations fit their formats.
+-- A root that was parsed is closed, where its operations fit their formats.
 use Rattle.std.proofs.Common.{◌≡◌, ℕ, suc, Bool, not, ◌&&◌, List, [], ◌∷◌, length, Option, Some, None, refl, sym, ap, ap₂, ◌∙◌, subst}
 use Rattle.std.specs.Prelude.{⊤}
 use Rattle.std.specs.List.{list_all}
@@ -107,7 +107,7 @@ module _ {P T A X : Type 0} (L : Language P T A) (none : NoneLeftOut L) (C : Pri
   )
 
 module _ {P T A X : Type 0} (L : Language P T A) (none : NoneLeftOut L) (C : Printing T A) (formats : (i : Id) → L.format_of i ≡ C.format_of i) (isolated : Id → Bool) (first : P → X) where
-  -- a root that was read and fits is closed, and all that can have a name has one
+  -- a root that was parsed and fits is closed, and all that can have a name has one
   pub closed_where_read : (t : Tree P T A) (es : List (Entry P A X)) (g : Graph T A) (source rest : Text) → reads L t source rest → failures_of isolated t es ≡ []
       → StandsFor (stood C isolated g) (build isolated first es t) → Distinct C isolated g → Fit C isolated g → ClosedRoot C isolated g × Named C g
   closed_where_read t es g source rest r e s d fit =

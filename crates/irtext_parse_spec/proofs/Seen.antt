@@ -93,7 +93,7 @@ module _ {T A S U : Type 0} (isolated : Id → Bool) (see : S → U) (d : Action
 
 -- ---- readings
 module _ {S U : Type 0} (see : S → U) where
-  -- the one reader, as `see` shows it, answers what the other does
+  -- the one parser, as `see` shows it, answers what the other does
   pub record ReadsSeen (f : Reads S) (g : Reads U) : Type 0 where
     pub at : (text : Text) (s : S) → seen_as see (f text s) ≡ g text (see s)
 

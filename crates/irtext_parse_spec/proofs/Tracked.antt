@@ -251,7 +251,7 @@ module _ {T A : Type 0} (L : ℕ → Location A → Type 0) (start old new : Con
           go (region_so_far bs last ∷ us) (k, l) = absurd k
           go (but_its_mark o rs ∷ us) (k, l) = absurd k
 
--- where nothing was read, nothing was made
+-- where nothing was parsed, nothing was made
 pub holds_nothing : {T A : Type 0} (L : ℕ → Location A → Type 0) (c : ContextView T A) → HoldsMade L c c [] [] [] None nothing_open
 holds_nothing L c = record {
   so_far = acts.holds_nothing (noted [] L) c;

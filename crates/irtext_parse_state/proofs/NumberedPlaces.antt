@@ -71,7 +71,7 @@ module _ {X : Type 0} where
       go true p deeper = absurd (true≢false (ap is_some p))
       go false p deeper = deeper p
 
-  -- a mark that isn't noted is none of the others
+  -- a mark that isn't recorded is none of the others
   pub not_other : (i : ℕ) (xs : List X) (es : List (ℕ × X)) → lookup (same_index i) (all_numbered xs es) ≡ None → lookup (same_index i) es ≡ None
   not_other i xs es h = none_of_others (same_index i) 0 xs es h
 

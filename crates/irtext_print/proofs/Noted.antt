@@ -1,5 +1,5 @@
--- The attributes that a section writes once: those that are noted while items are written are those that printing shares, and the place of
--- each stays as more are noted.
+-- The attributes that a section writes once: those that are recorded while items are written are those that printing shares, and the place
+-- of each stays as more are recorded.
 use Rattle.std.proofs.Common.{◌≡◌, ℕ, suc, Bool, true, false, true≢false, not, cond, ◌||◌, List, [], ◌∷◌, ◌++◌, map, flat_map, Option, Some, None, ◌+◌, arith, refl, sym, ap, ◌∙◌}
 use Rattle.std.proofs.lemmas.List.{append_assoc, append-nil}
 use Rattle.std.specs.Borrow.{Bor}
@@ -203,6 +203,6 @@ module _ {T A : Type 0} (C : Printing T A) where
       let ms = mentions (there C gs) in
       items_behind (all_noted C known e.attributes) gs ∙ ap (λ k. behind_all k ms) (all_behind known e.attributes) ∙ sym (behind_both known own_ms ms)
 
-  -- the attributes that are noted while all items are written are those that the section writes once
+  -- the attributes that are recorded while all items are written are those that the section writes once
   pub noted_shared : (gs : List (Option (Entry C))) → items_noted C [] gs ≡ shared C (there C gs)
   noted_shared gs = items_behind [] gs ∙ behind_firsts [] [] (mentions (there C gs)) (λ a. refl)

@@ -1,4 +1,4 @@
--- A root that was read is closed where its operations fit their formats, and all that can have a name has one.
+-- A root that was parsed is closed where its operations fit their formats, and all that can have a name has one.
 use Rattle.std.proofs.Common.{◌≡◌, ℕ, Bool, [], Some, refl, sym, subst}
 use Rattle.irtext_base.specs.Answers.{Outcome}
 use Rattle.irtext_base.specs.Format.{Id}

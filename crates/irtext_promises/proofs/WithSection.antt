@@ -119,7 +119,7 @@ module _ {P T A : Type 0} (isolated : Id → Bool) where
         noted_both (inside ++ of_op o) later
         ∙ ap₂ ◌||◌ (noted_both inside (of_op o) ∙ (ap₂ ◌||◌ (regions_noted (isolated o.id) rs) (noted_mark o.mark) ∙ or_flip (regions_marked rs) (is_some o.mark))) (operations_noted os)
 
-  -- a tree has a mark exactly where one is noted of it
+  -- a tree has a mark exactly where one is recorded of it
   pub tree_noted : (t : Tree P T A) → WholeOperations (forest.operation t.own t.regions no_operations) → is_noted (facts same_text (tree_script isolated t done)).marks ≡ marked t
   tree_noted t w =
       let inside = all_in_regions isolated of_op of_head everywhere (isolated t.own.id) t.regions in

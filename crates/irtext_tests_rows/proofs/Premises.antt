@@ -26,7 +26,7 @@ stops (c ∷ rest) e = ap not e
 located : (l : Text) → begins is_whitespace l ≡ false → list_all (λ c. not (c == 93)) l ≡ true → LocationReads up_to_bracket text_locations (Some l)
 located l w h = (w, (λ rest e. (l, rest, ap₂ found (front_all (λ c. not (c == 93)) l rest h (stops rest e)) (after_all (λ c. not (c == 93)) l rest h (stops rest e)), refl, refl)))
 
--- a location on line 1 whose column has no bracket is read up to the bracket
+-- a location on line 1 whose column has no bracket is parsed up to the bracket
 pub on : (c : Text) → list_all (λ c. not (c == 93)) (codes "<in-memory>: line: 1, column: " ++ c) ≡ true → LocationReads up_to_bracket text_locations (on_line_one c)
 on c h = located (codes "<in-memory>: line: 1, column: " ++ c) refl h
 

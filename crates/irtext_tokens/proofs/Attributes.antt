@@ -1,4 +1,4 @@
--- Readers of attributes.
+-- Parsers of attributes.
 use Rattle.std.proofs.Common.{◌≡◌, ℕ, ◌<◌, Bool, true, false, cond, Option, Some, None, Result, Ok, Err, [], ◌∷◌, ◌++◌, codes, List, refl, sym, ◌∙◌, ap, subst, arith}
 use Rattle.std.proofs.lemmas.Bool.Decides.{nat_tests}
 use Rattle.std.proofs.lemmas.List.{append_cancel_left}
@@ -27,7 +27,7 @@ use Rattle.irtext_tokens.proofs.Words.{encodes-front}
 pub in_dotted_ascii : (c : ℕ) → in_dotted c ≡ true → c < 128
 in_dotted_ascii c e = grind (arith, nat_tests)
 
--- what was read is what the word says
+-- what was parsed is what the word says
 read_front : (b : Bool) (text name taken rest : Text) → cond b (Read (front in_word text) (front in_word text) (after in_word text)) (Missing (Unexpected (first_of text) AnIdentifier)) ≡ Read name taken rest → taken ++ rest ≡ text
 read_front true text name taken rest e =
     let t : front in_word text ≡ taken = cc in
@@ -64,7 +64,7 @@ given_name_takes (c ∷ text) x taken rest e =
     ] refl e
 
 module _ {S X Y V W A : Type 0} (l : Lens S) (g : X → V) (see : Y → X) (sees : W → V) (f : Text → Outcome X) (outcome : Text → Outcome V) where
-  -- what is read where `outcome` is what `f` is, seen by a function
+  -- what is parsed where `outcome` is what `f` is, seen by a function
   pub read_as : (old new : S) (y : Y) (w : W) → sees w ≡ g (see y) → outcome (l.view old).rest ≡ mapped g (f (l.view old).rest) → MayRead {A = A} l.view l.at see f old (Ok y) new → MayRead {A = A} l.view l.at sees outcome old (Ok w) new
   read_as old new y w e o h =
       record { answers = rw o (gives_mapped l.view l.at l.view_at l.at_at g (l.view old).failed (f (l.view old).rest) old new (see y) (sees w) e h.answers) }
@@ -75,12 +75,12 @@ module _ {S X Y V W A : Type 0} (l : Lens S) (g : X → V) (see : Y → X) (sees
       record { answers = rw o (refuses_mapped l.view l.at l.view_at l.at_at g (l.view old).failed (f (l.view old).rest) old new fault h.answers) }
 
 module _ {A : Type 0} (reading : Text → Outcome A) (text : Text) where
-  -- where the word of given names leads, they are read
+  -- where the word of given names leads, they are parsed
   pub names_lead : true ≡ leads (codes "builtin.given_names") text → attr_at reading text ≡ mapped given_names (given_names_at text)
   unfolding attr_at
   names_lead e = rw (← e) refl
 
-  -- where the word of an identifier leads, that is read
+  -- where the word of an identifier leads, that is parsed
   pub ident_leads : false ≡ leads (codes "builtin.given_names") text → true ≡ leads (codes "builtin.identifier") text → attr_at reading text ≡ mapped ident (ident_at text)
   unfolding attr_at
   ident_leads e d = rw (← e, ← d) refl
@@ -126,7 +126,7 @@ module _ (word text : Text) where
   leads_whole rest s d e = rw s ((bytes_eq-Decides (front in_dotted (word ++ rest)) word).1 (front_all in_dotted word rest d e), sym (after_all in_dotted word rest d e))
 
 module _ {S : Type 0} (l : Lens S) where
-  -- a fixed text that was passed was read
+  -- a fixed text that was passed was parsed
   pub word_read : {A : Type 0} (word rest : Text) (old mid : S) → (l.view old).failed ≡ false → Takes l.view l.at word rest old mid → MayRead {A = A} l.view l.at (λ u. u) (text_at word) old (Ok tt) mid
   word_read word rest old mid f k =
       let g : Gives l.view l.at (text_at word (l.view old).rest) old tt mid = rw (text_at-literal word (l.view old).rest rest (sym k.same)) (refl, k) in

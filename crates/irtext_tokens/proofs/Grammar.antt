@@ -1,4 +1,4 @@
--- The readers' tokens are the grammar's readings.
+-- The parsers' tokens are the grammar's readings.
 use Rattle.std.proofs.Common.{◌≡◌, ℕ, Bool, true, false, cond, Some, [], ◌∷◌, ◌++◌, refl, ap, arith}
 use Rattle.std.proofs.lemmas.Bool.Decides.{nat_tests}
 use Rattle.irtext_base.specs.Text.{Text}
@@ -23,7 +23,7 @@ same_the c d e = grind (arith, nat_tests)
 the-same : (c : ℕ) → the c c ≡ true
 the-same c = grind (arith, nat_tests)
 
--- where the other case reads nothing, the test holds
+-- where the other case parses nothing, the test holds
 read_tests : {X : Type 0} (b : Bool) (o m : Outcome X) (x : X) (taken rest : Text) → (m ≡ Read x taken rest → ⊥) → cond b o m ≡ Read x taken rest → (b ≡ true) × (o ≡ Read x taken rest)
 read_tests true o m x taken rest h e = (refl, e)
 read_tests false o m x taken rest h e = absurd (h e)
@@ -32,7 +32,7 @@ word_at-identifier : (demand : Demand) (name text rest : Text) → identifier na
 unfolding word_at
 word_at-identifier demand name text rest h = rw (h.0, h.1, h.2) refl
 
--- an identifier of the grammar is read
+-- an identifier of the grammar is parsed
 pub identifier_at-identifier : (name text rest : Text) → identifier name text rest → identifier_at text ≡ Read name name rest
 identifier_at-identifier name text rest h = word_at-identifier AnIdentifier name text rest h
 

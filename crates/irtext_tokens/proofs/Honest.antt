@@ -1,4 +1,4 @@
--- Readers whose outcomes are of their texts, put together: a term of the shape of the reader's definition.
+-- Parsers whose outcomes are of their texts, put together: a term of the shape of the parser's definition.
 use Rattle.std.proofs.Common.{◌≡◌, ℕ, zero, suc, ◌≤◌, Bool, Some, List, [], ◌∷◌, ◌++◌, codes, length, length-append, refl, ap, subst, arith}
 use Rattle.std.specs.Prelude.{pos}
 use Rattle.std.specs.Char.{is_whitespace}
@@ -19,7 +19,7 @@ use Rattle.irtext_tokens.specs.Tokens.{space_at, word_at, word, number_at, integ
 use Rattle.irtext_tokens.proofs.Numbers.{number_is, integer_is}
 use Rattle.irtext_tokens.proofs.SincereTokens.{of_text, of_int, of_quoted}
 
--- a reader whose outcomes are of their texts
+-- a parser whose outcomes are of their texts
 pub record Honest {X : Type 0} (f : Reader X) : Type 0 where
   pub of : (text : Text) → Of text (f text)
 
@@ -116,7 +116,7 @@ pub honest_attr : {A : Type 0} {reading : Reader A} → Honest reading → Hones
 unfolding attr_at
 honest_attr h = honest_either (leads (codes "builtin.given_names")) (seen given_names honest_given_names) (honest_either (leads (codes "builtin.identifier")) (seen ident honest_ident) (seen own h))
 
--- ---- what follows of it for any reader
+-- ---- what follows of it for any parser
 -- what is said of a cause holds of the cause of an outcome that has one
 abbrev pub ModifiesOnly : (Fault → Type 0) → {X : Type 0} → Outcome X → Type 0
 ModifiesOnly P (Read x taken rest) = Unit {0}

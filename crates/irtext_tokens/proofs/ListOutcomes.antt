@@ -1,4 +1,4 @@
--- How far a reader of a list with a separator has come.
+-- How far a parser of a list with a separator has come.
 use Rattle.std.proofs.Common.{◌≡◌, ℕ, zero, suc, ◌<◌, ◌≤◌, Bool, true, false, Result, Ok, Err, List, [], ◌∷◌, length, length-append, refl, sym, ◌∙◌, ap, subst, arith, ◌⊎◌, inl, inr, true≢false}
 use Rattle.std.specs.Char.{is_whitespace}
 use Rattle.irtext_base.specs.Text.{Text, begins, front, after}
@@ -52,7 +52,7 @@ module _ {X : Type 0} (sep : ℕ) (item : Text → Outcome X) where
     has_one zero text e h = let b = begins_the sep text e in absurd (omega (arith, h, ap length b.1))
     has_one (suc n) text e h = (n, refl)
 
-    -- where one follows, more is to be read
+    -- where one follows, more is to be parsed
     pub goes_on : {first found : List X} {old now : S} → begins (the sep) (l.view now).rest ≡ true → (f : Found first old now found)
         → (n : ℕ) × (f.room ≡ suc n) × Passed l (λ t. items_after sep item (length t) first t) (λ t. followed (text_at (sep ∷ []) t) (behind_separator n found)) old now
     goes_on {found = found} {now = now} e f =
@@ -109,7 +109,7 @@ module _ {S X : Type 0} (l : Lens S) (k : List X → Text → Outcome (List X)) 
   missing_first false (Bad cause upto) s new fault e (inr h) = absurd (true≢false (sym h.committed ∙ e))
 
   module _ {W Y A : Type 0} {see : Y → List X} {sees : W → List X} {f : Text → Outcome (List X)} where
-    -- where the first item is read, what follows answers for the list
+    -- where the first item is parsed, what follows answers for the list
     pub list_begun : {old mid new : S} {y : Y} {r : Result W (ParseFault A)} → MayRead {A = A} l.view l.at see f old (Ok y) mid → ((l.view mid).failed ≡ false → MustRead l.view l.at sees (k (see y)) mid r new) → MayRead l.view l.at sees (λ t. or_empty (followed (f t) k) t) old r new
     list_begun {old = old} {mid = mid} {new = new} {y = y} {r = r} h m =
         let p = begins_with l {Y = Y} {A = A} {see = see} {f = f} {old = old} {mid = mid} {y = y} k h in

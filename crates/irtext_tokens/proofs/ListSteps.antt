@@ -99,7 +99,7 @@ front_none p [] e = refl
 front_none p (c ∷ text) e = rw e refl
 
 module _ {S : Type 0} (view : S → StreamView) (at : S → StreamView → S) where
-  -- on a stream that has not failed the relation says what is answered
+  -- on a stream that has not failed the relation says what is parsed
   pub unless_met : {Y A : Type 0} (R : S → Result Y (ParseFault A) → S → Type 0) (b : Bool) (s : S) (r : Result Y (ParseFault A)) (u : S) → b ≡ false → R s r u → UnlessFailed view at R b s r u
   unless_met R true s r u e h = absurd (cc)
   unless_met R false s r u e h = h

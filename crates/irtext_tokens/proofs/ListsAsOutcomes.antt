@@ -41,7 +41,7 @@ the-same : (c : ℕ) → the c c ≡ true
 the-same c = grind (arith, nat_tests)
 
 module _ {X : Type 0} (sep : ℕ) (item : Text → Outcome X) where
-  -- what is read is a front of the text
+  -- what is parsed is a front of the text
   abbrev pub Fits : Text → Outcome X → Type 0
   Fits text (Read x taken rest) = taken ++ rest ≡ text
   Fits text (Missing cause) = Unit {0}

@@ -1,4 +1,4 @@
--- A number grows by one digit after another; the numbers that are read of any type are those of the grammar.
+-- A number grows by one digit after another; the numbers that are parsed of any type are those of the grammar.
 use Rattle.std.proofs.Common.{◌≡◌, ℕ, ℤ, pos, ◌+◌, ◌*◌, ◌^◌, Bool, true, false, cond, nat_lt, ltb, Option, Some, None, Result, Ok, Err, [], ◌∷◌, ◌++◌, length, get_or, take, drop, append-nil, append_assoc, refl, sym, ◌∙◌, ap, subst, arith, inl, inr, ◌<◌}
 use Rattle.std.proofs.lemmas.Bool.Decides.{nat_tests}
 use Rattle.std.proofs.lemmas.Int.Digits.{digits_value_push}
@@ -141,7 +141,7 @@ mapped_unless false (Missing cause) = refl
 mapped_unless false (Bad cause upto) = refl
 
 module _ {S A : Type 0} (view : S → StreamView) (at : S → StreamView → S) where
-  -- a number that is answered as an integer is answered
+  -- a number that is parsed as an integer is parsed
   pub as_number : (o : Outcome ℕ) (old new : S) (r : Result ℕ (ParseFault A)) → Answers view at pos (mapped pos o) old r new → Answers view at (λ n. n) o old r new
   as_number (Read n taken rest) old new (Ok m) h = let e : m ≡ n = cc in (e, h.1)
   as_number (Missing cause) old new (Ok m) h = absurd h

@@ -1,4 +1,4 @@
--- How far a reader of a quoted text has come.
+-- How far a parser of a quoted text has come.
 use Rattle.std.proofs.Common.{◌≡◌, ℕ, ◌<◌, Bool, true, false, Some, None, Result, Ok, length, List, [], ◌∷◌, ◌++◌, codes, refl, sym, ◌∙◌, ap, subst, append-nil, length-append, arith, ◌⊎◌, inl, inr}
 use Rattle.std.proofs.lemmas.Str.{encodes-append}
 use Rattle.std.specs.Char.{is_ascii_hexdigit, encode_utf8}
@@ -43,12 +43,12 @@ first_none [] e = refl
 first_none (c ∷ text) e = absurd (cc)
 
 module _ {S : Type 0} (view : S → StreamView) (at : S → StreamView → S) where
-  -- the characters `cs` were read, and `taken` taken for them; what follows gives the whole
+  -- the characters `cs` were parsed, and `taken` taken for them; what follows gives the whole
   pub record Within (start now : S) (cs taken : Text) : Type 0 where
     pub takes : Takes view at taken (view now).rest start now
     pub so_far : demanded (units_at [] (view start).rest) ≡ whole cs taken (units_at [] (view now).rest)
 
-  -- a unit that was read
+  -- a unit that was parsed
   read_by : (u : Outcome ℕ) (old new : S) (c : ℕ) → Gives view at u old c new → (t : Text) × (r : Text) × (u ≡ Read c t r) × Takes view at t r old new
   read_by (Read x t r) old new c g = (t, r, ap (λ z. let o : Outcome ℕ = Read z t r in o) (sym g.0), g.1)
   read_by (Missing e) old new c g = absurd g

@@ -1,4 +1,4 @@
--- What the readers of tokens say of a text is of that text.
+-- What the parsers of tokens say of a text is of that text.
 use Rattle.std.proofs.Common.{◌≡◌, ℕ, zero, suc, List, length, Bool, true, false, cond, Option, Some, None, [], ◌∷◌, ◌++◌, refl, sym, ◌∙◌, ap, append_assoc, subst}
 use Rattle.std.proofs.lemmas.Bool.{eqb-true}
 use Rattle.std.specs.Prelude.{◌==◌, codes}

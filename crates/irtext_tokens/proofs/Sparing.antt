@@ -11,7 +11,7 @@ use Rattle.irtext_tokens.specs.Integers.{no_digit_behind, sign_at, before_hexade
 use Rattle.irtext_tokens.specs.Tokens.{text_at, sign_of, after_sign}
 
 module _ {X A : Type 0} where
-  -- a stream that had failed reads nothing
+  -- a stream that had failed parses nothing
   pub failed_spares : (Y : Type 0) (b : Bool) (o : Outcome X) (fault : ParseFault A) → b ≡ true → NeedsNoMemory {Y = Y} (unless_failed b o) (Err fault)
   failed_spares Y b o fault e = rw e tt
 

@@ -20,7 +20,7 @@ prefixed-none (Read x taken rest) = refl
 prefixed-none (Missing cause) = refl
 prefixed-none (Bad cause upto) = refl
 
--- a value seen by a function is read, and then nothing
+-- a value seen by a function is parsed, and then nothing
 pub mapped_is_followed : {X Y : Type 0} (f : X → Y) (o : Outcome X) → mapped f o ≡ followed o (λ x t. Read (f x) [] t)
 mapped_is_followed f (Read x taken rest) = ap (λ z. Read (f x) z rest) (sym (append-nil taken))
 mapped_is_followed f (Missing cause) = refl
@@ -63,12 +63,12 @@ module _ {S : Type 0} (l : Lens S) where
     pub takes : Takes l.view l.at taken (l.view mid).rest old mid
     pub so_far : demanded (outcome (l.view old).rest) ≡ prefixed taken (next (l.view mid).rest)
 
-  -- what is read is read on a stream that has not failed
+  -- what is parsed is parsed on a stream that has not failed
   not_failed : {X : Type 0} (b : Bool) (o : Outcome X) (old mid : S) (x : X) → Gives l.view l.at (demanded (unless_failed b o)) old x mid → b ≡ false
   not_failed true o old mid x h = absurd h
   not_failed false o old mid x h = refl
 
-  -- the reader has not begun
+  -- the parser has not begun
   pub starts : {V : Type 0} (outcome next : Text → Outcome V) (old : S) → (l.view old).failed ≡ false → outcome (l.view old).rest ≡ next (l.view old).rest → Passed outcome next old old
   starts outcome next old f e = record { fine = f; taken = []; takes = takes_none l.view l.at l.view_at l.at_at l.at_view old; so_far = ap demanded e ∙ sym (prefixed-none (next (l.view old).rest)) }
 
@@ -85,7 +85,7 @@ module _ {S : Type 0} (l : Lens S) where
   passed outcome (Missing cause) false k old mid new taken x f t e h = absurd h
   passed outcome (Bad cause upto) false k old mid new taken x f t e h = absurd h
 
-  -- what is to be read may be said in other words
+  -- what is to be parsed may be said in other words
   pub turned : {V : Type 0} {outcome next : Text → Outcome V} {old mid : S} (other : Text → Outcome V) → next (l.view mid).rest ≡ other (l.view mid).rest → Passed outcome next old mid → Passed outcome other old mid
   turned other e p = record { fine = p.fine; taken = p.taken; takes = p.takes; so_far = p.so_far ∙ ap (prefixed p.taken) e }
 
@@ -181,7 +181,7 @@ module _ {S : Type 0} (l : Lens S) where
   pub begins_with : {X Y V A : Type 0} {see : Y → X} {f : Text → Outcome X} {old mid : S} {y : Y} (k : X → Text → Outcome V) → MayRead {A = A} l.view l.at see f old (Ok y) mid → Passed (λ t. followed (f t) k) (k (see y)) old mid
   begins_with {Y = Y} {A = A} {see = see} {f = f} {old = old} {mid = mid} {y = y} k h = first {Y = Y} {A = A} {see = see} {f = f} {old = old} {mid = mid} {y = y} k (record { answers = read_demanded (l.view old).failed (f (l.view old).rest) old mid (see y) h.answers })
 
-  -- where it is read, nothing is missing
+  -- where it is parsed, nothing is missing
   pub begun_by : {X Y W V A : Type 0} {see : Y → X} {sees : W → V} {f : Text → Outcome X} {old mid new : S} {y : Y} {r : Result W (ParseFault A)} (k : X → Text → Outcome V) → MayRead {A = A} l.view l.at see f old (Ok y) mid → MustRead l.view l.at sees (λ t. followed (f t) k) old r new → MayRead l.view l.at sees (λ t. followed (f t) k) old r new
   begun_by {see = see} {sees = sees} {f = f} {old = old} {mid = mid} {new = new} {y = y} {r = r} k h m =
       record { answers = subst (λ o. Answers l.view l.at sees o old r new) (begun (l.view old).failed (f (l.view old).rest) k old mid (see y) h.answers) m.answers }
@@ -201,7 +201,7 @@ module _ {S : Type 0} (l : Lens S) where
   pub starved : {W V A : Type 0} {sees : W → V} {outcome next : Text → Outcome V} {old mid new : S} {fault : ParseFault A} → Passed outcome next old mid → StarvesHere l.view l.at mid fault new → MustRead l.view l.at sees outcome old (Err fault) new
   starved {old = old} {mid = mid} {new = new} {fault = fault} p h = record { answers = inl (starves_behind l.view l.at l.view_at l.at_at old mid new p.taken (l.view mid).rest fault p.fine p.takes h) }
 
-  -- what is to be read is seen in another way
+  -- what is to be parsed is seen in another way
   pub onward : {V : Type 0} {outcome : Text → Outcome V} {old mid : S} (next last : Text → Outcome V) → next (l.view mid).rest ≡ last (l.view mid).rest → Passed outcome next old mid → Passed outcome last old mid
   onward next last e p = record { fine = p.fine; taken = p.taken; takes = p.takes; so_far = p.so_far ∙ ap (prefixed p.taken) e }
 

@@ -74,7 +74,7 @@ module _ {P T A : Type 0} (L : Language P T A) (types : Lawful T L.types) (owns 
   mark_one None f b = (oneof_right L types owns unreserved anywhere) (codes "!") (codes ";}^") (after_space f) (b.one refl)
   mark_one (Some m) f b = inr refl
 
-  -- what lets a body be read back before what begins with one of `last`
+  -- what lets a body be parsed back before what begins with one of `last`
   abbrev Closes : List ℕ → Body P T A → Inner → Type 0
   Closes last (tree.custom ps) rs = Apart last ps rs
   Closes last (tree.canonical names labels entries operand_types result_types) rs = Disjoint (codes "{") last
@@ -169,7 +169,7 @@ module _ {P T A : Type 0} (L : Language P T A) (types : Lawful T L.types) (owns 
   abbrev pub Steps : Type 0
   Steps = Operations (Op P T A) (Head P T A) (Brace P)
 
-  -- the text of each of the operations reads back
+  -- the text of each of the operations is parsed back
   abbrev pub BackOperations : ℕ → Steps → Type 0
   BackOperations n no_operations = ⊤
   BackOperations n (operation o rs os) = ((f : Text) → Behind o.mark f → Reaches (reads.operation_read L o (reads.region_readings L rs)) (spell.operation_text L o (spell.region_texts L width n rs) ++ f) f) × BackOperations n os
@@ -338,7 +338,7 @@ module _ {P T A : Type 0} (L : Language P T A) (types : Lawful T L.types) (owns 
       let X : Reading = reads.results_if L t.own.names ▹ reads.id t.own.id ▸ reads.parts L (parts_of t.own.body) (reads.region_readings L t.regions) ▹ reads.mark_if L t.own.mark in
       (r.left, (anywhere t.own.place text, (r.reading.1.0, subst (λ s. X s r.left) (after_twice is_whitespace text) r.reading.1.1)), r.same)
 
-  -- What is written of a tree reads as that tree, up to what follows.
+  -- What is written of a tree parses as that tree, up to what follows.
   pub reads_back : (n : ℕ) (t : Tree P T A) (f : Text) → Writable L t → Behind t.own.mark f → (u : Text) × reads.reads L t (spell.spelled L width n t ++ f) u × (after_space u ≡ after_space f)
   reads_back n t f w h = reading_of n t f (back_inside n t.own t.regions f w.0 (regions_back n t.regions w.1) h)
 

@@ -9,7 +9,7 @@ use Rattle.irtext_grammar.specs.Spelling.Spellable.{Each, IsIdentifier}
 use Rattle.irtext_grammar.specs.Spelling.Spell.{joined, joined_from, comma}
 use Rattle.irtext_base.proofs.Characters.{after_stops, after_twice, front_all, after_all, ends_word, identifier_every, identifier_begins, word_tight}
 
--- The text, white space first, reads as R up to f, white space aside.
+-- The text, white space first, parses as R up to f, white space aside.
 pub record Reaches (R : Reading) (t f : Text) : Type 0 where
   pub left : Text
   pub reading : R (after_space t) left
@@ -31,7 +31,7 @@ reaches_literal c w f e = record { left = f; reading = after_stops is_whitespace
 pub identifier_stops : (s f : Text) → IsIdentifier s → begins in_word f ≡ false → identifier s (s ++ f) f
 identifier_stops s f e h = (identifier_begins s f e, sym (front_all in_word s f (identifier_every s e) h), sym (after_all in_word s f (identifier_every s e) h))
 
--- an identifier reads before what ends a word
+-- an identifier parses before what ends a word
 pub identifier_here : (s f : Text) → IsIdentifier s → Ends f → identifier s (s ++ f) f
 identifier_here s f e h = identifier_stops s f e (ends_word f h)
 
@@ -61,7 +61,7 @@ module _ {X : Type 0} (F : X → Reading) (s : X → Text) (Good : X → Type 0)
       → Reaches (separated 44 absent (F x ∷ map F xs)) ((s x ++ joined_from comma (map s xs)) ++ f) f
   list_first absent x xs f r = record { left = r.left; reading = r.reading; same = r.same }
 
-  -- a list reads back where each of its items does
+  -- a list is parsed back where each of its items does
   pub back_list : (absent : Text → Type 0) (xs : List X) (f : Text) → Each Good xs → Ends f → begins (the 44) (after_space f) ≡ false → absent (after_space f)
       → Reaches (separated 44 absent (map F xs)) (joined comma (map s xs) ++ f) f
   back_list absent [] f g h e n = record { left = after_space f; reading = (n, refl); same = after_twice is_whitespace f }

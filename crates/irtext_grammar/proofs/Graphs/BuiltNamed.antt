@@ -47,7 +47,7 @@ or_second : {X : Type 0} (o q : Option X) → is_some q ≡ true → is_some (or
 or_second (Some x) q h = refl
 or_second None q h = h
 
--- names that were read are there
+-- names that were parsed are there
 names_put : {A : Type 0} (base : List (Text × Attribute A)) (n : Text) (ns : List Text) → is_some (lookup given_names_key (put_all [] (base ++ read_names (n ∷ ns)))) ≡ true
 names_put base n ns =
     ap is_some (lookup_put_all given_names_key [] (base ++ read_names (n ∷ ns))) ∙ or_first (last_of given_names_key (base ++ read_names (n ∷ ns))) None (ap is_some (last_both given_names_key base (read_names (n ∷ ns))))

@@ -69,7 +69,7 @@ module _ {T A : Type 0} (C : Printing T A) where
   content_but_label (Some t) None es base y h = ap (put_all base) (no_label es h)
   content_but_label (Some t) (Some n) es base y h = ap (put_all base) (no_label es h)
 
-  -- the label of a block with its entry: the one that the entry gives, or else the one that was read
+  -- the label of a block with its entry: the one that the entry gives, or else the one that was parsed
   pub content_label : {Y : Type 0} (l o : Option Text) (es : List (Text × Attribute A)) (t : Text) (y : Y) → KeepsRule block_may_hold es
       → labelled t (cond (is_marked C l (label_entry o ++ es)) (Some (y, label_entry o ++ es)) None) ≡ elim o [ Some n ↦ n | None ↦ t ]
   content_label None None [] t y h = refl

@@ -107,7 +107,7 @@ module _ {P T A : Type 0} where
           successor_lists = few successor_list is_successors (λ ns. tt) (chosen_are successor_list (passing is_successors) (λ ns. tt) (elim [ tree.successors ns ↦ refl | _ ↦ refl ]) (λ i. refl) refl) (and_right (are_places (successor_places ds)) (nat_lt (count is_successors ds) 2) m.third);
         }
 
-  -- of a body that an accepted format reads
+  -- of a body that an accepted format parses
   pub formed_numbered : (f : Format) (b : Body P T A) → Accepted f → IsOf f b → Numbered (parts_of b)
   formed_numbered (format.custom ds) (custom ps) a e = custom_numbered ps ds e a
   formed_numbered (format.custom ds) (canonical ns ls es xs ys) a e = absurd e

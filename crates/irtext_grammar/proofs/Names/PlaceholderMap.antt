@@ -75,7 +75,7 @@ abbrev pub Stacked : ℕ → List Scope → Type 0
 Stacked high [] = Unit {0}
 Stacked high (g ∷ gs) = Apart g high × Stacked g.base gs
 
--- the reader's state is what the open scopes and what is bound say
+-- the parser's state is what the open scopes and what is bound say
 pub record Linked (gs : List Scope) (b : List (User × Place)) (s : Names) : Type 0 where
   pub scopes_are : s.scopes ≡ maps_of gs
   pub stacked : Stacked s.fresh gs
@@ -121,7 +121,7 @@ Agrees [] gs b (Err f) = ⊥
 Agrees (x ∷ xs) gs b (Ok s) = ⊥
 Agrees (x ∷ xs) gs b (Err f) = f ≡ x
 
--- a reader's answer agrees with these failures, or else has open scopes of these facts
+-- a parser's answer agrees with these failures, or else has open scopes of these facts
 pub record Follows (F : List Failure) (fs : List (List Fact)) (b : List (User × Place)) (r : Result Names Failure) : Type 0 where
   pub scopes : List Scope
   pub facts_are : facts_in scopes ≡ fs

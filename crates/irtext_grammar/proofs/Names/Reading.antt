@@ -1,4 +1,4 @@
--- The reader's machine ends as the two passes say.
+-- The parser's machine ends as the two passes say.
 use Rattle.std.proofs.Common.{◌≡◌, ℕ, Bool, true, false, cond, not, ◌&&◌, List, [], ◌∷◌, ◌++◌, Some, None, Result, Ok, Err, refl, sym, ap, ◌∙◌, subst, inl, inr, append_assoc, append-nil}
 use Rattle.irtext_base.specs.Text.{Text}
 use Rattle.irtext_grammar.specs.Names.Script.{Place, User, use_value, use_label, define_value, define_label, mark, entry, claim, DuplicateIndex, UnknownIndex, NotIsolated, Cause}
@@ -256,7 +256,7 @@ ends [] f (Err x) d = d
 ends (x ∷ F) f (Ok t) d = d
 ends (x ∷ F) f (Err y) d = d
 
--- the reader's machine ends with the first failure, or with what the two passes bind
+-- the parser's machine ends with the first failure, or with what the two passes bind
 pub reads : (x : Script) → AgreesWith (failures no_scope x) (facts x).bound (read (Ok fresh_tracker) (events x))
 reads x = ends (failures no_scope x) (facts x) (read (Ok fresh_tracker) (events x)) (subst (λ o. Follow o (read (Ok fresh_tracker) (events x))) (one_pass x) (run_follows (events x) (going start) (Ok fresh_tracker) begun))
 

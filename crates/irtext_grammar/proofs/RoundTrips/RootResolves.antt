@@ -1,4 +1,4 @@
--- A closed root's text with its section reads as a tree and entries that resolve, in which each item has its own entry.
+-- A closed root's text with its section parses as a tree and entries that resolve, in which each item has its own entry.
 use Rattle.std.proofs.Common.{◌≡◌, ℕ, ◌+◌, ◌<◌, ◌^◌, Bool, true, false, cond, List, [], ◌∷◌, ◌++◌, length, Option, None, refl, sym, ap, ap₂, ◌∙◌, subst, arith, append-nil, inl, Some}
 use Rattle.std.specs.Prelude.{⊤}
 use Rattle.irtext_base.specs.Text.{Text}

@@ -1,4 +1,4 @@
--- Readers that answer what the grammar reads, put together.
+-- Parsers that return what the grammar parses, put together.
 use Rattle.std.proofs.Common.{◌≡◌, ◌∙◌, ℕ, Bool, true, false, cond, Option, Some, None, [], ◌++◌, length, refl, sym, ap, ap₂, subst, append_assoc}
 use Rattle.std.specs.Prelude.{◌↔◌}
 use Rattle.std.specs.Char.{is_whitespace}
@@ -12,7 +12,7 @@ use Rattle.irtext_parse_spec.proofs.Joins.Answers.{followed_read, followed-read,
 use Rattle.irtext_parse_spec.proofs.Joins.Tokens.{text_read, text-literal, splits_text, splits_space}
 use Rattle.irtext_parse_spec.specs.Exact.{Exact}
 
--- the same reader, and a reading that says the same
+-- the same parser, and a reading that says the same
 pub exact_as : {X : Type 0} {reader : Reader X} {reading other : X → Reading} → Exact reader reading
     → ((x : X) (text rest : Text) → reading x text rest → other x text rest) → ((x : X) (text rest : Text) → other x text rest → reading x text rest) → Exact reader other
 exact_as h there back = record {
@@ -74,7 +74,7 @@ module _ {X Y : Type 0} where
       back : (text : Text) (y : Y) (rest : Text) → Kept y × r (get y) text rest → (taken : Text) × (mapped see (f text) ≡ Read y taken rest)
       back text y rest (k, q) = let a = h.found text (get y) rest q in (a.0, ap (mapped see) a.1 ∙ ap (λ y. Read y a.0 rest) (same y k))
 
--- what was read of a text, put together with the text's place
+-- what was parsed of a text, put together with the text's place
 pub exact_placed : {X N : Type 0} {f : Reader X} {r : X → Reading} → Exact f r → (make : ℕ → X → N) (place : N → ℕ) (value : N → X)
     → ((p : ℕ) (x : X) → place (make p x) ≡ p) → ((p : ℕ) (x : X) → value (make p x) ≡ x) → ((n : N) → make (place n) (value n) ≡ n)
     → Exact (λ text. mapped (make (length text)) (f text)) (λ n text rest. (place n ≡ length text) × r (value n) text rest)

@@ -1,4 +1,4 @@
--- The reader of a block's header answers what the grammar reads up to its `:`.
+-- The parser of a block's header returns what the grammar parses up to its `:`.
 use Rattle.std.proofs.Common.{◌≡◌, ℕ, Option, List, refl, ap}
 use Rattle.std.specs.Prelude.{◌↔◌, codes}
 use Rattle.irtext_base.specs.Text.{Text}

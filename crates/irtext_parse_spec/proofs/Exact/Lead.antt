@@ -146,7 +146,7 @@ module _ (dialects : List (Text × Table)) where
   registered_found lead o i taken rest e k = ap (registered_behind dialects lead) e ∙ rw (has_dialect (dialect_of dialects i.dialect) i k, k) refl
 
   module _ {T A : Type 0} (types : Texts T) (owns : Texts A) where
-    -- An operation's lead is answered where the grammar reads it and its operation is registered, and nowhere else.
+    -- An operation's lead is parsed where the grammar parses it and its operation is registered, and nowhere else.
     pub exact_led : Exact (led_at dialects) (registered_lead (language types owns (format_of dialects)))
     exact_led = record { read = λ text x taken rest e. there text x taken rest (lead_at text) refl e; found = back }
       where

@@ -1,4 +1,4 @@
--- A list's reader answers what the grammar reads as a list, where that of its items does.
+-- A list's parser returns what the grammar parses as a list, where that of its items does.
 use Rattle.std.proofs.Common.{◌≡◌, ◌∙◌, ℕ, Bool, true, false, cond, List, [], ◌∷◌, ◌++◌, map, length, refl, sym, ap, subst, true≢false}
 use Rattle.std.proofs.lemmas.List.{map-id}
 use Rattle.irtext_base.specs.Text.{Text, begins}
@@ -13,7 +13,7 @@ use Rattle.irtext_parse_spec.proofs.Joins.Lists.{Items, first_missing, splits_se
 use Rattle.irtext_parse_spec.specs.Exact.{Exact}
 
 -- ---- where an item is missing
--- Where the reader finds an item missing, and only there, this holds of the text.
+-- Where the parser finds an item missing, and only there, this holds of the text.
 pub record Starts {X : Type 0} (item : Reader X) (none : Text → Type 0) : Type 0 where
   pub misses : (text : Text) (cause : Fault) → item text ≡ Missing cause → none text
   pub missed : (text : Text) → none text → (cause : Fault) × (item text ≡ Missing cause)

@@ -1,4 +1,4 @@
--- The readers of names, labels, symbols and marks answer what the grammar reads.
+-- The parsers of names, labels, symbols and marks return what the grammar parses.
 use Rattle.std.proofs.Common.{ℕ, true, Option, [], length, refl, ap}
 use Rattle.std.specs.Prelude.{codes}
 use Rattle.irtext_base.specs.Text.{Text, begins}

@@ -1,4 +1,4 @@
--- The reader of a step answers the pieces that the grammar reads.
+-- The parser of a step answers the pieces that the grammar parses.
 use Rattle.std.proofs.Common.{◌≡◌, ◌∙◌, ℕ, true, Option, Some, List, ◌++◌, refl, sym, ap, subst}
 use Rattle.std.specs.Prelude.{◌↔◌, ⊤}
 use Rattle.irtext_base.specs.Text.{Text}
@@ -23,7 +23,7 @@ use Rattle.irtext_parse_spec.proofs.Exact.Names.{exact_used, exact_target, exact
 use Rattle.irtext_parse_spec.proofs.Exact.Attributes.{exact_dictionary, outlined_read, exact_outlined}
 use Rattle.irtext_parse_spec.proofs.Exact.Types.{exact_type, starts_type}
 
--- ---- which pieces a step reads
+-- ---- which pieces a step parses
 module _ {T A : Type 0} where
   -- a fixed word
   pub is_word : (s : Text) (p : Piece ℕ T A) → directive_of_piece p ≡ Some (format.word s) → Unit {0} × (tree.word s ≡ p)
@@ -85,18 +85,18 @@ module _ {T A : Type 0} where
   is_no_regions (tree.word s) e = cc e
   is_no_regions _ e = cc e
 
--- the step may have a marker in the place of what it reads
+-- the step may have a marker in the place of what it parses
 abbrev pub Marks : Step → Type 0
 Marks (flat (format.attribute k)) = ⊤
 Marks _ = ⊥
 
 module _ {T A : Type 0} (types_at : Text → Outcome T) (types_written : T → Text) (reading : Text → Outcome A) (written : A → Text) (formats : Id → Option Format)
     (types_split : Splits types_at) (splits : Splits reading) where
-  -- the language of the readers
+  -- the language of the parsers
   abbrev l : Language ℕ T A
   l = language (texts_of types_at types_written) (texts_of reading written) formats
 
-  -- the reader of attributes
+  -- the parser of attributes
   abbrev attr : Text → Outcome (AttrView A)
   attr = attr_at reading
 
@@ -114,7 +114,7 @@ module _ {T A : Type 0} (types_at : Text → Outcome T) (types_written : T → T
         (a.0, ap (mapped see) a.1 ∙ ap (λ p. Read p a.0 rest) b.1);
   }
 
-  -- nothing is read where no piece is of the step
+  -- nothing is parsed where no piece is of the step
   by_none : (step : Step) (cause : Text → Fault) → ((p : Piece ℕ T A) → IsOfStep step p → ⊥) → Exact (λ text. Missing (cause text)) (step_piece l step)
   by_none step cause none = record { read = λ text p taken rest e. absurd (cc e); found = λ text p rest r. absurd (none p r.0) }
 
@@ -146,7 +146,7 @@ module _ {T A : Type 0} (types_at : Text → Outcome T) (types_written : T → T
   exact_piece (one i) h = by_none (one i) _ (λ p i. i)
   exact_piece all h = by_none all _ (λ p i. i)
 
-  -- What a step reads, the grammar reads as a piece of that step, however attributes begin.
+  -- What a step parses, the grammar parses as a piece of that step, however attributes begin.
   pub piece_read : (step : Step) (text : Text) (p : Piece ℕ T A) (taken rest : Text) → piece_at types_at attr true step text ≡ Read p taken rest → step_piece l step p text rest × (taken ++ rest ≡ text)
   piece_read (flat (format.attribute k)) text p taken rest e =
       let m = mapped_read (tree.attribute k) (outlined_or_at attr text) p taken rest e in

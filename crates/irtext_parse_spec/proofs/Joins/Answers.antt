@@ -1,4 +1,4 @@
--- What a reading that was answered is made of, where one follows another.
+-- What a reading that was parsed is made of, where one follows another.
 use Rattle.std.proofs.Common.{◌≡◌, ◌++◌, refl, sym, ◌∙◌, ap, append_assoc}
 use Rattle.irtext_base.specs.Text.{Text}
 use Rattle.irtext_base.specs.Answers.{Outcome, Read, Missing, Bad, prefixed, mapped, followed}
@@ -14,7 +14,7 @@ pub record Followed {X Y : Type 0} (o : Outcome X) (next : X → Text → Outcom
   pub whole : front ++ more ≡ taken
 
 module _ {X Y : Type 0} where
-  -- the second reading, where the first was answered
+  -- the second reading, where the first was parsed
   followed_on : (x : X) (a mid : Text) (next : X → Text → Outcome Y) (y : Y) (taken rest : Text) (p : Outcome Y) → next x mid ≡ p → prefixed a p ≡ Read y taken rest
       → Followed (Read x a mid) next y taken rest
   followed_on x a mid next y taken rest (Read z b r) f e = record {
@@ -29,18 +29,18 @@ module _ {X Y : Type 0} where
   followed_on x a mid next y taken rest (Missing c) f e = absurd (cc e)
   followed_on x a mid next y taken rest (Bad c u) f e = absurd (cc e)
 
-  -- what was answered is both
+  -- what was parsed is both
   pub followed_read : (o : Outcome X) (next : X → Text → Outcome Y) (y : Y) (taken rest : Text) → followed o next ≡ Read y taken rest → Followed o next y taken rest
   followed_read (Read x a mid) next y taken rest e = followed_on x a mid next y taken rest (next x mid) refl e
   followed_read (Missing c) next y taken rest e = absurd (cc e)
   followed_read (Bad c u) next y taken rest e = absurd (cc e)
 
-  -- both are answered
+  -- both are parsed
   pub followed-read : (o : Outcome X) (next : X → Text → Outcome Y) (x : X) (y : Y) (a mid b rest : Text) → o ≡ Read x a mid → next x mid ≡ Read y b rest
       → followed o next ≡ Read y (a ++ b) rest
   followed-read o next x y a mid b rest e f = ap (λ o. followed o next) e ∙ ap (prefixed a) f
 
-  -- what was answered is seen
+  -- what was parsed is seen
   pub mapped_read : (see : X → Y) (o : Outcome X) (y : Y) (taken rest : Text) → mapped see o ≡ Read y taken rest → (x : X) × (o ≡ Read x taken rest) × (see x ≡ y)
   mapped_read see (Read x a r) y taken rest e = let f : a ≡ taken = cc e in let g : r ≡ rest = cc e in (x, ap (λ a. Read x a r) f ∙ ap (Read x taken) g, cc e)
   mapped_read see (Missing c) y taken rest e = absurd (cc e)

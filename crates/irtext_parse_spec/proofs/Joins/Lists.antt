@@ -23,7 +23,7 @@ shorter text taken rest e = omega (arith, ap length e, length-append taken rest)
 space_shorter : (text : Text) → length (after_space text) ≤ length text
 space_shorter text = shorter text (front is_whitespace text) (after_space text) (front_after is_whitespace text)
 
--- the list that was read, or the first item was missing
+-- the list that was parsed, or the first item was missing
 or_read : {Y : Type 0} (o : Outcome (List Y)) (text : Text) (all : List Y) (taken rest : Text) → or_empty o text ≡ Read all taken rest
     → (o ≡ Read all taken rest) ⊎ ((cause : Fault) × (o ≡ Missing cause) × (all ≡ []) × (rest ≡ text) × (taken ≡ []))
 or_read (Read xs t r) text all taken rest e = inl e
@@ -77,14 +77,14 @@ module _ {Y : Type 0} (sep : ℕ) (item : Text → Outcome Y) where
         | inr f ↦ ap₂ ◌++◌ f.4 f.3
       ]
 
--- an item that was read, as the grammar has it
+-- an item that was parsed, as the grammar has it
 pub record ItemRead {X Y : Type 0} (reading : X → Reading) (see : X → Y) (allowed : X → Bool) (text : Text) (y : Y) (rest : Text) : Type 0 where
   pub item : X
   pub read : reading item text rest
   pub sees : see item ≡ y
   pub fine : allowed item ≡ true
 
--- how a reader of items and the grammar's reading of an item belong together
+-- how a parser of items and the grammar's reading of an item belong together
 pub record Items (X Y : Type 0) : Type 1 where
   pub item : Text → Outcome Y
   pub reading : X → Reading
@@ -156,14 +156,14 @@ module _ {X Y : Type 0} (sep : ℕ) (i : Items X Y) where
             fine = ap₂ ◌&&◌ one.fine k.fine;
           }
 
-  -- the items that were read, as the grammar has them
+  -- the items that were parsed, as the grammar has them
   pub record ListRead (text : Text) (all : List Y) (rest : Text) : Type 0 where
     pub items : List X
     pub whole : map i.see items ≡ all
     pub read : separated sep i.missing (map i.reading items) text rest
     pub fine : list_all i.allowed items ≡ true
 
-  -- a list that is answered is one that the grammar reads, item by item
+  -- a list that is parsed is one that the grammar parses, item by item
   pub list_read : (text : Text) (all : List Y) (taken rest : Text) → separated_at sep i.item text ≡ Read all taken rest → ListRead text all rest
   list_read text all taken rest e =
       elim (or_read (followed (item_after sep i.item [] text) (first_next sep i.item)) text all taken rest e) [
@@ -192,8 +192,8 @@ module _ {X Y : Type 0} (sep : ℕ) (i : Items X Y) where
   list_tight [] text rest h = ap after_space h.1 ∙ (after_twice is_whitespace text ∙ sym h.1)
   list_tight (x ∷ items) text rest h = more_tight items h.0 rest h.2
 
-  -- ---- what is to be read
-  -- the first item that is not allowed, where the reader stops
+  -- ---- what is to be parsed
+  -- the first item that is not allowed, where the parser stops
   pub record Stop (items : List X) (text : Text) (o : Outcome (List Y)) : Type 0 where
     pub before : List X
     pub first : X
@@ -291,7 +291,7 @@ module _ {X Y : Type 0} (sep : ℕ) (i : Items X Y) where
           let enough : length (after_space mid) ≤ n = omega (arith, l, ap length first, space_shorter between, item_shorter x (after_space between) mid r f) in
           item_found x found items (after_space between) mid rest (items_next sep i.item n) r (again enough)
 
-  -- What the grammar reads is read, up to the first item that is not allowed.
+  -- What the grammar parses is parsed, up to the first item that is not allowed.
   pub list_found : (items : List X) (text rest : Text) → separated sep i.missing (map i.reading items) text rest → ListFound [] items text rest (separated_at sep i.item text)
   list_found [] text rest h =
       let m = i.missed text h.0 in

@@ -58,8 +58,8 @@ module _ {X Y S : Type 0} where
   came_same c (Advanced x s rest) next other h k = k x s rest (h.by x s rest refl)
   came_same c (Stopped s cause place) next other h k = refl
 
--- ---- readers
--- two readers that are alike at each text no longer than the bound
+-- ---- parsers
+-- two parsers that are alike at each text no longer than the bound
 pub record Agree {S : Type 0} (b : ℕ) (f g : Reads S) : Type 0 where
   pub alike : (text : Text) (s : S) → length text ≤ b → Alike b (f text s) (g text s)
 

@@ -39,7 +39,7 @@ module _ {S : Type 0} where
   pub blocks_loop : (block : Reads S) → IsLoop begins_block block (blocks_by block)
   blocks_loop block = record { none = λ text s. refl; more = λ n text s. refl }
 
-  -- a reader that shrinks agrees with its like
+  -- a parser that shrinks agrees with its like
   pub shrunk : {b : ℕ} {f g : Reads S} → Shrink b f g → Agree b f g
   shrunk h = record { alike = λ text s k. h.alike text s (omega (arith, k)) }
 
@@ -67,7 +67,7 @@ module _ {T A S : Type 0} (dialects : List (Text × Table)) (types_at : Reader T
         ((◌then◌ (within_honest honest_space) (piece_within no_more none_more inside step)).leaves text k)
         (λ p rest e. front_agree b inside ss (found ++ tree.piece p ∷ []) rest s e)
 
-    -- ---- over readers of regions that agree
+    -- ---- over parsers of regions that agree
     module _ (b : ℕ) (f g : Bool → Reads S) (agree : (iso : Bool) → Agree b (f iso) (g iso)) where
       late_agree : (iso inside : Bool) (place : ℕ) (id : Id) (step : Step) (found : List (Part ℕ T A)) (text : Text) (s : S)
           (next other : Piece ℕ T A → Text → Reached (List (Part ℕ T A)) S) → length text ≤ b
@@ -122,7 +122,7 @@ module _ {T A S : Type 0} (dialects : List (Text × Table)) (types_at : Reader T
           (λ _ end e. alike_came b tt _ end e)));
     }
 
-    -- the blocks of a region whose operations' regions are read by this
+    -- the blocks of a region whose operations' regions are parsed by this
     abbrev pub inner_blocks : (Bool → Reads S) → Reads S
     inner_blocks inner rest t = blocks_by (block_by dialects types_at attr does (operations_by (operation_by dialects types_at attr does inner true))) (length rest) rest t
 

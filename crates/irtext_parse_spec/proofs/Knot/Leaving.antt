@@ -27,13 +27,13 @@ use Rattle.irtext_parse_spec.specs.Readers.RestLengths.{Leaves, LeavesNoMore}
 use Rattle.irtext_parse_spec.proofs.Locations.RestLengths.{Within, within_honest, within_no_more, within_either, ◌so◌, ◌then◌, seen, leaves_read, leaves_missing, leaves_bad, leaves_prefixed, leaves_word}
 use Rattle.irtext_parse_spec.specs.Heads.{name_at, label_at, symbol_at, mark_if_at, outside, used_at, target_at, pair_at, dictionary_at, outlined_or_at, Step, flat, types, one, all, directive_at, piece_at, argument_at, dictionary_if_at, head_at, results_at, named, lead_at, led_by, led_at}
 
--- ---- readers put together
+-- ---- parsers put together
 module _ {b : ℕ} where
   -- an outcome that leaves no more than the bound, whatever the text
   same_within : {X : Type 0} {o : Outcome X} → Leaves b o → Within b (λ text. o)
   same_within h = record { leaves = λ text i. h }
 
-  -- nothing is read
+  -- nothing is parsed
   none_within : {X : Type 0} (x : X) → Within b (nothing x)
   none_within x = record { leaves = λ text i. leaves_read b x [] text i }
 

@@ -1,4 +1,4 @@
--- A loop over items reads them as the grammar reads a row of them, and does what each does in their order.
+-- A loop over items parses them as the grammar parses a row of them, and does what each does in their order.
 use Rattle.std.proofs.Common.{◌≡◌, ◌∙◌, ℕ, zero, suc, ◌≤◌, Bool, true, false, cond, List, [], ◌∷◌, map, length, refl, sym, ap, arith, true≢false}
 use Rattle.std.specs.Prelude.{⊤}
 use Rattle.std.specs.Char.{is_whitespace}
@@ -35,8 +35,8 @@ module _ {X Y S : Type 0} where
   came_read (Advanced x u mid) next y t rest e = (x, u, mid, refl, e)
   came_read (Stopped s cause place) next y t rest e = absurd (cc e)
 
--- ---- what is to be read
--- what a reading reads the reader reads, and does this; and so each text begins
+-- ---- what is to be parsed
+-- what a reading parses the parser parses, and does this; and so each text begins
 pub record Finds {S : Type 0} (Begins : Text → Type 0) (item : Reads S) (reading : Reading) (act : S → S) : Type 0 where
   pub begins : (text rest : Text) → reading text rest → Begins text
   pub found : (text rest : Text) (s : S) → reading text rest → item text s ≡ Advanced tt (act s) rest
@@ -60,7 +60,7 @@ module _ {S : Type 0} {test : ℕ → Bool} {item : Reads S} {loop : ℕ → Rea
   less : (c : ℕ) (text : Text) (s t : S) (rest : Text) → item (c ∷ text) s ≡ Advanced tt t rest → length (after_space rest) ≤ length text
   less c text s t rest e = space_bound (length text) rest (((shrink (length text)).alike (c ∷ text) s (omega arith)).leaves.by tt t rest e)
 
-  -- A row that the grammar reads the loop reads.
+  -- A row that the grammar parses the loop parses.
   pub loop_found : (n : ℕ) (rs : List Reading) (fs : List (S → S)) (text rest : Text) (s : S) → length text ≤ n → AllFind (BeginsWith test) item rs fs
       → repeated test rs text rest → loop n text s ≡ Advanced tt (each_of fs s) rest
   loop_found n [] [] text rest s h k (e, r) = stops n text s e ∙ ap (Advanced tt s) (sym r)
@@ -127,7 +127,7 @@ module _ {X S : Type 0} {test : ℕ → Bool} {item : Reads S} {loop : ℕ → R
   ended : (text : Text) (s t : S) (rest : Text) → begins test text ≡ false → ◌≡◌ {A = Reached Unit S} (Advanced tt s text) (Advanced tt t rest) → RowRead test reading act text s t rest
   ended text s t rest b e = let f : s ≡ t = cc e in let g : text ≡ rest = cc e in record { items = []; reads = (b, sym g); does = sym f }
 
-  -- What the loop reads is a row that the grammar reads.
+  -- What the loop parses is a row that the grammar parses.
   pub loop_read : (n : ℕ) (text : Text) (s t : S) (rest : Text) → length text ≤ n → loop n text s ≡ Advanced tt t rest → RowRead test reading act text s t rest
   loop_read zero [] s t rest h e = ended [] s t rest refl (sym (i.none [] s) ∙ e)
   loop_read zero (c ∷ text) s t rest h e = absurd (omega (arith, h))

@@ -1,4 +1,4 @@
--- What the readers of nested text read is a tree that the grammar reads, and they have done what the tree does.
+-- What the parsers of nested text read is a tree that the grammar parses, and they have done what the tree does.
 use Rattle.std.proofs.Common.{◌≡◌, ◌∙◌, ℕ, zero, suc, Bool, true, false, cond, Option, List, [], ◌∷◌, ◌++◌, map, Some, codes, length, refl, sym, ap, ap₂, subst, arith, append_assoc, append-nil, true≢false}
 use Rattle.std.specs.Prelude.{IfSome}
 use Rattle.std.specs.Char.{is_whitespace}
@@ -189,7 +189,7 @@ module _ {T A S : Type 0} (texts : Texts T) (owns : Texts A) (dialects : List (T
       front_more inside types ss found parts s t text mid refl (λ p m. front_read inside ss (found ++ tree.piece p ∷ []) parts s t m mid) e
 
   module _ (inner : Reads S) (shrink : (b : ℕ) → Shrink b inner inner) (iso : Bool) (tell : Tells inner (region_of texts owns dialects does) (region_act texts owns dialects does iso)) where
-    -- the parts that were read from the first region on, and their regions
+    -- the parts that were parsed from the first region on, and their regions
     record StepsRead (inside : Bool) (place : ℕ) (id : Id) (ss : List Step) (found parts : List (Part ℕ T A)) (s t : S) (text rest : Text) : Type 0 where
       pub ps : List (Part ℕ T A)
       pub regions : List (Shown texts owns dialects does)
@@ -265,7 +265,7 @@ module _ {T A S : Type 0} (texts : Texts T) (owns : Texts A) (dialects : List (T
     body_with inside place names id ss text s = came (front_by dialects types_at attr does inside (front_steps ss) [] text s) (λ found t rest.
         came (steps_by dialects types_at attr does inner inside place id (region_steps ss) found rest (does.uses place id found t)) (λ parts u left. end_by dialects types_at attr does place names id parts left u))
 
-    -- a body that was read
+    -- a body that was parsed
     record BodyRead (inside : Bool) (place : ℕ) (names : List (Name ℕ)) (id : Id) (ss : List Step) (s t : S) (text rest : Text) : Type 0 where
       pub ps : List (Part ℕ T A)
       pub regions : List (Shown texts owns dialects does)
@@ -324,7 +324,7 @@ module _ {T A S : Type 0} (texts : Texts T) (owns : Texts A) (dialects : List (T
 -- ---- operations, blocks and regions
 module _ {T A S : Type 0} (texts : Texts T) (owns : Texts A) (dialects : List (Text × Table)) (types_at : Reader T) (attr : Reader (AttrView A)) (does : Actions T A S)
     (heads : ReadHeads texts owns dialects types_at attr) (no_more : LeavesNoMore types_at) (none_more : LeavesNoMore attr) (accepted : (id : Id) → IsAccepted dialects id) where
-  -- what an operation's reader read
+  -- what an operation's parser read
   record OperationRead (inside : Bool) (text : Text) (s t : S) (rest : Text) : Type 0 where
     pub tree : Tree ℕ T A
     pub reads : reads.reads (l texts owns dialects) tree text rest
@@ -393,7 +393,7 @@ module _ {T A S : Type 0} (texts : Texts T) (owns : Texts A) (dialects : List (T
         let x = tell.read (after_space text) s t rest e in
         (x.0, (text, ap (λ c. c ∷ text) (same_character c 59 b), x.1), x.2)
 
-    -- a row of operations that was read
+    -- a row of operations that was parsed
     operations_read : (text : Text) (s t : S) (rest : Text) → operations_by item (after_space text) s ≡ Advanced tt t rest
         → (xs : List (Tree ℕ T A)) × separated 59 reads.no_operation (map (reads.reads (l texts owns dialects)) xs) (after_space text) rest × (t ≡ each_of (map (do_tree (isolated dialects) does) xs) s)
     operations_read text s t rest e = go (begins_operation (after_space text)) refl e
@@ -477,11 +477,11 @@ module _ {T A S : Type 0} (texts : Texts T) (owns : Texts A) (dialects : List (T
         iso text s t rest e;
   }
 
-  -- what a region's reader reads
+  -- what a region's parser parses
   region_tells : (iso : Bool) → Tells (region_at dialects types_at attr does iso) (region_of texts owns dialects does) (region_act texts owns dialects does iso)
   region_tells iso = record { read = λ text s t rest e. (within_read (suc (length text)) iso).read text s t rest e }
 
-  -- What an operation's reader reads is a tree that the grammar reads, and it has done what the tree does; outside of each region the
+  -- What an operation's parser parses is a tree that the grammar parses, and it has done what the tree does; outside of each region the
   -- operation itself uses no name.
   pub tree_read : (inside : Bool) (text : Text) (s t : S) (rest : Text) → operation_at dialects types_at attr does inside text s ≡ Advanced tt t rest
       → (x : Tree ℕ T A) × reads.reads (l texts owns dialects) x text rest × MayUseAll inside (parts_of x.own.body) × (t ≡ do_tree (isolated dialects) does x s)
@@ -489,7 +489,7 @@ module _ {T A S : Type 0} (texts : Texts T) (owns : Texts A) (dialects : List (T
       let k = operation_read (region_at dialects types_at attr does) (λ iso b. region_shrinks dialects types_at attr does no_more none_more b iso) region_tells inside text s t rest e in
       (k.tree, k.reads, k.may, k.acts)
 
-  -- What a region's reader reads is a region that the grammar reads, and it has done what the region does.
+  -- What a region's parser parses is a region that the grammar parses, and it has done what the region does.
   pub region_is_read : (iso : Bool) (text : Text) (s t : S) (rest : Text) → region_at dialects types_at attr does iso text s ≡ Advanced tt t rest
       → (bs : Blocks (Op ℕ T A) (Head ℕ T A) (Brace ℕ)) × reads.region_read (l texts owns dialects) (shown (length text)) (reads.block_readings (l texts owns dialects) bs) text rest
       × (t ≡ does.leaves iso (length text) (do_blocks (isolated dialects) does bs (does.enters iso s)))

@@ -18,7 +18,7 @@ use Rattle.irtext_parse_spec.proofs.Knot.Heads.{MayUseAll}
 use Rattle.irtext_parse_spec.proofs.Exact.Pieces.{is_word, is_operands, is_successors, is_dictionary, is_types, is_no_region, is_no_regions}
 
 module _ {T A : Type 0} where
-  -- the part is one that the step reads
+  -- the part is one that the step parses
   abbrev pub IsPartOf : Part ℕ T A → Step → Type 0
   IsPartOf (tree.piece p) step = IsOfStep step p
   IsPartOf (tree.region i) (one j) = i ≡ j
@@ -147,7 +147,7 @@ module _ {T A : Type 0} where
       let m = canonical_so.from ps h in
       record { body = tree.canonical m.0.0 m.0.1.0 m.0.1.1.0 m.0.1.1.1.0 m.0.1.1.1.1.0; is_of = tt; parts = sym m.1 }
 
-  -- parts of a format's steps are those of a body that the format reads
+  -- parts of a format's steps are those of a body that the format parses
   pub body_of_steps : (f : Format) (ps : List (Part ℕ T A)) → ArePartsOf ps (steps_of f) → BodyOf f ps
   body_of_steps format.canonical ps h = canonical_body ps h
   body_of_steps (format.custom ds) ps h = record { body = tree.custom ps; is_of = parts_directives ps ds h; parts = refl }

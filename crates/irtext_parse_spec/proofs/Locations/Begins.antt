@@ -1,4 +1,4 @@
--- Where a location begins, its reader is one that its first character names; elsewhere there is none.
+-- Where a location begins, its parser is one that its first character names; elsewhere there is none.
 use Rattle.std.proofs.Common.{◌≡◌, ◌∙◌, ap, refl, sym, subst, ℕ, zero, suc, ◌≤◌, Bool, true, false, cond, ◌||◌, Option, Some, None, Result, List, [], ◌∷◌, length, codes, arith, true≢false}
 use Rattle.std.specs.Str.{encode_utf8_all}
 use Rattle.irtext_base.specs.Text.{Text, begins}
@@ -75,7 +75,7 @@ memory text = mapped (λ _. None) (text_at (codes "<in-memory>") text)
 abbrev no_source : Text → Outcome (Option (List ℕ))
 no_source text = Missing (Unexpected (first_of text) ASource)
 
--- where a source begins, its reader does not miss it
+-- where a source begins, its parser does not miss it
 pub source_begins : (text : Text) → begins begins_source text ≡ true → is_missing (source_at text) ≡ false
 source_begins text h = by (begins (the 34) text) refl
   where

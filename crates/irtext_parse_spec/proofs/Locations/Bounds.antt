@@ -22,7 +22,7 @@ use Rattle.irtext_parse_spec.proofs.Readers.Honest.{honest_title}
 use Rattle.irtext_parse_spec.proofs.Locations.RestLengths.{Within, leaves_honest, leaves_followed, followed_same, first_same, leaves_word, space_bound}
 use Rattle.irtext_parse_spec.proofs.Locations.LocationRests.{within_metadata, within_location}
 
--- ---- two readers of inner locations that agree on texts of so many characters
+-- ---- two parsers of inner locations that agree on texts of so many characters
 module _ {A : Type 0} (inner other : Text → Outcome (Written A)) (more others : Text → Outcome (WrittenRow A)) (b : ℕ)
     (inner_within : Within b inner)
     (same : (text : Text) → length text ≤ b → inner text ≡ other text) (same_more : (text : Text) → length text ≤ b → more text ≡ others text) where
@@ -95,7 +95,7 @@ module _ {A : Type 0} (attr : Text → Outcome (AttrView A)) (no_more : LeavesNo
   pub within_enough : (m n : ℕ) (text : Text) → length text ≤ m → length text ≤ n → Same m n text
   within_enough m n text h k = same_within (length text) m n text h k (le_refl (length text))
 
--- what was read at every depth that is enough is read at the depth of the text's length
+-- what was parsed at every depth that is enough is parsed at the depth of the text's length
 pub at_length : {A : Type 0} (attr : Text → Outcome (AttrView A)) {paths : List (List ℕ)} {old new : StreamView} {r : Result (Location A) (ParseFault A)} → MustReadWithin known_location location_over (location_within attr) paths old r new
     → MustReadOver known_location location_over (location_at attr) paths old r new
 at_length attr {old = old} h = let m = h.within (length old.rest) (omega arith) in record { known = m.known; read = record { answers = m.read.answers } }

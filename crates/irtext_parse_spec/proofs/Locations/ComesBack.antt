@@ -1,4 +1,4 @@
--- A location's text is read back as the same location.
+-- A location's text is parsed back as the same location.
 use Rattle.std.proofs.Common.{◌≡◌, ℕ, zero, suc, ◌≤◌, Option, Some, None, List, [], ◌∷◌, ◌++◌, length, refl, sym, ◌∙◌, ap, append_assoc, arith}
 use Rattle.std.proofs.Math.Nat.{le_refl}
 use Rattle.std.specs.Prelude.{codes, IfSome, ⊤}
@@ -185,7 +185,7 @@ module _ {A : Type 0} (attr : Text → Outcome (AttrView A)) (text_of : A → Te
   unknown_back rest ends (suc n) small = kind_unknown (location_within attr n) (more_within attr n) attr rest
 
   mutual
-    -- a location's text is read back
+    -- a location's text is parsed back
     pub location_back : (l : Written A) → AllRead attr text_of l → AllFit l → IsBack l
     location_back (src_pos s at) reads fits = place_back s at fits
     location_back (fused m ls) reads fits = fused_back m ls reads.0 (row_back ls reads.1 fits)
@@ -197,7 +197,7 @@ module _ {A : Type 0} (attr : Text → Outcome (AttrView A)) (text_of : A → Te
     row_back no_location reads fits = tt
     row_back (location l ls) reads fits = (location_back l reads.0 fits.0, row_back ls reads.1 fits.1)
 
-  -- the whole text is read under one bound, so two locations with one text are one
+  -- the whole text is parsed under one bound, so two locations with one text are one
   pub location_same : (l k : Written A) → AllRead attr text_of l → AllFit l → AllRead attr text_of k → AllFit k → written_text text_of l ≡ written_text text_of k → l ≡ k
   location_same l k read_l fits_l read_k fits_k e =
       let at : Text → Outcome (Written A) = λ text. location_within attr (length (text ++ [])) (text ++ []) in

@@ -1,4 +1,4 @@
--- The printed text of an integer is read back.
+-- The printed text of an integer is parsed back.
 use Rattle.std.proofs.Common.{◌≡◌, ℕ, suc, ◌<◌, ◌≤◌, ◌^◌, true, false, cond, Some, None, [], ◌∷◌, ◌++◌, length, refl, ◌∙◌, ap, ap₂, arith}
 use Rattle.std.proofs.lemmas.Bool.Decides.{nat_tests}
 use Rattle.std.proofs.lemmas.Fmt.{decimal_is_IsNumeral}
@@ -42,7 +42,7 @@ plain_decimal n rest small = let k = decimal_is_IsNumeral n small in plain (deci
 not_below : (m n : ℕ) → n ≤ m → nat_lt m n ≡ false
 not_below m n h = grind (arith, nat_tests)
 
--- an integer's text is read back where no digit follows
+-- an integer's text is parsed back where no digit follows
 pub integer-here : (z : ℤ) (rest : Text) → FitsSigned w32 z → begins is_ascii_digit rest ≡ false → integer_at (signed_decimal z ++ rest) ≡ Read z (signed_decimal z) rest
 integer-here (pos n) rest fits stop =
     let small : n < 2 ^ 64 = omega arith in

@@ -1,4 +1,4 @@
--- A location of each kind is read back where the locations inside it are.
+-- A location of each kind is parsed back where the locations inside it are.
 use Rattle.std.proofs.Common.{◌≡◌, ℕ, Option, Some, None, List, ◌++◌, inr, refl, sym, ◌∙◌, ap}
 use Rattle.std.specs.Prelude.{codes, IfSome}
 use Rattle.std.specs.Str.{chars, IsUtf8}

@@ -12,11 +12,11 @@ use Rattle.irtext_parse_spec.proofs.Joins.Tokens.{text_read}
 
 -- ---- outcomes
 module _ {X : Type 0} where
-  -- what is read leaves no more than this
+  -- what is parsed leaves no more than this
   pub leaves_read : (b : ℕ) (x : X) (taken rest : Text) → length rest ≤ b → Leaves b (Read x taken rest)
   leaves_read b x taken rest h = record { by = λ y t r e. let f : rest ≡ r = cc e in let j : length rest ≡ length r = ap length f in omega (arith, h, j) }
 
-  -- where nothing is read, nothing is left
+  -- where nothing is parsed, nothing is left
   pub leaves_missing : (b : ℕ) (cause : Fault) → Leaves {X = X} b (Missing cause)
   leaves_missing b cause = record { by = λ x taken rest e. absurd (cc e) }
 
@@ -56,13 +56,13 @@ module _ {X Y : Type 0} where
   pub first_same : (o p : Outcome X) (next : X → Text → Outcome Y) → o ≡ p → followed o next ≡ followed p next
   first_same o p next e = ap (λ o. followed o next) e
 
--- ---- readers
+-- ---- parsers
 -- of a text no longer than the bound, no more than the bound is left
 pub record Within {X : Type 0} (b : ℕ) (f : Reader X) : Type 0 where
   pub leaves : (text : Text) → length text ≤ b → Leaves b (f text)
 
 module _ {b : ℕ} where
-  -- a reader whose outcomes are of their texts
+  -- a parser whose outcomes are of their texts
   pub within_honest : {X : Type 0} {f : Reader X} → Honest f → Within b f
   within_honest h = record {
     leaves = λ text i. record {
@@ -70,7 +70,7 @@ module _ {b : ℕ} where
     };
   }
 
-  -- a reader that leaves no more than its text
+  -- a parser that leaves no more than its text
   pub within_no_more : {X : Type 0} {f : Reader X} → LeavesNoMore f → Within b f
   within_no_more h = record {
     leaves = λ text i. record {
@@ -78,7 +78,7 @@ module _ {b : ℕ} where
     };
   }
 
-  -- either of two readers
+  -- either of two parsers
   pub within_either : {X : Type 0} {f g : Reader X} (test : Text → Bool)
       → Within b f → Within b g → Within b (either test f g)
   within_either test h k = record {
@@ -96,7 +96,7 @@ module _ {b : ℕ} where
     pub seen : {f : Reader X} (see : X → Y) → Within b f → Within b (f ⇒ see)
     seen see h = record { leaves = λ text i. leaves_mapped b see _ (h.leaves text i) }
 
--- a reader whose outcomes are of their texts leaves no more than a bound on its text
+-- a parser whose outcomes are of their texts leaves no more than a bound on its text
 pub leaves_honest : {X : Type 0} {f : Reader X} → Honest f
     → (b : ℕ) (text : Text) → length text ≤ b → Leaves b (f text)
 leaves_honest h b = (within_honest h).leaves

@@ -22,7 +22,7 @@ done_in (Advanced x s rest) = s
 done_in (Stopped s cause place) = s
 
 module _ {S : Type 0} (s : S) where
-  -- a reader that leaves what had been done as it is
+  -- a parser that leaves what had been done as it is
   pub record Quiet (reader : Reads S) : Type 0 where
     pub at : (text : Text) → done_in (reader text s) ≡ s
 

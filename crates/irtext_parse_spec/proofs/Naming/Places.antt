@@ -187,7 +187,7 @@ module _ {T A : Type 0} (types : Texts T) (owns : Texts A) (formats : Id → Opt
     operations_span p i no_operations = tt
     operations_span p i (operation o rs os) = (operation_spans (i ∷ p) (i ∷ p) o rs (regions_span (i ∷ p) 0 rs), operations_span p (suc i) os)
 
-  -- the places of the items of a tree that a text reads as fall along the text
+  -- the places of the items of a tree that a text parses as fall along the text
   pub places_fall : (t : Tree ℕ T A) (text rest : Text) → reads.reads L t text rest → Falls (suc (length text)) (suc (length rest)) (paths_in t)
   places_fall t text rest h = (operation_spans [] [] t.own t.regions (regions_span [] 0 t.regions)).falls text rest h
 

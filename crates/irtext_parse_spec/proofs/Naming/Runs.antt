@@ -34,7 +34,7 @@ run_acts (x ∷ xs) then o = run_acts xs then (next o (act x))
 acted_split : (xs ys : List Act) (o : Outcome) → acted (xs ++ ys) o ≡ acted ys (acted (xs ++ []) o)
 acted_split xs ys o = acted_both xs ys o ∙ ap (λ z. acted ys (acted z o)) (sym (append-nil xs))
 
--- ---- what a format says of the parts that it reads
+-- ---- what a format says of the parts that it parses
 -- the places of the operands that have a directive of their own, among directives that may be none
 abbrev operands_seen : List (Option Directive) → List ℕ
 operands_seen [] = []

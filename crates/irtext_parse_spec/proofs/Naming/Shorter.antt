@@ -1,4 +1,4 @@
--- No reading of an item's own parts leaves more than the text that it was read of, where no reading of a type or of an attribute does.
+-- No reading of an item's own parts leaves more than the text that it was parsed of, where no reading of a type or of an attribute does.
 use Rattle.std.proofs.Common.{◌≡◌, ℕ, ◌+◌, Bool, true, false, cond, ◌≤◌, List, [], ◌∷◌, length, map, Option, Some, None, codes, ap, length-append, arith, inl, inr}
 use Rattle.std.specs.Char.{is_whitespace, is_ascii_digit}
 use Rattle.irtext_base.specs.Text.{Text, after, after_space, in_word}
@@ -25,7 +25,7 @@ after_shorter test (c ∷ t) = go (test c) (after_shorter test t)
 pub space_shorter : (t : Text) → length (after_space t) ≤ length t
 space_shorter t = after_shorter is_whitespace t
 
--- a word that was read leaves so many characters fewer
+-- a word that was parsed leaves so many characters fewer
 pub word_shorter : (w t u : Text) → literal w t u → length w + length u ≡ length t
 word_shorter w t u e = omega (arith, ap length e, length-append w u)
 
@@ -110,7 +110,7 @@ module _ {T A : Type 0} (types : Texts T) (owns : Texts A) (formats : Id → Opt
   pub leaves_arguments : (xs : List (Name ℕ × T)) → Leaves (separated 44 reads.no_word (map (reads.argument L) xs))
   leaves_arguments xs = leaves_list (reads.argument L) leaves_argument 44 reads.no_word xs
 
-  -- what a directive reads, where it is no region
+  -- what a directive parses, where it is no region
   pub leaves_piece : (x : Piece ℕ T A) → Leaves (reads.piece L x)
   leaves_piece (tree.word s) = leaves_literal s
   leaves_piece (tree.operand i n) = leaves_name n

@@ -1,4 +1,4 @@
--- What a reader has found that answered, and why one refused that did not.
+-- What a parser has found that answered, and why one refused that did not.
 use Rattle.std.proofs.Common.{◌≡◌, ◌≤◌, Bool, true, false, Ok, Err, [], ◌++◌, refl, sym, ◌∙◌, ap, subst, ◌⊎◌, inl, inr, append-nil, true≢false, length, length-append, arith}
 use Rattle.irtext_base.specs.Text.{Text}
 use Rattle.irtext_base.specs.Stream.{StreamView}
@@ -11,7 +11,7 @@ use Rattle.irtext_parse_spec.specs.Promises.Section.{Moves, IsStarved, Faults}
 use Rattle.irtext_parse_spec.specs.Promises.Supported.{RefusedAs}
 use Rattle.irtext_parse_spec.proofs.Readers.PlainStream.{alone}
 
--- a value was read of the stream's text
+-- a value was parsed of the stream's text
 pub record Answered {X : Type 0} (o : Outcome X) (old : StreamView) (x : X) (new : StreamView) : Type 0 where
   pub fine : old.failed ≡ false
   pub taken : Text

@@ -1,4 +1,4 @@
--- Readers whose outcomes are of their texts: positions, marks, locations, and what a section's entries say.
+-- Parsers whose outcomes are of their texts: positions, marks, locations, and what a section's entries say.
 use Rattle.std.proofs.Common.{ℕ, Bool, zero, suc, Some, None, [], codes, refl}
 use Rattle.irtext_base.specs.Text.{Text}
 use Rattle.irtext_base.specs.Answers.{Missing}
@@ -53,7 +53,7 @@ pub honest_place : {A : Type 0} → Honest (place_at {A = A})
 honest_place = ◌so◌ honest_source (λ s. ◌then◌ (honest_spaced (codes ":")) (seen _ honest_position))
 
 -- ---- locations
--- a property of readers that stays where readers are put together, and that each has whose outcomes are of their texts
+-- a property of parsers that stays where parsers are put together, and that each has whose outcomes are of their texts
 pub record Keeps (P : (X : Type 0) → Reader X → Type 0) : Type 1 where
   pub honest : {X : Type 0} {f : Reader X} → Honest f → P X f
   pub follows : {X Y : Type 0} {f : Reader X} {k : X → Reader Y} → P X f → ((x : X) → P Y (k x)) → P Y (f ▶ k)
@@ -110,7 +110,7 @@ module _ {P : (X : Type 0) → Reader X → Type 0} (k : Keeps P) where
           (k.honest (honest_demand ALocation))))))
 
     mutual
-      -- the reader of locations has it, where that of attributes has it
+      -- the parser of locations has it, where that of attributes has it
       pub keeps_within : (n : ℕ) → P _ (location_within attr n)
       keeps_within zero = k.honest (honest_demand ALocation)
       keeps_within (suc n) = keeps_kind (keeps_within n) (keeps_more_within n)

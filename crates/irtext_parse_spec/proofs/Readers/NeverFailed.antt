@@ -14,12 +14,12 @@ use Rattle.irtext_parse_spec.specs.Readers.Parts.{behind}
 pub record Fine {X : Type 0} (o : Outcome X) : Type 0 where
   pub spares : ModifiesOnly NotFailed o
 
--- no cause of a reader whose outcomes are of their texts does
+-- no cause of a parser whose outcomes are of their texts does
 pub fine_honest : {X : Type 0} {f : Reader X} → Honest f → (text : Text) → Fine (f text)
 fine_honest h text = record { spares = never_failed h text }
 
 module _ {X : Type 0} where
-  -- what is read is no cause
+  -- what is parsed is no cause
   pub fine_read : (x : X) (taken rest : Text) → Fine (Read x taken rest)
   fine_read x taken rest = record { spares = tt }
 

@@ -46,7 +46,7 @@ module _ {T A : Type 0} (types_at : Reader T) (reading : Reader A) (h : Splits t
   splits_inside : (step : Step) → Splits (piece_at types_at (attr_at reading) true step)
   splits_inside step text p taken rest e = (piece_read types_at (λ t. []) reading (λ a. []) (λ id. None) h k step text p taken rest e).1
 
-  -- each piece is read so, inside of some region and outside of each
+  -- each piece is parsed so, inside of some region and outside of each
   pub splits_piece : (inside : Bool) (step : Step) → Splits (piece_at types_at (attr_at reading) inside step)
   splits_piece true step text p taken rest e = splits_inside step text p taken rest e
   splits_piece false step text p taken rest e = splits_inside step text p taken rest (outside_read types_at (λ t. []) reading (λ a. []) (λ id. None) h k step text p taken rest e).1
@@ -80,7 +80,7 @@ module _ {T A S : Type 0} (dialects : List (Text × Table)) (types_at : Text →
       tells_same o text s (λ p rest. front_by dialects types_at attr does inside ss (found ++ tree.piece p ∷ []) rest s) (λ p rest. tells (front_at types_at attr inside ss (found ++ tree.piece p ∷ []) rest) rest s (came_to s)) (λ p rest. front_is ss (found ++ tree.piece p ∷ []) rest s)
       ∙ sym (tells_followed o (λ p. front_at types_at attr inside ss (found ++ tree.piece p ∷ [])) text s (came_to s) (splits_behind_space (splits step) text))
 
-  -- it was read
+  -- it was parsed
   pub front_reads : (ss : List Step) (found found' : List (Part ℕ T A)) (text taken rest : Text) (s : S) → front_at types_at attr inside ss found text ≡ Read found' taken rest → front_by dialects types_at attr does inside ss found text s ≡ Advanced found' s rest
   front_reads ss found found' text taken rest s e = front_is ss found text s ∙ tells_found (front_at types_at attr inside ss found text) text s (came_to s) found' taken rest e
 

@@ -149,7 +149,7 @@ module _ {T A S : Type 0} (dialects : List (Text × Table)) (types_at : Text →
       pub no_end : (cause : Fault) (upto : Text) → demanded next_mark ≡ Bad cause upto → Stops (an_operation o) frames s t (closed s) cause (length t - length upto)
       no_end cause upto h = stuck_here (by_steps [] e ∙ tells_bad next_mark t (closed s) (behind_mark (closed s)) cause upto h)
 
-      -- it is closed before its mark is read
+      -- it is closed before its mark is parsed
       pub operation_closes : (z : S) → closed s ≡ z → closed z ≡ z → Turns (an_operation o) frames s t (Some (an_operation o)) frames z t
       operation_closes z f g = goes_as (by_steps [] e ∙ (ap (λ u. tells next_mark t u (behind_mark u)) (f ∙ sym g) ∙ sym (ap (λ ss. left_of (an_operation (with_steps o ss o.parts)) t z) e)))
 
@@ -188,7 +188,7 @@ module _ {T A S : Type 0} (dialects : List (Text × Table)) (types_at : Text →
     region_lacks : (iso : Bool) (s : S) (u : Text) (cause : Fault) (upto : Text) → demanded (next_brace u) ≡ Bad cause upto → inner iso u s ≡ Stopped (does.enters iso s) cause (length u - length upto)
     region_lacks iso s u cause upto e = k.region_is iso u s ∙ tells_bad (next_brace u) u (does.enters iso s) (behind_brace iso (length u) (does.enters iso s)) cause upto e
 
-    -- it is entered before its brace is read
+    -- it is entered before its brace is parsed
     entered_once : (iso : Bool) (s z : S) (u : Text) → does.enters iso s ≡ z → does.enters iso z ≡ z → inner iso u s ≡ inner iso u z
     entered_once iso s z u f g = k.region_is iso u s ∙ (ap (λ y. tells (next_brace u) u y (behind_brace iso (length u) y)) (f ∙ sym g) ∙ sym (k.region_is iso u z))
 

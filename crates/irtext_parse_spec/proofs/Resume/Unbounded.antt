@@ -1,4 +1,4 @@
--- What nests, without the bounds by which it is defined: each reader by those of what is inside it alone.
+-- What nests, without the bounds by which it is defined: each parser by those of what is inside it alone.
 use Rattle.std.proofs.Common.{◌≡◌, ◌∙◌, ℕ, suc, ◌≤◌, Bool, true, false, cond, List, [], length, arith, refl, ap, le_refl}
 use Rattle.irtext_base.specs.Text.{Text, begins, after_space}
 use Rattle.irtext_base.specs.Reading.{the}

@@ -1,4 +1,4 @@
--- What is written of an attribute is read back.
+-- What is written of an attribute is parsed back.
 use Rattle.std.proofs.Common.{◌≡◌, ◌∙◌, ◌≤◌, ℕ, zero, suc, Bool, true, false, cond, Some, None, Option, List, [], ◌∷◌, ◌++◌, map, length, length-append, codes, refl, sym, ap, arith, append_assoc, append-nil, true≢false}
 use Rattle.std.specs.Cmp.Lexicographic.{bytes_decides}
 use Rattle.std.proofs.lemmas.Bool.Decides.{nat_tests}
@@ -122,7 +122,7 @@ module _ (rest : Text) where
         ap (λ z. prefixed (codes "builtin.identifier") (prefixed spaces z)) (ap identifier_at (word_tight (n ++ rest) (identifier_begins n rest h)) ∙ word_back n rest h e),
       )
 
--- what is found of a text was read of it
+-- what is found of a text was parsed of it
 pub read_there : {X : Type 0} (o : Outcome X) (x : X) (left : Text) → standing o ≡ found x left → (taken : Text) × (o ≡ Read x taken left)
 read_there (Read y t r) x left e =
     let p : y ≡ x = cc in
@@ -137,7 +137,7 @@ missing_there (Missing cause) e = (cause, refl)
 missing_there (Bad cause upto) e = absurd (cc)
 
 module _ {A : Type 0} (reading : Text → Outcome A) (written : A → Text) (lawful : Lawful A (texts_of reading written)) (unreserved : Unreserved A (texts_of reading written)) where
-  -- what is written of an attribute reads as that attribute, before every end
+  -- what is written of an attribute parses as that attribute, before every end
   pub attr_back : (v : AttrView A) (rest : Text) → IsSpellableAttr v → Ends rest → (taken left : Text) × (attr_at reading (attr_text written v ++ rest) ≡ Read v taken left) × (after_space left ≡ after_space rest)
   attr_back (given_names ns) rest h e =
       let text = codes "builtin.given_names [" ++ inside rest ns in

@@ -106,7 +106,7 @@ returns-clause-kept g c = λ m closed h.
     kept_twice c.args.s.now.state.ctx.now c.arguments_defined.new.s.state.ctx.now c.note_mark.new.s.state.ctx.now c.label_defined.new.s.state.ctx.now m e closed (a.kept m closed h)
     (λ closed_there. c.label_defined.ensures.kept m closed_there (same_sound c.arguments_defined.new.names c.arguments_defined.new.s.state c.note_mark.new.s.state e m (a.sound m h)))
 
--- ---- where it is refused, its mark may be noted
+-- ---- where it is refused, its mark may be recorded
 pub returns-in_err-arguments_defined-clause-unnoted : goal.returns-in_err-arguments_defined-clause-unnoted
 returns-in_err-arguments_defined-clause-unnoted g c = rw (handed_on c.from_residual.result c.from_residual.ensures.1) (gains_nothing c.in_err-arguments_defined.ensures.marks)
 

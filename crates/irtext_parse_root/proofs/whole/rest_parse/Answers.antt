@@ -43,7 +43,7 @@ returns-then-not-has_marks-clause-kept g c = λ mark n. same-keeps mark _ _ refl
 pub returns-then-not-has_marks-clause-unchanged : goal.returns-then-not-has_marks-clause-unchanged
 returns-then-not-has_marks-clause-unchanged g c = λ mark n. always_err c.end_demanded.result (same-keeps mark _ _ refl)
 
--- ---- the section was not read
+-- ---- the section was not parsed
 pub returns-in_err-entries-clause-missed : goal.returns-in_err-entries-clause-missed
 returns-in_err-entries-clause-missed g c = λ fine.
     let noted = noted_there (marks_of c.args.s.now.state) c.has_marks.result c.has_marks.ensures c.if-not-has_marks.false in
