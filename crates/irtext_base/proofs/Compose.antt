@@ -6,7 +6,7 @@ use Rattle.irtext_base.specs.Faults.{Fault, fault_of}
 use Rattle.irtext_base.specs.Answers.{Outcome, Read, Missing, Bad, Takes, SameStream, Starves, FailsBehind, StarvesHere, Commits, Demands, DemandsOf, Answers, Gives, Refuses, demanded, prefixed, mapped, followed, unless_failed}
 use Rattle.irtext_base.specs.declared.parsable.fault.ParseFault.{ParseFault}
 
--- what follows characters taken is demanded already
+-- what follows characters that were taken is required already
 demanded-prefixed : {X : Type 0} (t : Text) (o : Outcome X) → demanded (prefixed t o) ≡ prefixed t o
 demanded-prefixed t (Read x taken rest) = refl
 demanded-prefixed t (Missing cause) = refl
@@ -81,7 +81,7 @@ module _ {S : Type 0} (view : S → StreamView) (at : S → StreamView → S) (v
   gives_mapped g false (Bad cause upto) old new x v e h = absurd h
 
   module _ {A : Type 0} where
-    -- memory refused to what follows is memory refused
+    -- out of memory in what follows is out of memory in the whole
     pub starves_after : (old mid new : S) (t r : Text) (fault : ParseFault A) → Takes view at t r old mid → Starves view at mid fault new → Starves view at old fault new
     starves_after old mid new t r fault k s = record {
       because = s.because;
@@ -138,7 +138,7 @@ module _ {S : Type 0} (view : S → StreamView) (at : S → StreamView → S) (v
     answers_beside at_view see (Missing cause) old new (Err fault) (inr e) = beside old new (view old) (e.left ∙ sym (at_view old))
     answers_beside at_view see (Bad cause upto) old new (Err fault) (inr e) = beside old new e.left.seen e.left.is
 
-    -- where the first of two parsers refuses, both do
+    -- if the first of two parsers returns an error, both do
     pub refuses_first : {X Y V W : Type 0} (see : Y → X) (sees : W → V) (b : Bool) (o : Outcome X) (next : X → Text → Outcome V) (old new : S) (fault : ParseFault A) → Answers view at see (unless_failed b o) old (Err fault) new → Answers view at sees (unless_failed b (followed o next)) old (Err fault) new
     refuses_first see sees true o next old new fault h = h
     refuses_first see sees false (Read x taken rest) next old new fault (inl s) = inl s
@@ -155,7 +155,7 @@ module _ {S : Type 0} (view : S → StreamView) (at : S → StreamView → S) (v
     follows see sees false (Missing cause) next old mid new y a e h k = absurd h
     follows see sees false (Bad cause upto) next old mid new y a e h k = absurd h
 
-    -- where the first of two parsers parses, the second answers for both
+    -- if the first of two parsers parses, the result of the second is that of both
     pub answers_second : {X Y V W : Type 0} (see : Y → X) (sees : W → V) (o : Outcome X) (next : X → Text → Outcome V) (old mid new : S) (y : Y) (a : Result W (ParseFault A)) → Answers view at {A = A} see (unless_failed (view old).failed o) old (Ok y) mid → Answers view at sees (demanded (unless_failed (view mid).failed (next (see y) (view mid).rest))) mid a new → Answers view at sees (unless_failed (view old).failed (followed o next)) old a new
     answers_second see sees o next old mid new y a h k = follows see sees (view old).failed o next old mid new y a refl h k
 
@@ -191,14 +191,14 @@ module _ {S : Type 0} (view : S → StreamView) (at : S → StreamView → S) (v
           left = stands_failed true old mid new e.left d.left;
         })
 
-    -- a demanded answer is what the parser, demanded, answers
+    -- a result that is required is what the required parser returns
     pub answers_demanded : {X Y : Type 0} (see : Y → X) (o : Outcome X) (old mid new : S) (a r : Result Y (ParseFault A)) → Answers view at see o old a mid → DemandsOf view at a mid r new → Answers view at see (demanded o) old r new
     answers_demanded see (Read x taken rest) old mid new (Ok y) r h d = rw (d.0, d.1) h
     answers_demanded see (Missing cause) old mid new (Ok y) r h d = absurd h
     answers_demanded see (Bad cause upto) old mid new (Ok y) r h d = absurd h
     answers_demanded see o old mid new (Err fault) r h d = rw d.1 (demanded_is_failed o old mid new fault d.0 h d.2)
 
-    -- where the first of two parsers, both demanded, refuses, both do
+    -- if the first of two required parsers returns an error, both do
     pub refuses_first_demanded : {X Y V W : Type 0} (see : Y → X) (sees : W → V) (b : Bool) (o : Outcome X) (next : X → Text → Outcome V) (old new : S) (fault : ParseFault A) → Answers view at see (demanded (unless_failed b o)) old (Err fault) new → Answers view at sees (demanded (unless_failed b (followed o next))) old (Err fault) new
     refuses_first_demanded see sees true o next old new fault h = h
     refuses_first_demanded see sees false (Read x taken rest) next old new fault (inl s) = inl s
@@ -212,11 +212,11 @@ module _ {S : Type 0} (view : S → StreamView) (at : S → StreamView → S) (v
     follows_demanded see sees false (Missing cause) next old mid new y a e h k = absurd h
     follows_demanded see sees false (Bad cause upto) next old mid new y a e h k = absurd h
 
-    -- where the first of two parsers, both demanded, parses, the second answers for both
+    -- if the first of two required parsers parses, the result of the second is that of both
     pub answers_second_demanded : {X Y V W : Type 0} (see : Y → X) (sees : W → V) (o : Outcome X) (next : X → Text → Outcome V) (old mid new : S) (y : Y) (a : Result W (ParseFault A)) → Answers view at {A = A} see (demanded (unless_failed (view old).failed o)) old (Ok y) mid → Answers view at sees (demanded (unless_failed (view mid).failed (next (see y) (view mid).rest))) mid a new → Answers view at sees (demanded (unless_failed (view old).failed (followed o next))) old a new
     answers_second_demanded see sees o next old mid new y a h k = follows_demanded see sees (view old).failed o next old mid new y a refl h k
 
-    -- a demanded parser's fault is the same, however the value is seen
+    -- a required parser's fault is the same, however the value is seen
     pub refuses_mapped_demanded : {X V : Type 0} (g : X → V) (b : Bool) (o : Outcome X) (old new : S) (fault : ParseFault A) → Starves view at old fault new ⊎ Refuses view at (demanded (unless_failed b o)) old fault new → Starves view at old fault new ⊎ Refuses view at (demanded (unless_failed b (mapped g o))) old fault new
     refuses_mapped_demanded g true o old new fault h = h
     refuses_mapped_demanded g false (Read x taken rest) old new fault h = h

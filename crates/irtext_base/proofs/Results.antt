@@ -12,7 +12,7 @@ pub at_err : {X E P : Type 0} (r : Result X E) → P → OnErr r P
 at_err (Ok x) p = tt
 at_err (Err e) p = p
 
--- a fact that follows from what is said of either answer
+-- a fact that follows from what holds of either result
 pub either_way : {X E P Q R : Type 0} (r : Result X E) → (P → R) → (Q → R) → OnOk r P → OnErr r Q → R
 either_way (Ok x) f g p q = f p
 either_way (Err e) f g p q = g q

@@ -77,7 +77,7 @@ module _ {V : Type 0} where
       go false p d =
           ap₂ (λ a b. not a && b) (has_inserted x.0 k v xs (nat_list_eq_equiv.symm x.0 k ∙ p)) (d ∙ sym later) ∙ h
 
-  -- and with one for which memory is asked
+  -- and with one for which memory is allocated
   pub differ_after : {X E : Type 0} (r : Result X E) (k : Text) (v : V) (old new : List (Text × V)) → distinct bytes_eq (keys_of old) ≡ true → OnOk r (new ≡ insert_entry bytes_eq old k v) → OnErr r (new ≡ old) → distinct bytes_eq (keys_of new) ≡ true
   differ_after (Ok x) k v old new h ok err = subst (λ es. distinct bytes_eq (keys_of es) ≡ true) (sym ok) (distinct_inserted k v old h)
   differ_after (Err e) k v old new h ok err = subst (λ es. distinct bytes_eq (keys_of es) ≡ true) (sym err) h

@@ -91,7 +91,7 @@ module _ {O B T : Type 0} where
       numbered = what_kept made made v x roomy room_what i.numbered;
     }
 
-    -- where the region is refused, all is kept too
+    -- if inserting the region is an error, all is unchanged too
     pub refused_kept : (made : ℕ) (v : Counters) (log after : List Made) (a : Arena (Nest Operation BasicBlock RegionData)) → after ≡ log → a.slots.items ≡ x.regions.slots.items → IsKept made v log x
         → IsKept made v after (record x { operations = room; regions = a })
     refused_kept made v log after a f e i =

@@ -155,7 +155,7 @@ module _ {O B T : Type 0} where
     ];
   }) (let e = a.objects.made in omega (arith, e)) (let e = a.objects.values in omega (arith, e)) a.objects.first_place
 
-  -- an insertion, or its refusal
+  -- an insertion, or its error
   pub inserted-keeps : (m : ℕ) (g h : GraphView O B T) (k c : Object) → IsNew m g k → IsNew m g c → {E : Type 0} (r : Result (Unit {0}) E) → OnOk r (Appends g h k c) → OnErr r (h ≡ g) → KeepsOlder m g h
   inserted-keeps m g h k c nk nc (Ok u) a e = appended-keeps m g h k c nk nc a
   inserted-keeps m g h k c nk nc (Err x) a e = same_keeps m g h e

@@ -68,7 +68,7 @@ module _ {O B T : Type 0} where
   pub logged_same : (made : ℕ) (log : List Made) (x y : Objects O B T) → IsLogged made log x → ((o : Object) → what y o ≡ what x o) → IsLogged made log y
   logged_same made log x y i same = logged_kept made log x y i (λ o b e. sym (same_age x y o (same o)) ∙ e)
 
-  -- an insertion, or its refusal
+  -- an insertion, or its error
   pub moved_what : (x y : Objects O B T) (k c : Object) {E : Type 0} (r : Result (Unit {0}) E) → OnOk r (Appends x y k c) → OnErr r ((q : Object) → SameAt x y q) → (q : Object) → what y q ≡ what x q
   moved_what x y k c (Ok u) a s q = a.whats q
   moved_what x y k c (Err e) a s q = (s q).same_what

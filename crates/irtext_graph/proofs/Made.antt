@@ -22,7 +22,7 @@ use Rattle.irtext_graph.specs.Graph.{GraphView, graph_of, seen, fresh, numbered,
 use Rattle.irtext_graph.proofs.Stores.{inserts_seen, inserted-keeps, store_same}
 use Rattle.irtext_graph.proofs.Linkings.{unlinked_defs}
 
--- what holds in any case holds of a refusal
+-- what holds in any case holds of an error
 pub on_err : {A E P : Type 0} (r : Result A E) → P → OnErr r P
 on_err (Ok a) p = tt
 on_err (Err e) p = p

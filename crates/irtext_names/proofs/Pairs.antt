@@ -80,7 +80,7 @@ module _ {O B T V W : Type 0} (of : V → Defined) (at : W → Defined) (same : 
     pub defined_waits : (m : ℕ) (own : List V) (own' : List W) → Waiting m own of vs g → Waiting m own' at ws g → (Waiting m own of vs' k) × (Waiting m own' at ws k)
     defined_waits m own own' w x = (rw d.scopes_are (waiting_defined of same n v vs (option_map of (placeholder_of (find n (innermost vs)))) refl lost m own t w), waiting_kept at m own' ws u x lost (λ b e. other b))
 
--- ---- what was settled, by what a call answered
+-- ---- what was settled, given what a call returned
 module _ {O B T V : Type 0} (of : V → Defined) (g k : GraphView (Option O) B T) (v : V) where
   pub settles_some : (h : V) {q : Option V} → q ≡ Some h → Settles g k (of h) (of v) → SettlesIfAny g k (option_map of q) (of v)
   settles_some h e s = rw e s
@@ -89,7 +89,7 @@ module _ {O B T V : Type 0} (of : V → Defined) (g k : GraphView (Option O) B T
   settles_none None n e same = rw (← e) same
   settles_none (Some h) n e same = absurd (n h refl)
 
--- ---- what a call leaves that was accepted, or refused
+-- ---- what a call leaves that succeeded, or returned an error
 module _ {A E : Type 0} {P : Type 0} (r : Result A E) (b : Bool) (is : b ≡ is_err r) where
   pub accepted : b ≡ false → OnOk r P → P
   accepted e p = go r (sym is ∙ e) p
@@ -123,7 +123,7 @@ accepted_free r x a o is f = go (is_defined o) refl
     go false e = refl
     go true e = let g = f e in absurd (cc)
 
--- ---- a use, by what a call answered
+-- ---- a use, given what a call returned
 module _ {O B T V : Type 0} {Makes : GraphView (Option O) B T → GraphView (Option O) B T → V → Type 0} (n : ℕ) (v : V) where
   pub uses_known : (ss : List (Scope V)) (g : GraphView (Option O) B T) → option_map value_of (find n (innermost ss)) ≡ Some v → Uses Makes ss ss g g n v
   uses_known ss g e = record { known = λ x f. (some_eq (sym e ∙ ap (option_map value_of) f), refl, refl); unknown = λ f. let k : None ≡ Some v = sym (ap (option_map value_of) f) ∙ e in absurd (cc) }

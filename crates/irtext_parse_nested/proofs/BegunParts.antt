@@ -416,7 +416,7 @@ module _ {T A : Type 0} where
   all_more p ps h k zero d l = h
   all_more p ps h k (suc i) d l = k i d (omega (arith, l))
 
-  -- parts of steps that read no name and no type give no result its type
+  -- parts of steps that parse no name and no type give no result its type
   pub later_untyped : (ss : List Step) (later : List (Part ℕ T A)) → ReadNeither ss → ArePartsOf ss later → All HasNoType later
   later_untyped [] [] n a = λ i d l. absurd (omega (arith, l))
   later_untyped (s ∷ ss) [] n a = absurd a

@@ -115,7 +115,7 @@ module _ {T A U : Type 0} (types_at : Text → Outcome T) (attr : Text → Outco
           (begun.begun_came old.state.ctx.now m.ctx.now r b whole_makes.held (map (λ a. a.1) read.arguments) whole_makes.places new loses (IsLocated old.state.src (whole old.stream)) (h.meant read)
           (begun.has_head names.names old.state.src (whole old.stream) read (h.meant read) h.means old.state.ctx.now m.ctx.now r b whole_makes))
 
-    -- a name of it is refused
+    -- a name of it is an error
     pub opened_refused : marks_of m ≡ marks_of old.state → (arguments : List ReadName) → arguments ≡ map (λ a. a.0) read.arguments → (text : Text) → text ≡ whole v → (fault : ParseFault A)
         → UnlessMemory (RefusesHead b read.label arguments read.mark names m text) fault → UnlessMemory (RefusesBlock types_at attr before old) fault
     opened_refused same arguments are text e fault u =

@@ -1,4 +1,4 @@
--- The turn that begins a block: what was parsed and done, or what is refused.
+-- The turn that begins a block: what was parsed and done, or which error it is.
 use Rattle.std.proofs.Common.{◌≡◌, ◌∙◌, inl, inr, ℕ, true, false, List, [], ◌∷◌, ◌++◌, codes, map, length, Some, None, IsSome, Result, Ok, Err, sym, ap, subst}
 use Rattle.irtext_base.specs.Text.{Text, begins}
 use Rattle.irtext_base.specs.Reading.{the}
@@ -47,7 +47,7 @@ use Rattle.irtext_parse_nested.proofs.Ended.{within_honest, honest_mark}
 use Rattle.irtext_parse_nested.proofs.Faults.{must_demand}
 use Rattle.irtext_parse_nested.proofs.HeadActs.{key_fails, head_fails, head_acts}
 
--- ---- answers
+-- ---- results
 pub if_ok : {X E : Type 0} {P Q : X → Type 0} (r : Result X E) → ((x : X) → P x → Q x) → IfOk r P → IfOk r Q
 if_ok (Ok x) f p = f x p
 if_ok (Err e) f p = tt
@@ -108,7 +108,7 @@ module _ {T A U : Type 0} (types_at : Text → Outcome T) (attr : Text → Outco
   pub same_head : (g : Head ℕ T A) (taken : Text) (new : StreamView) → new ≡ v → head_at types_at attr old.stream.rest ≡ Read g taken new.rest → head ≡ g
   same_head g taken new e r = let f = sym there.is ∙ r in cc f
 
-  -- a key of its dictionary is refused
+  -- a key of its dictionary is an error
   pub keys_refused : (fault : ParseFault A) → UnlessMemory (RefusesKeys (whole v) (entries_in read.attributes)) fault → UnlessMemory (RefusesBlock types_at attr before old) fault
   keys_refused fault u = elim u [
     | inl s ↦ inl s
@@ -127,7 +127,7 @@ module _ {T A U : Type 0} (types_at : Text → Outcome T) (attr : Text → Outco
     pub made : MakesHead names.names old.state.src (whole old.stream) read.label read.arguments (entries_in read.attributes) old.state.ctx.now m.ctx.now r b
     made = subst (λ t. MakesHead names.names old.state.src t read.label read.arguments (entries_in read.attributes) old.state.ctx.now m.ctx.now r b) same_text makes
 
-    -- a name of it is refused, or its mark
+    -- a name of it is an error, or its mark
     pub names_refused : (fault : ParseFault A) → UnlessMemory (RefusesHead b read.label (map (λ a. a.0) read.arguments) read.mark names m (whole v)) fault → UnlessMemory (RefusesBlock types_at attr before old) fault
     names_refused fault u = elim u [
       | inl s ↦ inl s

@@ -1,4 +1,4 @@
--- An operation's end, read and done: its results and then its mark, or what is refused of them.
+-- An operation's end, parsed and done: its results and then its mark, or which error there is in them.
 use Rattle.std.proofs.Common.{◌≡◌, ◌∙◌, inl, inr, ℕ, true, false, List, [], ◌∷◌, ◌++◌, length, Option, Some, None, Ok, Err, sym, ap, subst}
 use Rattle.irtext_base.specs.Text.{Text, begins}
 use Rattle.irtext_base.specs.Reading.{the}

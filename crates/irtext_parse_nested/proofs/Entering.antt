@@ -1,4 +1,4 @@
--- A region that begins and ends: what it does with names, and how it is refused.
+-- A region that begins and ends: what it does with names, and which errors there are.
 use Rattle.std.proofs.Common.{◌≡◌, ◌∙◌, ◌⊎◌, inl, inr, Bool, true, false, [], codes, length, None, IsSome, Ok, Err, refl, sym, ap, subst}
 use Rattle.irtext_base.specs.Faults as fault
 use Rattle.irtext_base.specs.Faults.{fault_of}
@@ -43,7 +43,7 @@ marks_same : (iso : Bool) (st : State) → (history.entered iso st).marks ≡ st
 marks_same true st = refl
 marks_same false st = refl
 
--- what is known of a region that is refused as it is entered
+-- what holds of a region that is an error as it is entered
 abbrev pub IsUnentered : {A T U : Type 0} → Bool → Names → StateStream T A U → ParseFault A → Type 0
 IsUnentered iso names old f = IsStarved f ⊎ ((fault_of f.cause ≡ fault.NotIsolated) × (f.committed ≡ true) × IsAt f.pos.line f.pos.column []
     × FailsBy (enter iso) names old.state.ctx.now.graph (record { cause = NotIsolated; at = None }))

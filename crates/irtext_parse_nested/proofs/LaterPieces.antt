@@ -106,7 +106,7 @@ part_of types p o = o
 part_of (one i) p o = o
 part_of all p o = o
 
--- it is refused within its text
+-- the place of its fault is in its text
 pub late_within : {T A : Type 0} (types_at : Text → Outcome T) (reading : Text → Outcome A) → Sincere types_at → Sincere reading → (inside : Bool) (step : Step) → ReadsNeither step
     → StaysWithin (space_at ▷ piece_at types_at (attr_at reading) inside step)
 late_within {T} {A} types_at reading sincere_types sincere inside step n =
@@ -140,7 +140,7 @@ pub given_is : (T : Type 0) {A : Type 0} (key : Text) (a : Option (AttrObj A)) �
 given_is T key None = refl
 given_is T key (Some a) = refl
 
--- ---- how it is refused
+-- ---- which error it is
 module _ {T A : Type 0} where
   -- a key that is reserved is one of a dictionary
   reserved_in : (piece : ReadPiece T A) (key : Key) → RefusesStored piece (refusal.ReservedKey key) → (es : Vec (Key × AttrObj A) Global) × (piece ≡ read.Dictionary es) × IsFirstReserved es.items key
@@ -155,7 +155,7 @@ module _ {T A : Type 0} where
   reserved_in (read.Header s) key r = absurd (cc r)
   reserved_in (read.Types ts) key r = absurd (cc r)
 
-  -- no name is refused
+  -- no name is an error
   pub never_outside : (piece : ReadPiece T A) (n : ReadName) → RefusesStored piece (refusal.NoActiveScope n) → ⊥
   never_outside read.Word n r = cc r
   never_outside (read.Operand i m) n r = cc r
@@ -168,7 +168,7 @@ module _ {T A : Type 0} where
   never_outside (read.Header s) n r = cc r
   never_outside (read.Types ts) n r = cc r
 
-  -- so the refusal speaks of no name
+  -- so the error is about no name
   pub known_in : (count : ℕ) (piece : ReadPiece T A) (why : NotGathered) → RefusesStored piece why → IsKnownIn count why
   known_in count piece refusal.Memory r = tt
   known_in count piece (refusal.ReservedKey key) r = tt

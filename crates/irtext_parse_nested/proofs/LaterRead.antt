@@ -70,7 +70,7 @@ use Rattle.irtext_parse_nested.proofs.Faults.{StaysWithin, must_demand, stands_t
 use Rattle.irtext_parse_nested.proofs.FrontRead.{each_on}
 use Rattle.irtext_parse_nested.proofs.LaterPieces.{part_of, flat_next, first_left, spaced_of, late_within, late_takes, late_fails, never_outside}
 
--- what the reading of a piece promises, by the step that is next
+-- what the parser of a piece promises, given the next step
 abbrev pub ReadsNext : {T A : Type 0} → Reader T → Reader (AttrView A) → List (Text × Table) → BegunOperation → List Text → StreamView → Result (ReadPiece T A) (ParseFault A) → StreamView → Type 0
 ReadsNext types_at attr dialects b names old result new = (step : Step) → slice_get (steps_in dialects (id_of b.id)) b.step ≡ Some step → MustPiece itself replaced names (space_at ▷ piece_at types_at attr b.inside step) old result new
 

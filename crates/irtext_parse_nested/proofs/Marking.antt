@@ -30,8 +30,8 @@ use Rattle.irtext_parse_nested.specs.Ends.{NotesMark, GainsMarks, RefusesMark}
 use Rattle.irtext_parse_nested.specs.Items.{Made, Names, Pledge, StandsAs, Acts, ActFails}
 use Rattle.irtext_parse_nested.proofs.Faults.{stands_there}
 
--- ---- answers
--- what holds where an answer is a value, and so on
+-- ---- results
+-- what holds if a result is a value, and so on
 pub on_ok : {X E P Q : Type 0} (r : Result X E) → (P → Q) → OnOk r P → OnOk r Q
 on_ok (Ok x) f p = f p
 on_ok (Err e) f p = p

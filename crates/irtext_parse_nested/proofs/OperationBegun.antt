@@ -1,4 +1,4 @@
--- An operation that begins: its front was parsed, its names were used, and it was made; or how it is refused.
+-- An operation that begins: its front was parsed, its names were used, and it was made; or which error it is.
 use Rattle.std.proofs.Common.{◌≡◌, ◌<◌, ◌+◌, ◌-◌, ◌∙◌, inl, inr, ℕ, zero, suc, Bool, true, List, [], ◌∷◌, ◌++◌, length, map, flat_map, drop, take, Option, Some, None, IsSome, refl, sym, ap, subst, arith, length-append, slice_get}
 use Rattle.std.specs.Prelude.{IfSome}
 use Rattle.std.specs.List.{All}
@@ -357,8 +357,8 @@ module _ {T A U : Type 0} (types_at : Text → Outcome T) (attr : Text → Outco
             acts = front_acts new.stream.rest k;
           }
 
-  -- ---- it is refused
-  -- what was not gathered is refused with a committed fault
+  -- ---- it is an error
+  -- if the pieces could not be gathered, the error is committed
   pub ungathered_commits : (pieces : List (ReadPiece T A)) (names : Names) (text : Text) (fault : ParseFault A) → NotGatheredAs pieces names old.state.ctx.now.graph text fault → fault.committed ≡ true
   ungathered_commits pieces names text fault (starved s) = s.flag
   ungathered_commits pieces names text fault (refused refusal.Memory r s) = s.flag

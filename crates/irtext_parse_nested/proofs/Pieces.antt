@@ -485,7 +485,7 @@ pub none_of_length : (ns : List ReadName) → length ns ≡ 0 → ns ≡ []
 none_of_length [] e = refl
 none_of_length (n ∷ ns) e = absurd (omega (arith, e))
 
--- ---- pieces that may have been refused
+-- ---- pieces that may have been an error
 module _ {T A : Type 0} (x y : Gathered T A) where
   pub marker_if : (k : Text) (o : Option (AttrObj A)) → o ≡ None → y ≡ x → GathersAlone (read.Attr k o ∷ []) x y
   marker_if k None e f = λ names g. marker_one names g k f
@@ -514,15 +514,15 @@ module _ (T : Type 0) {A : Type 0} where
   dictionary_refused (Err (refusal.ReservedKey key)) es h = λ names g. dictionary_fails names g es key h
   dictionary_refused (Err (refusal.NoActiveScope n)) es h = absurd h
 
--- ---- refusals
+-- ---- errors
 module _ {O B T A : Type 0} where
-  -- the first piece is refused
+  -- the first piece is an error
   pub gather_refused_first : (piece : ReadPiece T A) (ps : List (ReadPiece T A)) (names : Names) (g : GraphView (Option O) B (Option T)) (r : NotGathered) → RefusesGathering (piece ∷ []) names g r → RefusesGathering (piece ∷ ps) names g r
   gather_refused_first piece ps names g refusal.Memory h = tt
   gather_refused_first piece ps names g (refusal.ReservedKey key) h = fails_at_first piece ps h
   gather_refused_first piece ps names g (refusal.NoActiveScope n) h = fails_at_first piece ps h
 
-  -- what is refused later is refused from the beginning
+  -- an error in the pieces that are left is an error from the beginning
   pub gather_refused_from : (ps qs : List (ReadPiece T A)) (names mid : Names) (g h : GraphView (Option O) B (Option T)) → mid.names ≡ names.names
       → ((Is : Text → Name ℕ → Type 0) (cause : Text → Cause Text) → FailsAt ps mid h Is cause → FailsAt qs names g Is cause)
       → (r : NotGathered) → RefusesGathering ps mid h r → RefusesGathering qs names g r

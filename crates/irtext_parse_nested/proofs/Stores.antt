@@ -75,7 +75,7 @@ holds_ok (Err x) k a e = tt
 
 -- ---- entries of a dictionary
 module _ {A : Type 0} where
-  -- a refusal by the dictionary is one of the entry
+  -- an error of the dictionary is one of the entry
   pub entry_refused : (key : Text) (at : Place) (a : AttrObj A) (e : Refusal) → RefusesEntry key a e → RefusesEntries ((record { name = key; at = at }, a) ∷ []) (refused_at e at)
   entry_refused key at a entry.Memory r = tt
   entry_refused key at a (entry.ReservedKey name) r = inl (holds_or_reserved key a ∙ ap not r.1, ap (λ n. record { name = n; at = at }) r.0)
@@ -84,7 +84,7 @@ module _ {A : Type 0} where
   pub all_hold : (e : Key × AttrObj A) (es : List (Key × AttrObj A)) → MayAllHold (e ∷ []) → MayAllHold es → MayAllHold (e ∷ es)
   all_hold e es h k = (h.0, k)
 
-  -- the first entry is refused
+  -- the first entry is an error
   pub first_refused : (e : Key × AttrObj A) (es : List (Key × AttrObj A)) (r : NotGathered) → RefusesEntries (e ∷ []) r → RefusesEntries (e ∷ es) r
   first_refused e es refusal.Memory h = tt
   first_refused e es (refusal.ReservedKey key) (inl h) = inl h

@@ -26,7 +26,7 @@ module _ {O B T A : Type 0} (names : Names) (g : GraphView (Option O) B (Option 
   gathers_words zero ps k = k
   gathers_words (suc n) ps k = gathers_then read.Word (only_words n ++ ps) refl (word_one names g {x = x} {y = x} refl) (gathers_words n ps k)
 
-  -- where it was refused, all was
+  -- an error of the pieces after words is an error of all
   pub words_refused : (n : ℕ) (ps : List (ReadPiece T A)) (r : NotGathered) → RefusesGathering ps names g r → RefusesGathering (only_words n ++ ps) names g r
   words_refused zero ps r k = k
   words_refused (suc n) ps r k =

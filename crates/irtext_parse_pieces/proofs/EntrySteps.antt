@@ -94,7 +94,7 @@ module _ {S A : Type 0} (l : Lens S) where
       read = record { answers = rw b (seen_alone l {A = A} (λ (d : Option (Vec (Key × AttrObj A) Global)). Some (h.meant es)) Some (Some es) refl h.read).answers };
     }
 
-    -- it is refused
+    -- it is an error
     pub dictionary_refused : {Means : Vec (Key × AttrObj A) Global → List (Name ℕ × Attribute A) → Type 0} {Other : Option (Vec (Key × AttrObj A) Global) → Option (List (Name ℕ × Attribute A)) → Type 0} {old new : S} {fault : ParseFault A} → begins (the 91) (l.view old).rest ≡ true → MustMean l.view l.at Means (dictionary_at attr) old (Err fault) new → MustMean l.view l.at Other (dictionary_if attr) old (Err fault) new
     dictionary_refused {old = old} {new = new} {fault = fault} b h =
         record { meant = λ _. None; means = tt; read = record { answers = rw b (refuses_mapped_demanded l.view l.at l.view_at l.at_at Some (l.view old).failed (dictionary_at attr (l.view old).rest) old new fault h.read.answers) } }

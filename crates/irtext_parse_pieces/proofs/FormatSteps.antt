@@ -1,4 +1,4 @@
--- The steps of formats: those that the code answers, those that are left, and how many of the front were passed.
+-- The steps of formats: those that the code returns, those that are left, and how many of the front were passed.
 use Rattle.std.proofs.Common.{◌≡◌, ℕ, zero, suc, ◌+◌, ◌<◌, ◌≤◌, Bool, true, false, Some, None, option_map, List, [], ◌∷◌, ◌++◌, map, drop, get_or, slice_get, length, length-append, refl, sym, ◌∙◌, ap, arith}
 use Rattle.std.proofs.lemmas.Option.{slice_get_read, slice_get_past}
 use Rattle.irtext_base.specs.Text.{Text}

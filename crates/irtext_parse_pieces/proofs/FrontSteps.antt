@@ -66,7 +66,7 @@ module _ {S T A : Type 0} (l : Lens S) (found more : List (ReadPiece T A)) where
       let k : Answers l.view l.at {A = A} (λ (u : Unit {0}). u) outcome old (Ok tt) new = rw fine (whole_gives l.view l.at l.view_at l.at_view l.at_at w h.0 old new h.1 h.2) in
       record { answers = answers_demanded l.view l.at l.view_at l.at_at {A = A} (λ u. u) outcome old new new (Ok tt) (Ok tt) k (refl, refl) }
 
-  -- it is refused
+  -- it is an error
   pub word_missed : (w : Text) {names : List Text} {old new : S} {fault : ParseFault A} → MustRead {A = A} l.view l.at (λ (u : Unit {0}). u) (text_at w) old (Err fault) new
       → MustFind l.view l.at names (text_at w ⇒ λ _. tree.word w) found more old (Err fault) new
   word_missed w h = piece_refused l (λ _. tree.word w) no_tree h
@@ -76,7 +76,7 @@ module _ {S T A : Type 0} (l : Lens S) (found more : List (ReadPiece T A)) where
     pub piece_found : {new : S} (y : ReadPiece T A) → more ≡ found ++ (y ∷ []) → MustPiece l.view l.at names outcome old (Ok y) new → MustFind l.view l.at names outcome found more old (Ok tt) new
     piece_found y e h = record { meant = λ _. h.meant y; means = (y, e, h.means); read = record { answers = h.read.answers } }
 
-    -- it is refused
+    -- it is an error
     pub piece_missed : {new : S} {fault : ParseFault A} → MustPiece l.view l.at names outcome old (Err fault) new → MustFind l.view l.at names outcome found more old (Err fault) new
     piece_missed h = record { meant = λ _. no_tree; means = tt; read = record { answers = h.read.answers } }
 
@@ -130,7 +130,7 @@ module _ {S T A : Type 0} (l : Lens S) (types : Text → Outcome T) (attr : Text
           passed = more l (behind_piece rest p.parts) q h.read;
         }
 
-    -- it is refused
+    -- it is an error
     pub front_refused : {mid new : S} {fault : ParseFault A} {more_found : List (ReadPiece T A)} {others more_names : List Text} (rest : List Step) (step : Step) → left ≡ step ∷ rest → is_flat step ≡ true → Fronting names all left old now found → Takes l.view l.at (front is_whitespace (l.view now).rest) (after is_whitespace (l.view now).rest) now mid
         → MustFind {A = A} l.view l.at others (piece_at types attr inside step) found more_found mid (Err fault) new → MustFront l.view l.at more_names types attr inside all old (Err fault) new
     front_refused rest step e b p k h = must_refuse l (refuses l {sees = λ _. []} (behind_piece rest p.parts) (front_next rest step e b p k) h.read)

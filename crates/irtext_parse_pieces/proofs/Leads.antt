@@ -148,7 +148,7 @@ module _ {S A : Type 0} (dialects : List (Text × Table)) (l : Lens S) where
   unregistered lead (Missing cause) old new fault (inr h) = inr h
   unregistered lead (Bad cause upto) old new fault (inr h) = inr h
 
-  -- an id that is found is parsed, unless memory is refused
+  -- an id that is found is parsed, unless out of memory
   pub found_behind : {X : Type 0} {mid now new : S} {i : OpId} (start : Place) (led : Bool) (r : Result (OpId × X) (ParseFault A)) → TakesId l.view l.at mid i now → is_some (registered dialects i) ≡ true → IfOk r (λ op. op.0 ≡ i) → OnOk r (new ≡ now) → IfErr r (λ fault. StarvesHere l.view l.at now fault new)
       → AnswersLed {A = A} l.view l.at dialects start led mid (id_in r) new
   found_behind {mid = mid} {now = now} {new = new} {i = i} start led (Ok op) h known e n s = record {
@@ -160,7 +160,7 @@ module _ {S A : Type 0} (dialects : List (Text × Table)) (l : Lens S) where
         inl (starves_behind l.view l.at l.view_at l.at_at old now new (lead ++ h.taken) (l.view now).rest fault fine (takes_more l.view l.at l.view_at l.at_at old mid now lead (l.view mid).rest h.taken (l.view now).rest takes h.takes) s);
   }
 
-  -- the id is refused
+  -- the id is an error
   pub refused_behind : {mid new : S} (next : S) (a : Result OpId (ParseFault A)) {fault : ParseFault A} (start : Place) (led : Bool) → Answers l.view l.at id_of (unless_failed (l.view mid).failed (id_at (l.view mid).rest)) mid a next → cond led (DemandsOf l.view l.at a next (Err fault) new) ((Err fault ≡ a) × (new ≡ next))
       → AnswersLed {A = A} l.view l.at dialects start led mid (Err fault) new
   refused_behind {mid = mid} {new = new} next a {fault = fault} start led h d = record {
@@ -209,7 +209,7 @@ module _ {S A : Type 0} (l : Lens S) where
   pub lead_taken : {names : List Text} {old mid : S} {ns : List ReadName} → (h : MustNames {A = A} l.view l.at names lead_at old (Ok ns) mid) → TookOf l lead_at old (h.meant ns) mid
   lead_taken {old = old} {mid = mid} {ns = ns} h = took_of l lead_at (l.view old).failed (lead_at (l.view old).rest) old mid (h.meant ns) refl refl h.read.answers
 
-  -- the lead is refused
+  -- the lead is an error
   pub lead_refused : {Y : Type 0} {Means : Y → List (Name ℕ) × Id → Type 0} {MeansLead : List ReadName → List (Name ℕ) → Type 0} {old new : S} {fault : ParseFault A} (dialects : List (Text × Table)) → MustMean l.view l.at MeansLead lead_at old (Err fault) new → MayMean l.view l.at Means (led_at dialects) old (Err fault) new
   lead_refused {old = old} {new = new} {fault = fault} dialects h =
       record {

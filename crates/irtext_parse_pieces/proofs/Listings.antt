@@ -93,7 +93,7 @@ module _ {S X Y : Type 0} (l : Lens S) (item : Text → Outcome X) where
       listing_whole b t k p = passed_whole l (listing_next b t k p).2
 
       module _ {A : Type 0} {mid later : S} (b : begins (the 44) (l.view now).rest ≡ true) (t : mid ≡ l.at now (advanced (l.view now))) (k : Takes l.view l.at (front is_whitespace (l.view mid).rest) (after is_whitespace (l.view mid).rest) mid later) (p : Listing Means begun old now found) where
-        -- the item there is refused
+        -- the item there is an error
         pub listing_refused : {W : Type 0} {see : Y → X} (sees : W → List X) {fault : ParseFault A} {new : S} → MustRead l.view l.at see item later (Err fault) new → MustRead l.view l.at sees (λ t. items_after 44 item (length t) begun t) old (Err fault) new
         listing_refused {see = see} sees {fault = fault} {new = new} h =
             let w = listing_next b t k p in
@@ -117,7 +117,7 @@ module _ {S X Y : Type 0} (l : Lens S) (item : Text → Outcome X) where
               };
             }
 
-      -- memory is refused there
+      -- out of memory there
       pub listing_starved : {A W : Type 0} (sees : W → List X) {fault : ParseFault A} {new : S} → Listing Means begun old now found → StarvesHere l.view l.at now fault new → MustRead l.view l.at sees (λ t. items_after 44 item (length t) begun t) old (Err fault) new
       listing_starved sees p h = starved l {sees = sees} p.so_far.passed h
 

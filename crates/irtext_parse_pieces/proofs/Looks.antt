@@ -113,11 +113,11 @@ module _ {S A : Type 0} (l : Lens S) where
     read = record { answers = rw (fine, no_results (results_at (l.view old).rest) (l.view old).rest e, n) (refl, takes_none l.view l.at l.view_at l.at_at l.at_view old) };
   }
 
-  -- a stream that had failed is refused
+  -- a stream that had failed is an error
   pub results_fail : {names : List Text} {old new : S} {fault : ParseFault A} → (l.view old).failed ≡ true → Commits l.view l.at Failed [] old fault new → MustNames {A = A} l.view l.at names results_if_at old (Err fault) new
   results_fail e h = record { meant = λ _. []; means = tt; read = record { answers = rw e (inr h) } }
 
-  -- memory was refused
+  -- out of memory
   pub results_starve : {names : List Text} {old start new : S} {fault : ParseFault A} → start ≡ old → Starves l.view l.at start fault new → MustNames {A = A} l.view l.at names results_if_at old (Err fault) new
   results_starve {names = names} {new = new} {fault = fault} still h =
       subst (λ s. MustNames {A = A} l.view l.at names results_if_at s (Err fault) new) still (record { meant = λ _. []; means = tt; read = record { answers = inl h } })

@@ -57,7 +57,7 @@ module _ {S : Type 0} (l : Lens S) where
     insisted_mean (Ok y) r h d = record { meant = h.meant; means = rw d.0 h.means; read = insisted l h.read d }
     insisted_mean (Err fault) r h d = record { meant = h.meant; means = rw d.1 tt; read = insisted l h.read d }
 
-    -- what was parsed may be demanded
+    -- what was parsed may be required
     pub read_mean : {old new : S} {y : Y} → MayMean {A = A} l.view l.at Means f old (Ok y) new → MustMean {A = A} l.view l.at Means f old (Ok y) new
     read_mean {y = y} h = insisted_mean (Ok y) (Ok y) h (refl, refl)
 
@@ -72,7 +72,7 @@ module _ {S : Type 0} (l : Lens S) where
     pub may_miss : {old new : S} {fault : ParseFault A} → X → Misses l.view l.at f old fault new → MayMean l.view l.at Means f old (Err fault) new
     may_miss x h = record { meant = λ _. x; means = tt; read = record { answers = h } }
 
-    -- a stream that had failed is refused
+    -- a stream that had failed is an error
     pub may_fail : {old new : S} {fault : ParseFault A} → X → (l.view old).failed ≡ true → Commits l.view l.at Failed [] old fault new → MayMean l.view l.at Means f old (Err fault) new
     may_fail x e h = record { meant = λ _. x; means = tt; read = record { answers = rw e (inr h) } }
 

@@ -76,7 +76,7 @@ module _ {S A : Type 0} (l : Lens S) where
         read = record { answers = rw (← moved_is place w (l.view old).rest) q.answers };
       }
 
-  -- the fixed text is refused
+  -- the fixed text is an error
   pub mark_refused : {Means : ReadName → Name ℕ → Type 0} {old new : S} {fault : ParseFault A} (w : Text) → MustRead {Y = Unit {0}} l.view l.at (λ u. u) (text_at w) old (Err fault) new
       → MustMean l.view l.at Means (λ t. mapped (name_of (length t)) (followed (text_at w t) (λ _ u. identifier_at u))) old (Err fault) new
   mark_refused {old = old} {new = new} {fault = fault} w h =
@@ -114,7 +114,7 @@ module _ {S A : Type 0} (l : Lens S) where
         read = record { answers = (seen_alone l {A = A} (λ (s : Symbol). name_of place symbol.name) (name_of place) symbol refl h).answers };
       }
 
-  -- it is refused
+  -- it is an error
   pub symbol_refused : {Means : Symbol → Name ℕ → Type 0} {old new : S} {fault : ParseFault A} → MustRead {Y = Text} l.view l.at (λ name. name) mark_and_name old (Err fault) new → MustMean l.view l.at Means symbol_at old (Err fault) new
   symbol_refused {old = old} {new = new} {fault = fault} h =
       let place = length (l.view old).rest in

@@ -87,7 +87,7 @@ module _ {S A : Type 0} (l : Lens S) where
     pub piece_there : (w : W) {old new : S} {y : Y} → (h : MustMean {A = A} l.view l.at Means f old (Ok y) new) → Other w (k (h.meant y)) → MustMean {A = A} l.view l.at Other (λ t. mapped k (f t)) old (Ok w) new
     piece_there w {y = y} h m = record { meant = λ _. k (h.meant y); means = m; read = seen_alone l {A = A} (λ _. k (h.meant y)) k w refl h.read }
 
-  -- what would be a piece is refused
+  -- what would be a piece is an error
   pub piece_refused : {X Y V W : Type 0} {Other : W → V → Type 0} {see : Y → X} {f : Text → Outcome X} (k : X → V) → V → {old new : S} {fault : ParseFault A} → MustRead l.view l.at see f old (Err fault) new → MustMean l.view l.at Other (λ t. mapped k (f t)) old (Err fault) new
   piece_refused {f = f} k v {old = old} {new = new} {fault = fault} h = record { meant = λ _. v; means = tt; read = record { answers = refuses_mapped_demanded l.view l.at l.view_at l.at_at k (l.view old).failed (f (l.view old).rest) old new fault h.answers } }
 
@@ -110,7 +110,7 @@ module _ {S A : Type 0} (l : Lens S) where
   pub must_miss : {V W : Type 0} {Other : W → V → Type 0} {cause : Text → Fault} → V → {old new : S} {fault : ParseFault A} → (l.view old).failed ≡ false → Commits l.view l.at (cause (l.view old).rest) [] old fault new → MustMean l.view l.at Other (λ t. Missing (cause t)) old (Err fault) new
   must_miss v f h = record { meant = λ _. v; means = tt; read = record { answers = rw f (inr h) } }
 
-  -- a stream that had failed is refused
+  -- a stream that had failed is an error
   pub read_failed : {V W : Type 0} {see : W → V} {f : Text → Outcome V} {old new : S} {fault : ParseFault A} → (l.view old).failed ≡ true → Commits l.view l.at Failed [] old fault new → MustRead l.view l.at see f old (Err fault) new
   read_failed e h = record { answers = rw e (inr h) }
 

@@ -1,4 +1,4 @@
--- What a block's header is refused for where no region is open, and what its parser says of a text.
+-- Why a block's header is an error if no region is open, and what its parser returns for a text.
 use Rattle.std.proofs.Common.{◌≡◌, ◌<◌, ◌≤◌, ◌+◌, ◌∙◌, ◌⊎◌, inl, inr, ℕ, zero, suc, Bool, true, false, cond, List, [], ◌∷◌, ◌++◌, length, map, drop, Option, Some, None, is_some, Result, Ok, Err, codes, refl, sym, ap, ap₂, subst, arith, append-nil, slice_get}
 use Rattle.std.specs.Map.{lookup}
 use Rattle.irtext_base.specs.Text.{Text, begins, is_identifier}
@@ -121,7 +121,7 @@ module _ {A : Type 0} (text : Text) (fault : ParseFault A) where
   abbrev First : List ℕ → List (Act Text ℕ) → Type 0
   First marks acts = IsFirst text (failures same_text (outside_with marks) (does_all acts done)) fault
 
-  -- an entry of this key, whose test answers so
+  -- an entry with this key, and this result of its test
   abbrev KeyWith : Name ℕ → List (Act Text ℕ) → Bool → List ℕ → Type 0
   KeyWith n later b marks = IsFirst text (cond b [] (record { cause = script.ReservedKey n.text; at = Some n.place } ∷ []) ++ failures same_text (outside_with marks) (does_all later done)) fault
 
@@ -295,7 +295,7 @@ module _ {T A : Type 0} (types_at : Text → Outcome T) (attr : Text → Outcome
       go (Missing cause) e g = absurd g
       go (Bad cause upto) e g = absurd g
 
--- ---- what a refusal says
+-- ---- what an error says
 -- no failure says that the stream had failed
 no_cause : (c : Cause Text) (cause : Fault) → IsCause c cause → cause ≡ Failed → ⊥
 no_cause (script.ResultCount types names) cause h e = cc (h, e)
@@ -325,7 +325,7 @@ module _ {T A : Type 0} (types_at : Text → Outcome T) (attr : Text → Outcome
     | inr r ↦ inr (no_header r)
   ]
 
-  -- it is, and its names are refused
+  -- it is parsed, and its names are an error
   module _ (names : List Text) (fine : old.failed ≡ false) (read : BlockHead T A) (mid : StreamView) (h : HeadRead types_at attr names old fine read mid) (fails : new ≡ after_failure mid) (marks : List ℕ)
       (said : UnlessMemory (FailsOutside marks (whole mid) h.head) fault) where
     pub read_missed : UnlessMemory (MissesBlock types_at attr marks old new) fault
@@ -345,7 +345,7 @@ module _ {T A : Type 0} (types_at : Text → Outcome T) (attr : Text → Outcome
       failed = λ e. absurd (elim said [ inl starved ↦ cc (starved.because, e) | inr f ↦ first_fine (whole mid) (failures same_text (outside_with marks) (does_all (header_acts [] h.head) done)) fault f.first e ]);
     }
 
-  -- where no mark was recorded, that is what is promised of a fresh reading
+  -- if no mark was recorded, that is what is promised on a fresh state
   pub misses_fresh : (marks : List ℕ) → marks ≡ [] → UnlessMemory (MissesBlock types_at attr marks old new) fault → UnlessMemory (RefusesBlock types_at attr old) fault
   misses_fresh marks none (inl starved) = inl starved
   misses_fresh marks none (inr (no_header r)) = inr (record { first = λ head taken rest e. absurd (subst (λ o. Refuses itself replaced o old fault new) e r) })

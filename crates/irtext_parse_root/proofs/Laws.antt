@@ -1,4 +1,4 @@
--- What is known of a caller's types and attributes, as the promise asks for it.
+-- What holds of a caller's types and attributes, as the promise requires it.
 use Rattle.std.proofs.Common.{◌≡◌, ◌≤◌, ap, arith, length, length-append}
 use Rattle.irtext_base.specs.Text.{Text}
 use Rattle.irtext_base.specs.Answers.{Outcome, Read}

@@ -30,7 +30,7 @@ CarriesOnly marks x (Some m) = (lookup (same_index m.index) marks ≡ Some x) ×
 -- ---- each item with its mark
 module _ {T A : Type 0} where
   abbrev mutual
-    -- the items in regions, each with its place and its mark, in the order of reading
+    -- the items in regions, each with its place and its mark, in the order of the text
     pub marked_regions : Regions (Op ℕ T A) (Head ℕ T A) (Brace ℕ) → List (ℕ × Option (Mark ℕ))
     marked_regions no_regions = []
     marked_regions (region brace bs rs) = marked_blocks bs ++ marked_regions rs

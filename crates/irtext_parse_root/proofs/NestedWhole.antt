@@ -1,4 +1,4 @@
--- What the nested parser leaves where no name was known, and which faults it answers: the machine of names begins with the marks that are
+-- What the nested parser leaves if no name was known, and which faults it returns: the machine of names begins with the marks that are
 -- recorded.
 use Rattle.std.proofs.Common.{◌≡◌, ◌∙◌, ℕ, true, List, [], ◌++◌, ap, subst, append-nil, inl, inr}
 use Rattle.irtext_base.specs.Text.{Text}
@@ -72,7 +72,7 @@ module _ {T A U : Type 0} (types_at : Reader T) (attr : Reader (AttrView A)) (be
       };
     }
 
-  -- ---- it was refused
+  -- ---- it was an error
   pub has_fault : (fault : ParseFault A) → UnlessMemory (RefusesNested types_at attr before old) fault → UnlessMemory (HasFaultFrom types_at attr dialects earlier (whole old.stream) old.stream.rest) fault
   has_fault fault (inl starved) = inl starved
   has_fault fault (inr (nested.at_text cause place f flag so)) =

@@ -43,7 +43,7 @@ pub noted_there : {X : Type 0} (marks : List X) (b : Bool) → (IsTrue b ↔ (ma
 noted_there [] b h e = absurd (h.0 (rw e refl) refl)
 noted_there (m ∷ ms) b h e = refl
 
--- no mark is recorded, whatever else is asked
+-- no mark is recorded, whatever the other condition is
 pub none_noted : {X : Type 0} (a : Bool) (marks : List X) (b : Bool) → (IsTrue b ↔ (marks ≡ [] → ⊥)) → b ≡ false → (a && is_noted marks) ≡ false
 none_noted true [] b h e = refl
 none_noted false [] b h e = refl

@@ -1,4 +1,4 @@
--- What a refusal of the nested parser says of its cause, and what it leaves of the stream once a committed fault has failed it.
+-- What an error of the nested parser says of its cause, and what it leaves of the stream once a committed fault has failed it.
 use Rattle.std.proofs.Common.{◌≡◌, ◌∙◌, ℕ, true, false, cond, [], refl, sym, ap, subst, inl, inr}
 use Rattle.irtext_base.specs.Text.{Text}
 use Rattle.irtext_base.specs.Faults.{Fault, Failed, fault_of}

@@ -1,4 +1,4 @@
--- What a refusal of a region that is parsed alone says: of its cause, that it is the first fault of the text, and that it is the first
+-- What an error of a region that is parsed alone says: of its cause, that it is the first fault of the text, and that it is the first
 -- failure of whatever blocks the text parses as.
 use Rattle.std.proofs.Common.{◌≡◌, ◌∙◌, ℕ, Bool, true, false, cond, List, [], ◌∷◌, length, Option, Some, None, IsSome, option_map, codes, ◌++◌, refl, sym, ap, subst, inl, inr}
 use Rattle.irtext_base.specs.Text.{Text}
@@ -139,7 +139,7 @@ module _ {T A : Type 0} (c : ContextView T A) (op : Ptr Operation) (id : OpId) (
           let b : isolated c.dialects (id_of view.id) ≡ false = subst (λ z. isolated c.dialects (id_of z) ≡ false) same shared in
           subst (λ z. IsReportedAt (cond z None (Some view.loc)) (Some pos)) (sym b) (subst (λ l. alone.IsOutermost l pos) there h)
 
--- the refusal of an operation that is not isolated
+-- the error of an operation that is not isolated
 pub refused_unisolated : {A : Type 0} (old new : StreamView) (fault : ParseFault A) → fault_of fault.cause ≡ NotIsolated → fault.committed ≡ true → new.failed ≡ true → Refusal old fault new
 refused_unisolated old new fault because flag fails = record {
   committed = λ e. fails;
@@ -156,7 +156,7 @@ pub unisolated_refused : {T A : Type 0} {types : Texts T} {owns : Texts A} {dial
     → UnlessMemory (RefusesRegion types owns dialects iso old) fault
 unisolated_refused loc is fault because at = inr (alone.not_isolated loc is because at)
 
--- ---- what a refusal says of its cause
+-- ---- what an error says of its cause
 module _ {T A U : Type 0} (types_at : Reader T) (reading : Reader A) (sincere_types : Sincere types_at) (sincere : Sincere reading) (before : Names) (old : StateStream T A U)
     (no_names : before.names ≡ []) (no_values : before.values ≡ []) (no_labels : before.labels ≡ []) (op : Ptr Operation) where
   pub says_region : (fault : ParseFault A) → UnlessMemory (RefusesUnder types_at (attr_at reading) op before old) fault → SaysText fault
@@ -211,7 +211,7 @@ module _ {T A U : Type 0} (types_at : Reader T) (attr : Reader (AttrView A)) (be
         (z.1.state, subst (λ b. reached b path ≡ Advanced tt (going z.1.state) new.stream.rest) (closed_as old.state.ctx.now op here none u.iso u.isolation) (z.2 ∙ ap (λ o. Advanced tt o new.stream.rest) z.1.going));
   }
 
-  -- and where it is refused, the fault is that of the text
+  -- and if it is an error, the fault is that of the text
   pub misses_region : (fault : ParseFault A) → UnlessMemory (RefusesUnder types_at attr op before old) fault → UnlessMemory (MissesRegion types_at attr op old) fault
   misses_region fault (inl starved) = inl starved
   misses_region fault (inr (under.not_isolated of_it shared because flag at)) = let e = closed_as old.state.ctx.now op here none false of_it in absurd (cc)
@@ -265,7 +265,7 @@ module _ {T A U : Type 0} (types_at : Reader T) (types_written : T → Text) (re
   isolated_there : (iso : Bool) → IsolatedAs old.state.ctx.now op iso → iso ≡ true
   isolated_there iso of_it = closed_as old.state.ctx.now op here none iso of_it
 
-  -- so the promise of a refusal is kept, where the operation is isolated
+  -- so the promise of an error is kept, if the operation is isolated
   pub refuses_region : (fault : ParseFault A) → UnlessMemory (RefusesUnder types_at (attr_at reading) op before old) fault → UnlessMemory Refused fault
   refuses_region fault (inl starved) = inl starved
   refuses_region fault (inr (under.not_isolated of_it shared because flag at)) = let e = isolated_there false of_it in absurd (cc)

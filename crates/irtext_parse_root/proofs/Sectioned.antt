@@ -256,7 +256,7 @@ module _ {T A U : Type 0} (types_at : Text → Outcome T) (types_written : T →
         only = only;
       }
 
-    -- ---- it was refused
+    -- ---- it was an error
     pub section_refused : (fault : ParseFault A) → Faults true (RefusedAs (section_at (attr_at reading) noted (rules_of marks) mid.stream.rest)) mid.stream fault
         → UnlessMemory (RefusesRoot (texts_of types_at types_written) (texts_of reading written) types_at (attr_at reading) dialects old.stream) fault
     section_refused fault (inl starved) = inl starved

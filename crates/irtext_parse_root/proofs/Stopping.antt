@@ -1,4 +1,4 @@
--- A turn was refused: wherever the frames are open, the text is at fault or what is done fails.
+-- A turn was an error: whatever frames are open, the text is at fault or an action fails.
 use Rattle.std.proofs.Common.{◌≡◌, ◌∙◌, ◌+◌, ◌<◌, ℕ, zero, suc, Bool, true, false, List, [], ◌∷◌, drop, length, slice_get, Some, refl, sym, ap, subst, arith, inl, inr}
 use Rattle.irtext_base.specs.Text.{Text, after_space}
 use Rattle.irtext_base.specs.Faults.{id_of}
@@ -155,7 +155,7 @@ module _ {T A U : Type 0} (types_at : Reader T) (reading : Reader A) (h : Splits
         ]);
   }
 
--- ---- what is asked of the turns of what is open
+-- ---- what is required of the turns of the open frames
 module _ {T A : Type 0} (text : Text) (ctx : ContextView T A) (names : Names) (frames : List Frame) where
   pub operation_there : (b : BegunOperation) → AreHere T A text ctx names (Some (framed.Operation b)) frames → (o : OpenOperation T A) × IsBegun names.names text ctx b o
   operation_there b s =

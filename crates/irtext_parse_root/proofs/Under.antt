@@ -142,7 +142,7 @@ module _ {T A S : Type 0} (dialects : List (Text × Table)) (types_at : Reader T
   entered_once : (iso : Bool) (s z : S) (u : Text) → does.enters iso s ≡ z → does.enters iso z ≡ z → region_at dialects types_at attr does iso u s ≡ region_at dialects types_at attr does iso u z
   entered_once iso s z u f g = k.region_is iso u s ∙ (ap (λ y. tells ((word (codes "{") ▷ space_at) u) u y (behind_brace iso (length u) y)) (f ∙ sym g) ∙ sym (k.region_is iso u z))
 
--- a reading ends in what had been done there
+-- a parse ends with the state of what was done there
 ends_in : {X S : Type 0} (s : S) (o : Reached X S) → done_in o ≡ s → EndsIn s o
 ends_in s (Advanced x t rest) e = e
 ends_in s (Stopped t cause place) e = e

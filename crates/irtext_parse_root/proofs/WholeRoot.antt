@@ -1,4 +1,4 @@
--- The promise of a whole text on a fresh state, from what the reading of its operation leaves and what follows it.
+-- The promise of a whole text on a fresh state, from what the parse of its operation leaves and what follows it.
 use Rattle.std.proofs.Common.{◌≡◌, ◌∙◌, ℕ, true, true≢false, cond, List, [], ◌∷◌, refl, sym, ap, subst, inl, inr}
 use Rattle.irtext_base.specs.Text.{Text}
 use Rattle.irtext_base.specs.Format.{Id}

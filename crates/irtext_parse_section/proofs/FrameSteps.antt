@@ -1,4 +1,4 @@
--- The loop that parses a location: what it has read so far, with what is open, is all of what the definition has read.
+-- The loop that parses a location: what it has parsed so far, with the open frames, is all that the definition has parsed.
 use Rattle.std.proofs.Common.{◌≡◌, ◌∙◌, ap, ap₂, refl, sym, subst, ℕ, suc, ◌≤◌, ◌<◌, Bool, true, false, cond, Result, Ok, Err, IfOk, Option, List, [], ◌∷◌, ◌++◌, Box, Vec, map, codes, length, arith, ◌⊎◌, inl, inr, append-nil, true≢false}
 use Rattle.std.proofs.Math.Nat.{le_refl}
 use Rattle.std.specs.Global.{Global}
@@ -160,8 +160,8 @@ module _ {S R A : Type 0} (see : S → R) where
         opened : {Z : Type 0} → Option (AttrView A) → Text → Outcome (ProgressOf Z A)
         opened m v = followed (text_at (codes "[") v) (λ _ w. followed (space_at w) (λ _ x. row_opening_at m x))
 
--- ---- what a step may answer
--- each value that is parsed is so
+-- ---- what a step may return
+-- each value that is parsed has the property
 record Says {X : Type 0} (Q : X → Type 0) (o : Outcome X) : Type 0 where
   pub by : (x : X) (taken rest : Text) → o ≡ Read x taken rest → Q x
 
@@ -318,7 +318,7 @@ module _ {A : Type 0} where
     frames_stay [] h = tt
     frames_stay (f ∷ frames) h = (frame_stays p q k (frame_view f) h.0, frames_stay frames h.1)
 
--- ---- answers
+-- ---- results
 module _ {B X V : Type 0} (k : X → V) (old new : StreamView) where
   refuses_so : (b : Bool) (o : Outcome X) (p : Outcome V) (fault : ParseFault B) → mapped k o ≡ p → Starves itself replaced old fault new ⊎ Refuses itself replaced (demanded (unless_failed b o)) old fault new
       → Starves itself replaced old fault new ⊎ Refuses itself replaced (demanded (unless_failed b p)) old fault new
@@ -335,7 +335,7 @@ module _ {X V : Type 0} (k : X → V) (old new : StreamView) where
   gives_so false (Missing cause) p x e h = absurd h
   gives_so false (Bad cause upto) p x e h = absurd h
 
--- an answer whose value is seen by a function more
+-- a result whose value is seen by one more function
 seen_so : {B X Y V : Type 0} {see : Y → X} {sees : Y → V} (k : X → V) {f : Text → Outcome X} (g : Text → Outcome V) {old new : StreamView} (r : Result Y (ParseFault B)) → ((y : Y) → sees y ≡ k (see y)) → mapped k (f old.rest) ≡ g old.rest → MustRead itself replaced see f old r new → MustRead itself replaced sees g old r new
 seen_so {see = see} k {f = f} g {old = old} {new = new} (Ok y) s e h = record { answers = subst (λ v. Gives itself replaced (demanded (unless_failed old.failed (g old.rest))) old v new) (sym (s y)) (gives_so k old new old.failed (f old.rest) (g old.rest) (see y) e h.answers) }
 seen_so k {f = f} g {old = old} {new = new} (Err fault) s e h = record { answers = refuses_so k old new old.failed (f old.rest) (g old.rest) fault e h.answers }
@@ -353,7 +353,7 @@ first_refused : {B X Y W V : Type 0} {see : Y → X} {sees : W → V} {f : Text 
 first_refused {f = f} {old = old} {new = new} {fault = fault} g k e h = record { answers = first_so old new fault old.failed (f old.rest) (g old.rest) k e h.answers }
 
 module _ {V : Type 0} {outcome next : Text → Outcome V} {old mid : StreamView} where
-  -- what is to be parsed may be said in other words, since it is demanded
+  -- what is to be parsed may be stated in other words, since it is required
   turned_alike : (other : Text → Outcome V) → demanded (next mid.rest) ≡ demanded (other mid.rest) → Passed alone outcome next old mid → Passed alone outcome other old mid
   turned_alike other e p = record { fine = p.fine; taken = p.taken; takes = p.takes; so_far = p.so_far ∙ prefixed_demanded p.taken (next mid.rest) (other mid.rest) e }
 
@@ -414,7 +414,7 @@ module _ {A : Type 0} (attr : Reader (AttrView A)) (no_more : LeavesNoMore attr)
     kept = k;
   }
 
-  -- it was refused
+  -- it was an error
   pub not_begun : {B : Type 0} {paths : List (List ℕ)} {old new : StreamView} {fault : ParseFault B} → MustReadOver {A = B} known_progress progress_over (opening_at attr) paths old (Err fault) new
       → MustRead itself replaced (location_over paths) (location_at attr) old (Err fault) new
   not_begun {old = old} h = first_refused (location_at attr) (λ p t. progress_rest attr p t) (opening_is attr no_more old.rest) h.read
@@ -447,7 +447,7 @@ module _ {A : Type 0} (attr : Reader (AttrView A)) (no_more : LeavesNoMore attr)
         kept = k ∙ ap (λ z. progress_kept z (progress_over other p)) (s.kept ∙ (sym (kept_pushed before (frames_over paths frames) (frame_over paths f)) ∙ ap (frames_kept before) same_frames));
       }
 
-      -- it was refused
+      -- it was an error
       pub not_opened : {B : Type 0} {new : StreamView} {fault : ParseFault B} → MustReadOver {A = B} known_progress progress_over (opening_at attr) other now (Err fault) new
           → MustRead itself replaced (location_over other) (location_at attr) old (Err fault) new
       not_opened h = refuses alone (left_in (frames_over other (frames ++ f ∷ []))) at_opening h.read
@@ -477,7 +477,7 @@ module _ {A : Type 0} (attr : Reader (AttrView A)) (no_more : LeavesNoMore attr)
                 ∙ sym (next_kept (frames_kept before (frames_over paths frames)) (frame_over paths f) (location_over paths l) (progress_over paths p) ((behind_says (frame_over paths f) (location_over paths l) now.rest).by (progress_over paths p) b.taken new.rest b.is))));
           }
 
-      -- it was refused
+      -- it was an error
       pub not_behind : {B : Type 0} (other : List (List ℕ)) {new : StreamView} {fault : ParseFault B} → MustRead {A = B} itself replaced progress_view (behind_at (frame_view f) (location_view l)) now (Err fault) new
           → MustRead itself replaced (location_over other) (location_at attr) old (Err fault) new
       not_behind other {fault = fault} h = refuses alone (left_in (frames_over paths frames)) at_behind (over_paths (Err fault) h)
@@ -601,7 +601,7 @@ module _ {A : Type 0} (attr : Reader (AttrView A)) (no_more : LeavesNoMore attr)
 pub behind_less : {A B : Type 0} (f : FrameOf Source A) (l : LocationOf Source A) {old new : StreamView} {p : Progress A} → MustRead {A = B} itself replaced progress_view (behind_at f l) old (Ok p) new → length new.rest < length old.rest
 behind_less f l {old = old} {new = new} {p = p} h = let a = answered h in behind_shorter f l old.rest (progress_view p) a.taken new.rest a.is
 
--- a place is opened and read at once
+-- a place is opened and parsed at once
 pub place_opens : {A B : Type 0} (attr : Reader (AttrView A)) {paths : List (List ℕ)} {old new : StreamView} {l : Location A} → begins begins_source old.rest ≡ true → MustReadOver {A = B} known_location location_over place_at paths old (Ok l) new
     → MustReadOver {A = B} known_progress progress_over (opening_at attr) paths old (Ok (progress.Whole l)) new
 place_opens attr {paths = paths} {old = old} {new = new} {l = l} b h =
@@ -617,7 +617,7 @@ place_opens attr {paths = paths} {old = old} {new = new} {l = l} b h =
       });
     }
 
--- it is refused
+-- it is an error
 pub place_refused : {A B : Type 0} (attr : Reader (AttrView A)) {paths : List (List ℕ)} {old new : StreamView} {fault : ParseFault B} → begins begins_source old.rest ≡ true → MustReadOver {A = B} (known_location {A = A}) location_over place_at paths old (Err fault) new
     → MustReadOver {A = B} known_progress progress_over (opening_at attr) paths old (Err fault) new
 place_refused attr {paths = paths} {old = old} b h =

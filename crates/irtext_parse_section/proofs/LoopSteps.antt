@@ -36,12 +36,12 @@ use Rattle.irtext_parse_section.specs.declared.said.ReadEntry.TheVariants as rea
 use Rattle.irtext_parse_section.proofs.EntryLists.{test_same, entry_more, entry_fresh}
 use Rattle.irtext_parse_section.proofs.LoopText.{text_begins, text_ends, text_starved_here, text_refused, text_starved, entry_shorter, text_more}
 
--- what a call says where it was not refused
+-- what a call promises if it returned no error
 pub unless_err : {X E P : Type 0} (r : Result X E) → is_err r ≡ false → OnOk r P → P
 unless_err (Ok x) e h = h
 unless_err (Err y) e h = absurd (true≢false e)
 
--- what a call says where it was refused
+-- what a call promises if it returned an error
 pub where_err : {X E P : Type 0} (r : Result X E) → is_err r ≡ true → OnErr r P → P
 where_err (Ok x) e h = absurd (true≢false (sym e))
 where_err (Err y) e h = h
@@ -136,7 +136,7 @@ module _ {T A U : Type 0} (attr : Text → Outcome (AttrView A)) where
         (subst (λ t. MustMean itself replaced (IsEntry (marks_of now.state) paths t) by_now now.stream r new) same_whole k)
 
     module _ (go : begins (the 33) now.stream.rest ≡ true) where
-      -- the next is refused
+      -- the next entry is an error
       pub entries_refused : {E : Type 0} {Means : Entries A → List (Entry ℕ A (Written A)) → Type 0} (paths : List (List ℕ)) {new : StreamView} {fault : ParseFault E}
           → MustMean itself replaced (IsEntry (marks_of now.state) paths (whole now.stream)) by_now now.stream (Err fault) new → MustMean itself replaced Means (all_of old) old.stream (Err fault) new
       entries_refused paths {new = new} {fault = fault} k =

@@ -1,4 +1,4 @@
--- How far the text of entries was parsed: one entry more, or none, or a refusal.
+-- How far the text of entries was parsed: one entry more, or none, or an error.
 use Rattle.std.proofs.Common.{◌≡◌, ◌∙◌, ◌<◌, ◌≤◌, ℕ, zero, suc, Bool, true, false, Ok, Err, List, [], ◌∷◌, ◌++◌, length, length-append, refl, sym, ap, arith, true≢false}
 use Rattle.std.specs.Char.{is_whitespace}
 use Rattle.irtext_base.specs.Text.{Text, begins, front, after}
@@ -84,7 +84,7 @@ module _ {A : Type 0} (attr : Text → Outcome (AttrView A)) (marks : List ℕ) 
           ∙ ap (λ (test : ℕ → Bool). followed (entry_at attr test rules now.rest) (behind_entry room_left.0 found)) (λ i j. sym (same j) i)))
           so_far
 
-      -- it is refused
+      -- it is an error
       pub text_refused : {X Y E : Type 0} {see : Y → Entry ℕ A (Written A)} {new : StreamView} {fault : ParseFault E} (sees : X → List (Entry ℕ A (Written A))) → MustRead itself replaced see (entry_at attr test rules) now (Err fault) new → MustRead itself replaced sees all_at old (Err fault) new
       text_refused sees k = refuses alone {sees = sees} (behind_entry room_left.0 found) to_entry k
 

@@ -127,7 +127,7 @@ module _ {A : Type 0} (rule : Rule A) where
   if_ok text meant (Ok d) h = h d refl
   if_ok text meant (Err fault) h = tt
 
-  -- a pair that was parsed is kept, or its key is reserved; one that was not parsed is refused as it was
+  -- a pair that was parsed is kept, or its key is reserved; one that was not parsed is the same error
   pub may_keep : {raw : Text → Outcome (Name ℕ × Item ℕ A)} {old mid new : StreamView} (place : Place) (a r : Result (Key × GivenAttr A) (ParseFault A)) → MayMean itself replaced (IsPair (whole old)) raw old a mid → StandsBehind place old.passed → Allows rule place a mid r new
       → MayMean itself replaced (IsPair (whole old)) (λ t. kept rule (raw t)) old r new
   may_keep {raw = raw} {old = old} {mid = mid} {new = new} place a r h p k =

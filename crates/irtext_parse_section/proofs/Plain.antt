@@ -1,4 +1,4 @@
--- Numbers, lines and columns as they are mostly written are those that the parsers of their parts read.
+-- Numbers, lines and columns as they are mostly printed are those that the parsers of their parts parse.
 use Rattle.std.proofs.Common.{◌≡◌, ℕ, ℤ, pos, true, false, cond, nat_lt, Option, Some, None, Ok, [], ◌∷◌, ◌++◌, codes, refl, sym, ◌∙◌, ap, subst, arith}
 use Rattle.std.proofs.lemmas.Bool.Decides.{nat_tests}
 use Rattle.std.specs.Str.{chars}

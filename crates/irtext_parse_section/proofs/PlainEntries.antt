@@ -1,4 +1,4 @@
--- Parts of entries as they are mostly written are those that the parsers of their parts read.
+-- Parts of entries as they are mostly printed are those that the parsers of their parts parse.
 use Rattle.std.proofs.Common.{◌≡◌, ℕ, false, Option, Some, None, Ok, Vec, [], ◌++◌, codes, refl, sym, ◌∙◌, ap, subst}
 use Rattle.std.specs.Global.{Global}
 use Rattle.std.specs.Str.{chars}

@@ -1,4 +1,4 @@
--- Steps of a section whose entries were parsed: its references are right, or the first that is wrong is refused.
+-- Steps of a section whose entries were parsed: its references are right, or the first that is wrong is the error.
 use Rattle.std.proofs.Common.{◌≡◌, ◌∙◌, ◌≤◌, ◌⊎◌, inl, inr, ℕ, Bool, true, false, cond, nat_eq, is_some, List, [], ◌∷◌, ◌++◌, length, length-append, Option, Some, None, Ok, Err, refl, sym, ap, ap₂, subst, append_assoc, arith}
 use Rattle.std.proofs.lemmas.List.{take-append-drop, length-drop}
 use Rattle.std.specs.Prelude.{codes, ◌-◌, take, drop, flat_map}
@@ -170,7 +170,7 @@ module _ {A X E : Type 0} (rules : ℕ → Rule A) where
   unread text false (Bad cause u) old new fault (inr h) = inr h
 
 module _ {A Y E : Type 0} (attr : Text → Outcome (AttrView A)) (marks : List ℕ) (rules : ℕ → Rule A) where
-  -- the entries are refused
+  -- the entries are an error
   pub section_unread : {Means Other : Y → List (Entry ℕ A (Written A)) → Type 0} {old new : StreamView} {fault : ParseFault E} → MustMean itself replaced Means (entries_at attr marks rules) old (Err fault) new → MustMean itself replaced Other (section_at attr marks rules) old (Err fault) new
   section_unread {old = old} {new = new} {fault = fault} k =
       must_refuse alone {see = k.meant} (record { answers = unread rules old.rest old.failed (entries_at attr marks rules old.rest) old new fault k.read.answers })
@@ -198,7 +198,7 @@ module _ {A Y E : Type 0} (attr : Text → Outcome (AttrView A)) (marks : List �
         no_other [] h = refl
         no_other (f ∷ fs) h = absurd h
 
-    -- the first that is wrong is refused
+    -- the first that is wrong is the error
     pub section_wrong : {Other : Y → List (Entry ℕ A (Written A)) → Type 0} {new : StreamView} {fault : ParseFault E} (ws : List Wrong) → single.Each (StandsNear (length old.rest)) (wrong_references rules found) → Each (IsWrong (whole old)) ws (wrong_references rules found)
         → RefusesFirst ws mid fault new → MustMean itself replaced Other (section_at attr marks rules) old (Err fault) new
     section_wrong {new = new} {fault = fault} ws near same h =

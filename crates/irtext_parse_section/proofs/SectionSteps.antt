@@ -1,4 +1,4 @@
--- Steps of the reading of a whole section.
+-- Steps of the parse of a whole section.
 use Rattle.std.proofs.Common.{◌≡◌, ℕ, Bool, true, false, List, [], Ok, refl, sym, ap, subst}
 use Rattle.irtext_base.specs.Text.{Text}
 use Rattle.irtext_base.specs.Stream.{StreamView}

@@ -43,7 +43,7 @@ module _ {T A S U : Type 0} (d : Actions T A S) (e : Actions T A U) where
       ap₂ (λ y z. (y, z)) (shows_tree isolated (λ z. z.0) (both d e) d shows_first x (s, t)) (shows_tree isolated (λ z. z.1) (both d e) e shows_second x (s, t))
 
   module _ (dialects : List (Text × Table)) (types_at : Text → Outcome T) (attr : Text → Outcome (AttrView A)) where
-    -- the reading of an operation
+    -- the parse of an operation
     pub operation_beside : (inside : Bool) (text : Text) (s : S) (t : U)
         → AreBeside (operation_at dialects types_at attr d inside text s) (operation_at dialects types_at attr e inside text t) (operation_at dialects types_at attr (both d e) inside text (s, t))
     operation_beside inside text s t = record {

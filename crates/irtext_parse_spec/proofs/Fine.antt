@@ -1,4 +1,4 @@
--- No cause that the parsers of a section answer says that the stream had failed.
+-- No cause that the parsers of a section return says that the stream had failed.
 use Rattle.std.proofs.Common.{ℕ, zero, suc, Bool, not, ◌&&◌, Some, None, List, [], ◌∷◌, ◌++◌, length}
 use Rattle.std.specs.Prelude.{codes}
 use Rattle.irtext_base.specs.Text.{Text, begins}

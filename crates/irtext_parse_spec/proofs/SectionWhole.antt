@@ -1,4 +1,4 @@
--- The parser of a section returns what the grammar parses, and refuses it first where the grammar does.
+-- The parser of a section returns what the grammar parses, and the first failure is the same.
 use Rattle.std.proofs.Common.{◌≡◌, ◌∙◌, inl, inr, ℕ, Option, Some, List, [], ◌∷◌, ◌++◌, map, length, length-append, refl, sym, ap, ap₂, subst, arith}
 use Rattle.std.proofs.lemmas.List.{take-append-drop, length-drop}
 use Rattle.std.specs.Prelude.{codes, ◌-◌, take, drop}
@@ -72,7 +72,7 @@ module _ {T A : Type 0} (types : Texts T) (reading : Text → Outcome A) (writte
     abbrev all_next : Unit {0} → Text → Outcome (List (Entry ℕ A (Written A)))
     all_next _ t = entries_after attr marks rules (length t) [] t
 
-    -- a section that is parsed the grammar parses, and nothing is refused of it
+    -- a section that is parsed the grammar parses, and it has no failure
     pub section_read : (text : Text) (es : List (Entry ℕ A (Written A))) (taken rest : Text) → section_at attr marks rules text ≡ Read es taken rest
         → section.section l (own_location reading) es text rest × (taken ++ rest ≡ text) × (refused marks rules es ≡ [])
     section_read text es taken rest e =

@@ -1,4 +1,5 @@
--- What items do in one way, seen in another: a tree's doing and a whole reading are then seen so too, also one that is stuck.
+-- The actions of items on one state, seen on another: the actions of a tree and a whole parse are then seen on the other, too, also a parse
+-- that is stuck.
 use Rattle.std.proofs.Common.{◌≡◌, ◌∙◌, ℕ, zero, suc, Bool, true, false, cond, List, [], ◌∷◌, ◌++◌, length, Option, Some, None, codes, refl, ap}
 use Rattle.std.specs.Prelude.{⊤}
 use Rattle.irtext_base.specs.Text.{Text, begins, after_space}
@@ -91,9 +92,9 @@ module _ {T A S U : Type 0} (isolated : Id → Bool) (see : S → U) (d : Action
   pub shows_tree : (x : Tree ℕ T A) (s : S) → see (do_tree isolated d x s) ≡ do_tree isolated e x (see s)
   shows_tree x s = shows_operation x.own (do_regions isolated d (isolated x.own.id) x.regions) (do_regions isolated e (isolated x.own.id) x.regions) (shows_regions (isolated x.own.id) x.regions) s
 
--- ---- readings
+-- ---- parses
 module _ {S U : Type 0} (see : S → U) where
-  -- the one parser, as `see` shows it, answers what the other does
+  -- the one parser, as `see` shows it, returns what the other does
   pub record ReadsSeen (f : Reads S) (g : Reads U) : Type 0 where
     pub at : (text : Text) (s : S) → seen_as see (f text s) ≡ g text (see s)
 
@@ -110,7 +111,7 @@ module _ {S U : Type 0} (see : S → U) where
   seen_tells (Missing cause) text s u next other k h = ap (λ z. Stopped z cause (length text)) k
   seen_tells (Bad cause upto) text s u next other k h = ap (λ z. tells (Bad cause upto) text z other) k
 
-  -- a reading that is begun or not
+  -- a parse that is begun or not
   seen_if : {X : Type 0} (b : Bool) (o p : Reached X S) (q r : Reached X U) → seen_as see o ≡ q → seen_as see p ≡ r → seen_as see (cond b o p) ≡ cond b q r
   seen_if true o p q r h k = h
   seen_if false o p q r h k = k
@@ -224,7 +225,7 @@ module _ {T A S U : Type 0} (dialects : List (Text × Table)) (types_at : Text �
       = record { at = λ rest. seen_blocks see _ _ block (length rest) rest } in
       record { at = (seen_region _ _ blocks iso).at }
 
-  -- a region's reading is seen so
+  -- the parse of a region is seen so
   pub seen_region_at : (iso : Bool) → ReadsSeen see (region_at dialects types_at attr d iso) (region_at dialects types_at attr e iso)
   seen_region_at iso = record { at = λ text. (seen_within (suc (length text)) iso).at text }
 

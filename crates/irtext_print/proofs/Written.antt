@@ -67,7 +67,7 @@ module _ {T A : Type 0} (L : Language ⊤ T A) (C : Printing T A) (items : ℕ) 
       ∙ ap (λ z. old ++ encode_utf8_all (pairs_text C items (z ++ behind) L given)) (sym (pairs_known known left first old now is so))
 
 module _ {T A : Type 0} (L : Language ⊤ T A) (C : Printing T A) where
-  -- what printing asks of the caller's attributes alone
+  -- what printing requires of the caller's attributes alone
   abbrev alone : Printing ⊤ A
   alone = asking C.own_once C.same_own
 

@@ -85,7 +85,7 @@ module _ {T A : Type 0} (C : Printing T A) (L : Language ⊤ T A) (ctx : Context
     region_fits (Max zero) stands = tt
     region_fits (Max (suc m)) stands = (stands, tt)
 
-    -- a reason to refuse it
+    -- a reason why it fails
     abbrev pub Fault : RegionPrintDepthLimit → Refusal → Type 0
     Fault limit e = RegionsFault C (isolated ctx.dialects) width e i (levels limit) (region tt bs no_regions)
 
@@ -160,7 +160,7 @@ module _ {T A : Type 0} (C : Printing T A) (L : Language ⊤ T A) (ctx : Context
         all ≡ items ++ (marked_block C L ctx b h ++ items_in_operations C L ctx (levels limit) (operations_left C L ctx b 0))
     block_gathered items items' all k e = e ∙ ap (λ z. z ++ items_left C L ctx (first_block ∷ [])) k ∙ append_assoc items (marked_block C L ctx b h) (items_in_operations C L ctx (levels limit) (operations_left C L ctx b 0))
 
-    -- a reason to refuse it
+    -- a reason why it fails
     abbrev pub BlockFault : Refusal → Type 0
     BlockFault e = IndentFault e (i + width) ⊎ OperationsFault C (isolated ctx.dialects) width e (i + width) (levels limit) os
 

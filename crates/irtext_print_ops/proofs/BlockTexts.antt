@@ -67,7 +67,7 @@ module _ {T A : Type 0} (L : Language ⊤ T A) (C : Printing T A) where
       go (e ∷ es) = refl
 
 module _ {T A : Type 0} (L : Language ⊤ T A) (outlined_own once : A → Bool) (same : A → A → Bool) (written : A → Text) (ctx : ContextView T A) (b : Ptr BasicBlock) where
-  -- what printing asks of this context
+  -- what printing requires of this context
   abbrev printing : Printing T A
   printing = printing_over ctx outlined_own once same
 

@@ -46,7 +46,7 @@ module _ {T A : Type 0} (L : Language ⊤ T A) (C : Printing T A) where
       go (e ∷ es) = ap (λ z. entry_text L.owns.written e ∷ z) (go es)
 
 module _ {T A : Type 0} (L : Language ⊤ T A) (outlined once : A → Bool) (same : A → A → Bool) (written : A → Text) (ctx : ContextView T A) (p : Ptr Operation) where
-  -- what printing asks of this context
+  -- what printing requires of this context
   abbrev printing : Printing T A
   printing = printing_over ctx outlined once same
 

@@ -119,7 +119,7 @@ module _ {T A : Type 0} (C : Printing T A) (L : Language ⊤ T A) (ctx : Context
   pub fewer_left : (f : Frame) (items items' : List Item) (pushed : List Frame) (old new : List ℕ) → Steps C L ctx width f items items' [] pushed old new → turns_left C L ctx pushed < turns_left C L ctx (f ∷ [])
   fewer_left f items items' pushed old new s = let a = s.fewer in let e = ap (turns_left C L ctx) s.stack in omega (arith, a, e)
 
-  -- a reason to refuse what a turn leaves is one to refuse what was open
+  -- a reason why what a turn leaves fails is one why what was open fails
   pub fault_left : (f : Frame) (items items' : List Item) (pushed : List Frame) (old new : List ℕ) → Steps C L ctx width f items items' [] pushed old new →
       (e : Refusal) → AnyFault C (isolated ctx.dialects) width e (map (open_of C L ctx) pushed) → OpenFault C (isolated ctx.dialects) width e (open_of C L ctx f)
   fault_left f items items' pushed old new s e x = s.faults e (subst (λ z. AnyFault C (isolated ctx.dialects) width e (map (open_of C L ctx) z)) s.stack x)
@@ -159,7 +159,7 @@ module _ {T A : Type 0} (C : Printing T A) (L : Language ⊤ T A) (ctx : Context
     left_fits here items1 mid h (inl u) = subst (λ z. FrameFits C L ctx z) (sym u.same) h
     left_fits here items1 mid h (inr s) = let k = all_fit first items items1 (here ∷ []) old mid s in k.0
 
-    -- a reason to refuse what is left is one to refuse all of it
+    -- a reason why what is left fails is one why all of it fails
     pub left_fault : (here : Frame) (items1 : List Item) (mid : List ℕ) → Left here items1 mid →
         (e : Refusal) → OpenFault C (isolated ctx.dialects) width e (open_of C L ctx here) → OpenFault C (isolated ctx.dialects) width e (open_of C L ctx first)
     left_fault here items1 mid (inl u) e x = subst (λ z. OpenFault C (isolated ctx.dialects) width e (open_of C L ctx z)) u.same x

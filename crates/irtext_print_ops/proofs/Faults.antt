@@ -1,4 +1,4 @@
--- A reason to refuse what a turn leaves open is one to refuse what was open.
+-- A reason why what a turn leaves open fails is one why what was open fails.
 use Rattle.std.proofs.Common.{◌≡◌, ◌+◌, ◌⊎◌, ◌++◌, inl, inr, ℕ, zero, suc, List, [], ◌∷◌, Option, Some, None, Bool, true, false, refl, sym, subst, true≢false}
 use Rattle.std.specs.Prelude.{⊤}
 use Rattle.irtext_base.specs.Format as format

@@ -159,14 +159,14 @@ module _ {T A : Type 0} (C : Printing T A) (isolated : Id → Bool) (ds : List D
         others_outlined = covered ∙ p.rest.rest.rest.rest.rest.rest.is;
       }
 
--- ---- what a check answers
+-- ---- what a check returns
 
 -- what holds of a value that is present
 pub given : {X : Type 0} (P : X → Type 0) (o : Option X) (x : X) → o ≡ Some x → IfSome o P → P x
 given P o x e h = subst (λ z. IfSome z P) e h
 
 module _ {T A : Type 0} (C : Printing T A) (isolated : Id → Bool) (n : ℕ) where
-  -- what a check answers of an operation, where it is there
+  -- what a check returns for an operation, if it is live
   pub record Answers {X : Type 0} (seen : Option (GraphOp T A)) (r : Result X FitFault) : Type 0 where
     pub fits : OnOk r (IfSome seen (λ o. FitsOwn C isolated o n))
     pub fault : IfErr r (λ reason. IfSome seen (λ o. IsFirstReason C isolated o n reason))

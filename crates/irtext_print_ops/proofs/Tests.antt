@@ -14,7 +14,7 @@ pub is_there : {X : Type 0} (o : Option X) → IsSome o → (x : X) × (o ≡ So
 is_there None h = absurd (true≢false (sym h))
 is_there (Some x) h = (x, refl)
 
--- what follows of two clauses of a call that succeeded, where the second and what follows speak of what it answers
+-- what follows from two clauses of a call that succeeded, if the second and what follows are about what it returns
 pub both_in : {X E P : Type 0} {Q R : X → Type 0} (r : Result X E) → ((x : X) → P → Q x → R x) → OnOk r P → IfOk r Q → IfOk r R
 both_in (Ok x) f p q = f x p q
 both_in (Err e) f p q = tt

@@ -57,7 +57,7 @@ module _ {T A : Type 0} (C : Printing T A) (L : Language ⊤ T A) (ctx : Context
   turns_both [] hs = omega arith
   turns_both (g ∷ gs) hs = let k = turns_both gs hs in omega (arith, k)
 
-  -- something of what frames leave open gives a reason to refuse
+  -- some part of what frames leave open has a reason to fail
   abbrev pub FramesFault : Refusal → List Frame → Type 0
   FramesFault e frames = AnyFault C (isolated ctx.dialects) width e (map (open_of C L ctx) frames)
 
@@ -69,7 +69,7 @@ module _ {T A : Type 0} (C : Printing T A) (L : Language ⊤ T A) (ctx : Context
   frames_both : (e : Refusal) (gs hs : List Frame) → FramesFault e (gs ++ hs) → FramesFault e gs ⊎ FramesFault e hs
   frames_both e gs hs x = any_both C (isolated ctx.dialects) width e (map (open_of C L ctx) gs) (map (open_of C L ctx) hs) (subst (AnyFault C (isolated ctx.dialects) width e) (map-append (open_of C L ctx) gs hs) x)
 
-  -- the innermost frame gives a reason to refuse
+  -- the innermost frame has a reason to fail
   pub last_fault : (e : Refusal) (gs : List Frame) (f : Frame) → OpenFault C (isolated ctx.dialects) width e (open_of C L ctx f) → FramesFault e (gs ++ f ∷ [])
   last_fault e gs f x = subst (AnyFault C (isolated ctx.dialects) width e) (sym (map-append (open_of C L ctx) gs (f ∷ []))) (any_back C (isolated ctx.dialects) width e (map (open_of C L ctx) gs) (open_of C L ctx f ∷ []) (inl x))
 

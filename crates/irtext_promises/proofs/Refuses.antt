@@ -62,11 +62,11 @@ module _ {T A : Type 0} (types_at : Text → Outcome T) (types_written : T → T
       let all = ran_into (tree_script (isolated dialects) x then) f ran in
       first_is text f (failures no_scope (tree_script (isolated dialects) x then)) all.0 fault all.1 is
 
-  -- so the promise of a refusal is kept, with no section
+  -- so the promise of an error is kept, with no section
   pub refuses_tree : (old : StreamView) (fault : ParseFault A) → HasFault {T = T} types_at (attr_at reading) dialects (whole old) old.rest fault → RefusesTree (texts_of types_at types_written) (texts_of reading written) types_at (attr_at reading) dialects old fault
   refuses_tree old fault h = record { first = λ tree rest r. refuses_first (whole old) old.rest fault h tree rest r done; at_fault = h }
 
-  -- and with one, where the operation itself is refused
+  -- and with one, if the operation itself is an error
   pub refuses_root : (old : StreamView) (fault : ParseFault A) → HasFault {T = T} types_at (attr_at reading) dialects (whole old) old.rest fault → (tree : Tree ℕ T A) (entries : List (Entry ℕ A (Written A))) (mid : Text)
       → grammar.reads (knot.L types_at types_written reading written dialects) tree old.rest mid → IsFirst (whole old) (failures_of (isolated dialects) tree entries) fault
   refuses_root old fault h tree entries mid r = refuses_first (whole old) old.rest fault h tree mid r (does_all (section_acts (rule_of tree) entries) done)

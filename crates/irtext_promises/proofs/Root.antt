@@ -1,4 +1,4 @@
--- What is wrong with a root and its section, from what the parsers of the operation and of the section leave or refuse.
+-- The failures of a root and its section, from what the parsers of the operation and of the section leave, or from their errors.
 use Rattle.std.proofs.Common.{◌≡◌, ◌∙◌, ℕ, List, sym, ap, subst}
 use Rattle.irtext_base.specs.Text.{Text}
 use Rattle.irtext_base.specs.Format.{Id}
@@ -83,7 +83,7 @@ module _ {T A : Type 0} (types_at : Text → Outcome T) (types_written : T → T
 
 module _ {T A : Type 0} (types_at : Text → Outcome T) (types_written : T → Text) (reading : Text → Outcome A) (written : A → Text) (dialects : List (Text × Table)) (types_split : Splits types_at) (splits : Splits reading) (words : NeedsWord reading)
     (short_types : Shortens (texts_of types_at types_written)) (short_owns : Shortens (texts_of reading written)) where
-  -- where the operation itself is refused, whatever root the text parses as is refused so
+  -- if the operation itself is an error, whatever root the text parses as has this failure first
   pub root_refused : (old : StreamView) (fault : ParseFault A) → HasFault {T = T} types_at (attr_at reading) dialects (whole old) old.rest fault → RefusesRoot (texts_of types_at types_written) (texts_of reading written) types_at (attr_at reading) dialects old fault
   root_refused old fault h = record {
     first = λ tree es rest (between, r, s). refuses_root types_at types_written reading written dialects types_split splits words short_types short_owns old fault h tree es between r;

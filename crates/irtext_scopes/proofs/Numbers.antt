@@ -49,7 +49,7 @@ distinct names text d = by (position (bytes_eq text) names) refl
         (λ a. ⊎_elim (λ b. absurd (absent names text j e (b.0 ∙ ap Some (sym a.1)))) (λ b. a.0 ∙ sym b.0) (get_snoc names text j t hj))
         (get_snoc names text i t hi)
 
--- ---- the same of a call that keeps a name, or is refused and changes nothing
+-- ---- the same for a call that interns a name, or is an error and changes nothing
 module _ {E : Type 0} (old new : List (List ℕ)) (text : List ℕ) where
   pub named_after : (r : Result ℕ E) → IfOk r (λ i. i ≡ number_of old text) → OnOk r (new ≡ with_name old text) → IfOk r (λ i. slice_get new i ≡ Some text)
   named_after (Ok i) n k = (λ q. slice_get (k q) (n q)) ∙ named old text

@@ -171,7 +171,7 @@ comes bs cs text word o r same w e =
     let f : r ≡ pointwise eqb text (take (length text) (drop o bs)) = e ∙ (ap (λ z. pointwise eqb z (take (length z) (take (length cs - o) (drop o cs)))) w ∙ ap (λ z. pointwise eqb text (take (length text) z)) (rest_of bs cs o same)) in
     starts_is (λ a b. Decides-eqb a b) (drop o bs) text r f
 
--- what an answer about the bytes says of the text
+-- what a result about the bytes says of the text
 pub comes_where : (bs word : List ℕ) (o : ℕ) (r : Bool) → o ≤ length bs → IsUtf8 (take o bs) → IsUtf8 (drop o bs) → IsUtf8 word → (r ≡ true → drop o bs ≡ word ++ drop (length word) (drop o bs)) × ((rest : List ℕ) → drop o bs ≡ word ++ rest → r ≡ true) → MatchBool r (ComesAt bs o word) ((rest : List ℕ) → chars (drop o bs) ≡ chars word ++ rest → ⊥)
 comes_where bs word o true l f u t p = behind_text bs o word l f u t (p.0 refl)
 comes_where bs word o false l f u t p = λ rest e. true≢false (sym (p.1 (encode_utf8_all rest) (comes_next bs o word rest u t e)))

@@ -1,5 +1,5 @@
--- What the round trip asks of worked roots: of locations on line 1, and of a module with one block of two operations, from what it
--- asks of the two.
+-- What the round trip requires of worked roots: of locations on line 1, and of a module with one block of two operations, from what it
+-- requires of the two.
 use Rattle.std.specs.Prelude.{◌≡◌, ℕ, ◌+◌, ◌<◌, ◌^◌, true, false, not, ◌==◌, [], ◌∷◌, ◌++◌, codes, refl, Some, None}
 use Rattle.std.proofs.Common.{arith, ap, ap₂}
 use Rattle.std.specs.Char.{is_whitespace}

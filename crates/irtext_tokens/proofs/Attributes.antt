@@ -69,7 +69,7 @@ module _ {S X Y V W A : Type 0} (l : Lens S) (g : X → V) (see : Y → X) (sees
   read_as old new y w e o h =
       record { answers = rw o (gives_mapped l.view l.at l.view_at l.at_at g (l.view old).failed (f (l.view old).rest) old new (see y) (sees w) e h.answers) }
 
-  -- and what is refused there
+  -- and what is an error there
   pub refused_as : (old new : S) (fault : ParseFault A) → outcome (l.view old).rest ≡ mapped g (f (l.view old).rest) → MayRead l.view l.at see f old (Err fault) new → MayRead l.view l.at sees outcome old (Err fault) new
   refused_as old new fault o h =
       record { answers = rw o (refuses_mapped l.view l.at l.view_at l.at_at g (l.view old).failed (f (l.view old).rest) old new fault h.answers) }

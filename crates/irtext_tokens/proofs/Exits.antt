@@ -1,4 +1,4 @@
--- What the exit of a `?` answers.
+-- What the exit of a `?` returns.
 use Rattle.std.proofs.Common.{◌≡◌, Result, Err, ◌∙◌, ap}
 use Rattle.std.specs.Result.{IsErrAnd}
 use Rattle.std.proofs.lemmas.Result.{err_from_is_err_and}

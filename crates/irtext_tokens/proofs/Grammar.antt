@@ -7,7 +7,7 @@ use Rattle.irtext_base.specs.Faults.{Demand, AnIdentifier, Unexpected, Word}
 use Rattle.irtext_base.specs.Answers.{Outcome, Read, Missing, Bad, prefixed}
 use Rattle.irtext_tokens.specs.Tokens.{word_at, identifier_at, spelled_at, text_at}
 
--- a value read is one
+-- equal outcomes have equal values, texts and rests
 same_read : {X : Type 0} (x y : X) (t u r s : Text) → ◌≡◌ {A = Outcome X} (Read x t r) (Read y u s) → (x ≡ y) × (t ≡ u) × (r ≡ s)
 same_read x y t u r s e = (cc, cc, cc)
 

@@ -51,7 +51,7 @@ of_word : (demand : Demand) (text : Text) → Of text (word_at demand text)
 unfolding word_at
 of_word demand text = of_either text (begins begins_word text) _ _ (of_read text (front in_word text) (front in_word text) (after in_word text) (front_after in_word text)) (of_missing text _ refl)
 
--- a word that the demand asks for
+-- a word of the kind that is required
 pub honest_name : (demand : Demand) → Honest (word_at demand)
 honest_name demand = record { of = of_word demand }
 

@@ -109,7 +109,7 @@ module _ {S X : Type 0} (l : Lens S) (k : List X → Text → Outcome (List X)) 
   missing_first false (Bad cause upto) s new fault e (inr h) = absurd (true≢false (sym h.committed ∙ e))
 
   module _ {W Y A : Type 0} {see : Y → List X} {sees : W → List X} {f : Text → Outcome (List X)} where
-    -- where the first item is parsed, what follows answers for the list
+    -- if the first item is parsed, the result of what follows is that of the list
     pub list_begun : {old mid new : S} {y : Y} {r : Result W (ParseFault A)} → MayRead {A = A} l.view l.at see f old (Ok y) mid → ((l.view mid).failed ≡ false → MustRead l.view l.at sees (k (see y)) mid r new) → MayRead l.view l.at sees (λ t. or_empty (followed (f t) k) t) old r new
     list_begun {old = old} {mid = mid} {new = new} {y = y} {r = r} h m =
         let p = begins_with l {Y = Y} {A = A} {see = see} {f = f} {old = old} {mid = mid} {y = y} k h in

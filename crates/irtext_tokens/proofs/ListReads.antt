@@ -15,7 +15,7 @@ use Rattle.irtext_tokens.proofs.Steps.{Lens}
 use Rattle.irtext_tokens.proofs.ListsAsOutcomes.{Says, separated_is}
 
 module _ {S X Y A : Type 0} (l : Lens S) (see : X → Y) (item : Text → Outcome Y) where
-  -- one answer, as the relation has it
+  -- one result, as the relation has it
   each_says : (sep : ℕ) (s : S) (o : Outcome Y) (r : Result X (ParseFault A)) (t : S) → item (l.view s).rest ≡ o → Answers l.view l.at see o s r t → Each {A = A} l.view l.at see (Says sep item) s r t
   each_says sep s (Read y k q) (Ok x) t e h = (k, q, record { is = subst (λ z. item (l.view s).rest ≡ Read z k q) (sym h.0) e; fits = h.1.same }, h.1)
   each_says sep s (Missing cause) (Ok x) t e h = absurd h
@@ -53,7 +53,7 @@ module _ {S F R X Y A : Type 0} (l : Lens S) (see : X → Y) (sep : ℕ) (item :
     shown_so sees e o s (Ok v) u h = subst (λ z. Gives l.view l.at o s z u) (sym (e v)) h
     shown_so sees e o s (Err fault) u h = h
 
-    -- what the list's parser answers, in the words of outcomes
+    -- what the list's parser returns, in the words of outcomes
     pub list_reads : (sees : Vec X Z → List Y) → ((v : Vec X Z) → sees v ≡ map see v.items) → (f : F) (s : S) (q : Result (Vec X Z) (ParseFault A)) (u : S) → AlwaysReads → UnlessFailed l.view l.at (Separated l.view l.at (Calls seen call) sep f) (l.view s).failed s (listed q) u
         → MayRead l.view l.at sees (separated_at sep item) s q u
     list_reads sees e f s q u always h = record { answers = shown_so sees e (unless_failed (l.view s).failed (separated_at sep item (l.view s).rest)) s q u (by_failed (l.view s).failed f s q u refl always h) }

@@ -23,7 +23,7 @@ not_zero n h = grind (arith, nat_tests)
 pub called_at : {F S R X A : Type 0} {seen : R → Result X (ParseFault A)} {item : Mut F (MutBor S × Unit {0}) (R × (MutBor S × Unit {0}))} {f h : F} {p q : MutBor S} {answer : R} {r : Result X (ParseFault A)} → Called item f (p, tt) (answer, (q, tt)) h → r ≡ seen answer → Calls seen item f p.now r h q.now
 called_at {p} {q} {answer} k i = record { answer = answer; called = record { shown = p; shows = refl; left = q; called = k; leaves = refl }; is = sym i }
 
--- where every call keeps the rules, so does one whose answer is seen as a result
+-- if every call keeps the rules, so does one whose result is seen
 pub rules_at : {F S R X A : Type 0} (view : S → StreamView) (at : S → StreamView → S) {seen : R → Result X (ParseFault A)} {item : Mut F (MutBor S × Unit {0}) (R × (MutBor S × Unit {0}))} → AlwaysKeepsRules view at seen item → (f : F) (s : S) (r : Result X (ParseFault A)) (g : F) (t : S) → Calls seen item f s r g t → KeepsRules view at s r t
 rules_at view at keeps f s r g t k = subst (λ z. KeepsRules view at s z t) k.is (keeps f s k.answer g t k.called)
 

@@ -46,7 +46,7 @@ signed_made below narrow sign digits negative m v e n f =
 pub hexadecimal_made : (below : Bool → ℕ) (narrow : (negative : Bool) → below negative ≤ 2 ^ 64) (mark : Unit {0}) (digits : Text) (m : Option ℕ) (v : Option ℤ) → v ≡ within_of below false m → m ≡ fitting (digits_value 16 digits) → hexadecimal_integer below mark digits ≡ v
 hexadecimal_made below narrow mark digits m v e f = sym (e ∙ (ap (within_of below false) f ∙ within_of-fitting below false (digits_value 16 digits) (narrow false)))
 
--- a value read is one
+-- equal outcomes took equal texts
 same_taken : {X : Type 0} (x y : X) (t u r s : Text) → ◌≡◌ {A = Outcome X} (Read x t r) (Read y u s) → t ≡ u
 same_taken x y t u r s e = cc
 
@@ -144,7 +144,7 @@ module _ {S : Type 0} (l : Lens S) where
     pub led : Led (l.view old).failed o lead old mid
     pub digits : Takes l.view l.at (front digit (l.view mid).rest) (after digit (l.view mid).rest) mid new
 
-  -- that parser's answer and the digits' together
+  -- that parser's result and the digits' together
   pub numbered : {L : Type 0} (digit : ℕ → Bool) (o : Outcome L) (lead : L) (old mid new : S) → Gives l.view l.at (unless_failed (l.view old).failed o) old lead mid → Takes l.view l.at (front digit (l.view mid).rest) (after digit (l.view mid).rest) mid new → Numbered digit o lead old mid new
   numbered digit o lead old mid new h d = record { led = led (l.view old).failed o lead old mid h; digits = d }
 

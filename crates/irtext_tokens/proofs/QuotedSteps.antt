@@ -179,7 +179,7 @@ module _ {S : Type 0} (view : S → StreamView) (at : S → StreamView → S) wh
       unclosed before mid new digits fault h q c =
           unit_refused before mid new (codes "\\u{" ++ digits) (view mid).rest (Unexpected (first_of (view mid).rest) (Word (codes "}"))) fault h.takes (h.unit ∙ closed_open digits (view mid).rest q) c
 
-      -- a unit that is bad at its beginning, or memory refused
+      -- a unit that is bad at its beginning, or out of memory
       pub refused_before : (before mid new : S) (t r : Text) (cause : Fault) (fault : ParseFault A) → Takes view at t r before mid → unit_at (view before).rest ≡ Bad cause [] →
           (view before).failed ≡ false → StarvesHere view at mid fault new ⊎ FailsBehind view at cause (view before).passed mid fault new → Starves view at before fault new ⊎ Refuses view at (unit_at (view before).rest) before fault new
       refused_before before mid new t r cause fault k u f h = rw u (refuses_before view at view_at at_at cause before mid new t r fault f k h)
@@ -226,7 +226,7 @@ module _ {S : Type 0} (view : S → StreamView) (at : S → StreamView → S) wh
       bad_by (Missing e) text old new f n g = absurd (never_missing text (Missing e) n)
       bad_by (Bad e u) text old new f n g = (e, u, refl, g)
 
-      -- a unit that is refused
+      -- a unit that is an error
       pub spoiled : (start now new : S) (cs taken : Text) (f : ParseFault A) → Within start now cs taken → begins (the 34) (view now).rest ≡ false → Starves view at now f new ⊎ Refuses view at (unit_at (view now).rest) now f new →
           Starves view at start f new ⊎ Refuses view at (mapped encode_utf8_all (demanded (units_at [] (view start).rest))) start f new
       spoiled start now new cs taken f w q (inl s) = inl (starves_after view at view_at at_at start now new taken (view now).rest f w.takes s)

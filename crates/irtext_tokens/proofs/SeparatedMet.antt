@@ -1,4 +1,4 @@
--- Where each call of an item answers what a relation says of a text, so does the list of items with a separator.
+-- If each call of an item returns what a relation says of a text, so does the list of items with a separator.
 use Rattle.std.proofs.Common.{◌≡◌, ℕ, true, false, Result, Ok, Err, List, [], ◌∷◌, ◌++◌, map, refl, sym, ◌∙◌, ap, append-nil, ◌⊎◌, inl, inr, subst}
 use Rattle.std.specs.Char.{is_whitespace}
 use Rattle.irtext_base.specs.Text.{Text, after_space}
@@ -14,7 +14,7 @@ use Rattle.irtext_tokens.proofs.ItemsMet.{Each, settled}
 use Rattle.irtext_tokens.proofs.Spelling.{begins_the, takes_next}
 
 module _ {S X Y A : Type 0} (view : S → StreamView) (at : S → StreamView → S) (see : X → Y) (Q : Text → Outcome (List Y) → Type 0) where
-  -- what a list answers on a stream that has not failed
+  -- what a list returns on a stream that has not failed
   abbrev pub Whole : S → Result (List X) (ParseFault A) → S → Type 0
   Whole s (Ok xs) t = (k : Text) × (q : Text) × Q (view s).rest (Read (map see xs) k q) × Takes view at k q s t
   Whole s (Err f) t = Starves view at s f t ⊎ ((c : Fault) × (u : Text) × Q (view s).rest (Bad c u) × Commits view at c u s f t)
@@ -121,7 +121,7 @@ module _ {S F X Y A : Type 0} (view : S → StreamView) (at : S → StreamView �
     none_read sep s t fault (inr (inl m)) c = ([], (view s).rest, none_first (view s).rest m.0 m.1, subst (λ z. Takes view at [] (view s).rest s z) (sym m.2.left) (takes_none view at view_at at_at at_view s))
     none_read sep s t fault (inr (inr d)) c = absurd (let h : true ≡ false = sym d.3.committed ∙ c in cc)
 
-    -- a list with a separator, on a stream that has not failed, answers what the relation of lists says of the text
+    -- a list with a separator, on a stream that has not failed, returns what the relation of lists says of the text
     pub separated_met : (sep : ℕ) (f : F) (s : S) (r : Result (List X) (ParseFault A)) (u : S) → (view s).failed ≡ false → Separated view at calls sep f s r u → Whole {A = A} view at see (SeparatedAt R sep) s r u
     separated_met sep _ _ _ _ n (no_item f s fault g t called free) = none_read sep s t fault (each f s (Err fault) g t n called) free
     separated_met sep _ _ _ _ n (bad_item f s fault g t called shut) = first_refused sep s t fault (each f s (Err fault) g t n called) shut

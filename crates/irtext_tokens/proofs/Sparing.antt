@@ -76,7 +76,7 @@ module _ {A : Type 0} where
   neither_spares Y b text fault n m = unread_spares Y b _ fault (rw (n, m) tt)
 
 module _ {S X Y A : Type 0} (view : S → StreamView) (at : S → StreamView → S) (mid new : S) where
-  -- an answer whose fault is committed asks for no memory where the answer didn't
+  -- a result whose error is committed needs no memory if the result before needed none
   pub demanded_spares : (o : Outcome X) (a r : Result Y (ParseFault A)) → NeedsNoMemory o a → DemandsOf view at a mid r new → NeedsNoMemory o r
   demanded_spares o (Ok y) r h d = subst (λ r. NeedsNoMemory o r) (sym d.0) tt
   demanded_spares o (Err fault) r h d = subst (λ r. NeedsNoMemory o r) (sym d.1) (err_spares Y o fault d.0 h)

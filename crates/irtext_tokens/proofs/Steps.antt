@@ -14,7 +14,7 @@ use Rattle.irtext_tokens.specs.MustRead.{MustRead, MayRead}
 use Rattle.irtext_tokens.proofs.Grammar.{text_at-literal}
 use Rattle.irtext_tokens.proofs.Spelling.{prefixed-prefixed, begins_the, takes_next, whole_gives}
 
--- where nothing was taken, what follows is demanded
+-- if nothing was taken, what follows is required
 prefixed-none : {X : Type 0} (o : Outcome X) → prefixed [] o ≡ demanded o
 prefixed-none (Read x taken rest) = refl
 prefixed-none (Missing cause) = refl

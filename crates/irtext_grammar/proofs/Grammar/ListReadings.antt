@@ -1,4 +1,4 @@
--- Where a list of readings was parsed, each of them is that of some text; and the parts of a body have a place for each of its regions.
+-- If a list of readings parses a text, each of them parses some text; and the parts of a body have a place for each of its regions.
 use Rattle.std.proofs.Common.{ℕ, Bool, List, [], ◌∷◌}
 use Rattle.std.specs.Prelude.{⊤}
 use Rattle.irtext_base.specs.Text.{Text, after_space}
@@ -31,7 +31,7 @@ repeated_used test [] t u a = tt
 repeated_used test (r ∷ rs) t u (m, a, b) = ((t, m, a), repeated_used test rs (after_space m) u b)
 
 module _ {P T A : Type 0} (L : Language P T A) where
-  -- each region that a body's parts read was parsed of some text
+  -- each region of a body's parts was parsed from some text
   pub parts_used : (ps : List (Part P T A)) (rs : Regions (Op P T A) (Head P T A) (Brace P)) (t u : Text) → reads.parts L ps (reads.region_readings L rs) t u
       → Enough ps rs × AllUsed (reads.region_readings L rs)
   parts_used [] no_regions t u a = (tt, tt)

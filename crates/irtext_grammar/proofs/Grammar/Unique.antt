@@ -51,7 +51,7 @@ one_literal w t u v a b = (tt, same_rest w u v (sym a ∙ b))
 pub sure_identifier : Sure identifier
 sure_identifier x y t u v a b = (a.1 ∙ sym b.1, a.2 ∙ sym b.2)
 
--- digits read in one way
+-- digits are parsed in one way
 pub sure_digits : Sure digits
 sure_digits x y t u v a b = (a.1 ∙ sym b.1, a.3 ∙ sym b.3)
 

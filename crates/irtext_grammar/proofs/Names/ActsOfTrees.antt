@@ -89,7 +89,7 @@ abbrev pub NoEntry : {P : Type 0} → Act Text P → Type 0
 NoEntry (entry i p) = ⊥
 NoEntry _ = ⊤
 
--- of an act that names or marks nothing is asked, and it is no entry
+-- nothing is required of an act that names or marks nothing, and it is no entry
 abbrev Easy : {P : Type 0} → Act Text P → Type 0
 Easy a = Holds a × NoEntry a
 

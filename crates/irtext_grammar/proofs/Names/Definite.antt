@@ -1,4 +1,4 @@
--- A script in which each use means something, and all that is defined differs, is not refused.
+-- A script in which each use refers to something, and all that is defined differs, has no failure.
 use Rattle.std.proofs.Common.{◌≡◌, ℕ, Bool, true, false, cond, ◌||◌, List, [], ◌∷◌, ◌++◌, Some, None, is_some, refl, sym, ap, ◌∙◌, true≢false}
 use Rattle.std.specs.Prelude.{⊤}
 use Rattle.irtext_base.specs.Format.{has}

@@ -114,14 +114,14 @@ unknown n ns (defines m p ∷ f) h = go (same_text m n) refl (unknown n (add ns 
     go true e k = absurd (true≢false (sym (subst (λ z. among z (names_from (add ns m) f) ≡ true) (same_text_true m n e) (among-names m (add ns m) f (among-added m ns))) ∙ h))
     go false e k = k
 
--- ---- what the calls answer
+-- ---- what the calls return
 abbrev pub Agrees : List Failure → List Scope → List (User × Place) → Result Names Failure → Type 0
 Agrees [] gs b (Ok s) = Linked gs b s
 Agrees [] gs b (Err f) = ⊥
 Agrees (x ∷ xs) gs b (Ok s) = ⊥
 Agrees (x ∷ xs) gs b (Err f) = f ≡ x
 
--- a parser's answer agrees with these failures, or else has open scopes of these facts
+-- a parser's result agrees with these failures, or else has open scopes of these facts
 pub record Follows (F : List Failure) (fs : List (List Fact)) (b : List (User × Place)) (r : Result Names Failure) : Type 0 where
   pub scopes : List Scope
   pub facts_are : facts_in scopes ≡ fs

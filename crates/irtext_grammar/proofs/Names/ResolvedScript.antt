@@ -1,4 +1,5 @@
--- A script without entries is not refused exactly where its claims hold, what it gives the scopes round it is new there, and the scopes that end in it resolve.
+-- A script without entries has no failure exactly if its claims hold, what it gives the scopes around it is new there, and the scopes that
+-- end in it resolve.
 use Rattle.std.proofs.Common.{◌≡◌, ℕ, Bool, true, false, cond, ◌||◌, ◌==◌, List, [], ◌∷◌, ◌++◌, Option, Some, None, refl, sym, ap, ◌∙◌, subst, true≢false, arith}
 use Rattle.std.specs.Prelude.{⊤, is_some, nat_eq}
 use Rattle.std.proofs.lemmas.Bool.Decides.{nat_tests}
@@ -13,7 +14,7 @@ use Rattle.irtext_grammar.proofs.Lists.Fresh.{Fresh, fresh_join, fresh_left, fre
 use Rattle.irtext_grammar.proofs.Lists.Each.{each_both, each_left, each_right}
 
 -- ---- names in scopes
--- the names that a scope defines, in reading order
+-- the names that a scope defines, in the order of the text
 abbrev pub defined : List (Fact Text) → List Text
 defined [] = []
 defined (uses n u ∷ fs) = defined fs
@@ -170,7 +171,7 @@ module _ {P : Type 0} where
   OuterIsolated (does a k) = OuterIsolated k
   OuterIsolated (within iso p body k) = (iso ≡ true) × OuterIsolated k
 
-  -- what a script without entries has to meet so that it is not refused
+  -- the conditions under which a script without entries has no failure
   pub record Good (s : Scopes Text) (x : Script Text P) : Type 0 where
     pub claims : Claims x
     pub values : New s.values (facts same_text x).values
@@ -179,7 +180,7 @@ module _ {P : Type 0} where
     pub outer : s.values ≡ None → OuterIsolated x
     pub scopes : Each Scope (scopes x)
 
-  -- what is asked of one act
+  -- what is required of one act
   abbrev Claim : Act Text P → Type 0
   Claim (claim b x) = b ≡ true
   Claim _ = ⊤

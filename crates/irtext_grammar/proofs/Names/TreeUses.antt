@@ -27,7 +27,7 @@ abbrev pub Unless : Bool → Type 0 → Type 0
 Unless true Q = ⊤
 Unless false Q = Q
 
--- nothing is asked
+-- nothing is required
 abbrev pub Never : Bool → Type 0 → Type 0
 Never iso Q = ⊤
 

@@ -1,4 +1,4 @@
--- The acts of a written section are not refused: each entry's index is a mark and new, and each reference is found.
+-- The acts of a printed section do not fail: each entry's index is a mark and new, and each reference is found.
 use Rattle.std.proofs.Common.{◌≡◌, ℕ, suc, ◌+◌, ◌<◌, Bool, true, false, cond, not, ◌&&◌, List, [], ◌∷◌, ◌++◌, map, length, Some, refl, sym, ap, ap₂, ◌∙◌, subst, append-nil, arith}
 use Rattle.std.specs.Prelude.{⊤, flat_map, is_some}
 use Rattle.irtext_base.specs.Text.{Text}
@@ -21,7 +21,7 @@ pub record Entered (m n : ℕ) (s : Scopes Text) : Type 0 where
   pub marks : s.marks ≡ numbers 0 m
   pub entries : s.entries ≡ numbers 0 n
 
--- a script that is not refused there
+-- a script that does not fail there
 pub record Clean (m n : ℕ) (k : Script Text ⊤) : Type 0 where
   pub nothing : (s : Scopes Text) → Entered m n s → failures same_text s k ≡ []
 

@@ -12,7 +12,7 @@ use Rattle.irtext_parse_spec.proofs.Joins.Answers.{followed_read, followed-read,
 use Rattle.irtext_parse_spec.proofs.Joins.Tokens.{text_read, text-literal, splits_text, splits_space}
 use Rattle.irtext_parse_spec.specs.Exact.{Exact}
 
--- the same parser, and a reading that says the same
+-- the same parser, and an equivalent reading
 pub exact_as : {X : Type 0} {reader : Reader X} {reading other : X → Reading} → Exact reader reading
     → ((x : X) (text rest : Text) → reading x text rest → other x text rest) → ((x : X) (text rest : Text) → other x text rest → reading x text rest) → Exact reader other
 exact_as h there back = record {

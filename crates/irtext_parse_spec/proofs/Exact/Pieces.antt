@@ -1,4 +1,4 @@
--- The parser of a step answers the pieces that the grammar parses.
+-- The parser of a step returns the pieces that the grammar parses.
 use Rattle.std.proofs.Common.{◌≡◌, ◌∙◌, ℕ, true, Option, Some, List, ◌++◌, refl, sym, ap, subst}
 use Rattle.std.specs.Prelude.{◌↔◌, ⊤}
 use Rattle.irtext_base.specs.Text.{Text}

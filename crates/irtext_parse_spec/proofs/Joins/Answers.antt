@@ -1,4 +1,4 @@
--- What a reading that was parsed is made of, where one follows another.
+-- The parts of a successful parse in which one parser follows another.
 use Rattle.std.proofs.Common.{◌≡◌, ◌++◌, refl, sym, ◌∙◌, ap, append_assoc}
 use Rattle.irtext_base.specs.Text.{Text}
 use Rattle.irtext_base.specs.Answers.{Outcome, Read, Missing, Bad, prefixed, mapped, followed}
@@ -14,7 +14,7 @@ pub record Followed {X Y : Type 0} (o : Outcome X) (next : X → Text → Outcom
   pub whole : front ++ more ≡ taken
 
 module _ {X Y : Type 0} where
-  -- the second reading, where the first was parsed
+  -- the second parse, after the first succeeded
   followed_on : (x : X) (a mid : Text) (next : X → Text → Outcome Y) (y : Y) (taken rest : Text) (p : Outcome Y) → next x mid ≡ p → prefixed a p ≡ Read y taken rest
       → Followed (Read x a mid) next y taken rest
   followed_on x a mid next y taken rest (Read z b r) f e = record {
@@ -51,12 +51,12 @@ abbrev pub Splits : {X : Type 0} → (Text → Outcome X) → Type 0
 Splits {X} at = (text : Text) (x : X) (taken rest : Text) → at text ≡ Read x taken rest → taken ++ rest ≡ text
 
 module _ {X Y : Type 0} where
-  -- what is taken and what is left make up the text, of one reading and then another
+  -- what is taken and what is left make up the text, for one parser and then another
   pub splits_followed : (at : Text → Outcome X) (next : X → Text → Outcome Y) → Splits at → ((x : X) → Splits (next x)) → Splits (λ text. followed (at text) next)
   splits_followed at next h k text y taken rest e =
       let r = followed_read (at text) next y taken rest e in
       ap (λ t. t ++ rest) (sym r.whole) ∙ (append_assoc r.front r.more rest ∙ (ap (λ t. r.front ++ t) (k r.value r.middle y r.more rest r.second) ∙ h text r.value r.front r.middle r.first))
 
-  -- the same of what is made of a reading
+  -- the same for a function of what was parsed
   pub splits_mapped : (see : X → Y) (at : Text → Outcome X) → Splits at → Splits (λ text. mapped see (at text))
   splits_mapped see at h text y taken rest e = let r = mapped_read see (at text) y taken rest e in h text r.0 taken rest r.1

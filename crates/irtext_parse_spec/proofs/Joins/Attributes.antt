@@ -1,4 +1,4 @@
--- What the parser of attributes answers, and the grammar's readings of them.
+-- What the parser of attributes returns, and the grammar's readings of them.
 use Rattle.std.proofs.Common.{◌≡◌, ◌∙◌, ℕ, Bool, true, false, cond, Some, None, Option, List, [], ◌∷◌, ◌++◌, map, codes, refl, sym, ap, subst, true≢false}
 use Rattle.std.proofs.lemmas.List.{map-id}
 use Rattle.std.specs.Prelude.{◌||◌, ◌==◌}

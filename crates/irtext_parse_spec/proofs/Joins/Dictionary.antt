@@ -1,4 +1,4 @@
--- What the parser of an attribute answers, and the grammar's reading of it; and where an identifier is missing.
+-- What the parser of an attribute returns, and the grammar's reading of it; and where an identifier is missing.
 use Rattle.std.proofs.Common.{◌≡◌, ℕ, false, Option, refl, ap, subst}
 use Rattle.irtext_base.specs.Text.{Text, begins, begins_word}
 use Rattle.irtext_base.specs.Format.{Id, Format}

@@ -84,7 +84,7 @@ pub record ItemRead {X Y : Type 0} (reading : X → Reading) (see : X → Y) (al
   pub sees : see item ≡ y
   pub fine : allowed item ≡ true
 
--- how a parser of items and the grammar's reading of an item belong together
+-- how a parser of items and the grammar's reading of an item are related
 pub record Items (X Y : Type 0) : Type 1 where
   pub item : Text → Outcome Y
   pub reading : X → Reading

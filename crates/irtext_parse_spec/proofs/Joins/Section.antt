@@ -1,4 +1,4 @@
--- What the parser of a fixed text with white space round it answers, and the grammar's reading of it.
+-- What the parser of a fixed text with white space around it returns, and the grammar's reading of it.
 use Rattle.std.proofs.Common.{◌≡◌, ◌++◌, refl, ◌∙◌}
 use Rattle.std.specs.Char.{is_whitespace}
 use Rattle.irtext_base.specs.Text.{Text, front, after_space}

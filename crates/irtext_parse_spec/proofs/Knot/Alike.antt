@@ -1,4 +1,4 @@
--- Two readings of nested text that answer the same, and leave no more than a bound: each way to put readings together keeps to it.
+-- Two parses of nested text with the same result, which leave no more than a bound: each way to combine parses preserves this.
 use Rattle.std.proofs.Common.{◌≡◌, ℕ, zero, suc, ◌≤◌, Bool, true, false, cond, [], ◌∷◌, length, refl, ap, subst, arith}
 use Rattle.irtext_base.specs.Text.{Text, after_space}
 use Rattle.irtext_base.specs.Answers.{Outcome, Read, Missing, Bad}
@@ -10,7 +10,7 @@ use Rattle.irtext_parse_spec.specs.Reached.{Reached, Advanced, Stopped, came, te
 pub record LeavesBy {X S : Type 0} (bound : ℕ) (o : Reached X S) : Type 0 where
   pub by : (x : X) (s : S) (rest : Text) → o ≡ Advanced x s rest → length rest ≤ bound
 
--- both readings are the same, and leave no more than the bound
+-- both parses are the same, and leave no more than the bound
 pub record Alike {X S : Type 0} (bound : ℕ) (o p : Reached X S) : Type 0 where
   pub leaves : LeavesBy bound o
   pub same : o ≡ p

@@ -1,5 +1,5 @@
--- The bounds of nested reading are enough: a region's on how deep it nests, and each loop's on its items. So a region is its blocks
--- between braces, whose operations' regions are regions.
+-- The bounds of nested parsing are enough: a region's on how deep it nests, and each loop's on its items. So a region is its blocks between
+-- braces, whose operations' regions are regions.
 use Rattle.std.proofs.Common.{◌≡◌, ℕ, zero, suc, ◌≤◌, ◌<◌, Bool, true, List, [], ◌∷◌, ◌++◌, codes, length, refl, arith}
 use Rattle.irtext_base.specs.Text.{Text, begins, after_space}
 use Rattle.irtext_base.specs.Reading.{the}

@@ -1,4 +1,4 @@
--- What the grammar parses as a tree the parsers of nested text read, and they do what the tree does.
+-- What the grammar parses as a tree the parsers of nested text parse, and they perform the actions of the tree.
 use Rattle.std.proofs.Common.{◌≡◌, ◌∙◌, ℕ, Bool, true, false, ◌==◌, ◌||◌, List, [], ◌∷◌, ◌++◌, map, codes, length, refl, sym, ap, subst, arith, append_assoc, append-nil, inl, inr}
 use Rattle.std.specs.Char.{is_whitespace}
 use Rattle.irtext_base.specs.Text.{Text, begins, begins_word, front, after_space}

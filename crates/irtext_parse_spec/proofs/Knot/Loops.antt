@@ -12,7 +12,7 @@ use Rattle.irtext_parse_spec.specs.Reached.{Reached, Advanced, Stopped, came, te
 use Rattle.irtext_parse_spec.proofs.Knot.Alike.{Shrink, IsLoop}
 use Rattle.irtext_parse_spec.proofs.Knot.Bound.{behind_semicolon}
 
--- ---- readings put together
+-- ---- parses put together
 module _ {X Y S : Type 0} where
   -- what follows a value that was parsed
   pub tells_found : (o : Outcome X) (text : Text) (s : S) (next : X → Text → Reached Y S) (x : X) (taken rest : Text) → o ≡ Read x taken rest → tells o text s next ≡ next x rest
@@ -36,7 +36,7 @@ module _ {X Y S : Type 0} where
   came_read (Stopped s cause place) next y t rest e = absurd (cc e)
 
 -- ---- what is to be parsed
--- what a reading parses the parser parses, and does this; and so each text begins
+-- what a reading of the grammar parses, the parser parses, with this action; and each such text begins so
 pub record Finds {S : Type 0} (Begins : Text → Type 0) (item : Reads S) (reading : Reading) (act : S → S) : Type 0 where
   pub begins : (text rest : Text) → reading text rest → Begins text
   pub found : (text rest : Text) (s : S) → reading text rest → item text s ≡ Advanced tt (act s) rest

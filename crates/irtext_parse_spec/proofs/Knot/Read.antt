@@ -1,4 +1,4 @@
--- What the parsers of nested text read is a tree that the grammar parses, and they have done what the tree does.
+-- What the parsers of nested text parse is a tree that the grammar parses, and they have performed the actions of the tree.
 use Rattle.std.proofs.Common.{◌≡◌, ◌∙◌, ℕ, zero, suc, Bool, true, false, cond, Option, List, [], ◌∷◌, ◌++◌, map, Some, codes, length, refl, sym, ap, ap₂, subst, arith, append_assoc, append-nil, true≢false}
 use Rattle.std.specs.Prelude.{IfSome}
 use Rattle.std.specs.Char.{is_whitespace}
@@ -32,7 +32,7 @@ use Rattle.irtext_parse_spec.proofs.Knot.Heads.{MayUse, MayUseAll, l, ReadHeads}
 use Rattle.irtext_parse_spec.proofs.Knot.Loops.{tells_read, came_read, Tells, RowRead, loop_read, repeated_tight, separate, repeated_more}
 use Rattle.irtext_parse_spec.proofs.Knot.Steps.{ArePartsOf, ArePieces, EndsRegions, body_of_steps, ends_regions, steps_known}
 
--- steps that read no region end their regions
+-- steps that parse no region end their regions
 pieces_end : (ss : List Step) → ArePieces ss → EndsRegions ss
 pieces_end [] h = tt
 pieces_end (flat d ∷ ss) h = pieces_end ss h
@@ -324,7 +324,7 @@ module _ {T A S : Type 0} (texts : Texts T) (owns : Texts A) (dialects : List (T
 -- ---- operations, blocks and regions
 module _ {T A S : Type 0} (texts : Texts T) (owns : Texts A) (dialects : List (Text × Table)) (types_at : Reader T) (attr : Reader (AttrView A)) (does : Actions T A S)
     (heads : ReadHeads texts owns dialects types_at attr) (no_more : LeavesNoMore types_at) (none_more : LeavesNoMore attr) (accepted : (id : Id) → IsAccepted dialects id) where
-  -- what an operation's parser read
+  -- what an operation's parser parsed
   record OperationRead (inside : Bool) (text : Text) (s t : S) (rest : Text) : Type 0 where
     pub tree : Tree ℕ T A
     pub reads : reads.reads (l texts owns dialects) tree text rest

@@ -144,7 +144,7 @@ module _ {A : Type 0} (attr : Text → Outcome (AttrView A)) where
   one_begins zero (c ∷ text) small h = absurd (omega (arith, small))
   one_begins (suc depth) text small h = kind_begins (location_within attr depth) (more_within attr depth) attr text h
 
--- what is not missing is what is demanded
+-- an outcome that is not missing is the same if it is required
 as_it_is : {X : Type 0} (b : Bool) (o : Outcome X) → is_missing o ≡ false → demanded (unless_failed b o) ≡ unless_failed b o
 as_it_is true o e = refl
 as_it_is false (Read x t r) e = refl

@@ -70,7 +70,7 @@ module _ {A : Type 0} (inner other : Text → Outcome (Written A)) (more others 
 
 -- ---- every bound that the text is within
 module _ {A : Type 0} (attr : Text → Outcome (AttrView A)) (no_more : LeavesNoMore attr) where
-  -- two bounds give one reading
+  -- two bounds give one result
   abbrev Same : ℕ → ℕ → Text → Type 0
   Same m n text = (location_within attr m text ≡ location_within attr n text) × (more_within attr m text ≡ more_within attr n text)
 

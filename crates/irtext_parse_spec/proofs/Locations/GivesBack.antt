@@ -20,7 +20,7 @@ module _ {X Y : Type 0} where
     whole = append_assoc h.taken k.taken left ∙ (ap (λ t. h.taken ++ t) k.whole ∙ h.whole);
   }
 
-  -- a reading whose value is seen by a function
+  -- a parse whose value is seen by a function
   pub gives_mapped : (see : X → Y) (o : Outcome X) (x : X) (text left : Text) → GivesBack o x text left → GivesBack (mapped see o) (see x) text left
   gives_mapped see o x text left h = record { taken = h.taken; is = ap (mapped see) h.is; whole = h.whole }
 
@@ -33,7 +33,7 @@ module _ {X : Type 0} where
   pub gives_left : (o : Outcome X) (x : X) (text left rest : Text) → left ≡ rest → GivesBack o x text left → GivesBack o x text rest
   gives_left o x text left rest e h = record { taken = h.taken; is = h.is ∙ ap (Read x h.taken) e; whole = ap (λ t. h.taken ++ t) (sym e) ∙ h.whole }
 
-  -- a reading at an equal text
+  -- a parse at an equal text
   pub gives_at : (at : Text → Outcome X) (x : X) (text other left : Text) → text ≡ other → GivesBack (at other) x other left → GivesBack (at text) x text left
   gives_at at x text other left e h = subst (λ t. GivesBack (at t) x t left) (sym e) h
 

@@ -52,7 +52,7 @@ module _ {X Y : Type 0} where
   followed_same b (Missing cause) next other h k = refl
   followed_same b (Bad cause upto) next other h k = refl
 
-  -- the first reading is another of the same
+  -- the first parse may be replaced by an equal one
   pub first_same : (o p : Outcome X) (next : X → Text → Outcome Y) → o ≡ p → followed o next ≡ followed p next
   first_same o p next e = ap (λ o. followed o next) e
 

@@ -1,4 +1,4 @@
--- What no item changes stays as it is through a whole reading, also through one that is stuck: so a machine that has failed stays so.
+-- What no item changes stays unchanged through a whole parse, also through one that is stuck: so a machine that has failed stays failed.
 use Rattle.std.proofs.Common.{◌≡◌, ◌∙◌, ℕ, zero, suc, Bool, true, false, cond, List, [], ◌∷◌, ◌++◌, length, codes, refl, ap}
 use Rattle.irtext_base.specs.Text.{Text, begins, after_space}
 use Rattle.irtext_base.specs.Reading.{the}
@@ -37,7 +37,7 @@ module _ {S : Type 0} (s : S) where
   quiet_tells (Missing cause) text next h = refl
   quiet_tells (Bad cause upto) text next h = refl
 
-  -- a reading that is begun or not
+  -- a parse that is begun or not
   quiet_if : {X : Type 0} (b : Bool) (o p : Reached X S) → done_in o ≡ s → done_in p ≡ s → done_in (cond b o p) ≡ s
   quiet_if true o p e f = e
   quiet_if false o p e f = f
@@ -128,7 +128,7 @@ module _ {T A S : Type 0} (dialects : List (Text × Table)) (types_at : Text →
       = record { at = λ rest. quiet_blocks s _ block (length rest) rest } in
       record { at = (quiet_region _ blocks iso).at }
 
-  -- a region's reading leaves what no item changes as it is
+  -- the parse of a region leaves unchanged what no item changes
   pub quiet_region_at : (iso : Bool) → Quiet s (region_at dialects types_at attr does iso)
   quiet_region_at iso = record { at = λ text. (quiet_within (suc (length text)) iso).at text }
 

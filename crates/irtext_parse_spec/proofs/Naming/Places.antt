@@ -64,7 +64,7 @@ pub paths_apart : (high low : ℕ) (items : List (ℕ × Path)) → Falls high l
 paths_apart high low [] f = tt
 paths_apart high low (e ∷ es) f = (own_path e es, others_paths e es es (falls_below e.0 low es f.1) (paths_apart e.0 low es f.1))
 
--- ---- readings along which the places of these items fall
+-- ---- readings along which the places of these items decrease
 pub record Spans (R : Reading) (items : List (ℕ × Path)) : Type 0 where
   pub falls : (t u : Text) → R t u → Falls (suc (length t)) (suc (length u)) items
 

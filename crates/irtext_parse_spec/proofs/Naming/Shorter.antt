@@ -1,4 +1,4 @@
--- No reading of an item's own parts leaves more than the text that it was parsed of, where no reading of a type or of an attribute does.
+-- No reading of an item's own parts leaves more than the text that it was parsed from, if no reading of a type or of an attribute does.
 use Rattle.std.proofs.Common.{◌≡◌, ℕ, ◌+◌, Bool, true, false, cond, ◌≤◌, List, [], ◌∷◌, length, map, Option, Some, None, codes, ap, length-append, arith, inl, inr}
 use Rattle.std.specs.Char.{is_whitespace, is_ascii_digit}
 use Rattle.irtext_base.specs.Text.{Text, after, after_space, in_word}
@@ -64,7 +64,7 @@ leaves_given : (n : Option Text) → Leaves (reads.given_name n)
 leaves_given None = leaves_literal (codes "?")
 leaves_given (Some n) = leaves_identifier n
 
--- no reading of a value leaves more than the text
+-- the parse of a value leaves no more than the text
 pub record Shortens {X : Type 0} (texts : Texts X) : Type 0 where
   pub by : (text rest : Text) (x : X) → texts.outcome text ≡ found x rest → length rest ≤ length text
 

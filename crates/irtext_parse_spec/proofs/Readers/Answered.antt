@@ -1,4 +1,4 @@
--- What a parser has found that answered, and why one refused that did not.
+-- What a parser that succeeded has found, and why one that did not returned an error.
 use Rattle.std.proofs.Common.{◌≡◌, ◌≤◌, Bool, true, false, Ok, Err, [], ◌++◌, refl, sym, ◌∙◌, ap, subst, ◌⊎◌, inl, inr, append-nil, true≢false, length, length-append, arith}
 use Rattle.irtext_base.specs.Text.{Text}
 use Rattle.irtext_base.specs.Stream.{StreamView}

@@ -19,7 +19,7 @@ module _ {A : Type 0} where
   demands_of false (Missing cause) old new fault e s (inr h) = record { committed = h.committed; fails = ap (λ v. v.failed) h.left.is ∙ h.left.fails; failed = λ f. absurd (s (sym h.because ∙ f)) }
   demands_of false (Bad cause upto) old new fault e s (inr h) = record { committed = h.committed; fails = ap (λ v. v.failed) h.left.is ∙ h.left.fails; failed = λ f. absurd (s (sym h.because ∙ f)) }
 
-  -- a refusal of what must be parsed
+  -- an error of a required parser
   pub demands : {X Y : Type 0} {see : Y → X} {f : Text → Outcome X} {old new : StreamView} {fault : ParseFault A} → ((text : Text) → ModifiesOnly NotFailed (f text)) → MustRead {Y = Y} itself replaced see f old (Err fault) new → CommittedRefusal old fault new
   demands {f = f} {old = old} {new = new} {fault = fault} s h = demands_of old.failed (f old.rest) old new fault refl (s old.rest) h.answers
 
@@ -30,7 +30,7 @@ module _ {A : Type 0} where
   refusal_of false (Missing cause) old new fault e s m (inr h) = record { committed = λ q. absurd (cc (h.committed)); uncommitted = λ _. h.left; first = λ _. ap is_first_fault h.because ∙ m.says; failed = λ f. absurd (s (sym h.because ∙ f)) }
   refusal_of false (Bad cause upto) old new fault e s m (inr h) = record { committed = λ _. ap (λ v. v.failed) h.left.is ∙ h.left.fails; uncommitted = λ q. absurd (cc (h.committed)); first = λ q. absurd (cc (h.committed)); failed = λ f. absurd (s (sym h.because ∙ f)) }
 
-  -- a refusal of what may be parsed
+  -- an error of an optional parser
   pub refusal : {X Y : Type 0} {see : Y → X} {f : Text → Outcome X} {old new : StreamView} {fault : ParseFault A} → ((text : Text) → ModifiesOnly NotFailed (f text)) → ((text : Text) → FirstMissing (f text)) → MayRead {Y = Y} itself replaced see f old (Err fault) new → Refusal old fault new
   refusal {f = f} {old = old} {new = new} {fault = fault} s m h = refusal_of old.failed (f old.rest) old new fault refl (s old.rest) (m old.rest) h.answers
 

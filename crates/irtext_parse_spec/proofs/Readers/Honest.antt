@@ -17,7 +17,7 @@ use Rattle.irtext_parse_spec.specs.Readers.Locations.{WrittenRow, bytes_at, sour
 pub honest_nothing : {X : Type 0} (x : X) → Honest (nothing x)
 honest_nothing x = record { of = λ text. of_read text x [] text refl }
 
--- nothing at all, where this was demanded
+-- nothing at all, and this was required
 honest_demand : {X : Type 0} (demand : Demand)
     → Honest {X = X} (λ text. Missing (Unexpected (first_of text) demand))
 honest_demand demand = record { of = λ text. of_missing text _ refl }

@@ -10,7 +10,7 @@ pub use Rattle.irtext_tokens.proofs.Honest.{ModifiesOnly, NotFailed}
 use Rattle.irtext_tokens.proofs.Honest.{Honest, never_failed, honest_word}
 use Rattle.irtext_parse_spec.specs.Readers.Parts.{behind}
 
--- the reading's cause does not say so
+-- the cause of the outcome is not that the stream had failed
 pub record Fine {X : Type 0} (o : Outcome X) : Type 0 where
   pub spares : ModifiesOnly NotFailed o
 
@@ -31,7 +31,7 @@ module _ {X : Type 0} where
   pub fine_bad : (cause : Fault) (upto : Text) → NotFailed cause → Fine {X = X} (Bad cause upto)
   fine_bad cause upto h = record { spares = h }
 
-  -- either of two readings
+  -- either of two outcomes
   pub fine_either : (test : Bool) (o p : Outcome X) → Fine o → Fine p → Fine (cond test o p)
   fine_either true o p h k = h
   fine_either false o p h k = k
@@ -48,14 +48,14 @@ module _ {X : Type 0} where
   fine_behind (c ∷ lead) o h = fine_prefixed (c ∷ lead) o h
 
 module _ {X Y : Type 0} where
-  -- the same of one reading and then another
+  -- the same for one parser and then another
   pub fine_followed : (o : Outcome X) (k : X → Text → Outcome Y)
       → Fine o → ((x : X) (t : Text) → Fine (k x t)) → Fine (followed o k)
   fine_followed (Read x taken rest) k h g = fine_prefixed taken (k x rest) (g x rest)
   fine_followed (Missing cause) k h g = fine_missing cause h.spares
   fine_followed (Bad cause upto) k h g = fine_bad cause upto h.spares
 
-  -- the same of what is made of a reading
+  -- the same for a function of what was parsed
   pub fine_mapped : (f : X → Y) (o : Outcome X) → Fine o → Fine (mapped f o)
   fine_mapped f (Read x taken rest) h = fine_read _ _ _
   fine_mapped f (Missing cause) h = fine_missing cause h.spares

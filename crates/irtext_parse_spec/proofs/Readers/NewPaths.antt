@@ -17,6 +17,6 @@ module _ {T A : Type 0} where
     dialects = ap (λ c. c.dialects) h.rest;
   }
 
-  -- the paths of one reading and then of another
+  -- the paths of one parse and then of another
   pub adds_more : {a b c : ContextView T A} → AddsPaths a b → AddsPaths b c → AddsPaths a c
   adds_more {a} {b} {c} h k = record { kept = λ i p e. k.kept i p (h.kept i p e); rest = k.rest ∙ ap (λ (x : ContextView T A). with_paths x c.paths) h.rest }

@@ -1,4 +1,4 @@
--- The front of an operation, which does nothing, is one reading.
+-- The front of an operation, which has no action, is one parse.
 use Rattle.std.proofs.Common.{◌≡◌, ℕ, ◌-◌, ◌+◌, Bool, true, false, List, [], ◌∷◌, ◌++◌, None, length, length-append, arith, refl, ap, sym, ◌∙◌}
 use Rattle.std.specs.Char.{is_whitespace}
 use Rattle.irtext_base.specs.Text.{Text, front, after}

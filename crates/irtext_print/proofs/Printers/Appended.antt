@@ -23,7 +23,7 @@ behind (Ok x) (Ok y) h p f = f p
 behind (Ok x) (Err e) h p f = absurd (true≢false (sym h))
 behind (Err e) answer h p f = tt
 
--- what is known where a call was refused
+-- what holds if a call returned an error
 pub then-err : {X E : Type 0} {P Q : E → Type 0} (r : Result X E) → ((e : E) → P e → Q e) → IfErr r P → IfErr r Q
 then-err (Ok x) f p = tt
 then-err (Err e) f p = f e p

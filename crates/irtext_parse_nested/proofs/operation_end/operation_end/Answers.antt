@@ -14,7 +14,7 @@ use Rattle.irtext_parse_nested.proofs.Ended.{end_read, end_marked, end_unread, e
 use Rattle.irtext_parse_nested.proofs.Marking.{on_both, on_err, always_ok, if_err, gains_nothing}
 use Rattle.irtext_parse_nested.proofs.operation_end.operation_end.Goals as goal
 
--- ---- the results are refused
+-- ---- the results are an error
 pub returns-in_err-close-clause-refused : goal.returns-in_err-close-clause-refused
 returns-in_err-close-clause-refused g c = rw (handed_on c.from_residual.result c.from_residual.ensures.1) (λ o is. elim c.in_err-close.ensures.refused [ inl starved ↦ inl starved | inr f ↦ inr (no_results (f o is)) ])
 
@@ -126,7 +126,7 @@ returns-clause-noted g c =
     on_both c.note_mark.result (λ n e mark taken is. end_noted c.args.s.now c.close.new.s.state (item.Operation c.args.begun.now.op) c.close.new.s.stream _ c.in_ok-close.ensures.stream c.in_ok-close.ensures.marks c.note_mark.new.s c.in_ok-mark.mark e c.in_ok-mark.ensures n mark taken is)
     c.note_mark.ensures.notes c.note_mark.ensures.stream
 
--- ---- where it is refused, no mark is recorded
+-- ---- after an error, no mark is recorded
 pub returns-in_err-close-clause-unnoted : goal.returns-in_err-close-clause-unnoted
 returns-in_err-close-clause-unnoted g c = rw (handed_on c.from_residual.result c.from_residual.ensures.1) (gains_nothing c.in_err-close.ensures.marks)
 
