@@ -48,7 +48,7 @@ in_front_none : {S A : Type 0} (ks : List (LocationOf S A)) → in_front ks no_l
 in_front_none [] = refl
 in_front_none (k ∷ ks) = ap (location k) (in_front_none ks)
 
--- what is open, with one location more inside
+-- the open frames, with one more location inside
 resume_push : {W A : Type 0} (r : Rule W) (frames : List (Frame A)) (f : Frame A) (t : Taken W (LocationView A)) → resume r (frames ++ f ∷ []) t ≡ resume r frames (closed r f t)
 resume_push r [] f t = refl
 resume_push r (g ∷ frames) f t = ap (closed r g) (resume_push r frames f t)

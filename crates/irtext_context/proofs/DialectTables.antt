@@ -28,7 +28,7 @@ set_same [] i v e = refl
 set_same (x ∷ es) zero v e = let same : x.1 ≡ v = cc e in ap (λ w. (x.0, w) ∷ es) (sym same)
 set_same (x ∷ es) (suc i) v e = ap (λ l. x ∷ l) (set_same es i v e)
 
--- a new key comes last
+-- a new key is put last
 pub entry_last : {X : Type 0} (es : List (Text × X)) (k : Text) (v : X) → lookup (bytes_eq k) es ≡ None → insert_entry bytes_eq es k v ≡ es ++ (k, v) ∷ []
 entry_last es k v none = insert_entry-absent bytes_eq k v es (absent_from_lookup (bytes_eq k) es none)
 

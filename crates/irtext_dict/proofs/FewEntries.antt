@@ -46,7 +46,7 @@ module _ {K V : Type 0} (eq : K → K → Bool) (k : K) (v : V) where
   insert-first (x ∷ xs) (suc i) d h =
       ap (λ l. x ∷ l) (insert-first xs i d h.1) ∙ sym (ap (λ b. if b then (x.0, v) ∷ xs else x ∷ insert_entry eq xs k v) h.0)
 
-  -- another goes last
+  -- another key is put last
   pub insert-last : (es : List (K × V)) → IsAbsent (eq k) es → es ++ (k, v) ∷ [] ≡ insert_entry eq es k v
   insert-last [] h = refl
   insert-last (x ∷ xs) h = ap (λ l. x ∷ l) (insert-last xs h.1) ∙ sym (ap (λ b. if b then (x.0, v) ∷ xs else x ∷ insert_entry eq xs k v) h.0)

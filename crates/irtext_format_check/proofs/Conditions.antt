@@ -121,7 +121,7 @@ module _ {X : Type 0} (same : X → X → Bool) (sound : (x y : X) → same x y 
       go None e = e
       go (Some y) e = or_right (same x y) (has same x (names ds)) e
 
-  -- the head names a value, so it is named no more
+  -- the head names a value, so no other directive names it
   named_no_more : (d : Directive) (ds : List Directive) (x : X) → distinct same (cons_option (named d) (names ds)) ≡ true → named d ≡ Some x → has same x (names ds) ≡ true → ⊥
   named_no_more d ds x e p h =
       let q : (not (has same x (names ds)) && distinct same (names ds)) ≡ true = subst (λ o. distinct same (cons_option o (names ds)) ≡ true) p e in

@@ -1,4 +1,4 @@
--- A region that comes last into an operation as it is made: all is sound, and nothing else changed.
+-- A region that is appended to an operation as it is made: all is sound, and nothing else changed.
 use Rattle.std.proofs.Common.{◌≡◌, ◌≢◌, ◌<◌, ◌≤◌, ◌+◌, ◌∙◌, ◌++◌, ◌∷◌, ◌⊎◌, inl, inr, ℕ, zero, suc, refl, ap, subst, arith, Option, Some, None, List, [], map}
 use Rattle.std.specs.Option.{option_map}
 use Rattle.std.proofs.lemmas.List.{map-append}

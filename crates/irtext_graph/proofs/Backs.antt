@@ -142,7 +142,7 @@ module _ {O B T : Type 0} where
   pub seen_what : (x y : Objects O B T) → seen y ≡ seen x → (o : Object) → what y o ≡ what x o
   seen_what x y e o = sym (what_seen 0 no_counters y o) ∙ ap (λ (g : GraphView O B T). content g o) e ∙ what_seen 0 no_counters x o
 
-  -- an object that is no older than the mark is new, and the other way round
+  -- an object that is no older than the mark is new, and conversely
   pub is_new : (made : ℕ) (values : Counters) (mark : ℕ) (x : Objects O B T) (o : Object) → AtLeast mark (age x o) → IsNew mark (graph_of made values x) o
   is_new made values mark x o l = ap (is_older mark) (what_seen made values x o) ∙ go (what x o) (subst (AtLeast mark) (age_what x o) l)
     where

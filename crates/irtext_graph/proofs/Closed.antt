@@ -52,7 +52,7 @@ low made a h i g l = go (found (slice_get a.slots.items i) g) refl l
     go (Some o) e l = let n = h i g o e in omega (arith, n, l)
 
 module _ {P C E : Type 0} where
-  -- what is as it was before a mark and was made before it is the same
+  -- what is unchanged before a mark and was made before it is the same
   entry_was : (m : ℕ) (s t : Option (Entry (Node P C E))) → older m t ≡ older m s → is_some (older m t) ≡ true → t ≡ s
   entry_was m s t e old = elim (seen (older m t)) [
     | inl none ↦ absurd (let k : is_some (older m t) ≡ false = ap is_some none in cc)

@@ -101,7 +101,7 @@ module _ {O B T : Type 0} where
       one : (a b : ℕ × RegionContent) → ◌≡◌ {A = Content O B T} (ARegion a.0 a.1) (ARegion b.0 b.1) → a ≡ b
       one a b e = let x : a.0 ≡ b.0 = cc in let y : a.1 ≡ b.1 = cc in pair x y
 
-  -- an object is as it was, or is no older than the mark
+  -- an object is unchanged, or is no older than the mark
   pub record Framed (m : ℕ) (g h : GraphView O B T) : Type 0 where
     pub contents : (q : Object) → content h q ≡ content g q
     pub same : (q : Object) → (IsNew m g q) ⊎ ((parent h q ≡ parent g q) × (children h q ≡ children g q))

@@ -60,7 +60,7 @@ module _ {O : Type 0} where
           let f : slice_get (kids o) at.0 ≡ None = ap (λ xs. slice_get xs at.0) none in
           absurd (cc)
 
-  -- ways that lead somewhere in one lead there in another, while a premise on objects goes upwards
+  -- ways up that lead from one object to another lead there in a second graph too, if a premise holds of each object on the way
   pub carried : (up up' : O → Option O) (P : O → Type 0) (o : O) → ((x : O) → P x → (x ≡ o) ⊎ (up' x ≡ up x)) → ((x y : O) → P x → up x ≡ Some y → P y) → (n : ℕ) (x : O) → P x → climb up n (Some x) ≡ Some o → Within up' o x
   carried up up' P o same on zero x p e = (zero, e)
   carried up up' P o same on (suc n) x p e = elim (seen (up x)) [

@@ -30,7 +30,7 @@ module _ {O : Type 0} where
   no_cycle up x k round zero (suc n) low e = omega arith
   no_cycle up x k round (suc fuel) (suc n) low e = elim (split n k) [
     | inl (m, q) ↦
-        -- the way has ended before it comes round
+        -- the way has ended before it returns to its start
         let f : climb up (suc n + m) (Some x) ≡ climb up m (climb up (suc n) (Some x)) = climb-add up (suc n) m (Some x) in
         let g : climb up m (climb up (suc n) (Some x)) ≡ climb up m None = ap (climb up m) e in
         let h : climb up (suc k) (Some x) ≡ climb up (suc n + m) (Some x) = ap (λ (j : ℕ). climb up j (Some x)) q in

@@ -202,7 +202,7 @@ module _ {O B T : Type 0} where
   none_rest x d at [] p e u m = m
   none_rest x d at (w ∷ us) p e u m = let k = p.0 in absurd (cc)
 
-  -- what is not there is used nowhere
+  -- a definition that is not there has no uses
   pub none_beyond : (x : Objects O B T) (o : Object) (d : Defined) → AreUsesLinked x → (IsSome (head_at x d) → ⊥) → IsUsedInside x o d
   none_beyond x o d c away = record { uses = λ u e. absurd (let h = c.stands u d e in away (rw h.1 refl)) }
 

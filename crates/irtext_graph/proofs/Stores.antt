@@ -16,7 +16,7 @@ use Rattle.irtext_graph.proofs.Pointers.{ptr_or}
 use Rattle.irtext_graph.specs.Lending.{with_content_at}
 use Rattle.irtext_graph.proofs.Arenas.{Edited, edited, lent, stands}
 
--- what is seen of an option that is mapped is what is seen of the option, if that is so of each value and of none
+-- what is seen of an option that is mapped is what is seen of the option, if that holds of each value and of none
 pub seen_mapped : {A B V : Type 0} (change : A → B) (f : Option B → V) (g : Option A → V) → f None ≡ g None → ((a : A) → f (Some (change a)) ≡ g (Some a)) → (s : Option A) → f (option_map change s) ≡ g s
 seen_mapped change f g none some None = none
 seen_mapped change f g none some (Some a) = some a

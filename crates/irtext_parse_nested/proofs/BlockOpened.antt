@@ -47,8 +47,8 @@ use Rattle.irtext_parse_nested.proofs.HeadNamed.{inside_stays, block_stays}
 use Rattle.irtext_parse_nested.proofs.Headers.{arguments_named}
 use Rattle.irtext_parse_nested.proofs.Lasting.{stands_block}
 
--- ---- names that were parsed besides
--- they are tied to the graph
+-- ---- other names that were parsed
+-- they match the graph
 pub read_tied : {T A : Type 0} (before names : Names) → NamesRead before names → (c : ContextView T A) → MatchesGraph before.values before.labels c.graph → MatchesGraph names.values names.labels c.graph
 read_tied before names reads c t = subst (λ ls. MatchesGraph names.values ls c.graph) (sym reads.labels) (subst (λ vs. MatchesGraph vs before.labels c.graph) (sym reads.values) t)
 

@@ -58,7 +58,7 @@ module _ {O B T : Type 0} {g m k : GraphView (Option O) B T} (r : Ptr Region) (b
   block_none : (vs : List (Scope Value)) (ls : List (Scope (Ptr BasicBlock))) → MatchesGraph vs ls g → IsNoPlaceholder ls b
   block_none vs ls t = made_none OfBlock ls b t.label_ties (block_added b make)
 
-  -- names stay tied, and wait for what they waited
+  -- names still match the graph, and wait for the same definitions
   pub placed_ties : (vs : List (Scope Value)) (ls : List (Scope (Ptr BasicBlock))) → MatchesGraph vs ls g → MatchesGraph vs ls k
   placed_ties vs ls t = block_placed_ties r b a vs ls (block_none vs ls t) (added_ties (block_added b make) vs ls t)
 

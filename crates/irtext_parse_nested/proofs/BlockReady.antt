@@ -69,7 +69,7 @@ module _ {T A : Type 0} (old mid : ContextView T A) (r : Ptr Region) (b : Ptr Ba
   abbrev an_operation : ℕ × OperationContent (Option (OperationData A)) (Option T) → Content (Option (OperationData A)) (BlockData A) (Option T)
   an_operation d = AnOperation d.0 d.1
 
-  -- each operation is as it was
+  -- each operation is unchanged
   p_same : (q : Ptr Operation) → content mid.graph (TheOperation q) ≡ content old.graph (TheOperation q)
   p_same q = p.appends.objects.contents (TheOperation q) ∙ ap (λ s. option_map an_operation (content_of (get s q))) p.makes.graph.operations
 

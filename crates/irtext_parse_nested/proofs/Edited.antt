@@ -258,7 +258,7 @@ module _ {T A : Type 0} (old new : ContextView T A) (op : Ptr Operation) (change
       go None s = absurd (cc)
       go (Some e) s = mapped (view_of e.content.content.results e.content.children) e.content.content.data_of s
 
-  -- what is open lasts
+  -- the open objects are still live
   pub edited_lasts : KeepsLive old new
   edited_lasts = record {
     operations = still_seen;

@@ -60,7 +60,7 @@ module _ {T A U : Type 0} (types_at : Reader T) (attr : Reader (AttrView A)) (is
   module _ (names : Names) (mid : StateStream T A U) (op : Ptr Operation) (r : Ptr Region) (takes : Takes (enter iso) (history.entered iso) before names old.state.ctx.now.graph)
       (adds : AddsRegion old.state.ctx.now mid.state.ctx.now op r) (has : IsSome (operation old.state.ctx.now op)) (tied : MatchesGraph names.values names.labels old.state.ctx.now.graph)
       (marks : marks_of mid.state ≡ marks_of old.state) (same : mid.stream ≡ old.stream) where
-    -- it is entered, and comes last into its operation
+    -- it is entered, and is appended to its operation
     pub acts_entered : Acts (enters_of types_at attr iso old) before old.state [] names mid.state []
     acts_entered = record {
       so = λ path items more o h. region_stands old.state.ctx.now mid.state.ctx.now op r adds has names old.state mid.state refl refl marks tied

@@ -1,4 +1,4 @@
--- What is open lasts where nothing but placeholders is lost.
+-- The open objects are still live if only placeholders are lost.
 use Rattle.std.proofs.Common.{◌≡◌, ◌<◌, ◌∙◌, ℕ, refl, sym, subst, arith, zero, suc, List, [], ◌∷◌, Option, Some, None, IsSome, length, slice_get}
 use Rattle.std.specs.Prelude.{option_and_then}
 use Rattle.std.specs.Option.{option_map}
@@ -72,7 +72,7 @@ module _ {T A : Type 0} where
       go None s = absurd (cc)
       go (Some e) s = refl
 
-  -- what is open lasts
+  -- the open objects are still live
   pub loses_lasts : (old new : ContextView T A) → LosesPlaceholders old.graph new.graph → new.dialects ≡ old.dialects → KeepsLive old new
   loses_lasts old new l same = record {
     operations = λ p h. let x = data_there old p h in there_data new p x.0 (l.operations p x.0 x.1);

@@ -63,7 +63,7 @@ module _ {O B T : Type 0} (g k : GraphView (Option O) B T) where
   abbrev pub HasResult : Ptr Operation → Type 0
   HasResult p = option_map (λ c. c.data_of) (operation_at k p) ≡ Some None → (i : ℕ) × IsDefined k (OfValue (Result p i))
 
-  -- where each operation is as it was, but for what it uses, or has a result if it has no data, those without data have results if they had
+  -- if each operation is unchanged, except for what it uses, or has a result if it has no data, those without data have results if they had
   pub blanks_by : ((p : Ptr Operation) → (option_map without_uses (content k (TheOperation p)) ≡ option_map without_uses (content g (TheOperation p))) ⊎ HasResult p)
       → (m : ℕ) → BlanksHaveResults m g → BlanksHaveResults m k
   blanks_by same m h p e n = elim (same p) [

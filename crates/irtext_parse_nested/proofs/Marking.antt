@@ -68,7 +68,7 @@ module _ {T A U : Type 0} {f h : (ℕ → Path) → Outcome → Outcome} {old mi
   fails_then a b = record { failure = b.failure; is = b.is; so = λ path items more o k. b.so path items more (f path o) (a.so path items more o k) }
 
 -- ---- marks
--- the same test, the other way round
+-- the same test, with the arguments exchanged
 turned : (i j : ℕ) → nat_eq j i ≡ (i == j)
 turned i j = go (nat_eq j i) (i == j) refl refl
   where

@@ -33,7 +33,7 @@ use Rattle.irtext_parse_nested.proofs.Edited.{edited_lasts, edited_sound, edited
 use Rattle.irtext_parse_nested.proofs.Faults.{named_each}
 
 module _ {T A : Type 0} where
-  -- what is open lasts, twice
+  -- the open objects are still live, after two steps
   pub lasts_more : {a b c : ContextView T A} → KeepsLive a b → KeepsLive b c → KeepsLive a c
   lasts_more {a} {b} {c} l m = record {
     operations = λ p h. m.operations p (l.operations p h);

@@ -73,7 +73,7 @@ module _ {T A : Type 0} (blk : Option (Ptr BasicBlock)) (front : ReadFront T A) 
   placed_on None p = subst (KeepsLive m.made) (sym p) (lasts_itself m.made)
   placed_on (Some k) p = placed_lasts m.made new k b.op p.0 p.2
 
-  -- what is open lasts
+  -- the open objects are still live
   pub begun_lasts : KeepsLive old new
   begun_lasts = lasts_then old m.made new lasts_made (placed_on blk m.placed)
 

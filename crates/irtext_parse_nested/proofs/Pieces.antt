@@ -72,7 +72,7 @@ row_hand of user k (x ∷ xs) u d (inr a) = let r = row_hand of user (suc k) xs 
 
 -- ---- one piece
 module _ {T A : Type 0} where
-  -- what is so of the acts of the piece is so of those of the only part
+  -- what holds of the acts of the piece holds of those of the only part
   one_part : (piece : ReadPiece T A) (table : List Text) (P : Path → ℕ → ℕ → List Act → Type 0)
       → ((text : Text) (q : Piece ℕ T A) → IsPiece table text piece q → (p : Path) (k l : ℕ) → P p k l (piece_acts p k l q))
       → (text : Text) (parts : List (Part ℕ T A)) → Each (IsPart table text) (piece ∷ []) parts → (p : Path) (k l : ℕ) → P p k l (views (piece_acts p k l) parts)

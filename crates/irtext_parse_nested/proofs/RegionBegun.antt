@@ -54,7 +54,7 @@ module _ {T A : Type 0} (old new : ContextView T A) (op : Ptr Operation) (r : Pt
     | inr (e, f) ↦ ap (is_older m) f ∙ young m le
   ]
 
-  -- what is open lasts
+  -- the open objects are still live
   pub region_lasts : KeepsLive old new
   region_lasts = record {
     operations = λ p h. let x = data_there old p h in there_data new p x.0 (ap (option_map (λ c. c.data_of)) (operation_same old.graph new.graph op r adds.graph p) ∙ x.1);

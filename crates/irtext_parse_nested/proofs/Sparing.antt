@@ -1,4 +1,4 @@
--- Where nothing but placeholders is lost, whatever is there is as it was.
+-- If only placeholders are lost, every object that is present is unchanged.
 use Rattle.std.proofs.Common.{[], ℕ, Option, Some, None, IsSome, option_map, refl, inl}
 use Rattle.irtext_context.specs.Context.{ContextView, region, region_of}
 use Rattle.irtext_context.specs.declared.base.block.BlockData.{BlockData}

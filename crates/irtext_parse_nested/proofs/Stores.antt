@@ -80,7 +80,7 @@ module _ {A : Type 0} where
   entry_refused key at a entry.Memory r = tt
   entry_refused key at a (entry.ReservedKey name) r = inl (holds_or_reserved key a ∙ ap not r.1, ap (λ n. record { name = n; at = at }) r.0)
 
-  -- the first entry holds, and so do the others
+  -- the first entry is allowed, and so are the others
   pub all_hold : (e : Key × AttrObj A) (es : List (Key × AttrObj A)) → MayAllHold (e ∷ []) → MayAllHold es → MayAllHold (e ∷ es)
   all_hold e es h k = (h.0, k)
 

@@ -166,7 +166,7 @@ module _ {T A : Type 0} (old used : ContextView T A) (all_older : AllOlder old.g
       go None f = refl
       go (Some e) f = young m e f
 
-  -- what is open lasts
+  -- the open objects are still live
   pub used_lasts : KeepsLive old used
   used_lasts = record {
     operations = λ p h. subst (λ e. IsSome (option_and_then operation_of e)) (sym (operation_stays p h)) h;

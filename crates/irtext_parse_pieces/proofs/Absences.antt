@@ -52,7 +52,7 @@ module _ {S X : Type 0} (l : Lens S) (item : Text → Outcome X) where
   pub list_absent : {A W : Type 0} {MeansAll : W → List X → Type 0} {old : S} (w : W) → (l.view old).failed ≡ false → IsMissing (item (l.view old).rest) → MeansAll w [] → MustMean {A = A} l.view l.at MeansAll (separated_at 44 item) old (Ok w) old
   list_absent {old = old} w f m h = record { meant = λ _. []; means = h; read = record { answers = rw (f, m.1) (refl, takes_none l.view l.at l.view_at l.at_at l.at_view old) } }
 
-  -- so it is where no name of a kind begins and each item begins with one
+  -- the same if no name of a kind begins and each item begins with one
   pub list_unbegun : {A W : Type 0} {MeansAll : W → List X → Type 0} {old : S} (kind : NameKind) {b : Bool} → ((text : Text) → begins (beginning kind) text ≡ false → IsMissing (item text)) → b ≡ (not (l.view old).failed && not (begins (beginning kind) (l.view old).rest)) → b ≡ true
       → (w : W) → MeansAll w [] → MustMean {A = A} l.view l.at MeansAll (separated_at 44 item) old (Ok w) old
   list_unbegun {old = old} kind missing e t w h =

@@ -96,7 +96,7 @@ pub no_tree : {T A : Type 0} → Piece ℕ T A
 no_tree = tree.word []
 
 module _ {S A : Type 0} (l : Lens S) where
-  -- what was parsed as it is is a piece
+  -- what was parsed, unchanged, is a piece
   pub plain_there : {X Y V W : Type 0} {Other : W → V → Type 0} {see : Y → X} {f : Text → Outcome X} (k : X → V) (w : W) {old new : S} {y : Y} → MustRead {A = A} l.view l.at see f old (Ok y) new → Other w (k (see y)) → MustMean {A = A} l.view l.at Other (λ t. mapped k (f t)) old (Ok w) new
   plain_there {see = see} k w {y = y} h m = record { meant = λ _. k (see y); means = m; read = seen_alone l {A = A} (λ _. k (see y)) k w refl h }
 

@@ -77,7 +77,7 @@ module _ {T A : Type 0} where
       ap (λ z. marks_whole t ++ ((marks_open us ++ z) ++ marks_in_regions rs)) c in
       first ∙ ((simp (append_assoc, append-nil)) ∙ ap (λ z. z ++ noted_as mark o.place) (sym then))
 
--- ---- what is open
+-- ---- the open frames
 module _ {T A : Type 0} (I : Object → ℕ → Location A → Type 0) (c : ContextView T A) (w : List Object) where
   -- a region is open
   pub region_is_open : (r : Ptr Region) (last : Option (Ptr BasicBlock)) (u : Unfinished T A) (inner : Option Object) → IsOpenAt I c w (region_under r last) u inner
@@ -110,7 +110,7 @@ module _ {T A : Type 0} (I : Object → ℕ → Location A → Type 0) (c : Cont
   ended_is_open p (operation_so_far at id rs) inner h = absurd h
   ended_is_open p (region_so_far bs last) inner h = absurd h
 
-  -- something is open, and others round it
+  -- a frame is open, and others around it
   pub first_open : (at : OpenAt T A) (ats : List (OpenAt T A)) (us : List (Unfinished T A)) (inner : Option Object) → AreOpenAt I c w (at ∷ ats) us inner
       → (u : Unfinished T A) × (more : List (Unfinished T A)) × (us ≡ u ∷ more) × IsOpenAt I c w at u inner × AreOpenAt I c w ats more (as_inner at)
   first_open at ats [] inner h = absurd h

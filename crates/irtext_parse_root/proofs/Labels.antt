@@ -11,7 +11,7 @@ use Rattle.irtext_grammar.specs.Grammar.Tree.{Name, Mark, Attribute, Head}
 use Rattle.irtext_parse_spec.proofs.Joins.Answers.{followed_read, mapped_read}
 use Rattle.irtext_parse_spec.specs.Heads.{name_of, label_at, argument_at, dictionary_if_at, mark_if_at, head_at}
 
--- whatever the parser parses is so
+-- each value that the parser parses has the property
 record Gives {X : Type 0} (P : X → Type 0) (f : Reader X) : Type 0 where
   pub by : (text : Text) (x : X) (taken rest : Text) → f text ≡ Read x taken rest → P x
 

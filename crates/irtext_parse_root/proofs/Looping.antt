@@ -37,7 +37,7 @@ module _ {T A U : Type 0} (types_at : Reader T) (attr : Reader (AttrView A)) (n0
     same = moved_whole s0.stream s1.stream carries.moves
 
     module _ (base : Base) (v k : ℕ) (ls : List (Level T A)) (next : Option Frame) (waits : List Frame) (a : Arrives types_at attr base v k ls n0 s0 n1 s1 next waits) where
-      -- the frames are what is open now
+      -- the frames are those that are open now
       here_now : IsHere base v k a.later n1 (whole s1.stream) s1.state.ctx.now next waits
       here_now = subst (λ t. IsHere base v k a.later n1 t s1.state.ctx.now next waits) (sym same) a.here
 
@@ -92,7 +92,7 @@ none_wait m g frames e = subst (AreNewFrames m g) (sym e) tt
 
 -- the frame that is taken is the next
 module _ {T A U : Type 0} (types_at : Reader T) (attr : Reader (AttrView A)) (n0 : Names) (s0 : StateStream T A U) (n1 : Names) (s1 : StateStream T A U) (next : Option Frame) (waits : List Frame) where
-  -- wherever the first was open, these frames are what is open now
+  -- wherever the first was open, these frames are those that are open now
   abbrev pub ComeTo : Frame → Option Frame → Type 0
   ComeTo first other = (base : Base) (v k : ℕ) (ls : List (Level T A)) → IsHere base v k ls n0 (whole s0.stream) s0.state.ctx.now (Some first) [] → Arrives types_at attr base v k ls n0 s0 n1 s1 other waits
 

@@ -49,7 +49,7 @@ none_noted true [] b h e = refl
 none_noted false [] b h e = refl
 none_noted a (m ∷ ms) b h e = absurd (true≢false (sym (h.1 (λ e. absurd (cc e))) ∙ e))
 
--- what is said under a test that holds, and under one that fails
+-- what holds under a test that holds, and under one that fails
 pub held_under : {P : Type 0} (Q : Type 0) (b : Bool) → b ≡ true → P → cond b P Q
 held_under Q true e p = p
 held_under Q false e p = absurd (true≢false (sym e))

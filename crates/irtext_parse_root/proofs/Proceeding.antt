@@ -1,4 +1,4 @@
--- A turn was made: what is open is in code what it is in theory, and less is left to do.
+-- A turn was made: the open frames in code are those in theory, and less is left to do.
 use Rattle.std.proofs.Common.{◌≡◌, ◌∙◌, ◌+◌, ◌<◌, ◌≤◌, ℕ, suc, Bool, true, false, List, [], ◌∷◌, ◌++◌, map, drop, length, slice_get, Option, Some, None, refl, sym, ap, subst, arith}
 use Rattle.irtext_base.specs.Text.{Text, begins, after_space}
 use Rattle.irtext_base.specs.Reading.{the}
@@ -55,7 +55,7 @@ use Rattle.irtext_base.specs.Faults.{id_of}
 use Rattle.irtext_parse_root.proofs.Chains.{moved_whole, carries_passed, carries_pass}
 use Rattle.irtext_parse_root.proofs.Levels.{begun_lasts, level_lasts, levels_last, taken_last, left_is, new_ends, new_taken, frame_new, frames_new, theory_pops}
 
--- ---- which level is innermost
+-- ---- which level is the innermost
 module _ {T A : Type 0} where
   pub operation_first : (b : BegunOperation) (ls : List (Level T A)) → Some (framed.Operation b) ≡ first_frame ls → (o : OpenOperation T A) × (own : OwnSoFar T A) × (more : List (Level T A)) × (ls ≡ at_operation b o own ∷ more)
   operation_first b [] e = absurd (cc e)

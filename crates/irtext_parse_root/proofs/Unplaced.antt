@@ -196,7 +196,7 @@ module _ {T A : Type 0} (old new : ContextView T A) (r : Ptr Region) (makes : Ma
   pub alone_new : (m : ℕ) → m ≤ old.graph.made → IsNew m new.graph (TheRegion r)
   alone_new m le = ap (λ z. is_older {O = Option (OperationData A)} {B = BlockData A} {T = Option T} m (option_map (λ d. ARegion d.0 d.1) (content_of z))) makes.regions.updates.changed ∙ young m le
 
-  -- what is open lasts
+  -- the open objects are still live
   pub alone_lasts : KeepsLive old new
   alone_lasts = record {
     operations = λ p h. let x = data_there old p h in there_data new p x.0 (ap (option_map (λ c. c.data_of)) (operation_same old.graph new.graph r makes p) ∙ x.1);
@@ -219,7 +219,7 @@ module _ {T A : Type 0} (old new : ContextView T A) (r : Ptr Region) (makes : Ma
   alone_there = subst IsSome (sym (ap (λ z. option_map (λ d. ARegion d.0 d.1) (content_of z)) makes.regions.updates.changed)) refl
 
   module _ (names : Names) where
-    -- names are tied and wait as they did
+    -- names match the graph and wait as before
     pub alone_sound : {U : Type 0} (m : ℕ) (s z : code.State T A U) → s.ctx.now ≡ old → z.ctx.now ≡ new → IsSound m names s → IsSound m names z
     alone_sound m s z e f h =
         let tied = subst (λ c. MatchesGraph names.values names.labels c.graph) e h.tied in

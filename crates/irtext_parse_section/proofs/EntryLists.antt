@@ -86,7 +86,7 @@ module _ {A X : Type 0} (seen : List (ℕ × Unit {0})) (found : List (Entry ℕ
 
 -- ---- attributes that are written once
 module _ {A X : Type 0} where
-  -- the last under its index counts
+  -- the last entry with its index is the one that counts
   shared_once : (i : ℕ) (m : Mark ℕ) (a : Attribute A) (es : List (Entry ℕ A X)) → shared_attribute i (es ++ of_once m a ∷ []) ≡ cond (m.index == i) (Some a) (shared_attribute i es)
   shared_once i m a [] = refl
   shared_once i m a (of_item k x ps ∷ es) = shared_once i m a es

@@ -176,7 +176,7 @@ module _ {T A : Type 0} (content : List (Text × Attribute A)) (n : Option Text)
           let d : EditsOperation a c q h = subst (λ z. EditsOperation z c q h) k e in
           (c, d, taken_false _ (is_some (block c p)) (ap is_some (block_beside_stands a c q h d p) ∙ f) refl)
 
-  -- so does one of a block
+  -- the same for one of a block
   block_passes : (x : Item) (q : Ptr BasicBlock) (h : BlockData A → BlockData A) → IsPlainBlock h → (a b c : ContextView T A) → Stores content x n a b → EditsBlock b c q h
       → (m : ContextView T A) × EditsBlock a m q h × Stores content x n m c
   block_passes (item.Operation p) q h plain a b c r e = go (is_some (operation a p)) refl r
@@ -230,7 +230,7 @@ module _ {T A : Type 0} (content : List (Text × Attribute A)) (n : Option Text)
   location_passes x q None a b c r e = (a, refl, subst (λ z. Stores content x n a z) (sym e) r)
   location_passes x q (Some l) a b c r e = operation_passes x q (with_loc l) (plain_loc l) a b c r e
 
-  -- so does one of a block
+  -- the same for one of a block
   block_location_passes : (x : Item) (q : Ptr BasicBlock) (l : Option (Location A)) (a b c : ContextView T A) → Stores content x n a b → LocatesBlock q l b c
       → (m : ContextView T A) × LocatesBlock q l a m × Stores content x n m c
   block_location_passes x q None a b c r e = (a, refl, subst (λ z. Stores content x n a z) (sym e) r)

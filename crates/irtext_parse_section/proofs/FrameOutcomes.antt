@@ -54,7 +54,7 @@ module _ {X Y : Type 0} where
       same (Missing cause) = refl
       same (Bad cause upto) = refl
 
-  -- what follows may be said in other words
+  -- what follows may be stated in other words
   pub followed_alike : (o : Outcome X) (k l : X → Text → Outcome Y) → ((x : X) (t : Text) → demanded (k x t) ≡ demanded (l x t)) → followed o k ≡ followed o l
   followed_alike (Read x taken rest) k l e = prefixed_demanded taken (k x rest) (l x rest) (e x rest)
   followed_alike (Missing cause) k l e = refl

@@ -49,7 +49,7 @@ module _ {A : Type 0} where
   row_with_one [] l = refl
   row_with_one (k ∷ ls) l = ap (location (location_view k)) (row_with_one ls l)
 
-  -- a row with one more is the row with that one last
+  -- a list with one more is the list with that one last
   pub row_grew : (old new : List (Location A)) (l : Location A) → new ≡ old ++ l ∷ [] → in_row (map location_view new) ≡ with_one (in_row (map location_view old)) (location_view l)
   row_grew old new l e = ap (λ ls. in_row (map location_view ls)) e ∙ row_with_one old l
 
@@ -277,7 +277,7 @@ module _ {A : Type 0} (p q : List (List ℕ)) (k : KeepsPaths p q) where
   frame_stays (for_caller callee) h = stays_known p q k callee h
   frame_stays (for_row m row) h = row_stays_known p q k row h
 
--- ---- what is open
+-- ---- the open frames
 module _ {A : Type 0} where
   -- the frames as their texts say them over these paths
   abbrev pub frames_over : List (List ℕ) → List (Frame A) → List (FrameOf (Option (List ℕ)) A)
@@ -357,7 +357,7 @@ module _ {V : Type 0} {outcome next : Text → Outcome V} {old mid : StreamView}
   turned_alike : (other : Text → Outcome V) → demanded (next mid.rest) ≡ demanded (other mid.rest) → Passed alone outcome next old mid → Passed alone outcome other old mid
   turned_alike other e p = record { fine = p.fine; taken = p.taken; takes = p.takes; so_far = p.so_far ∙ prefixed_demanded p.taken (next mid.rest) (other mid.rest) e }
 
-  -- what was to be parsed may be said in other words
+  -- what was to be parsed may be stated in other words
   said_as : (other : Text → Outcome V) → other old.rest ≡ outcome old.rest → Passed alone outcome next old mid → Passed alone other next old mid
   said_as other e p = record { fine = p.fine; taken = p.taken; takes = p.takes; so_far = ap demanded e ∙ p.so_far }
 
@@ -397,7 +397,7 @@ module _ {A : Type 0} (attr : Reader (AttrView A)) (no_more : LeavesNoMore attr)
       ∙ (resumed_alike frames (prefixed [] (frame_rest attr f l text)) (followed (behind_at f l text) (λ p t. progress_rest attr p t)) (demanded_none (frame_rest attr f l text) ∙ behind_is attr no_more f l text)
       ∙ ap demanded (resumed_followed frames (behind_at f l text) (λ p t. progress_rest attr p t)))
 
-  -- what was parsed so far, and where: what is open and how far the innermost was parsed, over the paths that are kept now
+  -- what was parsed so far, and where: the open frames and how far the innermost was parsed, over the paths that are kept now
   pub record SoFar (before : List (List ℕ)) (old : StreamView) (paths : List (List ℕ)) (frames : List (Frame A)) (p : Progress A) (now : StreamView) : Type 0 where
     pub open_known : FramesKnown (length paths) frames
     pub known : known_progress (length paths) p ≡ true

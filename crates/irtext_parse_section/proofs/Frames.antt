@@ -104,7 +104,7 @@ module _ {T A : Type 0} (p : Ptr BasicBlock) where
   beside_operation q None a b e = ap (λ (c : ContextView T A). get c.graph.blocks p) e
   beside_operation q (Some l) a b e = ap (λ s. get s p) e.graph.blocks
 
-  -- so does a block
+  -- the same for a block
   pub block_beside : (x : Item) (l : Option (Location A)) (content : List (Text × Attribute A)) (a b : ContextView T A) → (x ≡ item.Block p → ⊥) → Gives x l content a b → get b.graph.blocks p ≡ get a.graph.blocks p
   block_beside (item.Operation q) l content a b n g = go (is_some (operation a q)) g
     where
@@ -135,7 +135,7 @@ module _ {T A : Type 0} (marks : List (ℕ × Item)) (paths : List (List ℕ)) (
   operation_avoided p (of_item m x ps ∷ es) a b n (mid, one, more) =
       operation_avoided p es mid b n.1 more ∙ operation_beside p one.item one.location _ a mid (λ e. n.0 (one.carries ∙ ap Some e)) one.gives
 
-  -- so does a block
+  -- the same for a block
   pub block_avoided : (p : Ptr BasicBlock) (es : List (Entry ℕ A (Written A))) (a b : ContextView T A) → Avoids marks (item.Block p) es → AppliesAll marks paths all es a b → get b.graph.blocks p ≡ get a.graph.blocks p
   block_avoided p [] a b n e = ap (λ (c : ContextView T A). get c.graph.blocks p) e
   block_avoided p (of_once m x ∷ es) a b n h = block_avoided p es a b n h

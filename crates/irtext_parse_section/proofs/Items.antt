@@ -319,7 +319,7 @@ module _ {T A U : Type 0} (attr : Text → Outcome (AttrView A)) (old new : Stat
   pub operation_untouched : (p : Ptr Operation) → CarriesOnly marks (item.Operation p) None → get d.graph.operations p ≡ get c.graph.operations p
   operation_untouched p n = operation_avoided marks r.middle.paths r.entries p r.entries r.middle d (avoids_unmarked {A = A} marks (λ i k a. true) (item.Operation p) n r.entries) r.applied ∙ ap (λ g. get g.operations p) same_graph
 
-  -- so does a block
+  -- the same for a block
   pub block_untouched : (p : Ptr BasicBlock) → CarriesOnly marks (item.Block p) None → get d.graph.blocks p ≡ get c.graph.blocks p
   block_untouched p n = block_avoided marks r.middle.paths r.entries p r.entries r.middle d (avoids_unmarked {A = A} marks (λ i k a. true) (item.Block p) n r.entries) r.applied ∙ ap (λ g. get g.blocks p) same_graph
 

@@ -47,11 +47,11 @@ module _ {T A : Type 0} (IsLocation : Object → ℕ → Location A → Type 0) 
 -- ---- objects that are unchanged
 module _ {T A : Type 0} (IsLocation : Object → ℕ → Location A → Type 0) (old new : ContextView T A) (whole : List Object) (ats : List (OpenAt T A)) (root : Option (Ptr Operation)) (b : Building T A)
     (h : HoldsSoFar IsLocation old whole ats root b) (but : List Object) (s : ModifiesOnly but old new) where
-  -- what is whole is as it was, where no object of it is one that changed
+  -- what is complete is unchanged, if no object of it is one that changed
   whole_spared : ((o : Object) → Among o but → IsThere old o → Among o (open_objects ats)) → (o : Object) → Among o whole → IsAsItWas old new o
   whole_spared within o i = s.spared o (h.whole_there o i) (λ j. h.not_whole o (within o j (h.whole_there o i)) i)
 
-  -- and so is what is open
+  -- and so are the open objects
   open_spared : (o : Object) → Among o (open_objects ats) → (Among o but → ⊥) → IsAsItWas old new o
   open_spared o i apart = s.spared o (h.open_there o i) apart
 
@@ -102,7 +102,7 @@ opened_not_whole : (k : Object) (os whole : List Object) → (Among k whole → 
 opened_not_whole k os whole none all o (inl e) j = none (subst (λ z. Among z whole) e j)
 opened_not_whole k os whole none all o (inr i) j = all o i j
 
--- what is open is none of what is whole where one object becomes whole that is not open any more
+-- no open object is complete, after an object became complete that is not open any more
 closed_not_whole : (k : Object) (os whole : List Object) → (Among k os → ⊥) → ((o : Object) → Among o os → Among o whole → ⊥) → (o : Object) → Among o os → Among o (k ∷ whole) → ⊥
 closed_not_whole k os whole none all o i (inl e) = none (subst (λ z. Among z os) e i)
 closed_not_whole k os whole none all o i (inr j) = all o i j
@@ -267,7 +267,7 @@ module _ {T A : Type 0} (IsLocation : Object → ℕ → Location A → Type 0) 
     tt,
   )
 
-  -- a region whose last block became whole
+  -- a region whose last block became complete
   blocks_close : (r : Ptr Region) (b : Ptr BasicBlock) (bs : Blocks (Op ℕ T A) (Head ℕ T A) (Brace ℕ)) (last : Head ℕ T A × Operations (Op ℕ T A) (Head ℕ T A) (Brace ℕ)) → Among (TheBlock b) whole
       → RegionIsOpen IsLocation c whole r bs (b ∷ []) → BlockIsOpen IsLocation c whole b last.0 last.1 None → RegionIsOpen IsLocation c whole r (whole_blocks bs (Some last)) []
   blocks_close r b bs last i f k = record {
@@ -278,7 +278,7 @@ module _ {T A : Type 0} (IsLocation : Object → ℕ → Location A → Type 0) 
     hold = blocks_behind IsLocation c whole f.done (b ∷ []) bs (forest.block last.0 last.1 no_blocks) f.hold (block_whole b last.0 last.1 i k);
   }
 
-  -- an operation whose last region became whole
+  -- an operation whose last region became complete
   regions_close : (p : Ptr Operation) (own : OwnSoFar T A) (r : Ptr Region) (rs : Regions (Op ℕ T A) (Head ℕ T A) (Brace ℕ)) (place : ℕ) (bs : Blocks (Op ℕ T A) (Head ℕ T A) (Brace ℕ)) → Among (TheRegion r) whole
       → OperationIsOpen IsLocation c whole p own rs (Some (TheRegion r)) → RegionIsOpen IsLocation c whole r bs []
       → OperationIsOpen IsLocation c whole p own (append_regions rs (forest.region (shown place) bs no_regions)) None
@@ -292,7 +292,7 @@ module _ {T A : Type 0} (IsLocation : Object → ℕ → Location A → Type 0) 
     hold = regions_behind IsLocation c whole f.done (r ∷ []) rs (forest.region (shown place) bs no_regions) f.hold (region_whole r place bs i k);
   }
 
-  -- a block whose last operation became whole
+  -- a block whose last operation became complete
   operations_close : (b : Ptr BasicBlock) (head : Head ℕ T A) (os : Operations (Op ℕ T A) (Head ℕ T A) (Brace ℕ)) (p : Ptr Operation) (o : Op ℕ T A) (mark : Option (Mark ℕ)) (rs : Regions (Op ℕ T A) (Head ℕ T A) (Brace ℕ))
       → Among (TheOperation p) whole → BlockIsOpen IsLocation c whole b head os (Some (TheOperation p)) → OperationIsOpen IsLocation c whole p (own_of o) rs None
       → BlockIsOpen IsLocation c whole b head (append_operations os (forest.operation (with_mark mark o) rs no_operations)) None
@@ -421,7 +421,7 @@ as_it_is c (TheOperation p) = (refl, record { as_many_operands = refl; as_many_s
 as_it_is c (TheBlock b) = (refl, refl)
 as_it_is c (TheRegion r) = refl
 
--- what is open where the block that is open in a region ends
+-- the open frames after the block that is open in a region ends
 abbrev pub block_ended : {T A : Type 0} → List (Unfinished T A) → List (Unfinished T A)
 block_ended (region_so_far bs last ∷ outer) = region_so_far (whole_blocks bs last) None ∷ outer
 block_ended others = others

@@ -51,7 +51,7 @@ module _ {T A S U : Type 0} (d : Actions T A S) (e : Actions T A U) where
       right = (seen_operation_at dialects types_at attr (λ z. z.1) (both d e) e shows_second inside).at text (s, t);
     }
 
-    -- what is left of what is open
+    -- the rest of an open frame
     pub rest_beside : (o : Open T A) (text : Text) (s : S) (t : U)
         → AreBeside (rest_of dialects types_at attr d o text s) (rest_of dialects types_at attr e o text t) (rest_of dialects types_at attr (both d e) o text (s, t))
     rest_beside o text s t = record {

@@ -116,7 +116,7 @@ module _ {T A : Type 0} (formats : Id → Option Format) (isolated : Id → Bool
       ∙ (parts_build place id ps [] no_regions e tt at as_id (append_regions done rs) outer t
       ∙ ap (λ z. in_operation at as_id z outer t) (regions_nil (append_regions done rs)))
 
-  -- an operation, of which it is known what its regions do, is added to what is open
+  -- an operation, given what its regions do, is added to the open frames
   operation_builds : (o : Op ℕ T A) (fs : List (Building T A → Building T A)) (rs : Regions (Op ℕ T A) (Head ℕ T A) (Brace ℕ)) → HasParts formats o rs → EachBuilds fs rs
       → (b : Building T A) → do_operation isolated does o fs b ≡ operation_added o rs b.unfinished b.tree
   operation_builds o fs rs ((f, known, is), enough) h b =
@@ -160,7 +160,7 @@ module _ {T A : Type 0} (formats : Id → Option Format) (isolated : Id → Bool
         ∙ (operations_build os w.2 bs h (append_operations done (operation o rs no_operations)) outer t
         ∙ ap (λ z. in_region bs (Some (h, z)) outer t) (operations_push done o rs os))
 
-  -- a tree is added to what is open
+  -- a tree is added to the open frames
   pub tree_builds : (x : Tree ℕ T A) → IsWhole formats x → (b : Building T A) → do_tree isolated does x b ≡ operation_added x.own x.regions b.unfinished b.tree
   tree_builds x w b = operation_builds x.own (do_regions isolated does (isolated x.own.id) x.regions) x.regions w.0 (regions_build (isolated x.own.id) x.regions w.1) b
 

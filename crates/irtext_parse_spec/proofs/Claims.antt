@@ -32,7 +32,7 @@ and_nothing : (o : Option (List (Fact Text))) → and_then o [] ≡ o
 and_nothing None = refl
 and_nothing (Some fs) = ap Some (append-nil fs)
 
--- scopes to which nothing is said
+-- scopes without new facts
 unsaid : (s : Scopes Text) → s ⊳ nothing ≡ s
 unsaid s = λ i. record { values = and_nothing s.values i; labels = and_nothing s.labels i; marks = append-nil s.marks i; entries = append-nil s.entries i }
 

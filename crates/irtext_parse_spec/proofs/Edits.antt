@@ -93,7 +93,7 @@ module _ {O B T : Type 0} where
     as_many_successors = ap (λ x. length (successors_of (option_map (λ e. e.content.content) x))) e;
   }
 
-  -- so it is where its node changed and not what it uses
+  -- the same if its node changed but not what it uses
   pub edited_as_many : (g k : GraphView O B T) (p : Ptr Operation) (change : Node BasicBlock Region (OperationContent O T) → Node BasicBlock Region (OperationContent O T))
       → ((n : Node BasicBlock Region (OperationContent O T)) → (change n).content.operands ≡ n.content.operands) → ((n : Node BasicBlock Region (OperationContent O T)) → (change n).content.successors ≡ n.content.successors)
       → get k.operations p ≡ option_map (object_of change) (get g.operations p) → UsesAsMany g k p
@@ -192,7 +192,7 @@ region_is T A None = refl
 region_is T A (Some e) = refl
 
 module _ {T A : Type 0} (old new : ContextView T A) where
-  -- what is alike is as it was
+  -- objects that are alike are unchanged
   pub alike_as : (q : Object) → IsAlike old.graph new.graph q → IsAsItWas old new q
   alike_as (TheOperation p) h = (
     operation_is (get new.graph.operations p)
@@ -213,7 +213,7 @@ module _ {T A : Type 0} (old new : ContextView T A) where
       (option_same TheOperation operation_same (parent_of (get new.graph.regions r)) (parent_of (get old.graph.regions r)) h.parents)
       ∙ sym (region_is T A (get old.graph.regions r))))
 
-  -- what is as it was was there, if it is there
+  -- an unchanged object that is present was present
   pub there_before : (q : Object) → IsAsItWas old new q → IsThere new q → IsThere old q
   there_before (TheOperation p) e h = subst IsSome e.0 h
   there_before (TheBlock b) e h = (subst IsSome e.0 h.0, subst IsSome e.1 h.1)
@@ -378,7 +378,7 @@ module _ {T A : Type 0} (IsLocation : ℕ → Location A → Type 0) where
       → HasHead IsLocation (made_block held types) h
   made_head held types h label same entries location = record { label = label; types = ap known same; entries = entries; location = location }
 
--- ---- an operation that was made, and placed last in a block
+-- ---- an operation that was made, and appended to a block
 module _ {T A : Type 0} (IsLocation : ℕ → Location A → Type 0) (old mid new : ContextView T A) (b : Ptr BasicBlock) (p : Ptr Operation) (held : OperationData A) (types : List T) {operands : List Value} {successors : List (Ptr BasicBlock)}
     (m : MakesOperation old mid p held types operands successors) (a : Appends mid.graph new.graph (TheBlock b) (TheOperation p)) where
   -- it is new, and has its own
@@ -411,7 +411,7 @@ module _ {T A : Type 0} (IsLocation : ℕ → Location A → Type 0) (old mid ne
       spares_then old mid new but (spares_wider old mid (TheOperation p ∷ []) but (λ q i. elim i [ inl e ↦ inl e | inr j ↦ absurd j ]) (operation_made_spares old mid p held types m))
       (spares_wider mid new (TheBlock b ∷ []) but (λ q i. inr i) (operation_placed_spares mid new b p a))
 
--- ---- a block that was made, and placed last in a region
+-- ---- a block that was made, and appended to a region
 module _ {T A : Type 0} (IsLocation : ℕ → Location A → Type 0) (old mid new : ContextView T A) (r : Ptr Region) (b : Ptr BasicBlock) (held : BlockData A) (types : List T)
     (m : MakesBlock old mid b held types) (a : Appends mid.graph new.graph (TheRegion r) (TheBlock b)) where
   free_at_first : parent mid.graph (TheBlock b) ≡ None

@@ -45,7 +45,7 @@ fine_keeps = record {
   row = fine_row;
 }
 
--- no failure says so
+-- no failure has this cause
 not_failed : (c : Cause Text) → NotFailed (fault_for c)
 not_failed (script.ResultCount types names) e = cc e
 not_failed (script.NoActiveScope n) e = cc e

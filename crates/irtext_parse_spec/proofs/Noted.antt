@@ -1,4 +1,4 @@
--- What a context holds of what was parsed so far is held with more said of the locations.
+-- What a context contains of what was parsed so far, with more known of the locations.
 use Rattle.std.proofs.Common.{ℕ, List, [], ◌∷◌, Option, Some, None, inl, inr, refl}
 use Rattle.irtext_base.specs.declared.location.Location.{Location}
 use Rattle.irtext_context.specs.Context.{ContextView, OperationView, BlockView}
@@ -98,7 +98,7 @@ module _ {T A : Type 0} (I J : Object → ℕ → Location A → Type 0) (wider 
   tree_wider (Some p) None h = absurd h
   tree_wider (Some p) (Some t) h = operations_wider (p ∷ []) (forest.operation t.own t.regions no_operations) h
 
-  -- what is held is held with more said
+  -- what is contained is contained with more known
   pub holds_wider : (ats : List (OpenAt T A)) (root : Option (Ptr Operation)) (b : Building T A) → HoldsSoFar I c whole ats root b → HoldsSoFar J c whole ats root b
   holds_wider ats root b h = record {
     are_open = all_wider ats b.unfinished None h.are_open;

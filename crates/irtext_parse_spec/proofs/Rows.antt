@@ -149,7 +149,7 @@ whole_row = (
   tt,
 )
 
--- where the inner operation is whole but for its mark, all round it is open
+-- where the inner operation is complete but for its mark, all around it is open
 abbrev at_mark : List (OpenAt ℕ ℕ)
 at_mark = ended_under inner_ptr ∷ region_under region_ptr (Some block_ptr) ∷ operation_under outer_ptr (record { place = 25; id = outer_id; operands = 0; successors = 0; types = []; entries = [] }) ∷ []
 

@@ -233,11 +233,11 @@ module _ {T A S U : Type 0} (dialects : List (Text × Table)) (types_at : Text �
   pub seen_operation_at : (inside : Bool) → ReadsSeen see (operation_at dialects types_at attr d inside) (operation_at dialects types_at attr e inside)
   seen_operation_at inside = record { at = (seen_operation (region_at dialects types_at attr d) (region_at dialects types_at attr e) seen_region_at inside).at }
 
-  -- ---- what is open
+  -- ---- the open frames
   seen_item : ReadsSeen see (operations_by (operation_at dialects types_at attr d true)) (operations_by (operation_at dialects types_at attr e true))
   seen_item = record { at = seen_operations see _ _ (seen_operation_at true) }
 
-  -- what is left of what is open
+  -- the rest of an open frame
   pub seen_rest : (o : Open T A) → ReadsSeen see (rest_of dialects types_at attr d o) (rest_of dialects types_at attr e o)
   seen_rest (to_come inside) = seen_operation_at inside
   seen_rest (an_operation o) = record {

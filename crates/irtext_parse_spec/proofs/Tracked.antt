@@ -42,7 +42,7 @@ module _ {T A : Type 0} where
   operation_gained None p q i = i
   operation_gained (Some view) p q i = among_left q view.operations (p ∷ []) i
 
-  -- an object that is as it was has the children that it had
+  -- an unchanged object has the children that it had
   same_children : (old new : ContextView T A) (k o : Object) → IsAsItWas old new k → HasChild old k o → HasChild new k o
   same_children old new (TheOperation p) (TheRegion r) e i = subst (λ z. Among r (regions_in z)) (sym e.0) i
   same_children old new (TheOperation p) (TheOperation q) e i = absurd i
@@ -320,7 +320,7 @@ module _ {T A : Type 0} (start c : ContextView T A) (items : Made) (whole : List
       back_again o (inl (inr i)) = inl i
       back_again o (inr i) = absurd i
 
--- ---- the children of what is open
+-- ---- the children of the open objects
 module _ {T A : Type 0} (I : Object → ℕ → Location A → Type 0) (c : ContextView T A) (whole : List Object) where
   -- the block that is open in a region is a child of the region
   block_in_region : (r : Ptr Region) (b : Ptr BasicBlock) (ats : List (OpenAt T A)) (us : List (Unfinished T A)) → AreOpenAt I c whole (region_under r (Some b) ∷ ats) us None → HasChild c (TheRegion r) (TheBlock b)

@@ -59,7 +59,7 @@ module _ {T A : Type 0} (C : Printing T A) (L : Language ⊤ T A) (ctx : Context
     abbrev shown_text : RegionPrintDepthLimit → ℕ → Text
     shown_text limit n = region_text L width i (shown tt) (block_texts L width (i + width) (tree_blocks C (inside C (levels limit)) n bs))
 
-    -- what is open of a region that is shown
+    -- the open frame of a region that is shown
     abbrev opens : RegionPrintDepthLimit → Open T A
     opens inner = a_region i (levels inner) true bs
 
@@ -89,7 +89,7 @@ module _ {T A : Type 0} (C : Printing T A) (L : Language ⊤ T A) (ctx : Context
     abbrev pub Fault : RegionPrintDepthLimit → Refusal → Type 0
     Fault limit e = RegionsFault C (isolated ctx.dialects) width e i (levels limit) (region tt bs no_regions)
 
-    -- what is open of it gives this reason
+    -- the open frame has this reason
     abbrev pub OpenFaults : RegionPrintDepthLimit → Refusal → Type 0
     OpenFaults limit e = AnyFault C (isolated ctx.dialects) width e (map (open_of C L ctx) (region_frames r i limit))
 

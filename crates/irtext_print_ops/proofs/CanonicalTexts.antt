@@ -1,4 +1,4 @@
--- The form that any operation has, as it is appended and as the definitions of printing have it.
+-- The canonical form, as it is appended and as the definitions of printing have it.
 use Rattle.std.proofs.Common.{◌≡◌, ◌∙◌, ◌++◌, ◌∷◌, ℕ, refl, sym, ap, Bool, true, IfSome, option_map, List, [], map, filter, codes, filter_map}
 use Rattle.std.proofs.lemmas.List.{append_assoc}
 use Rattle.std.specs.Prelude.{⊤, Some}

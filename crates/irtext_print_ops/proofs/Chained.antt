@@ -46,7 +46,7 @@ module _ {T A : Type 0} (C : Printing T A) (L : Language ⊤ T A) (ctx : Context
   }
 
   module _ (f g : Frame) (items items1 items2 : List Item) (pre post : List Frame) (old mid new : List ℕ) (s : Steps C L ctx width f items items1 [] (pre ++ g ∷ []) old mid) (t : Steps C L ctx width g items1 items2 [] post mid new) where
-    -- the second turn, of the frame that is innermost
+    -- the second turn, of the innermost frame
     then_inside : Steps C L ctx width g items1 items2 pre (pre ++ post) mid new
     then_inside = inside_others g items1 items2 pre post mid new t
 

@@ -16,7 +16,7 @@ module _ {T A : Type 0} (C : Printing T A) (L : Language ⊤ T A) (width : ℕ) 
   marks_behind [] hs = omega arith
   marks_behind (g ∷ gs) hs = let k = marks_behind gs hs in omega (arith, k)
 
-  -- what is open alone
+  -- only this frame is open
   pub alone : (f : Open T A) (n : ℕ) → open_rest C L width (f ∷ []) n ≡ rest C L width f n
   alone f n = ap (rest C L width f) (nothing_more n)
     where

@@ -76,7 +76,7 @@ module _ {T A : Type 0} (L : ℕ → Location A → Type 0) (c : ContextView T A
   abbrev AreNamed : Ptr Operation → Type 0
   AreNamed p = (list_all is_some (map (value_place all) (operands c.graph p)) ≡ true) × (list_all is_some (map (block_place all) (successors c.graph p)) ≡ true)
 
-  -- so it is of each operation of a list
+  -- it holds of each operation of a list
   record AllNamed (xs : List (Object × Path)) : Type 0 where
     each : (p : Ptr Operation) (q : Path) → Among (TheOperation p, q) xs → AreNamed p
 

@@ -112,7 +112,7 @@ built = record {
       no_regions;
 }
 
--- the second operation's operand is the first result of the first, and its successor is the block round it
+-- the second operation's operand is the first result of the first, and its successor is the block around it
 held_row : held_root context (pointer 0) ≡ Some built
 held_row = refl
 

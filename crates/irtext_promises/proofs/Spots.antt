@@ -28,7 +28,7 @@ spots_both [] gs = refl
 spots_both (uses n u ∷ fs) gs = spots_both fs gs
 spots_both (defines n p ∷ fs) gs = ap (λ z. p ∷ z) (spots_both fs gs)
 
--- a script defines values and blocks at these places, for the scopes round it
+-- a script defines values and blocks at these places, for the scopes around it
 pub record Says {N P : Type 0} (eq : N → N → Bool) (x : Script N P) (vs ls : List Place) : Type 0 where
   pub values : spots (facts eq x).values ≡ vs
   pub labels : spots (facts eq x).labels ≡ ls

@@ -69,7 +69,7 @@ module _ {V : Type 0} where
     maps = ap are_maps (added_scopes heads marks bs b s) ∙ mentioned_maps b.name b.entry (scopes_at marks bs) s.maps none;
   }
 
-  -- ---- the last binding taken away
+  -- ---- the last binding removed
   pub taken_chained : (heads heads' : List (Option ℕ)) (bs : List (Binding V)) (b : Binding V) → Chained heads (bs ++ b ∷ [])
       → ((n : ℕ) → head_at heads' n ≡ cond (nat_eq b.name n) b.hidden (head_at heads n)) → Chained heads' bs
   taken_chained heads heads' bs b c put = record {

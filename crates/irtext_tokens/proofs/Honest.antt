@@ -117,7 +117,7 @@ unfolding attr_at
 honest_attr h = honest_either (leads (codes "builtin.given_names")) (seen given_names honest_given_names) (honest_either (leads (codes "builtin.identifier")) (seen ident honest_ident) (seen own h))
 
 -- ---- what follows of it for any parser
--- what is said of a cause holds of the cause of an outcome that has one
+-- what holds of a cause holds of the cause of an outcome that has one
 abbrev pub ModifiesOnly : (Fault → Type 0) → {X : Type 0} → Outcome X → Type 0
 ModifiesOnly P (Read x taken rest) = Unit {0}
 ModifiesOnly P (Missing cause) = P cause

@@ -85,7 +85,7 @@ module _ {S : Type 0} (l : Lens S) where
   passed outcome (Missing cause) false k old mid new taken x f t e h = absurd h
   passed outcome (Bad cause upto) false k old mid new taken x f t e h = absurd h
 
-  -- what is to be parsed may be said in other words
+  -- what is to be parsed may be stated in other words
   pub turned : {V : Type 0} {outcome next : Text → Outcome V} {old mid : S} (other : Text → Outcome V) → next (l.view mid).rest ≡ other (l.view mid).rest → Passed outcome next old mid → Passed outcome other old mid
   turned other e p = record { fine = p.fine; taken = p.taken; takes = p.takes; so_far = p.so_far ∙ ap (prefixed p.taken) e }
 

@@ -21,7 +21,7 @@ module _ {P T A : Type 0} where
     pub is_of : IsOf format o.body
     pub enough : Enough (parts_of o.body) rs
 
-  -- each operation inside is so formed, and no region is elided
+  -- each operation inside has the parts of its format, and no region is elided
   abbrev pub FormedRegions : Regions (Op P T A) (Head P T A) (Brace P) → Type 0
   FormedRegions rs = ShownWith FormedOp rs
 
@@ -33,7 +33,7 @@ module _ {P T A : Type 0} where
   abbrev pub FormedOperations : Operations (Op P T A) (Head P T A) (Brace P) → Type 0
   FormedOperations os = OperationsWith FormedOp os
 
-  -- each operation of a tree is so formed
+  -- each operation of a tree has the parts of its format
   abbrev pub Formed : Tree P T A → Type 0
   Formed t = FormedOp t.own t.regions × FormedRegions t.regions
 

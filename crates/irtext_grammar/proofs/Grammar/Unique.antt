@@ -159,7 +159,7 @@ module _ {P T A : Type 0} (L : Language P T A) (types : Lawful T L.types) (owns 
   type_begins : (x : T) (t u : Text) → reads.type L x t u → reads.no_type L t → ⊥
   type_begins x t u a b = cc (a, b)
 
-  -- a name parses nowhere where no word begins
+  -- where no word begins, no name is parsed
   pub name_begins : (n : Name P) (t u : Text) → reads.name L n t u → reads.no_word t → ⊥
   name_begins n t u a b = true≢false (sym a.1.0 ∙ b)
 

@@ -80,7 +80,7 @@ module _ (v l : List (Fact Thing)) where
   use_block_sound p i None g e a = a
   use_block_sound p i (Some x) g e a = ((tt, a.0), (e, a.1))
 
--- of regions, whatever the labels round them
+-- for regions, whatever the labels around them
 abbrev SoundAll : List (Fact Thing) → List (Script Thing ⊤ → Script Thing ⊤) → Type 0
 SoundAll v [] = ⊤
 SoundAll v (s ∷ ss) = ((l : List (Fact Thing)) (g : Script Thing ⊤) → Sound v l g → Sound v l (s g)) × SoundAll v ss
@@ -218,7 +218,7 @@ module _ {T A : Type 0} (C : Printing T A) (isolated : Id → Bool) where
   graph_only g r o s i =
       body_only [] g.own o s (C.format_of g.own.id) _ _ (regions_only [] 0 (isolated g.own.id) g.regions i) (subst (λ z. OnlyRegions (does_all (defined_results [] 0 z) done)) (sym r) tt)
 
-  -- a root without results, operands and successors is closed, where each operand and successor inside is found in the scopes round it
+  -- a root without results, operands and successors is closed, if each operand and successor inside is found in the scopes around it
   pub found_closed : (g : Graph T A) → Found (stood C isolated g) → Distinct C isolated g
       → g.own.results ≡ [] → g.own.operands ≡ [] → g.own.successors ≡ [] → (has_region g.regions ≡ true → isolated g.own.id ≡ true) → Closed C isolated g
   found_closed g h d r o t i =

@@ -82,7 +82,7 @@ among-last n ns = among-append n ns (n ∷ []) ∙ (ap (λ b. cond (among n ns) 
     cond_same true = refl
     cond_same false = refl
 
--- where it was not there before, it is the last
+-- if it was not there before, it is the last
 pub among-new : (n m : Text) (ns : List Text) → among m (ns ++ n ∷ []) ≡ true → (among m ns ≡ true) ⊎ (n ≡ m)
 among-new n m ns h = go (among m ns) (same_text n m) refl refl
   where

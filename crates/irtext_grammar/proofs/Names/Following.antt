@@ -42,7 +42,7 @@ module _ {P T A : Type 0} where
       ∙ parts_follow p (singles (parts_of o.body)) (single_labels (parts_of o.body)) (parts_of o.body) rs (does_all (closing_acts p o) x) y h
 
   module _ (isolated : Id → Bool) where
-    -- so does that of each region
+    -- the same for that of each region
     pub regions_follow : (p : Path) (j : ℕ) (iso : Bool) (rs : Regions (Op P T A) (Head P T A) (Brace P)) → AllFollow (region_scripts isolated p j iso rs)
     regions_follow p j iso no_regions = tt
     regions_follow p j iso (region b bs rs) = ((λ x y. region_follow iso b (blocks_script isolated (j ∷ p) 0 bs) x y), regions_follow p (suc j) iso rs)

@@ -144,7 +144,7 @@ module _ {P T A : Type 0} (isolated : Id → Bool) (of_piece : Piece P T A → T
       let s = all_hold p (suc j) iso rs then a.1 in
       record { to = λ d. let x = r.to d in let y = s.to x.1 in ((x.0, y.0), y.1); from = λ d. r.from (d.0.0, s.from (d.0.1, d.1)) }
 
-  -- what holds of the script of a body's parts holds of the parts, and the other way round
+  -- what holds of the script of a body's parts holds of the parts, and conversely
   pub parts_hold : (p : Path) (k l : ℕ) (ps : List (Part P T A)) (q : Path) (j : ℕ) (iso : Bool) (rs : Regions (Op P T A) (Head P T A) (Brace P)) (then : Script Text P) → Enough ps rs → Hold q j iso rs
       → Both (D (parts_script p k l ps (region_scripts isolated q j iso rs) then)) (OfParts ps × (OfRegions iso rs × D then))
   parts_hold p k l [] q j iso no_regions then e a = record { to = λ d. (tt, (tt, d)); from = λ d. d.1.1 }

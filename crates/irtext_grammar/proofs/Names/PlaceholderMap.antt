@@ -54,7 +54,7 @@ abbrev pub operands : List Scope → List (User × Held)
 operands [] = []
 operands (g ∷ gs) = shown (means g) g.facts ++ operands gs
 
--- what is bound for good, as it is held
+-- what is bound for good, as it is stored
 abbrev pub final : List (User × Place) → List (User × Held)
 final [] = []
 final ((u, p) ∷ b) = (u, bound p) ∷ final b
@@ -466,7 +466,7 @@ left_linked g gs b s a l e =
           (same_path _ _ (append_assoc (operands gs) (final b) X ∙ ap (λ z. operands gs ++ z) (sym (final-append b (bound_in g.facts g.facts)))))));
     }
 
--- the scopes round the innermost one
+-- the scopes around the innermost one
 abbrev pub under_scopes : List Scope → List Scope
 under_scopes [] = []
 under_scopes (g ∷ gs) = gs

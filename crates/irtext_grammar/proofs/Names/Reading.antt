@@ -43,7 +43,7 @@ onto-nothing : (gs : List (List Fact)) → onto gs [] ≡ gs
 onto-nothing [] = refl
 onto-nothing (h ∷ gs) = ap (λ x. x ∷ gs) (append-nil h)
 
--- scopes over the same places are tied to a state whose facts and lists are theirs
+-- scopes over the same places match a state whose facts and lists are theirs
 tied : (st st' : State) (t t' : Tracker) (d : Tied st t) (vs ls : List Scope) → facts_in vs ≡ st'.values → facts_in ls ≡ st'.labels → t'.marks ≡ st'.marks → t'.entries ≡ st'.entries → st.bound ≡ st'.bound
     → Linked vs d.of_values t'.values → Linked ls d.of_labels t'.labels → Tied st' t'
 tied st st' t t' d vs ls v l m n b x y = record {

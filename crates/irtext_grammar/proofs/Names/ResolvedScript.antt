@@ -76,7 +76,7 @@ then_nothing : {X : Type 0} (b : Bool) (x : X) → cond b (x ∷ []) [] ≡ [] �
 then_nothing true x e = absurd (unequal x [] e)
 then_nothing false x e = refl
 
--- the other way round
+-- the converse
 pub nothing_if : {X : Type 0} (b : Bool) (x : X) → b ≡ true → cond b [] (x ∷ []) ≡ []
 nothing_if true x e = refl
 nothing_if false x e = absurd (true≢false (sym e))

@@ -71,7 +71,7 @@ module _ {O B T : Type 0} {g k : GraphView (Option O) B T} (r : Ptr Region) (b :
   block_apart : (ls : List (Scope (Ptr BasicBlock))) → IsNoPlaceholder ls b → (i n : ℕ) (x : Ptr BasicBlock) → entry_at i n ls ≡ Some (Pending x) → (TheBlock x ≢ TheRegion r) × (TheBlock x ≢ TheBlock b)
   block_apart ls none i n x f = (λ e. cc, λ e. let same : x ≡ b = cc in none i n (subst (λ z. entry_at i n ls ≡ Some (Pending z)) same f))
 
-  -- names stay tied, where no label waits with the block
+  -- names still match the graph, if no label waits with the block
   pub block_placed_ties : (vs : List (Scope Value)) (ls : List (Scope (Ptr BasicBlock))) → IsNoPlaceholder ls b → MatchesGraph vs ls g → MatchesGraph vs ls k
   block_placed_ties vs ls none t = appended_ties a vs ls (λ i n x f. value_apart x (t.value_ties.held i n x f)) (block_apart ls none) t
 

@@ -46,7 +46,7 @@ module _ {T A : Type 0} (types : Texts T) (owns : Texts A) (formats : Id → Opt
       let k = exact_results.read (after_space text) ns taken rest e in
       (loosened 44 (exact_name types owns formats) starts_name ns (literal (codes "=")) text rest k.0, k.1)
 
-  -- and the other way round
+  -- and conversely
   results_found : (text : Text) (ns : List (Name ℕ)) (rest : Text) → reads.results l ns (after_space text) rest → (taken : Text) × (results_at (after_space text) ≡ Read ns taken rest)
   results_found text ns rest r = exact_results.found (after_space text) ns rest (tightened 44 (exact_name types owns formats) starts_name ns (literal (codes "=")) text rest r)
 

@@ -100,6 +100,6 @@ module _ {X : Type 0} {item : Reader X} {reading : X → Reading} {none : Text �
   pub loosened : (xs : List X) (next : Reading) (text rest : Text) → white (listed xs ▸ next) text rest → white (listed xs ▹ next) text rest
   loosened xs next text rest (mid, a, b) = (mid, a, subst (λ t. next t rest) (sym (list_tight separator items xs text mid a)) b)
 
-  -- the same, the other way round
+  -- the converse
   pub tightened : (xs : List X) (next : Reading) (text rest : Text) → white (listed xs ▹ next) text rest → white (listed xs ▸ next) text rest
   tightened xs next text rest (mid, a, b) = (mid, a, subst (λ t. next t rest) (list_tight separator items xs text mid a) b)

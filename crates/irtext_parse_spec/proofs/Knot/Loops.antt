@@ -36,7 +36,7 @@ module _ {X Y S : Type 0} where
   came_read (Stopped s cause place) next y t rest e = absurd (cc e)
 
 -- ---- what is to be parsed
--- what a reading of the grammar parses, the parser parses, with this action; and each such text begins so
+-- what a reading of the grammar parses, the parser parses, with this action; and each such text begins as required
 pub record Finds {S : Type 0} (Begins : Text → Type 0) (item : Reads S) (reading : Reading) (act : S → S) : Type 0 where
   pub begins : (text rest : Text) → reading text rest → Begins text
   pub found : (text rest : Text) (s : S) → reading text rest → item text s ≡ Advanced tt (act s) rest
@@ -88,7 +88,7 @@ pub more_repeated : (sep : ℕ) (rs : List Reading) (text rest : Text) → more 
 more_repeated sep [] text rest h = h
 more_repeated sep (r ∷ rs) text rest (m, first, (k, q, z)) = (k, (m, first, q), more_repeated sep rs (after_space k) rest z)
 
--- and the other way round
+-- and conversely
 pub repeated_more : {X : Type 0} (sep : ℕ) (reading : X → Reading) (xs : List X) (text rest : Text)
     → repeated (the sep) (map (λ x. separate sep (reading x)) xs) text rest → more sep (map reading xs) text rest
 repeated_more sep reading [] text rest h = h

@@ -46,7 +46,7 @@ gives_text word rest = record { taken = word; is = text-literal word (word ++ re
 pub gives_space : (text rest : Text) → after_space text ≡ rest → GivesBack (space_at text) tt text rest
 gives_space text rest e = record { taken = front is_whitespace text; is = ap (Read tt (front is_whitespace text)) e; whole = ap (λ t. front is_whitespace text ++ t) (sym e) ∙ front-after is_whitespace text }
 
--- a fixed text with white space round it
+-- a fixed text with white space around it
 pub gives_spaced : (word text mid rest : Text) → after_space text ≡ word ++ mid → after_space mid ≡ rest → GivesBack (spaced_at word text) tt text rest
 gives_spaced word text mid rest e f =
     gives_followed (space_at text) (λ _ t. followed (text_at word t) (λ _ u. space_at u)) tt tt text (word ++ mid) rest (gives_space text (word ++ mid) e)

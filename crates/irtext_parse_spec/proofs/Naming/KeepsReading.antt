@@ -22,11 +22,11 @@ done_in (Advanced x s rest) = s
 done_in (Stopped s cause place) = s
 
 module _ {S : Type 0} (s : S) where
-  -- a parser that leaves what had been done as it is
+  -- a parser that leaves the state unchanged
   pub record Quiet (reader : Reads S) : Type 0 where
     pub at : (text : Text) → done_in (reader text s) ≡ s
 
-  -- where both leave it as it is, so does one and then the other
+  -- if both leave it unchanged, so does one and then the other
   pub quiet_came : {X Y : Type 0} (o : Reached X S) (next : X → S → Text → Reached Y S) → done_in o ≡ s → ((x : X) (rest : Text) → done_in (next x s rest) ≡ s) → done_in (came o next) ≡ s
   quiet_came (Advanced x t rest) next e h = ap (λ z. done_in (next x z rest)) e ∙ h x rest
   quiet_came (Stopped t cause place) next e h = e

@@ -16,8 +16,8 @@ use Rattle.irtext_grammar.specs.Names.Script.{Path}
 use Rattle.irtext_parse_spec.specs.Naming.{paths_in_regions, paths_in_blocks, paths_in_operations, paths_in, Names}
 use Rattle.irtext_parse_spec.proofs.Naming.Shorter.{Shortens, space_shorter, word_shorter, leaves_identifier, leaves_results_if, leaves_mark_if, leaves_piece, leaves_dictionary_if, leaves_arguments}
 
--- ---- places that fall
--- the places fall along the list, from below the first number, and the second is not above the last
+-- ---- places that decrease
+-- the places decrease along the list, from below the first number, and the second is not above the last
 abbrev pub Falls : ℕ → ℕ → List (ℕ × Path) → Type 0
 Falls high low [] = low ≤ high
 Falls high low (item ∷ items) = (item.0 < high) × Falls item.0 low items

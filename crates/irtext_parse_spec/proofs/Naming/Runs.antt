@@ -94,7 +94,7 @@ module _ {P T A : Type 0} where
 pub record Does (script : Script → Script) (come : Outcome → Outcome) : Type 0 where
   pub so : (then : Script) (o : Outcome) → run o (events (script then)) ≡ run (come o) (events then)
 
--- so it is of each
+-- it holds of each
 abbrev EachDoes : List (Script → Script) → List (Outcome → Outcome) → Type 0
 EachDoes [] [] = ⊤
 EachDoes (r ∷ rs) (d ∷ ds) = Does r d × EachDoes rs ds

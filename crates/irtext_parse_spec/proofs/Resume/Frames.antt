@@ -32,7 +32,7 @@ came_came (Advanced x s t) k l = refl
 came_came (Stopped s cause place) k l = refl
 
 module _ {T A S : Type 0} (dialects : List (Text × Table)) (types_at : Text → Outcome T) (attr : Text → Outcome (AttrView A)) (does : Actions T A S) where
-  -- what is left of what is open, and of all of it
+  -- the rest of an open frame, and of all
   abbrev left_of : Open T A → Reads S
   left_of = rest_of dialects types_at attr does
 

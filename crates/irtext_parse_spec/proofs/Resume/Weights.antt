@@ -1,4 +1,4 @@
--- Each turn of a loop over what is open is one nearer to its end: it parses some of the text, or less is to be done of what is open.
+-- Each turn of a loop over the open frames is one step nearer to its end: it parses some of the text, or less is left to do in the frames.
 use Rattle.std.proofs.Common.{◌≡◌, ℕ, ◌+◌, ◌<◌, ◌≤◌, Bool, true, false, cond, List, [], ◌∷◌, ◌++◌, Option, Some, None, length, arith, refl, ap, mul-le-mul_left, mul-suc, zero-le, option_and_then, option_map}
 use Rattle.std.specs.Map.{lookup}
 use Rattle.std.specs.Str.{bytes_eq}

@@ -35,7 +35,7 @@ pub at_success : {X E P : Type 0} (r : Result X E) → P → OnOk r P
 at_success (Ok x) p = p
 at_success (Err e) p = tt
 
--- nothing was gathered where the test says so
+-- nothing was gathered if the test holds
 pub none_gathered : (gs : List Item) (b : Bool) → b ≡ not (length gs == 0) → b ≡ false → gs ≡ []
 none_gathered [] b e h = refl
 none_gathered (x ∷ gs) b e h = absurd (true≢false (sym (ap not (counted (length gs))) ∙ sym e ∙ h))

@@ -34,7 +34,7 @@ same_block None (Some b) e = absurd (cc)
 same_block (Some a) None e = absurd (cc)
 same_block (Some a) (Some b) e = cc
 
--- a state that gathered something else is as it was but for that
+-- a state that gathered something else is otherwise unchanged
 pub rests : {U : Type 0} (s t : Shown U) (xs : List Item) → t ≡ with_gathered s xs → t ≡ with_gathered s (gathered_of t)
 rests s t xs e = e ∙ ap (with_gathered s) (sym (ap gathered_of e))
 
