@@ -16,7 +16,7 @@ use Rattle.irtext_grammar.specs.Grammar.Tree.{Op, Head, Brace, Tree}
 use Rattle.irtext_parse_spec.specs.Building.{Unfinished, operation_so_far, region_so_far, but_its_mark}
 use Rattle.irtext_parse_spec.specs.Unchanged.{OwnSoFar, own_of, HasUses, UsesAsMany, RegionsHold, BlocksHold, OperationsHold, OpenAt, operation_under, ended_under, region_under, as_inner, objects_under, open_objects, OperationIsOpen, RegionIsOpen, BlockIsOpen, IsOpenAt, AreOpenAt, TreeHolds, IsThere, IsAsItWas}
 
--- an object that is present and unchanged is still present
+-- an object that was present and is unchanged is still present
 pub there_still : {T A : Type 0} (old new : ContextView T A) (o : Object) → IsAsItWas old new o → IsThere old o → IsThere new o
 there_still old new (TheOperation p) e h = subst IsSome (sym e.0) h
 there_still old new (TheBlock b) e h = (subst IsSome (sym e.0) h.0, subst IsSome (sym e.1) h.1)
