@@ -132,7 +132,7 @@ untyped_front (format.dictionary ∷ ds) = untyped_front ds
 untyped_front (format.result_type i ∷ ds) = untyped_front ds
 untyped_front (format.header ∷ ds) = untyped_front ds
 
--- ---- parts of lists, and what was parsed of them
+-- ---- parts of lists, and what was parsed for them
 -- ---- which can be gathered
 below_of : (ns : List Text) (i : ℕ) (t : Text) → slice_get ns i ≡ Some t → i < length ns
 below_of [] zero t e = absurd (cc)

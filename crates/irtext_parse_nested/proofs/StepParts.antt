@@ -44,7 +44,7 @@ module _ {T A : Type 0} (types_at : Text → Outcome T) (attr : Text → Outcome
   piece_of inside (one i) text p taken rest e = absurd (cc e)
   piece_of inside all text p taken rest e = absurd (cc e)
 
-  -- an empty list alone is parsed of what is never parsed
+  -- if an item is never parsed, only the empty list is
   never_listed : (item : Reader (Name ℕ)) → ((text : Text) (n : Name ℕ) (taken rest : Text) → item text ≡ Read n taken rest → ⊥) → (text : Text) (ns : List (Name ℕ)) (taken rest : Text)
       → separated_at 44 item text ≡ Read ns taken rest → ns ≡ []
   never_listed item never text ns taken rest e = go (item text) refl e

@@ -1,4 +1,4 @@
--- What is known of an operation that is open, by the parts that were parsed of it.
+-- What is known of an open operation, from its parts that were parsed.
 use Rattle.std.proofs.Common.{◌≡◌, ◌∙◌, ◌+◌, ℕ, suc, zero, true, List, [], ◌∷◌, ◌++◌, map, drop, length, slice_get, Option, Some, None, refl, sym, ap, subst, append-nil, append_assoc, arith}
 use Rattle.std.proofs.lemmas.List.Elements.{All-cons}
 use Rattle.irtext_base.specs.Text.{Text}

@@ -115,7 +115,7 @@ unreported None h = refl
 unreported (Some l) h = absurd h
 
 module _ {T A : Type 0} (c : ContextView T A) (op : Ptr Operation) (id : OpId) (is : option_map (λ (view : OperationView T A). view.id) (operation c op) ≡ Some id) where
-  -- so nothing is parsed of an operation that is isolated
+  -- so no position is reported for an operation that is isolated
   pub none_reported : isolated c.dialects (id_of id) ≡ true → IsReportedAt (unisolated c op) None
   none_reported closed = go (operation c op) is
     where

@@ -126,7 +126,7 @@ module _ {T A : Type 0} (types : Texts T) (reading : Text → Outcome A) (writte
     abbrev choice : Mark ℕ → Text → Outcome (Entry ℕ A (Written A))
     choice m t = cond (begins_given t) (item_next m t) (once_next m t)
 
-    -- an entry that is parsed the grammar parses, and nothing is wrong with it
+    -- an entry that is accepted the grammar parses, and without a failure
     pub entry_read : (text : Text) (e : Entry ℕ A (Written A)) (taken rest : Text) → entry_at attr test rules text ≡ Read e taken rest → An e text rest × (taken ++ rest ≡ text) × (wrong_entry test rules e ≡ [])
     entry_read text e taken rest is =
         let a = followed_read (tested test (entry_head_at text)) choice e taken rest is in
@@ -162,7 +162,7 @@ module _ {T A : Type 0} (types : Texts T) (reading : Text → Outcome A) (writte
         ap begins_given e
     goes_on (Some x) ps end rest (mid, (t, a, b), c) = ap begins_given a
 
-    -- an entry that the grammar parses is parsed, where nothing is wrong with it
+    -- an entry that the grammar parses is accepted, where nothing is wrong with it
     pub entry_found : (text : Text) (e : Entry ℕ A (Written A)) (rest : Text) → An e text rest → ReadOrStops text (entry_at attr test rules text) e rest (wrong_entry test rules e)
     entry_found text (of_once m a) rest (mid, r, (end, q, s)) =
         let h = head_found text m mid end r q in
@@ -288,7 +288,7 @@ module _ {T A : Type 0} (types : Texts T) (reading : Text → Outcome A) (writte
     something [] e h = true≢false (sym e)
     something (c ∷ text) e h = omega (arith, h)
 
-    -- entries that the grammar parses are parsed, up to the first failure
+    -- entries that the grammar parses are accepted, up to the first failure
     pub entries_found : (n : ℕ) (earlier es : List (Entry ℕ A (Written A))) (text rest : Text) → length text ≤ n → repeated (the 33) (map An es) text rest
         → ReadOrStops text (entries_after attr marks rules n earlier text) (earlier ++ es) rest (wrong_entries marks rules (indices earlier) es)
     entries_found zero earlier [] text rest i (f, e) = inl (refl, ([], ap₂ (λ z t. Read z [] t) (sym (append-nil earlier)) (sym e)))

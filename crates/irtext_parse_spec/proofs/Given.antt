@@ -173,7 +173,7 @@ module _ {T A : Type 0} (types : Texts T) (reading : Text → Outcome A) (writte
     abbrev pairs_next : Option (Written A) → Text → Outcome (Option (Written A) × List (Name ℕ × Item ℕ A))
     pairs_next x t = mapped (λ ps. (x, ps)) (pairs_at attr rule t)
 
-    -- what is parsed the grammar parses, and nothing is wrong with it
+    -- what is accepted the grammar parses, and without a failure
     pub given_read : (text : Text) (g : Option (Written A) × List (Name ℕ × Item ℕ A)) (taken rest : Text) → after_space text ≡ text → given_at attr rule text ≡ Read g taken rest
         → Given g text rest × (taken ++ rest ≡ text) × (wrong_pairs rule g.1 ≡ [])
     given_read text g taken rest tight e =
@@ -187,7 +187,7 @@ module _ {T A : Type 0} (types : Texts T) (reading : Text → Outcome A) (writte
           ap (wrong_pairs rule) (sym (ap (λ g. g.1) m.2)) ∙ c.2,
         )
 
-    -- what the grammar parses is parsed, up to the first key whose attribute is not allowed
+    -- what the grammar parses is accepted, up to the first key whose attribute is not allowed
     pub given_found : (text : Text) (g : Option (Written A) × List (Name ℕ × Item ℕ A)) (rest : Text) → after_space text ≡ text → Given g text rest → ReadOrStops text (given_at attr rule text) g rest (wrong_pairs rule g.1)
     given_found text g rest tight (mid, a, b) = go (pairs_found types reading written formats splits words rule (after_space mid) g.1 rest b)
       where

@@ -82,7 +82,7 @@ module _ {A : Type 0} (rule : Rule A) where
       rw g (first_wrong before behind p (and_right (rule n.text a) (list_all (may_stand rule) before) h) f)
   first_wrong ((n, reference m) ∷ before) behind p h f = first_wrong before behind p h f
 
--- a location, as the grammar parses one with attributes that are parsed so
+-- a location, as the grammar parses one with these attributes
 abbrev pub own_location : {A : Type 0} → (Text → Outcome A) → Text → Standing (Written A)
 own_location reading = location_standing (attr_at reading)
 
@@ -186,7 +186,7 @@ module _ {T A : Type 0} (types : Texts T) (reading : Text → Outcome A) (writte
     abbrev space_next : Unit {0} → Text → Outcome (List (Name ℕ × Item ℕ A))
     space_next _ text = followed (space_at text) list_next
 
-    -- pairs that are parsed the grammar parses, and nothing is wrong with them
+    -- pairs that are accepted the grammar parses, and without a failure
     pub pairs_read : (text : Text) (ps : List (Name ℕ × Item ℕ A)) (taken rest : Text) → pairs_at attr rule text ≡ Read ps taken rest → bracketed l loc ps text rest × (taken ++ rest ≡ text) × (wrong_pairs rule ps ≡ [])
     unfolding pairs_at
     pairs_read text ps taken rest e =
@@ -223,7 +223,7 @@ module _ {T A : Type 0} (types : Texts T) (reading : Text → Outcome A) (writte
       bad = k.is;
     }
 
-    -- pairs that the grammar parses are parsed, up to the first key whose attribute is not allowed
+    -- pairs that the grammar parses are accepted, up to the first key whose attribute is not allowed
     pub pairs_found : (text : Text) (ps : List (Name ℕ × Item ℕ A)) (rest : Text) → bracketed l loc ps text rest → ReadOrStops text (pairs_at attr rule text) ps rest (wrong_pairs rule ps)
     unfolding pairs_at
     pairs_found text ps rest (m, a, (k, s, c)) = go (list_found 44 pairs_of ps (after_space m) k s)

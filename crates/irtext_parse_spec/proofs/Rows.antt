@@ -1,5 +1,5 @@
 -- Worked rows: a context by hand in which an operation with one region of one block has another operation in it. It contains the whole
--- tree, and what was parsed of it at points of the parse.
+-- tree, and the parsed part of it at points of the parse.
 use Rattle.std.proofs.Common.{◌≡◌, ℕ, false, List, [], ◌∷◌, Option, Some, None, codes, refl, inl, inr}
 use Rattle.irtext_base.specs.Format.{Id}
 use Rattle.irtext_base.specs.Format as format

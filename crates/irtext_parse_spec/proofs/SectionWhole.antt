@@ -72,7 +72,7 @@ module _ {T A : Type 0} (types : Texts T) (reading : Text → Outcome A) (writte
     abbrev all_next : Unit {0} → Text → Outcome (List (Entry ℕ A (Written A)))
     all_next _ t = entries_after attr marks rules (length t) [] t
 
-    -- a section that is parsed the grammar parses, and it has no failure
+    -- a section that is accepted the grammar parses, and it has no failure
     pub section_read : (text : Text) (es : List (Entry ℕ A (Written A))) (taken rest : Text) → section_at attr marks rules text ≡ Read es taken rest
         → section.section l (own_location reading) es text rest × (taken ++ rest ≡ text) × (refused marks rules es ≡ [])
     section_read text es taken rest e =
@@ -85,7 +85,7 @@ module _ {T A : Type 0} (types : Texts T) (reading : Text → Outcome A) (writte
           refused_parts marks rules es ∙ ap₂ ◌++◌ (ap (wrong_entries marks rules []) k.whole ∙ k.fine) r.1,
         )
 
-    -- a section that the grammar parses is parsed, or rejected at the first failure
+    -- a section that the grammar parses is accepted, or rejected at the first failure
     pub section_found : (text : Text) (es : List (Entry ℕ A (Written A))) (rest : Text) → section.section l (own_location reading) es text rest → ReadOrStops text (section_at attr marks rules text) es rest (refused marks rules es)
     section_found text es rest (m, e, r) = go (entries_found types reading written formats splits words cut marks rules (length (after_space m)) [] es (after_space m) rest (omega arith) r)
       where

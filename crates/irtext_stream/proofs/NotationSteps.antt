@@ -127,7 +127,7 @@ no_index expected text h = go (begins is_ascii_digit text) (nat_lt (index_of tex
     go true false e f = refl
     go false d e f = refl
 
--- the index was parsed of the digits that come next
+-- the index was parsed from the digits that come next
 pub index_ok : (E : Type 0) (expected : NotationPart) (old : StreamView) (bytes : List ℕ) (i : ℕ) → bytes ≡ encode_utf8_all (front is_ascii_digit old.rest) → ParsesUnsigned {E = E} 64 10 bytes (Ok i) → index_at expected old.rest ≡ means i (after is_ascii_digit old.rest)
 index_ok E expected old bytes i e h =
     let k = digits_parsed {E = E} old.rest bytes (Ok i) e h in index_there expected old.rest k.0.0 k.0.1 ∙ ap (λ z. means z (after is_ascii_digit old.rest)) (sym k.1)

@@ -58,7 +58,7 @@ no_digit_reads : {X : Type 0} (sign text : Text) (x : X) (taken rest : Text) →
 no_digit_reads [] text x taken rest e = absurd (cc)
 no_digit_reads (c ∷ sign) text x taken rest e = absurd (cc)
 
--- what is parsed of a sign is the sign, and its bytes
+-- what is taken of a sign is the sign, and its bytes
 sign_read : (text sign taken rest : Text) → sign_at text ≡ Read sign taken rest → (sign ≡ sign_of text) × (taken ≡ sign_of text)
 sign_read text sign taken rest =
     elim (begins is_ascii_digit (after_sign text)) as (λ b. ◌≡◌ {A = Outcome Text} (cond b (Read (sign_of text) (sign_of text) (after_sign text)) (no_digit_behind (sign_of text) (after_sign text))) (Read sign taken rest) → (sign ≡ sign_of text) × (taken ≡ sign_of text)) [
@@ -91,7 +91,7 @@ spells : (b : Bool) (o : Outcome Unit) (cause : Fault) (u : Unit {0}) (taken res
 spells true o cause u taken rest e = (refl, e)
 spells false o cause u taken rest e = absurd (cc)
 
--- what is parsed of a fixed text is that text
+-- what is taken of a fixed text is that text
 word_taken : (whole word text : Text) (u : Unit {0}) (taken rest : Text) → spelled_at whole word text ≡ Read u taken rest → taken ≡ word
 word_taken whole [] text u taken rest e = sym (same_taken tt u [] taken text rest e)
 word_taken whole (c ∷ word) [] u taken rest e = absurd (cc)
@@ -114,7 +114,7 @@ mark_taken (Bad cause upto) word h u taken rest e = absurd (cc)
 mark_encodes : encode_utf8_all (codes "0x") ≡ codes "0x"
 mark_encodes = rw (encode_ascii 48 (omega arith), encode_ascii 120 (omega arith)) refl
 
--- what is parsed of `0x` is its bytes
+-- what is taken of `0x` is its bytes
 pub mark_at-encodes : (text : Text) (u : Unit {0}) (taken rest : Text) → hexadecimal_mark_at text ≡ Read u taken rest → encode_utf8_all taken ≡ taken
 mark_at-encodes text u taken rest e =
     let t : taken ≡ codes "0x" = mark_taken (text_at (codes "0x") text) (codes "0x") (λ v t r q. word_taken (codes "0x") (codes "0x") text v t r q) u taken rest e in

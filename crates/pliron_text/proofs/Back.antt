@@ -93,7 +93,7 @@ module _ {T A : Type 0} (types : ir_text.Ghosts T A) (owns : ir_text.Ghosts A A)
     as_printed : Fit C (isolated ctx.dialects) g → PrintedRoot texts own_texts attr C ctx p g layout.width layout.indent (levels layout.limit) bytes
     as_printed fits = record { sees = sees; kept = kept; fits = fits; utf8 = utf8; few = few; printed = printed.is_text g sees nowhere }
 
-    -- nothing is parsed of a root of which a region was left out
+    -- nothing is parsed from a root of which a region was left out
     pub nothing_back : Fit C (isolated ctx.dialects) g → (AllShown (written C (levels layout.limit) g) → ⊥) → (q : Ptr Operation) (left : ContextView T A) → ReadsText texts own_texts attr text other q left → ⊥
     nothing_back fits out q left r =
         none_read texts owns.reading owns.written types_law owns_law unreserved attributes.outlined attributes.print_once same sound reflexive ctx p g layout.width layout.indent bytes (levels layout.limit) (as_printed fits) r.old (r.starts.text ∙ ap chars text_is)
@@ -106,7 +106,7 @@ module _ {T A : Type 0} (types : ir_text.Ghosts T A) (owns : ir_text.Ghosts A A)
       wholly : PrintedRoot texts own_texts attr C ctx p g layout.width layout.indent None bytes
       wholly = subst (λ l. PrintedRoot texts own_texts attr C ctx p g layout.width layout.indent l bytes) unlimited (as_printed fits_there)
 
-      -- what is parsed of it is equal to it
+      -- what is parsed from it is equal to it
       pub reads_back : (Fit C (isolated ctx.dialects) g → ClosedRoot C (isolated ctx.dialects) g) → (q : Ptr Operation) (left : ContextView T A) → ReadsText texts own_texts attr text other q left → ComesBack texts own_texts attr C ctx.dialects g q left
       reads_back closed q left r = (
         r.new.stream.rest,

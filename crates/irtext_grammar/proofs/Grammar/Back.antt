@@ -257,7 +257,7 @@ module _ {P T A : Type 0} (L : Language P T A) (types : Lawful T L.types) (owns 
     joined_nothing [] = refl
     joined_nothing (t ∷ ts) = refl
 
-    -- the regions of an operation parsed back, before what begins no region
+    -- the regions of an operation are parsed back, before what begins no region
     pub back_regions : (n : ℕ) (rs : Inner) (f : Text) → BackRegions n rs → begins (the 123) (after_space f) ≡ false
         → Reaches (repeated (the 123) (reads.region_readings L rs)) (joined [] (spell.region_texts L width n rs) ++ f) f
     back_regions n rs f b e = reaches_from (ap (λ t. after_space (t ++ f)) (joined_nothing (spell.region_texts L width n rs))) (back_joined n rs f b e)
@@ -274,7 +274,7 @@ module _ {P T A : Type 0} (L : Language P T A) (types : Lawful T L.types) (owns 
       pub thru : Reaches (reads.parts L ps (reads.region_readings L rs)) (spell.parts L ps (spell.region_texts L width n rs) ++ f) f
       pub begin : OneOf (starts last ps rs) (after_space (spell.parts L ps (spell.region_texts L width n rs) ++ f))
 
-    -- the parts of a body parsed back, each before the next
+    -- the parts of a body are parsed back, each before the next
     pub back_parts : (last : List ℕ) (n : ℕ) (ps : List (Part P T A)) (rs : Inner) (f : Text) → Apart last ps rs
         → AreSpellable ps → Enough ps rs → BackRegions n rs → Ends f → OneOf last (after_space f) → BackParts last n ps rs f
     back_parts last n [] no_regions f c g en b h o = record { thru = record { left = after_space f; reading = refl; same = after_twice is_whitespace f }; begin = o }

@@ -13,11 +13,11 @@ use Rattle.irtext_grammar.specs.Grammar.Bare.{bare_name, bare_mark, bare_entry, 
 use Rattle.irtext_grammar.specs.Grammar.Reads as reads
 use Rattle.irtext_grammar.proofs.Grammar.Nested.{EachRegion, EachBlock, EachOperation, all_regions}
 
--- a value that parses so, whose bare value is the one given
+-- a value that the text parses as, whose bare value is the one given
 abbrev pub Placed : {X Y : Type 0} → (X → Reading) → (X → Y) → Y → Text → Text → Type 0
 Placed {X} F bare y t u = (x : X) × F x t u × (bare x ≡ y)
 
--- what parses without places parses with some places, as a value of which it is the bare value
+-- a text that parses as a value without places parses as one with places, of which it is the bare value
 abbrev pub Places : {X Y : Type 0} → (X → Reading) → (X → Y) → (Y → Reading) → Type 0
 Places {X} {Y} F bare G = (y : Y) (t u : Text) → G y t u → Placed F bare y t u
 

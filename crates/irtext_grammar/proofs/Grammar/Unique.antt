@@ -17,7 +17,7 @@ use Rattle.irtext_grammar.proofs.Grammar.Nested.{EachRegion, EachBlock, EachOper
 abbrev pub Agree : Type 0 → Reading → Reading → Type 0
 Agree C R S = (t u v : Text) → R t u → S t v → C × (u ≡ v)
 
--- what parses of a text as two values parses as one value, and leaves one rest
+-- two values that a text parses as are one, and leave one rest
 abbrev pub Sure : {X : Type 0} → (X → Reading) → Type 0
 Sure {X} F = (x y : X) → Agree (x ≡ y) (F x) (F y)
 
@@ -233,7 +233,7 @@ module _ {P T A : Type 0} (L : Language P T A) (types : Lawful T L.types) (owns 
   abbrev Inner : Type 0
   Inner = Regions (Op P T A) (Head P T A) (Brace P)
 
-  -- of each region: it parses so at most once
+  -- a text parses as at most one such region
   abbrev SureRegion : Brace P → Blocks (Op P T A) (Head P T A) (Brace P) → Type 0
   SureRegion brace bs = (brace' : Brace P) (bs' : Blocks (Op P T A) (Head P T A) (Brace P)) →
       Agree ((brace ≡ brace') × (bs ≡ bs')) (reads.region_read L brace (reads.block_readings L bs)) (reads.region_read L brace' (reads.block_readings L bs'))

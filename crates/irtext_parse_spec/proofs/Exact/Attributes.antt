@@ -103,7 +103,7 @@ module _ {T A : Type 0} (types : Texts T) (reading : Text → Outcome A) (writte
   abbrev outlined : Text → Option (Attribute A) → Reading
   outlined key o = reads.piece l (tree.attribute key o)
 
-  -- an attribute or the marker in its place that is parsed is one that the grammar parses
+  -- an attribute or the marker in its place that is accepted is one that the grammar parses
   pub outlined_read : (key text : Text) (o : Option (Attribute A)) (taken rest : Text) → outlined_or_at attr text ≡ Read o taken rest → outlined key o text rest × (taken ++ rest ≡ text)
   outlined_read key text o taken rest e = go (starts_with marker text) e
     where
@@ -114,7 +114,7 @@ module _ {T A : Type 0} (types : Texts T) (reading : Text → Outcome A) (writte
           let k = exact_attribute.read text m.0 taken rest m.1 in
           (subst (λ o. outlined key o text rest) m.2 k.0, k.1)
 
-  -- An attribute or the marker in its place that the grammar parses is parsed, where each attribute begins as a word does.
+  -- An attribute or the marker in its place that the grammar parses is accepted, where each attribute begins as a word does.
   pub outlined_found : NeedsWord reading → (key text : Text) (o : Option (Attribute A)) (rest : Text) → outlined key o text rest → (taken : Text) × (outlined_or_at attr text ≡ Read o taken rest)
   outlined_found h key text None rest r =
       let s : starts_with marker text ≡ true = ap (starts_with marker) r ∙ starts_front marker rest in

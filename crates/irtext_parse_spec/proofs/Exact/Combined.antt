@@ -74,7 +74,7 @@ module _ {X Y : Type 0} where
       back : (text : Text) (y : Y) (rest : Text) → Kept y × r (get y) text rest → (taken : Text) × (mapped see (f text) ≡ Read y taken rest)
       back text y rest (k, q) = let a = h.found text (get y) rest q in (a.0, ap (mapped see) a.1 ∙ ap (λ y. Read y a.0 rest) (same y k))
 
--- what was parsed of a text, put together with the text's place
+-- what was parsed from a text, put together with the text's place
 pub exact_placed : {X N : Type 0} {f : Reader X} {r : X → Reading} → Exact f r → (make : ℕ → X → N) (place : N → ℕ) (value : N → X)
     → ((p : ℕ) (x : X) → place (make p x) ≡ p) → ((p : ℕ) (x : X) → value (make p x) ≡ x) → ((n : N) → make (place n) (value n) ≡ n)
     → Exact (λ text. mapped (make (length text)) (f text)) (λ n text rest. (place n ≡ length text) × r (value n) text rest)

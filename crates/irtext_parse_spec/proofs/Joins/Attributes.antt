@@ -215,7 +215,7 @@ module _ {P T A : Type 0} (reading : Text → Outcome A) (L : Language P T A) (s
       let e1 : k1 tt b1 ≡ Read name (front is_whitespace b1 ++ name) rest = ap (prefixed (front is_whitespace b1)) (word-identifier AnIdentifier (after_space b1) name rest h) in
       (_, followed-read (text_at (codes "builtin.identifier") text) k1 tt name (codes "builtin.identifier") b1 (front is_whitespace b1 ++ name) rest (text-literal (codes "builtin.identifier") text b1 word.0) e1)
 
-  -- what the grammar parses is parsed
+  -- what the grammar parses is accepted
   pub attribute-reads : (v : AttrView A) (text rest : Text) → reads.attribute L (attr_tree v) text rest → (taken : Text) × (attr_at reading text ≡ Read v taken rest)
   attribute-reads (view.given_names all) text rest h =
       let n = given_names-reads text all rest h in

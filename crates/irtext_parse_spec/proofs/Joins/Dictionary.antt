@@ -42,7 +42,7 @@ module _ {T A : Type 0} (reading : Text → Outcome A) (types : Texts T) (owns :
       let m = mapped_read attr_tree (attr_at reading text) a taken rest e in
       subst (λ a. reads.attribute l a text rest) m.2 (attribute_read reading l same m.0 text taken rest m.1)
 
-  -- an attribute that the grammar parses is parsed
+  -- an attribute that the grammar parses is accepted
   pub tree_found : (a : Attribute A) (text rest : Text) → reads.attribute l a text rest → (taken : Text) × (attribute_at (attr_at reading) text ≡ Read a taken rest)
   tree_found (tree.given_names ns) text rest r = let k = attribute-reads reading l same (view.given_names ns) text rest r in (k.0, ap (mapped attr_tree) k.1)
   tree_found (tree.ident n) text rest r = let k = attribute-reads reading l same (view.ident n) text rest r in (k.0, ap (mapped attr_tree) k.1)

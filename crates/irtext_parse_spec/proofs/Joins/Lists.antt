@@ -163,7 +163,7 @@ module _ {X Y : Type 0} (sep : ℕ) (i : Items X Y) where
     pub read : separated sep i.missing (map i.reading items) text rest
     pub fine : list_all i.allowed items ≡ true
 
-  -- a list that is parsed is one that the grammar parses, item by item
+  -- a list that is accepted is one that the grammar parses, item by item
   pub list_read : (text : Text) (all : List Y) (taken rest : Text) → separated_at sep i.item text ≡ Read all taken rest → ListRead text all rest
   list_read text all taken rest e =
       elim (or_read (followed (item_after sep i.item [] text) (first_next sep i.item)) text all taken rest e) [
@@ -291,7 +291,7 @@ module _ {X Y : Type 0} (sep : ℕ) (i : Items X Y) where
           let enough : length (after_space mid) ≤ n = omega (arith, l, ap length first, space_shorter between, item_shorter x (after_space between) mid r f) in
           item_found x found items (after_space between) mid rest (items_next sep i.item n) r (again enough)
 
-  -- What the grammar parses is parsed, up to the first item that is not allowed.
+  -- What the grammar parses is accepted, up to the first item that is not allowed.
   pub list_found : (items : List X) (text rest : Text) → separated sep i.missing (map i.reading items) text rest → ListFound [] items text rest (separated_at sep i.item text)
   list_found [] text rest h =
       let m = i.missed text h.0 in

@@ -11,7 +11,7 @@ use Rattle.irtext_parse_spec.specs.Promises.Section.{Moves, IsStarved, Faults}
 use Rattle.irtext_parse_spec.specs.Promises.Supported.{RefusedAs}
 use Rattle.irtext_parse_spec.proofs.Readers.PlainStream.{alone}
 
--- a value was parsed of the stream's text
+-- a value was parsed from the stream's text
 pub record Answered {X : Type 0} (o : Outcome X) (old : StreamView) (x : X) (new : StreamView) : Type 0 where
   pub fine : old.failed ≡ false
   pub taken : Text

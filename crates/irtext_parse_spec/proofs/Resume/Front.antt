@@ -46,7 +46,7 @@ module _ {T A : Type 0} (types_at : Reader T) (reading : Reader A) (h : Splits t
   splits_inside : (step : Step) → Splits (piece_at types_at (attr_at reading) true step)
   splits_inside step text p taken rest e = (piece_read types_at (λ t. []) reading (λ a. []) (λ id. None) h k step text p taken rest e).1
 
-  -- each piece is parsed so, inside of some region and outside of each
+  -- what a piece takes and leaves is the text, inside of some region and outside of each
   pub splits_piece : (inside : Bool) (step : Step) → Splits (piece_at types_at (attr_at reading) inside step)
   splits_piece true step text p taken rest e = splits_inside step text p taken rest e
   splits_piece false step text p taken rest e = splits_inside step text p taken rest (outside_read types_at (λ t. []) reading (λ a. []) (λ id. None) h k step text p taken rest e).1

@@ -122,7 +122,7 @@ module _ (rest : Text) where
         ap (λ z. prefixed (codes "builtin.identifier") (prefixed spaces z)) (ap identifier_at (word_tight (n ++ rest) (identifier_begins n rest h)) ∙ word_back n rest h e),
       )
 
--- what is found of a text was parsed of it
+-- what the grammar finds in a text was parsed from it
 pub read_there : {X : Type 0} (o : Outcome X) (x : X) (left : Text) → standing o ≡ found x left → (taken : Text) × (o ≡ Read x taken left)
 read_there (Read y t r) x left e =
     let p : y ≡ x = cc in
