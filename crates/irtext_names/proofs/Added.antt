@@ -96,7 +96,7 @@ module _ {O B T : Type 0} where
           cc
       values (Argument c i) b e = b
 
-  -- a block that was made is pending until it has a parent
+  -- a block that was made is one of the blocks in `own` until it has a parent
   pub block_waits : {g k : GraphView (Option O) B T} (b : Ptr BasicBlock) (x : B) (ts : List T) → MakesBlock g k b x ts
       → (m : ℕ) (own : List (Ptr BasicBlock)) (vs : List (Scope Value)) (ls : List (Scope (Ptr BasicBlock))) → MatchesGraph vs ls g → ArePending m own vs ls g → ArePending m (b ∷ own) vs ls k
   block_waits {g} {k} b x ts make m own vs ls t w = record {

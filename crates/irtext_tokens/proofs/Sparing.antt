@@ -82,7 +82,7 @@ module _ {S X Y A : Type 0} (view : S → StreamView) (at : S → StreamView →
   demanded_spares o (Err fault) r h d = subst (λ r. NeedsNoMemory o r) (sym d.1) (err_spares Y o fault d.0 h)
 
 module _ {S A : Type 0} (view : S → StreamView) (at : S → StreamView → S) (view_at : (s : S) (v : StreamView) → view (at s v) ≡ v) (at_at : (s : S) (v w : StreamView) → at (at s v) w ≡ at s w) where
-  -- a mark without a hexadecimal digit after it is none
+  -- a mark without a hexadecimal digit after it is not parsed
   pub mark_spares : (Y : Type 0) (b : Bool) (o : Outcome Unit) (old mid : S) (u : Unit {0}) (fault : ParseFault A) → Gives view at (unless_failed b o) old u mid → begins is_ascii_hexdigit (view mid).rest ≡ false → NeedsNoMemory {Y = Y} (unless_failed b (followed o (λ v text. before_hexadecimal text))) (Err fault)
   mark_spares Y true o old mid u fault h e = tt
   mark_spares Y false (Read x t r) old mid u fault h e =
@@ -91,7 +91,7 @@ module _ {S A : Type 0} (view : S → StreamView) (at : S → StreamView → S) 
   mark_spares Y false (Missing cause) old mid u fault h e = absurd h
   mark_spares Y false (Bad cause upto) old mid u fault h e = absurd h
 
-  -- no digit follows a sign, or follows where there is no sign
+  -- an optional sign without a digit after it is not parsed
   pub sign_spares : (Y : Type 0) (old mid : S) (fault : ParseFault A) → Takes view at (sign_of (view old).rest) (after_sign (view old).rest) old mid → begins is_ascii_digit (view mid).rest ≡ false → NeedsNoMemory {Y = Y} (unless_failed (view old).failed (sign_at (view old).rest)) (Err fault)
   sign_spares Y old mid fault k e =
       let f : begins is_ascii_digit (after_sign (view old).rest) ≡ false = subst (λ z. begins is_ascii_digit z ≡ false) (ap (λ v. v.rest) (seen_after view at view_at at_at old mid (sign_of (view old).rest) (after_sign (view old).rest) k)) e in
