@@ -240,7 +240,7 @@ module _ (named : Directive → Option ℕ) (single : ℕ → Directive) (own : 
       (are_below (length ks) ks
       (λ k h. ⊎_elim (λ (l : k < f.0). omega (arith, l, room)) (λ (l : f.0 ≤ k). absurd (f.2 k l (has_stands ◌==◌ eqb-true (λ x. eq-eqb x x refl) named single own only k ds h))) (cases_lt k f.0)))
 
--- ---- which directives may follow which
+-- ---- no early directive is after a late one
 module _ (late early : Directive → Bool) where
   none_at : (ds : List Directive) → none_behind late early ds ≡ true → (i j : ℕ) (d e : Directive) → StandsAt d ds i → StandsAt e ds j → i < j → late d ≡ true → early e ≡ true → ⊥
   none_at [] n i j d e h k l p q = nothing i d h

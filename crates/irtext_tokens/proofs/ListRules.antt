@@ -21,7 +21,7 @@ module _ {S : Type 0} (view : S → StreamView) (at : S → StreamView → S) wh
   hands_none : (s : S) → HandsOn view at s s
   hands_none s = record { taken = []; same = refl; passed = sym (append-nil (view s).passed); fails = refl }
 
-  -- one parser after another leaves the stream at a later position of the same text
+  -- one item after another leaves the old text or a suffix of it
   pub hands_more : (s t u : S) → HandsOn view at s t → HandsOn view at t u → HandsOn view at s u
   hands_more s t u h k = record {
     taken = h.taken ++ k.taken;
@@ -30,7 +30,7 @@ module _ {S : Type 0} (view : S → StreamView) (at : S → StreamView → S) wh
     fails = k.fails ∙ h.fails;
   }
 
-  -- after a value the stream is at a later position of the same text; an error is committed, and leaves the stream failed
+  -- a value leaves the old text or a suffix of it, and an error is committed and leaves the stream failed
   abbrev pub Settles : {Y A : Type 0} → S → Result Y (ParseFault A) → S → Type 0
   Settles old (Ok y) new = HandsOn view at old new
   Settles old (Err fault) new = (fault.committed ≡ true) × ((view new).failed ≡ true)
