@@ -4,6 +4,7 @@ use Rattle.std.specs.Option.{option_map}
 use Rattle.std.specs.List.{remove}
 use Rattle.irtext_graph.specs.declared.object.Object.{Object}
 use Rattle.irtext_graph.specs.declared.object.Object.TheVariants.{TheOperation, TheBlock}
+use Rattle.irtext_graph.specs.declared.object.Value.{Value}
 use Rattle.irtext_graph.specs.declared.object.Value.TheVariants.{Result, Argument}
 use Rattle.irtext_graph.specs.declared.object.Defined.{Defined}
 use Rattle.irtext_graph.specs.declared.object.Defined.TheVariants.{OfValue, OfBlock}
@@ -29,6 +30,11 @@ abbrev pub owner : Defined → Object
 owner (OfValue (Result p i)) = TheOperation p
 owner (OfValue (Argument b i)) = TheBlock b
 owner (OfBlock b) = TheBlock b
+
+-- the result of the same operation, or the argument of the same block, at an index
+abbrev pub sibling : Value → ℕ → Value
+sibling (Result p _) i = Result p i
+sibling (Argument b _) i = Argument b i
 
 -- the operation of a use
 abbrev pub user : Site → Object

@@ -16,7 +16,7 @@ pub(crate) enum Side {
 }
 
 /// Returns the site of an operand or a successor.
-fn site_at(side: Side, p: Ptr<Operation>, i: usize) -> Site
+pub(crate) fn site_at(side: Side, p: Ptr<Operation>, i: usize) -> Site
     ensures { result ≡ site_of side p i }
 {
     match side {

@@ -2,7 +2,7 @@ use Rattle.std.proofs.Common.{refl}
 use Rattle.irtext_graph.specs.Content.{operation_content, node_of}
 use Rattle.irtext_graph.specs.Used.{without_uses_in}
 use Rattle.irtext_graph.proofs.Stores.{content_edits}
-use Rattle.irtext_graph.proofs.use_fields.Arena+Nest+BasicBlock+Region+OperationData+O+T.clear_uses.Goals as goal
+use Rattle.irtext_graph.proofs.erasing.Arena+Nest+BasicBlock+Region+OperationData+O+T.clear_uses.Goals as goal
 
 pub returns-clause-edits : goal.returns-clause-edits
 returns-clause-edits g c =
