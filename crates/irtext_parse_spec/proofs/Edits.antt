@@ -1,6 +1,6 @@
 -- What calls of a context do, as seen from the open frames: what is made is new, what is added to an object is its last child, and all else
 -- is unchanged.
-use Rattle.std.proofs.Common.{◌≡◌, ◌≢◌, ◌∙◌, ◌⊎◌, ℕ, ◌+◌, ◌==◌, Bool, true, false, cond, List, [], ◌∷◌, ◌++◌, map, Option, Some, None, IsSome, option_map, slice_get, suc, arith, eqb-true, refl, sym, ap, ap₂, subst, inl, inr}
+use Rattle.std.proofs.Common.{◌≡◌, ◌≢◌, ◌∙◌, ◌⊎◌, ℕ, List, [], ◌∷◌, ◌++◌, map, Option, Some, None, IsSome, option_map, slice_get, suc, refl, sym, ap, ap₂, subst, inl, inr}
 use Rattle.std.specs.Prelude.{option_and_then, length, ⊤}
 use Rattle.std.proofs.lemmas.List.{map_push}
 use Rattle.irtext_base.specs.Text.{Text}
@@ -31,7 +31,7 @@ use Rattle.irtext_graph.specs.declared.object.Defined.{Defined}
 use Rattle.irtext_graph.specs.declared.object.Site.TheVariants.{AtOperand, AtSuccessor}
 use Rattle.irtext_graph.specs.Regions.{with_child}
 use Rattle.irtext_graph.specs.Data.{with_data}
-use Rattle.irtext_graph.specs.Store.{Cell, Store, drawn, object_in, object_of, get, Inserts}
+use Rattle.irtext_graph.specs.Store.{object_of, get}
 use Rattle.irtext_graph.proofs.Nests.{some_eq, told}
 use Rattle.irtext_graph.proofs.Same.{object_tells}
 use Rattle.irtext_graph.proofs.Frames.{map_same, option_same, block_same, region_same, operation_same}

@@ -9,7 +9,7 @@ use Rattle.irtext_base.specs.Format.{Id, Format}
 use Rattle.irtext_base.specs.Faults as fault
 use Rattle.irtext_base.specs.Answers.{Outcome, Read, Missing, Bad, mapped, followed}
 use Rattle.irtext_base.specs.Locations.{AttrView}
-use Rattle.irtext_base.specs.Own.{Texts, Language, Standing, language, texts_of}
+use Rattle.irtext_base.specs.Own.{Texts, Language, language, texts_of}
 use Rattle.irtext_base.specs.Paths.{Written}
 use Rattle.irtext_base.proofs.Along.{front_after}
 use Rattle.irtext_base.proofs.Characters.{after_twice}
@@ -24,7 +24,6 @@ use Rattle.irtext_grammar.specs.Names.Acts.{Rule}
 use Rattle.irtext_grammar.specs.Names.Resolves.{indices}
 use Rattle.irtext_grammar.specs.Names.Script.{Failure, UnknownIndex}
 use Rattle.irtext_grammar.proofs.Names.ResolvedSection.{flat_both}
-use Rattle.irtext_parse_spec.specs.Promises.Supported.{location_standing}
 use Rattle.irtext_parse_spec.specs.Readers.Directives.{attribute_at}
 use Rattle.irtext_parse_spec.proofs.Joins.Answers.{Splits, followed_read, followed-read, mapped_read}
 use Rattle.irtext_parse_spec.proofs.Joins.Section.{spaced_read, spaced_found}

@@ -1,6 +1,5 @@
 -- The parsers of the keyed attributes of entries return what the grammar parses, up to the first key whose attribute is not allowed.
-use Rattle.std.proofs.Common.{◌≡◌, ◌∙◌, inl, inr, ℕ, Bool, true, false, cond, Option, Some, List, [], ◌∷◌, ◌++◌, map, refl, sym, ap, subst, true≢false, arith}
-use Rattle.std.proofs.lemmas.Bool.Decides.{nat_tests}
+use Rattle.std.proofs.Common.{◌≡◌, ◌∙◌, inl, inr, ℕ, Bool, true, false, cond, Option, Some, List, [], ◌∷◌, ◌++◌, map, refl, sym, ap, subst, true≢false}
 use Rattle.std.proofs.lemmas.List.{map-id}
 use Rattle.std.specs.Prelude.{codes}
 use Rattle.std.specs.List.{list_all}
@@ -40,7 +39,7 @@ use Rattle.irtext_parse_spec.proofs.Exact.Listed.{Starts, starts_so}
 use Rattle.irtext_parse_spec.proofs.Exact.Names.{exact_name, exact_mark, starts_name}
 use Rattle.irtext_parse_spec.specs.Entries.{item_at, pair_at, may_stand, kept, pairs_at}
 use Rattle.irtext_parse_spec.specs.Agrees.{StopsAt, ReadOrStops}
-use Rattle.irtext_parse_spec.proofs.Claims.{wrong, wrong_pairs}
+use Rattle.irtext_parse_spec.proofs.Claims.{wrong_pairs}
 use Rattle.irtext_parse_spec.proofs.Stops.{stops_first, stops_second}
 
 -- ---- a key that is kept

@@ -7,7 +7,7 @@ use Rattle.irtext_base.specs.Reading.{the, more, separated, repeated}
 use Rattle.irtext_base.specs.Format.{Id, Format}
 use Rattle.irtext_base.specs.Answers.{Outcome}
 use Rattle.irtext_base.specs.Locations.{AttrView}
-use Rattle.irtext_base.specs.Own.{Texts, Language, Standing, language, texts_of}
+use Rattle.irtext_base.specs.Own.{Texts, Language, language, texts_of}
 use Rattle.irtext_base.specs.Paths.{Written}
 use Rattle.irtext_base.proofs.Along.{front_after}
 use Rattle.irtext_base.proofs.Characters.{after_twice}
@@ -21,7 +21,6 @@ use Rattle.irtext_grammar.specs.Grammar.Tree.{Name}
 use Rattle.irtext_grammar.specs.Names.Acts.{Rule, keeps_if, shared_attribute, reference_acts, late_acts}
 use Rattle.irtext_grammar.specs.Names.Script.{Failure}
 use Rattle.irtext_grammar.specs.Spelling.Spellable.{Each}
-use Rattle.irtext_parse_spec.specs.Promises.Supported.{location_standing}
 use Rattle.irtext_parse_spec.proofs.Joins.Answers.{Splits}
 use Rattle.irtext_parse_spec.specs.Exact.{NeedsWord}
 use Rattle.irtext_parse_spec.proofs.Exact.Attributes.{exact_attribute}

@@ -189,7 +189,7 @@ below_each {T} bound (v ∷ vs) h = go v.of_type (below_each bound vs (λ i t e.
     go (Some t) more = (h zero v refl, more)
 
 module _ {T A : Type 0} (ctx : ContextView T A) (kept : KeepsAll ctx) where
-  number_below : (v : Value) (t : Typed (Option T)) → value_at ctx.graph v ≡ Some t → t.number < 2 ^ 64
+  pub number_below : (v : Value) (t : Typed (Option T)) → value_at ctx.graph v ≡ Some t → t.number < 2 ^ 64
   number_below v t e = let a = kept.counters.below v t e in let b = kept.counters.values in omega (arith, a, b)
 
   values_below : (vs : List Value) → Each (λ (n : ℕ). n < 2 ^ 64) (filter_map (number_of ctx) vs)
@@ -201,7 +201,7 @@ module _ {T A : Type 0} (ctx : ContextView T A) (kept : KeepsAll ctx) where
       go None e more = more
       go (Some t) e more = (number_below v t e, more)
 
-  place_small : (b : Ptr BasicBlock) (view : BlockView T A) → block ctx b ≡ Some view → ((place_of ctx b).0 < 2 ^ 64) × ((place_of ctx b).1 < 2 ^ 64)
+  pub place_small : (b : Ptr BasicBlock) (view : BlockView T A) → block ctx b ≡ Some view → ((place_of ctx b).0 < 2 ^ 64) × ((place_of ctx b).1 < 2 ^ 64)
   place_small b view e =
       let p = kept.places b view e in
       let i = p.0 in

@@ -8,6 +8,7 @@ use Rattle.irtext_base.specs.declared.base.attributes.AttrObj.TheVariants.{Own}
 use Rattle.irtext_base.specs.declared.location.Location.{Location, SrcPos}
 use Rattle.irtext_base.specs.declared.location.Source.TheVariants.{InMemory}
 use Rattle.irtext_context.specs.Context.{ContextView}
+use Rattle.irtext_graph.specs.Store.{Cell}
 use Rattle.irtext_graph.specs.declared.arena.Ptr.{Ptr}
 use Rattle.irtext_graph.specs.declared.object.Operation.{Operation}
 use Rattle.irtext_graph.specs.declared.object.BasicBlock.{BasicBlock}
@@ -62,8 +63,12 @@ region_ptr = record { index = 0; generation = 1; of = record {} }
 abbrev block_ptr : Ptr BasicBlock
 block_ptr = record { index = 0; generation = 1; of = record {} }
 
+-- a cell of an arena, by hand: the object in it was made after this many
+abbrev pub cell : {X : Type 0} → ℕ → X → Cell X
+cell born x = record { generation = 1; object = Some (record { born = born; content = x }) }
+
 -- the location of a place, by hand: its column is the place
-abbrev loc_at : ℕ → Location ℕ
+abbrev pub loc_at : ℕ → Location ℕ
 loc_at place = SrcPos InMemory (record { line = cut 1; column = cut place })
 
 abbrev IsLoc : Object → ℕ → Location ℕ → Type 0
@@ -78,50 +83,24 @@ context inside = record {
     first_place = 1;
     operations = record {
       cells =
-          record {
-            generation = 1;
-            object = Some (record {
-              born = 0;
-              content = record {
-                parent = None;
-                children = region_ptr ∷ [];
-                content = record { data_of = Some (record { id = op_id outer_id; attributes = []; loc = loc_at 25 }); operands = []; successors = []; results = [] };
-              };
-            });
-          }
-          ∷ record {
-            generation = 1;
-            object = Some (record {
-              born = 3;
-              content = record {
-                parent = Some block_ptr;
-                children = [];
-                content = record {
-                  data_of = Some (record { id = op_id inner_id; attributes = (codes "k", Own 7) ∷ []; loc = loc_at 9 });
-                  operands = [];
-                  successors = [];
-                  results = record { of_type = Some 5; number = 0 } ∷ [];
-                };
-              };
-            });
-          }
+          cell 0 (record {
+            parent = None;
+            children = region_ptr ∷ [];
+            content = record { data_of = Some (record { id = op_id outer_id; attributes = []; loc = loc_at 25 }); operands = []; successors = []; results = [] };
+          })
+          ∷ cell 3 (record {
+            parent = Some block_ptr;
+            children = [];
+            content = record { data_of = Some (record { id = op_id inner_id; attributes = (codes "k", Own 7) ∷ []; loc = loc_at 9 }); operands = []; successors = []; results = record { of_type = Some 5; number = 0 } ∷ [] };
+          })
           ∷ [];
       free = None;
     };
     blocks = record {
-      cells = record {
-        generation = 1;
-        object = Some (record {
-          born = 2;
-          content = record { parent = Some region_ptr; children = inside; content = record { data_of = record { label = Some (codes "b"); attributes = []; loc = loc_at 15 }; arguments = [] } };
-        });
-      } ∷ [];
+      cells = cell 2 (record { parent = Some region_ptr; children = inside; content = record { data_of = record { label = Some (codes "b"); attributes = []; loc = loc_at 15 }; arguments = [] } }) ∷ [];
       free = None;
     };
-    regions = record {
-      cells = record { generation = 1; object = Some (record { born = 1; content = record { parent = Some outer_ptr; children = block_ptr ∷ []; content = record {} } }) } ∷ [];
-      free = None;
-    };
+    regions = record { cells = cell 1 (record { parent = Some outer_ptr; children = block_ptr ∷ []; content = record {} }) ∷ []; free = None };
   };
   paths = [];
   dialects = [];

@@ -266,59 +266,53 @@ holds_nothing L c = record {
 }
 
 -- ---- what ends in a context that does not change
+-- the innermost of what is open is whole: the same objects are held
+module _ {T A : Type 0} (whole : List Object) (k : Object) (ats nexts : List (OpenAt T A)) (e : open_objects ats ≡ k ∷ open_objects nexts) where
+  held_whole : (o : Object) → IsHeld whole ats o → IsHeld (k ∷ whole) nexts o
+  held_whole o (inl i) = inl (inr i)
+  held_whole o (inr i) = elim (subst (Among o) e i) [ inl same ↦ inl (inl same) | inr later ↦ inr later ]
+
+  held_open : (o : Object) → IsHeld (k ∷ whole) nexts o → IsHeld whole ats o
+  held_open o (inl (inl same)) = inr (subst (Among o) (sym e) (inl same))
+  held_open o (inl (inr i)) = inl i
+  held_open o (inr i) = inr (subst (Among o) (sym e) (inr i))
+
 module _ {T A : Type 0} (start c : ContextView T A) (items : Made) (whole : List Object) (root : Option (Ptr Operation)) where
   -- the innermost open object is complete, and its parent is complete or open
   ends : (k : Object) (ats nexts : List (OpenAt T A)) → open_objects ats ≡ k ∷ open_objects nexts → Tracks start c items whole ats root → (j : Object) → Among j (open_objects nexts) → HasChild c j k
       → Tracks start c items (k ∷ whole) nexts root
   ends k ats nexts e t j at child =
-      let moved = λ (o : Object) (h : IsHeld whole ats o). move o h in
-      let back = λ (o : Object) (h : IsHeld (k ∷ whole) nexts o). back_again o h in
+      let move : (o : Object) → IsHeld whole ats o → IsHeld (k ∷ whole) nexts o = held_whole whole k ats nexts e in
       record {
-        known = λ n o i. moved o (t.known n o i);
+        known = λ n o i. move o (t.known n o i);
         once = t.once;
-        all = λ o h. elim (t.all o h) [ inl first ↦ inl first | inr held ↦ inr (moved o held) ];
-        came = λ o h. t.came o (back o h);
+        all = λ o h. elim (t.all o h) [ inl first ↦ inl first | inr held ↦ inr (move o held) ];
+        came = λ o h. t.came o (held_open whole k ats nexts e o h);
         stays = t.stays;
         inside = λ o i. elim i [
           | inl same ↦ inr (j, inr at, subst (HasChild c j) (sym same) child)
-          | inr i ↦ elim (t.inside o i) [ inl f ↦ inl f | inr (m, held, inner) ↦ inr (m, moved m held, inner) ]
+          | inr i ↦ elim (t.inside o i) [ inl f ↦ inl f | inr (m, held, inner) ↦ inr (m, move m held, inner) ]
         ];
       }
-    where
-      move : (o : Object) → IsHeld whole ats o → IsHeld (k ∷ whole) nexts o
-      move o (inl i) = inl (inr i)
-      move o (inr i) = elim (subst (Among o) e i) [ inl same ↦ inl (inl same) | inr later ↦ inr later ]
-
-      back_again : (o : Object) → IsHeld (k ∷ whole) nexts o → IsHeld whole ats o
-      back_again o (inl (inl same)) = inr (subst (Among o) (sym e) (inl same))
-      back_again o (inl (inr i)) = inl i
-      back_again o (inr i) = inr (subst (Among o) (sym e) (inr i))
 
   -- the root is whole
   ends_root : (p : Ptr Operation) (ats : List (OpenAt T A)) → open_objects ats ≡ TheOperation p ∷ [] → root ≡ None → Tracks start c items whole ats root → Tracks start c items (TheOperation p ∷ whole) [] (Some p)
-  ends_root p ats e none t = record {
-    known = λ n o i. move o (t.known n o i);
-    once = t.once;
-    all = λ o h. elim (t.all o h) [ inl first ↦ inl first | inr held ↦ inr (move o held) ];
-    came = λ o h. t.came o (back_again o h);
-    stays = t.stays;
-    inside = λ o i. elim i [
-      | inl same ↦ inl (ap Some (sym same))
-      | inr i ↦ elim (t.inside o i) [ inl f ↦ absurd (no_root o f) | inr (m, held, inner) ↦ inr (m, move m held, inner) ]
-    ];
-  }
+  ends_root p ats e none t =
+      let move : (o : Object) → IsHeld whole ats o → IsHeld {T = T} {A = A} (TheOperation p ∷ whole) [] o = held_whole whole (TheOperation p) ats [] e in
+      record {
+        known = λ n o i. move o (t.known n o i);
+        once = t.once;
+        all = λ o h. elim (t.all o h) [ inl first ↦ inl first | inr held ↦ inr (move o held) ];
+        came = λ o h. t.came o (held_open whole (TheOperation p) ats [] e o h);
+        stays = t.stays;
+        inside = λ o i. elim i [
+          | inl same ↦ inl (ap Some (sym same))
+          | inr i ↦ elim (t.inside o i) [ inl f ↦ absurd (no_root o f) | inr (m, held, inner) ↦ inr (m, move m held, inner) ]
+        ];
+      }
     where
       no_root : (o : Object) → option_map TheOperation root ≡ Some o → ⊥
       no_root o f = let g : option_map TheOperation None ≡ Some o = subst (λ z. option_map TheOperation z ≡ Some o) none f in cc
-
-      move : (o : Object) → IsHeld whole ats o → IsHeld {T = T} {A = A} (TheOperation p ∷ whole) [] o
-      move o (inl i) = inl (inr i)
-      move o (inr i) = elim (subst (Among o) e i) [ inl same ↦ inl (inl same) | inr later ↦ absurd later ]
-
-      back_again : (o : Object) → IsHeld {T = T} {A = A} (TheOperation p ∷ whole) [] o → IsHeld whole ats o
-      back_again o (inl (inl same)) = inr (subst (Among o) (sym e) (inl same))
-      back_again o (inl (inr i)) = inl i
-      back_again o (inr i) = absurd i
 
 -- ---- the children of the open objects
 module _ {T A : Type 0} (I : Object → ℕ → Location A → Type 0) (c : ContextView T A) (whole : List Object) where

@@ -36,6 +36,15 @@ use Rattle.irtext_promises.specs.Held.{PtrRegions, PtrBlocks, PtrOperations, pla
 use Rattle.irtext_promises.specs.Placed.{RegionsAre, BlocksAre, OperationsAre, RootIs}
 use Rattle.irtext_promises.proofs.Paths.{Once, path_found}
 
+-- the path of the operation that uses, and the number of the use in it
+abbrev user_path : User → Path
+user_path (operand p i) = p
+user_path (successor p i) = p
+
+abbrev user_number : User → ℕ
+user_number (operand p i) = i
+user_number (successor p i) = i
+
 module _ {T A : Type 0} (L : ℕ → Location A → Type 0) (c : ContextView T A) (items : Made) (path : ℕ → Path) where
   -- an operation or a block is an item whose path this is
   abbrev pub IsPlaced : Object → Path → Type 0
@@ -155,26 +164,10 @@ module _ {T A : Type 0} (L : ℕ → Location A → Type 0) (c : ContextView T A
             go d b (inr i) = absurd i
 
         operand_eq : (p q : Path) (i j : ℕ) → operand p i ≡ operand q j → (p ≡ q) × (i ≡ j)
-        operand_eq p q i j e = (ap path_in e, ap number_in e)
-          where
-            path_in : User → Path
-            path_in (operand p i) = p
-            path_in (successor p i) = p
-
-            number_in : User → ℕ
-            number_in (operand p i) = i
-            number_in (successor p i) = i
+        operand_eq p q i j e = (ap user_path e, ap user_number e)
 
         successor_eq : (p q : Path) (i j : ℕ) → successor p i ≡ successor q j → (p ≡ q) × (i ≡ j)
-        successor_eq p q i j e = (ap path_in e, ap number_in e)
-          where
-            path_in : User → Path
-            path_in (operand p i) = p
-            path_in (successor p i) = p
-
-            number_in : User → ℕ
-            number_in (operand p i) = i
-            number_in (successor p i) = i
+        successor_eq p q i j e = (ap user_path e, ap user_number e)
 
         -- an operation at a path is one
         operation_one : (p q : Ptr Operation) (r : Path) (n : ℕ) → Among (TheOperation p, r) all → Among (n, TheOperation q) items → r ≡ path n → q ≡ p

@@ -118,6 +118,15 @@ owner_kind (OfValue (Result o i)) r e = cc
 owner_kind (OfValue (Argument k i)) r e = cc
 owner_kind (OfBlock k) r e = cc
 
+-- something is there if it has a part, since nothing has none
+none_there : {Y : Type 0} (o : Option Y) → o ≡ None → IsSome o → ⊥
+none_there None e h = cc
+none_there (Some y) e h = cc
+
+has_none : {X Y : Type 0} (part : Option X → Option Y) (o : Option X) → part None ≡ None → IsSome (part o) → IsSome o
+has_none part None e h = absurd (none_there (part None) e h)
+has_none part (Some x) e h = refl
+
 module _ {T A : Type 0} (c : ContextView T A) where
   -- an object that is present is live
   there_stands : (q : Object) → IsThere c q → IsLive c.graph q
@@ -131,18 +140,10 @@ module _ {T A : Type 0} (c : ContextView T A) where
 
   -- the owner of a definition is live
   result_stands : (o : Ptr Operation) (i : ℕ) → IsSome (slice_get (results_of (operation_at c.graph o)) i) → IsSome (get c.graph.operations o)
-  result_stands o i h = go (get c.graph.operations o) h
-    where
-      go : (y : Option (OperationEntry T A)) → IsSome (slice_get (results_of (option_map (λ e. e.content.content) y)) i) → IsSome y
-      go None h = absurd (cc)
-      go (Some e) h = refl
+  result_stands o i h = has_none (λ y. slice_get (results_of (option_map (λ e. e.content.content) y)) i) (get c.graph.operations o) refl h
 
   argument_stands : (k : Ptr BasicBlock) (i : ℕ) → IsSome (slice_get (arguments_of (block_at c.graph k)) i) → IsSome (get c.graph.blocks k)
-  argument_stands k i h = go (get c.graph.blocks k) h
-    where
-      go : (y : Option (BlockEntry T A)) → IsSome (slice_get (arguments_of (option_map (λ e. e.content.content) y)) i) → IsSome y
-      go None h = absurd (cc)
-      go (Some e) h = refl
+  argument_stands k i h = has_none (λ y. slice_get (arguments_of (option_map (λ e. e.content.content) y)) i) (get c.graph.blocks k) refl h
 
   owner_stands : (d : Defined) → IsDefined c.graph d → IsLive c.graph (owner d)
   owner_stands (OfValue (Result o i)) h = here_stands c.graph (TheOperation o) (result_stands o i h)

@@ -1,5 +1,5 @@
 -- Each object under an operation of a context is there at one place, and at most one definition is at a place.
-use Rattle.std.proofs.Common.{◌≡◌, ◌∙◌, ◌⊎◌, ◌+◌, ℕ, zero, suc, Bool, true, false, cond, List, [], ◌∷◌, ◌++◌, length, Option, Some, None, option_map, slice_get, refl, sym, ap, ap₂, subst, inl, inr, arith}
+use Rattle.std.proofs.Common.{◌≡◌, ◌∙◌, ◌⊎◌, ◌+◌, ℕ, zero, suc, Bool, true, false, cond, List, [], ◌∷◌, ◌++◌, length, map, Option, Some, None, option_map, slice_get, refl, sym, ap, ap₂, subst, inl, inr, arith}
 use Rattle.irtext_graph.specs.declared.arena.Ptr.{Ptr}
 use Rattle.irtext_graph.specs.declared.object.Operation.{Operation}
 use Rattle.irtext_graph.specs.declared.object.BasicBlock.{BasicBlock}
@@ -80,36 +80,37 @@ module _ {O B T : Type 0} (g : GraphView O B T) (nest : Nested (children g) (par
         go x r (inl e) = stem_here x r e
         go x r (inr i) = elim (among_split (x, r) inner next i) [ inl a ↦ stem_below x r a | inr a ↦ stem_beside x r a ]
 
-  module _ (inside : Ptr Operation → PtrRegions) (deeper : (q : Ptr Operation) (r : Path) → Stems (TheOperation q) r (placed_regions r 0 (inside q))) where
-    operations_stem : (b : Ptr BasicBlock) (p : Path) (j : ℕ) (os : List (Ptr Operation)) → ((i : ℕ) (o : Ptr Operation) → slice_get os i ≡ Some o → slice_get (Children (TheBlock b)) (j + i) ≡ Some (TheOperation o))
-        → Stems (TheBlock b) p (placed_operations p j (operations_by g inside os))
-    operations_stem b p j [] at = stems_none (TheBlock b) p
-    operations_stem b p j (o ∷ os) at =
-        let z : j + 0 ≡ j = omega arith in
-        stems_node (TheOperation o) (TheBlock b) p j (placed_regions (j ∷ p) 0 (inside o)) (placed_operations p (suc j) (operations_by g inside os)) (subst (λ (n : ℕ). slice_get (Children (TheBlock b)) n ≡ Some (TheOperation o)) z (at 0 o refl)) (deeper o (j ∷ p))
-        (operations_stem b p (suc j) os (λ i x e. let n : j + suc i ≡ suc j + i = omega arith in subst (λ (k : ℕ). slice_get (Children (TheBlock b)) k ≡ Some (TheOperation x)) n (at (suc i) x e)))
+  -- the first of these children, the later ones, and all, each under the number that it is counted under
+  first_child : (h x : Object) (j : ℕ) → slice_get (Children h) (j + 0) ≡ Some x → slice_get (Children h) j ≡ Some x
+  first_child h x j e = let z : j + 0 ≡ j = omega arith in subst (λ (n : ℕ). slice_get (Children h) n ≡ Some x) z e
 
-    blocks_stem : (r : Ptr Region) (p : Path) (j : ℕ) (bs : List (Ptr BasicBlock)) → ((i : ℕ) (b : Ptr BasicBlock) → slice_get bs i ≡ Some b → slice_get (Children (TheRegion r)) (j + i) ≡ Some (TheBlock b))
-        → Stems (TheRegion r) p (placed_blocks p j (blocks_by g inside bs))
+  later_child : (h x : Object) (i j : ℕ) → slice_get (Children h) (j + suc i) ≡ Some x → slice_get (Children h) (suc j + i) ≡ Some x
+  later_child h x i j e = let n : j + suc i ≡ suc j + i = omega arith in subst (λ (k : ℕ). slice_get (Children h) k ≡ Some x) n e
+
+  each_child : {K : Type 0} (make : Ptr K → Object) (h : Object) (ps : List (Ptr K)) → Children h ≡ map make ps → (i : ℕ) (p : Ptr K) → slice_get ps i ≡ Some p → slice_get (Children h) (0 + i) ≡ Some (make p)
+  each_child make h ps are i p e = let z : i ≡ 0 + i = omega arith in subst (λ (n : ℕ). slice_get (Children h) n ≡ Some (make p)) z (ap (λ os. slice_get os i) are ∙ (get_map make ps i ∙ ap (option_map make) e))
+
+  module _ (inside : Ptr Operation → PtrRegions) (deeper : (q : Ptr Operation) (r : Path) → Stems (TheOperation q) r (placed_regions r 0 (inside q))) where
+    operations_stem : (b : Ptr BasicBlock) (p : Path) (j : ℕ) (os : List (Ptr Operation)) → ((i : ℕ) (o : Ptr Operation) → slice_get os i ≡ Some o → slice_get (Children (TheBlock b)) (j + i) ≡ Some (TheOperation o)) → Stems (TheBlock b) p (placed_operations p j (operations_by g inside os))
+    operations_stem b p j [] at = stems_none (TheBlock b) p
+    operations_stem b p j (o ∷ os) at = stems_node (TheOperation o) (TheBlock b) p j (placed_regions (j ∷ p) 0 (inside o)) (placed_operations p (suc j) (operations_by g inside os)) (first_child (TheBlock b) (TheOperation o) j (at 0 o refl))
+        (deeper o (j ∷ p)) (operations_stem b p (suc j) os (λ i x e. later_child (TheBlock b) (TheOperation x) i j (at (suc i) x e)))
+
+    blocks_stem : (r : Ptr Region) (p : Path) (j : ℕ) (bs : List (Ptr BasicBlock)) → ((i : ℕ) (b : Ptr BasicBlock) → slice_get bs i ≡ Some b → slice_get (Children (TheRegion r)) (j + i) ≡ Some (TheBlock b)) → Stems (TheRegion r) p (placed_blocks p j (blocks_by g inside bs))
     blocks_stem r p j [] at = stems_none (TheRegion r) p
     blocks_stem r p j (b ∷ bs) at =
-        let z : j + 0 ≡ j = omega arith in
-        stems_node (TheBlock b) (TheRegion r) p j (placed_operations (j ∷ p) 0 (operations_by g inside (operations_in g b))) (placed_blocks p (suc j) (blocks_by g inside bs)) (subst (λ (n : ℕ). slice_get (Children (TheRegion r)) n ≡ Some (TheBlock b)) z (at 0 b refl))
-        (operations_stem b (j ∷ p) 0 (operations_in g b) (λ i x e. let z : i ≡ 0 + i = omega arith in subst (λ (n : ℕ). slice_get (Children (TheBlock b)) n ≡ Some (TheOperation x)) z (get_map TheOperation (operations_in g b) i ∙ ap (option_map TheOperation) e)))
-        (blocks_stem r p (suc j) bs (λ i x e. let n : j + suc i ≡ suc j + i = omega arith in subst (λ (k : ℕ). slice_get (Children (TheRegion r)) k ≡ Some (TheBlock x)) n (at (suc i) x e)))
+        stems_node (TheBlock b) (TheRegion r) p j (placed_operations (j ∷ p) 0 (operations_by g inside (operations_in g b))) (placed_blocks p (suc j) (blocks_by g inside bs)) (first_child (TheRegion r) (TheBlock b) j (at 0 b refl))
+        (operations_stem b (j ∷ p) 0 (operations_in g b) (each_child TheOperation (TheBlock b) (operations_in g b) refl)) (blocks_stem r p (suc j) bs (λ i x e. later_child (TheRegion r) (TheBlock x) i j (at (suc i) x e)))
 
-    regions_stem : (q : Ptr Operation) (p : Path) (j : ℕ) (rs : List (Ptr Region)) → ((i : ℕ) (r : Ptr Region) → slice_get rs i ≡ Some r → slice_get (Children (TheOperation q)) (j + i) ≡ Some (TheRegion r))
-        → Stems (TheOperation q) p (placed_regions p j (regions_by g inside rs))
+    regions_stem : (q : Ptr Operation) (p : Path) (j : ℕ) (rs : List (Ptr Region)) → ((i : ℕ) (r : Ptr Region) → slice_get rs i ≡ Some r → slice_get (Children (TheOperation q)) (j + i) ≡ Some (TheRegion r)) → Stems (TheOperation q) p (placed_regions p j (regions_by g inside rs))
     regions_stem q p j [] at = stems_none (TheOperation q) p
     regions_stem q p j (r ∷ rs) at =
-        let z : j + 0 ≡ j = omega arith in
-        stems_node (TheRegion r) (TheOperation q) p j (placed_blocks (j ∷ p) 0 (blocks_by g inside (blocks g r))) (placed_regions p (suc j) (regions_by g inside rs)) (subst (λ (n : ℕ). slice_get (Children (TheOperation q)) n ≡ Some (TheRegion r)) z (at 0 r refl))
-        (blocks_stem r (j ∷ p) 0 (blocks g r) (λ i x e. let z : i ≡ 0 + i = omega arith in subst (λ (n : ℕ). slice_get (Children (TheRegion r)) n ≡ Some (TheBlock x)) z (get_map TheBlock (blocks g r) i ∙ ap (option_map TheBlock) e)))
-        (regions_stem q p (suc j) rs (λ i x e. let n : j + suc i ≡ suc j + i = omega arith in subst (λ (k : ℕ). slice_get (Children (TheOperation q)) k ≡ Some (TheRegion x)) n (at (suc i) x e)))
+        stems_node (TheRegion r) (TheOperation q) p j (placed_blocks (j ∷ p) 0 (blocks_by g inside (blocks g r))) (placed_regions p (suc j) (regions_by g inside rs)) (first_child (TheOperation q) (TheRegion r) j (at 0 r refl))
+        (blocks_stem r (j ∷ p) 0 (blocks g r) (each_child TheBlock (TheRegion r) (blocks g r) refl)) (regions_stem q p (suc j) rs (λ i x e. later_child (TheOperation q) (TheRegion x) i j (at (suc i) x e)))
 
   within_stem : (n : ℕ) (q : Ptr Operation) (r : Path) → Stems (TheOperation q) r (placed_regions r 0 (within g n q))
   within_stem zero q r = stems_none (TheOperation q) r
-  within_stem (suc n) q r = regions_stem (within g n) (within_stem n) q r 0 (regions g q) (λ i x e. let z : i ≡ 0 + i = omega arith in subst (λ (n : ℕ). slice_get (Children (TheOperation q)) n ≡ Some (TheRegion x)) z (get_map TheRegion (regions g q) i ∙ ap (option_map TheRegion) e))
+  within_stem (suc n) q r = regions_stem (within g n) (within_stem n) q r 0 (regions g q) (each_child TheRegion (TheOperation q) (regions g q) refl)
 
   module _ (p : Ptr Operation) where
     abbrev all : List (Object × Path)

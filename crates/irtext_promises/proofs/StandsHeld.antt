@@ -108,6 +108,32 @@ rest_of x y xs ys e = cc
 unlike : {X : Type 0} (x : X) (xs : List X) → x ∷ xs ≡ [] → ⊥
 unlike x xs e = cc
 
+-- what has a name by number each
+kept_all : {X Y : Type 0} (f : X → Y) (xs : List X) → filter_map (λ x. Some (f x)) xs ≡ map f xs
+kept_all f [] = refl
+kept_all f (x ∷ xs) = ap (λ ys. f x ∷ ys) (kept_all f xs)
+
+-- the numbers of things are looked up as the names of a text are that mean the same places
+all_looked : {D K : Type 0} (place : D → Option Place) (number : D → Option K) (thing : K → Thing) (v : List (Fact Text)) (w : List (Fact Thing))
+    → ((n : Name ℕ) (d : D) → place d ≡ lookup same_text n.text v → is_some (lookup same_text n.text v) ≡ true → (x : Thing) × (option_map thing (number d) ≡ Some x) × (lookup same_thing x w ≡ lookup same_text n.text v))
+    → (ds : List D) (ns : List (Name ℕ)) → map place ds ≡ map (λ n. lookup same_text n.text v) ns → list_all is_some (map (λ (n : Name ℕ). lookup same_text n.text v) ns) ≡ true
+    → map (λ k. lookup same_thing (thing k) w) (filter_map number ds) ≡ map (λ n. lookup same_text n.text v) ns
+all_looked place number thing v w one [] [] e h = refl
+all_looked place number thing v w one [] (n ∷ ns) e h = absurd (unlike _ _ (sym e))
+all_looked place number thing v w one (d ∷ ds) [] e h = absurd (unlike _ _ e)
+all_looked {K = K} place number thing v w one (d ∷ ds) (n ∷ ns) e h =
+    let here = first_of (place d) (lookup same_text n.text v) (map place ds) (map (λ n. lookup same_text n.text v) ns) e in
+    let later = rest_of (place d) (lookup same_text n.text v) (map place ds) (map (λ n. lookup same_text n.text v) ns) e in
+    let some = and_left (is_some (lookup same_text n.text v)) (list_all is_some (map (λ (n : Name ℕ). lookup same_text n.text v) ns)) h in
+    let others = and_right (is_some (lookup same_text n.text v)) (list_all is_some (map (λ (n : Name ℕ). lookup same_text n.text v) ns)) h in
+    let found = one n d here some in
+    go (number d) found.0 found.1 found.2 (all_looked place number thing v w one ds ns later others)
+  where
+    go : (o : Option K) (y : Thing) → option_map thing o ≡ Some y → lookup same_thing y w ≡ lookup same_text n.text v → map (λ k. lookup same_thing (thing k) w) (filter_map number ds) ≡ map (λ n. lookup same_text n.text v) ns
+        → map (λ k. lookup same_thing (thing k) w) (cons_option o (filter_map number ds)) ≡ lookup same_text n.text v ∷ map (λ n. lookup same_text n.text v) ns
+    go None y e f r = absurd (cc)
+    go (Some m) y e f r = let same : thing m ≡ y = some_eq e in ap₂ (λ a b. a ∷ b) (ap (λ z. lookup same_thing z w) same ∙ f) r
+
 many_same : {X Y : Type 0} (f : X → Y) (xs : List X) → length (map f xs) ≡ length xs
 many_same f [] = refl
 many_same f (x ∷ xs) = ap suc (many_same f xs)
@@ -173,34 +199,13 @@ module _ {T A : Type 0} (c : ContextView T A) (counters : KeepsCounters c.graph)
 
   operands_look : (v : List (Fact Text)) (w : List (Fact Thing)) → Scoped v w → (vs : List Value) (ns : List (Name ℕ)) → map (value_place all) vs ≡ map (λ n. lookup same_text n.text v) ns → list_all is_some (map (λ (n : Name ℕ). lookup same_text n.text v) ns) ≡ true
       → map (λ x. lookup same_thing (a_value x) w) (filter_map (number_of c) vs) ≡ map (λ n. lookup same_text n.text v) ns
-  operands_look v w s [] [] e h = refl
-  operands_look v w s [] (n ∷ ns) e h = absurd (unlike _ _ (sym e))
-  operands_look v w s (x ∷ vs) [] e h = absurd (unlike _ _ e)
-  operands_look v w s (x ∷ vs) (n ∷ ns) e h =
-      let here = first_of (value_place all x) (lookup same_text n.text v) (map (value_place all) vs) (map (λ n. lookup same_text n.text v) ns) e in
-      let later = rest_of (value_place all x) (lookup same_text n.text v) (map (value_place all) vs) (map (λ n. lookup same_text n.text v) ns) e in
-      let some = and_left (is_some (lookup same_text n.text v)) (list_all is_some (map (λ (n : Name ℕ). lookup same_text n.text v) ns)) h in
-      let others = and_right (is_some (lookup same_text n.text v)) (list_all is_some (map (λ (n : Name ℕ). lookup same_text n.text v) ns)) h in
-      let found = looked value_name (value_place all) one_number (one_value c.graph counters.nested p) v w s.same s.are n x here some in
-      go (number_of c x) found.0 found.1 found.2 (operands_look v w s vs ns later others)
-    where
-      go : (o : Option ℕ) (y : Thing) → option_map a_value o ≡ Some y → lookup same_thing y w ≡ lookup same_text n.text v → map (λ x. lookup same_thing (a_value x) w) (filter_map (number_of c) vs) ≡ map (λ n. lookup same_text n.text v) ns
-          → map (λ x. lookup same_thing (a_value x) w) (cons_option o (filter_map (number_of c) vs)) ≡ lookup same_text n.text v ∷ map (λ n. lookup same_text n.text v) ns
-      go None y e f r = absurd (cc)
-      go (Some m) y e f r = let same : a_value m ≡ y = some_eq e in ap₂ (λ a b. a ∷ b) (ap (λ z. lookup same_thing z w) same ∙ f) r
+  operands_look v w s = all_looked (value_place all) (number_of c) a_value v w (looked value_name (value_place all) one_number (one_value c.graph counters.nested p) v w s.same s.are)
 
   successors_look : (v : List (Fact Text)) (w : List (Fact Thing)) → Labelled v w → (bs : List (Ptr BasicBlock)) (ns : List (Name ℕ)) → map (block_place all) bs ≡ map (λ n. lookup same_text n.text v) ns → list_all is_some (map (λ (n : Name ℕ). lookup same_text n.text v) ns) ≡ true
       → map (λ b. lookup same_thing (a_block b) w) (map (place_of c) bs) ≡ map (λ n. lookup same_text n.text v) ns
-  successors_look v w s [] [] e h = refl
-  successors_look v w s [] (n ∷ ns) e h = absurd (unlike _ _ (sym e))
-  successors_look v w s (b ∷ bs) [] e h = absurd (unlike _ _ e)
-  successors_look v w s (b ∷ bs) (n ∷ ns) e h =
-      let here = first_of (block_place all b) (lookup same_text n.text v) (map (block_place all) bs) (map (λ n. lookup same_text n.text v) ns) e in
-      let later = rest_of (block_place all b) (lookup same_text n.text v) (map (block_place all) bs) (map (λ n. lookup same_text n.text v) ns) e in
-      let some = and_left (is_some (lookup same_text n.text v)) (list_all is_some (map (λ (n : Name ℕ). lookup same_text n.text v) ns)) h in
-      let others = and_right (is_some (lookup same_text n.text v)) (list_all is_some (map (λ (n : Name ℕ). lookup same_text n.text v) ns)) h in
-      let found = looked block_name (block_place all) one_ptr (one_block c.graph counters.nested p) v w s.same s.are n b here some in
-      ap₂ (λ a b. a ∷ b) (ap (λ z. lookup same_thing z w) (some_eq found.1) ∙ found.2) (successors_look v w s bs ns later others)
+  successors_look v w s bs ns e h =
+      ap (map (λ b. lookup same_thing (a_block b) w)) (sym (kept_all (place_of c) bs))
+      ∙ all_looked (block_place all) (λ b. Some (place_of c b)) a_block v w (looked block_name (block_place all) one_ptr (one_block c.graph counters.nested p) v w s.same s.are) bs ns e h
 
   module _ (C : Printing T A) (label_seen : (b : Ptr BasicBlock) (view : BlockView T A) → block c b ≡ Some view → C.label (place_of c b) ≡ view.label) (isolated : Id → Bool) (first : ℕ → Written A) (es : List (Entry ℕ A (Written A))) where
     -- ---- an operation's own

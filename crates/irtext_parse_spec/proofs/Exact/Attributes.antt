@@ -20,7 +20,7 @@ use Rattle.irtext_parse_spec.proofs.Joins.Dictionary.{tree_read, tree_found, spl
 use Rattle.irtext_parse_spec.proofs.Joins.Tokens.{text_read, text-literal, splits_text}
 use Rattle.irtext_parse_spec.specs.Exact.{Exact, NeedsWord}
 use Rattle.irtext_parse_spec.specs.Heads.{pair_at, dictionary_at, dictionary_if_at, outlined_or_at}
-use Rattle.irtext_parse_spec.proofs.Exact.Combined.{exact_as, exact_word, exact_then, exact_spaced, exact_behind, exact_before, exact_so, exact_seen, exact_if, exact_keyed}
+use Rattle.irtext_parse_spec.proofs.Exact.Combined.{exact_as, exact_word, exact_then, exact_spaced, exact_before, exact_if, exact_keyed}
 use Rattle.irtext_parse_spec.proofs.Exact.Listed.{Starts, starts_so, exact_list, loosened, tightened}
 use Rattle.irtext_parse_spec.proofs.Exact.Names.{exact_name, starts_name}
 

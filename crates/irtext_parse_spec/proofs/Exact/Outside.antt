@@ -109,6 +109,16 @@ module _ {T A : Type 0} where
   no_successors : (p : Piece ℕ T A) → directive_of_piece p ≡ Some format.successors → UsesNone p → tree.successors [] ≡ p
   no_successors p i n = let b = is_successors p i in ap (λ ns. tree.successors ns) (sym (subst UsesNone (sym b.1) n)) ∙ b.1
 
+  -- an empty list, of which no item may be used here, is read where its items may be used too
+  empty_either_way : {none : Text → Type 0} {never_used used : Reader (Name ℕ)} (see : List (Name ℕ) → Piece ℕ T A) → UsesNone (see []) → Starts never_used none → Starts used none
+      → ((text : Text) (n : Name ℕ) (taken rest : Text) → never_used text ≡ Read n taken rest → ⊥) → (text : Text) (p : Piece ℕ T A) (taken rest : Text) → mapped see (separated_at 44 never_used text) ≡ Read p taken rest
+      → UsesNone p × (mapped see (separated_at 44 used text) ≡ Read p taken rest)
+  empty_either_way {never_used = never_used} see unused starts starts_used never text p taken rest e =
+      let m = mapped_read see (separated_at 44 never_used text) p taken rest e in
+      let k = empty_read 44 starts never text m.0 taken rest m.1 in
+      let is : see [] ≡ p = ap see (sym k.0) ∙ m.2 in
+      (subst UsesNone is unused, ap (mapped see) (none_listed 44 starts_used text k.2) ∙ (ap (λ p. Read p [] text) is ∙ (ap (λ t. Read p t text) (sym k.1) ∙ ap (Read p taken) (sym k.3))))
+
 module _ {T A : Type 0} (types_at : Text → Outcome T) (types_written : T → Text) (reading : Text → Outcome A) (written : A → Text) (formats : Id → Option Format)
     (types_split : Splits types_at) (splits : Splits reading) where
   abbrev l : Language ℕ T A
@@ -154,15 +164,7 @@ module _ {T A : Type 0} (types_at : Text → Outcome T) (types_written : T → T
   pub outside_read : (step : Step) (text : Text) (p : Piece ℕ T A) (taken rest : Text) → piece_at types_at (attr_at reading) false step text ≡ Read p taken rest
       → UsesNone p × (piece_at types_at (attr_at reading) true step text ≡ Read p taken rest)
   outside_read (flat (format.operand k)) text p taken rest e = absurd (let m = mapped_read (tree.operand k) (used_at false text) p taken rest e in used_never text m.0 taken rest m.1)
-  outside_read (flat format.operands) text p taken rest e =
-      let m = mapped_read tree.operands (separated_at 44 (used_at false) text) p taken rest e in
-      let k = empty_read 44 starts_outside used_never text m.0 taken rest m.1 in
-      let is : tree.operands [] ≡ p = ap (λ ns. tree.operands ns) (sym k.0) ∙ m.2 in
-      (subst UsesNone is refl, ap (mapped tree.operands) (none_listed 44 starts_name text k.2) ∙ (ap (λ p. Read p [] text) is ∙ (ap (λ t. Read p t text) (sym k.1) ∙ ap (Read p taken) (sym k.3))))
+  outside_read (flat format.operands) text p taken rest e = empty_either_way tree.operands refl starts_outside starts_name used_never text p taken rest e
   outside_read (flat (format.successor k)) text p taken rest e = absurd (let m = mapped_read (tree.successor k) (target_at false text) p taken rest e in target_never text m.0 taken rest m.1)
-  outside_read (flat format.successors) text p taken rest e =
-      let m = mapped_read tree.successors (separated_at 44 (target_at false) text) p taken rest e in
-      let k = empty_read 44 starts_no_target target_never text m.0 taken rest m.1 in
-      let is : tree.successors [] ≡ p = ap (λ ns. tree.successors ns) (sym k.0) ∙ m.2 in
-      (subst UsesNone is refl, ap (mapped tree.successors) (none_listed 44 starts_target text k.2) ∙ (ap (λ p. Read p [] text) is ∙ (ap (λ t. Read p t text) (sym k.1) ∙ ap (Read p taken) (sym k.3))))
+  outside_read (flat format.successors) text p taken rest e = empty_either_way tree.successors refl starts_no_target starts_target target_never text p taken rest e
   outside_read step text p taken rest e = (uses_none step (λ i. i) p (piece_read types_at types_written reading written formats types_split splits step text p taken rest e).0.0, e)

@@ -21,7 +21,7 @@ the-same : (c : ℕ) → the c c ≡ true
 the-same c = grind (arith, nat_tests)
 
 -- a text with the word as its prefix begins with the word
-starts_whole : (word rest : Text) → starts_with word (word ++ rest) ≡ true
+pub starts_whole : (word rest : Text) → starts_with word (word ++ rest) ≡ true
 starts_whole [] rest = refl
 starts_whole (c ∷ word) rest = rw (the-same c) (starts_whole word rest)
 
@@ -35,7 +35,7 @@ starts_rest (c ∷ word) (d ∷ text) e = go (the c d) refl e (starts_rest word 
     go true b q h = let r = h q in (r.0, ap (λ z. z ∷ text) (same_the c d b) ∙ ap (λ z. c ∷ z) r.1)
     go false b q h = absurd (cc)
 
-starts_not : (word text : Text) → ((rest : Text) → text ≡ word ++ rest → ⊥) → starts_with word text ≡ false
+pub starts_not : (word text : Text) → ((rest : Text) → text ≡ word ++ rest → ⊥) → starts_with word text ≡ false
 starts_not word text h =
     elim (starts_with word text) as (λ b. starts_with word text ≡ b → b ≡ false) [ true ↦ (λ e. let r = starts_rest word text e in absurd (h r.0 r.1)) | false ↦ (λ e. refl) ] refl
 
