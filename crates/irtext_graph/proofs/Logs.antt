@@ -143,17 +143,17 @@ module _ {O B T : Type 0} where
 
 module _ {X K : Type 0} (kind : Ptr K → Object) (o : Object) (made : ℕ) where
   -- each object of one kind was there with its age, or is o and was made then
-  abbrev Advanced : Arena X → Arena X → Type 0
-  Advanced a b = (q : Ptr K) (n : ℕ) → born_in (get b q) ≡ Some n → (born_in (get a q) ≡ Some n) ⊎ ((kind q ≡ o) × (n ≡ made))
+  abbrev IsOldOrMade : Arena X → Arena X → Type 0
+  IsOldOrMade a b = (q : Ptr K) (n : ℕ) → born_in (get b q) ≡ Some n → (born_in (get a q) ≡ Some n) ⊎ ((kind q ≡ o) × (n ≡ made))
 
-  came_in : (a b : Arena X) (p : Ptr K) (x : Entry X) → Updates a b p (Some x) → x.born ≡ made → kind p ≡ o → Advanced a b
+  came_in : (a b : Arena X) (p : Ptr K) (x : Entry X) → Updates a b p (Some x) → x.born ≡ made → kind p ≡ o → IsOldOrMade a b
   came_in a b p x u born is q n e = elim (ptr_or q p) [
     | inr away ↦ inl (ap born_in (sym (u.others q away)) ∙ e)
     | inl here ↦ inr (ap kind here ∙ is, let f : Some x.born ≡ Some n = sym (ap born_in (ap (get b) here ∙ u.changed)) ∙ e in let g : n ≡ x.born = cc in g ∙ born)
   ]
 
 module _ {O B T : Type 0} where
-  came_by : (x y : Objects O B T) (o : Object) (made : ℕ) → Advanced TheOperation o made x.operations y.operations → Advanced TheBlock o made x.blocks y.blocks → Advanced TheRegion o made x.regions y.regions
+  came_by : (x y : Objects O B T) (o : Object) (made : ℕ) → IsOldOrMade TheOperation o made x.operations y.operations → IsOldOrMade TheBlock o made x.blocks y.blocks → IsOldOrMade TheRegion o made x.regions y.regions
       → (q : Object) (b : ℕ) → age y q ≡ Some b → (age x q ≡ Some b) ⊎ ((q ≡ o) × (b ≡ made))
   came_by x y o made operations blocks regions (TheOperation q) = operations q
   came_by x y o made operations blocks regions (TheBlock q) = blocks q

@@ -181,20 +181,20 @@ module _ {O B T : Type 0} where
   module _ (old new : GraphView O B T) (types : List T) (made : ℕ → Value) (values : new.values ≡ old.values + length types)
       (at : (v : Value) → (value_at new v ≡ value_at old v) ⊎ ((i : ℕ) × (v ≡ made i) × (value_at new v ≡ slice_get (numbered old.values types) i))) where
     -- the value was there before, or is one of those
-    abbrev Advanced : Value → Typed T → Type 0
-    Advanced v t = (value_at old v ≡ Some t) ⊎ ((i : ℕ) × (v ≡ made i) × (t.number ≡ old.values + i) × (i < length types))
+    abbrev IsOldOrMade : Value → Typed T → Type 0
+    IsOldOrMade v t = (value_at old v ≡ Some t) ⊎ ((i : ℕ) × (v ≡ made i) × (t.number ≡ old.values + i) × (i < length types))
 
-    came : (v : Value) (t : Typed T) → value_at new v ≡ Some t → Advanced v t
+    came : (v : Value) (t : Typed T) → value_at new v ≡ Some t → IsOldOrMade v t
     came v t e = elim (at v) [
       | inl same ↦ inl (sym same ∙ e)
       | inr (i, is, n) ↦ let k = numbered_at old.values types i t (sym n ∙ e) in inr (i, is, k.0, k.1)
     ]
 
-    low : AreNumbered old → (v : Value) (t : Typed T) → Advanced v t → t.number < new.values
+    low : AreNumbered old → (v : Value) (t : Typed T) → IsOldOrMade v t → t.number < new.values
     low n v t (inl e) = let l = n.below v t e in omega (arith, l, values)
     low n v t (inr (i, is, number, within)) = omega (arith, number, within, values)
 
-    apart : AreNumbered old → (v w : Value) (t u : Typed T) → t.number ≡ u.number → Advanced v t → Advanced w u → v ≡ w
+    apart : AreNumbered old → (v w : Value) (t u : Typed T) → t.number ≡ u.number → IsOldOrMade v t → IsOldOrMade w u → v ≡ w
     apart n v w t u s (inl e) (inl f) = n.differ v w t u e f s
     apart n v w t u s (inl e) (inr (j, is, number, within)) = absurd (let l = n.below v t e in omega (arith, l, number, s))
     apart n v w t u s (inr (i, is, number, within)) (inl f) = absurd (let l = n.below w u f in omega (arith, l, number, s))

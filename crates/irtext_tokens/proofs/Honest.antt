@@ -118,22 +118,22 @@ honest_attr h = honest_either (leads (codes "builtin.given_names")) (seen given_
 
 -- ---- what follows of it for any parser
 -- what holds of a cause holds of the cause of an outcome that has one
-abbrev pub ModifiesOnly : (Fault → Type 0) → {X : Type 0} → Outcome X → Type 0
-ModifiesOnly P (Read x taken rest) = Unit {0}
-ModifiesOnly P (Missing cause) = P cause
-ModifiesOnly P (Bad cause upto) = P cause
+abbrev pub CauseIs : (Fault → Type 0) → {X : Type 0} → Outcome X → Type 0
+CauseIs P (Read x taken rest) = Unit {0}
+CauseIs P (Missing cause) = P cause
+CauseIs P (Bad cause upto) = P cause
 
 -- the cause does not say that the stream had failed
 abbrev pub NotFailed : Fault → Type 0
 NotFailed cause = cause ≡ Failed → ⊥
 
-spares : {X : Type 0} (text : Text) (o : Outcome X) → Of text o → ModifiesOnly NotFailed o
+spares : {X : Type 0} (text : Text) (o : Outcome X) → Of text o → CauseIs NotFailed o
 spares text (Read x taken left) h = tt
 spares text (Missing cause) h = not_failed cause (first_of_text cause h.says)
 spares text (Bad cause upto) h = not_failed cause h.says.0
 
 -- no cause says that the stream had failed
-pub never_failed : {X : Type 0} {f : Reader X} → Honest f → (text : Text) → ModifiesOnly NotFailed (f text)
+pub never_failed : {X : Type 0} {f : Reader X} → Honest f → (text : Text) → CauseIs NotFailed (f text)
 never_failed {f} h text = spares text (f text) (h.of text)
 
 -- no more is left than the text

@@ -16,7 +16,7 @@ use Rattle.irtext_tokens.specs.Demanded.{spaced_at}
 use Rattle.irtext_tokens.specs.ListOutcomes.{item_after, items_after, or_empty, separated_at}
 use Rattle.irtext_tokens.specs.Integers.{sign_at, numeral_at, ranged, signed_integer, no_digit_behind, int_at}
 use Rattle.irtext_tokens.specs.QuotedTexts.{escape_of, escaped, named, closed, braced, unicode_at, escape_at, unit_at, behind_first, unit_before, units_at, quoted_at}
-use Rattle.irtext_tokens.proofs.QuotedUnits.{OpenOperation, unit_begun}
+use Rattle.irtext_tokens.proofs.QuotedUnits.{UnitBegins, unit_begun}
 
 -- ---- fixed texts
 of_spelled : (whole word text : Text) → Of text (spelled_at whole word text)
@@ -100,7 +100,7 @@ of_unit c text =
     ] refl
 
 -- a unit that was begun, and what holds of the text after it
-of_before : (c : ℕ) (text : Text) (o : Outcome ℕ) (next : Text → Outcome Text) → Of (c ∷ text) o → OpenOperation c text o → ((left rest : Text) → left ++ rest ≡ text → Of rest (next left)) → Of (c ∷ text) (unit_before o next)
+of_before : (c : ℕ) (text : Text) (o : Outcome ℕ) (next : Text → Outcome Text) → Of (c ∷ text) o → UnitBegins c text o → ((left rest : Text) → left ++ rest ≡ text → Of rest (next left)) → Of (c ∷ text) (unit_before o next)
 of_before c text (Read d taken rest) next h b k =
     let m = of_mapped rest (λ cs. d ∷ cs) (next (behind_first taken)) (subst (λ z. Of rest (next (behind_first z))) (sym b.1) (k b.0 rest b.2)) in
     subst (λ z. Of z (prefixed taken (mapped (λ cs. d ∷ cs) (next (behind_first taken))))) h.says (of_prefixed taken rest _ m)

@@ -6,13 +6,13 @@ use Rattle.irtext_base.specs.Faults.{Fault}
 use Rattle.irtext_base.specs.Answers.{Outcome, Read, Missing, Bad, prefixed, followed, mapped}
 use Rattle.irtext_tokens.specs.Infix.{Reader}
 use Rattle.irtext_tokens.specs.ListOutcomes.{or_empty, item_after, items_after, separated_at}
-pub use Rattle.irtext_tokens.proofs.Honest.{ModifiesOnly, NotFailed}
+pub use Rattle.irtext_tokens.proofs.Honest.{CauseIs, NotFailed}
 use Rattle.irtext_tokens.proofs.Honest.{Honest, never_failed, honest_word}
 use Rattle.irtext_parse_spec.specs.Readers.Parts.{behind}
 
 -- the cause of the outcome is not that the stream had failed
 pub record Fine {X : Type 0} (o : Outcome X) : Type 0 where
-  pub spares : ModifiesOnly NotFailed o
+  pub spares : CauseIs NotFailed o
 
 -- no cause of a parser whose outcomes are of their texts does
 pub fine_honest : {X : Type 0} {f : Reader X} → Honest f → (text : Text) → Fine (f text)
