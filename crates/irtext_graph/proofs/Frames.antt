@@ -153,7 +153,7 @@ module _ {O B T : Type 0} where
         | inr apart ↦ inr (a.parents q apart, a.others q away)
       ]
     ];
-  }) (let e = a.objects.made in omega (arith, e)) (let e = a.objects.values in omega (arith, e)) a.objects.first_place
+  }) (let e = a.objects.rest.made in omega (arith, e)) (let e = a.objects.rest.values in omega (arith, e)) a.objects.rest.first_place
 
   -- an insertion, or its error
   pub inserted-keeps : (m : ℕ) (g h : GraphView O B T) (k c : Object) → IsNew m g k → IsNew m g c → {E : Type 0} (r : Result (Unit {0}) E) → OnOk r (Appends g h k c) → OnErr r (h ≡ g) → KeepsOlder m g h
@@ -161,7 +161,7 @@ module _ {O B T : Type 0} where
   inserted-keeps m g h k c nk nc (Err x) a e = same_keeps m g h e
 
   pub unlinked-keeps : (m : ℕ) (g h : GraphView O B T) (c : Object) → IsNew m g c → ((k : Object) → parent g c ≡ Some k → IsNew m g k) → Unlinks g h c → KeepsOlder m g h
-  unlinked-keeps m g h c nc nk a = framed_keeps m g h (record { contents = a.objects.contents; same = same }) (let e = a.objects.made in omega (arith, e)) (let e = a.objects.values in omega (arith, e)) a.objects.first_place
+  unlinked-keeps m g h c nc nk a = framed_keeps m g h (record { contents = a.objects.contents; same = same }) (let e = a.objects.rest.made in omega (arith, e)) (let e = a.objects.rest.values in omega (arith, e)) a.objects.rest.first_place
     where
       same : (q : Object) → (IsNew m g q) ⊎ ((parent h q ≡ parent g q) × (children h q ≡ children g q))
       same q = elim (told object_tells q c) [

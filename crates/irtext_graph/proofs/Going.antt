@@ -10,13 +10,13 @@ use Rattle.irtext_graph.specs.declared.object.Object.TheVariants.{TheOperation, 
 use Rattle.irtext_graph.specs.Chained.{Among}
 use Rattle.irtext_graph.specs.Content.{Content, Content.{AnOperation, ABlock, ARegion}, RegionContent}
 use Rattle.irtext_graph.specs.Data.{with_data, with_block, with_operation_data, with_block_data, EditsOperation, EditsBlock}
-use Rattle.irtext_graph.specs.Graph.{GraphView, SamePlaces, parent, children, content, parent_of, children_of, content_of, IsLive, IsInside, IsNew, KeepsOlder}
+use Rattle.irtext_graph.specs.Graph.{GraphView, KeepsRest, SamePlaces, parent, children, content, parent_of, children_of, content_of, IsLive, IsInside, IsNew, KeepsOlder}
 use Rattle.irtext_graph.specs.Nested.{Nested}
 use Rattle.irtext_graph.specs.Objects.{eq_object, is_older}
 use Rattle.irtext_graph.specs.Parts.{operation_at, block_at}
 use Rattle.irtext_graph.specs.Preorder.{onward}
 use Rattle.irtext_graph.specs.Store.{Store, Edits, get, object_of}
-use Rattle.irtext_graph.specs.Throughout.{changed, places, all_from, IsNewInside, SameObject, ChangedObject, KeepsRest, EditsObject, EditsInside}
+use Rattle.irtext_graph.specs.Throughout.{changed, places, all_from, IsNewInside, SameObject, ChangedObject, EditsObject, EditsInside}
 use Rattle.irtext_graph.proofs.Data.{edited, edited_block}
 use Rattle.irtext_graph.proofs.Frames.{stood_keeps}
 use Rattle.irtext_graph.proofs.Inside.{within_self, within_or}

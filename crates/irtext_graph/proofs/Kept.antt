@@ -22,7 +22,7 @@ keeps_on h k = record {
   age = λ m o. k.age m (h.age m o);
 }
 
-keeps_self : {X : Type 0} (a : Arena X) → KeepsPlaces a a
+pub keeps_self : {X : Type 0} (a : Arena X) → KeepsPlaces a a
 keeps_self a = record { generations = λ i. refl; free = refl; len = refl; age = λ m o. o }
 
 shed_on : {X : Type 0} {a b c : Arena X} → ShedsPlaces a b → ShedsPlaces b c → ShedsPlaces a c

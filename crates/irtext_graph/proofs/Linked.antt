@@ -27,15 +27,15 @@ site_sound (AtSuccessor p i) (AtOperand q j) e = absurd (cc)
 pub site_tells : Tells eq_site
 site_tells = record { same = site_is; sound = site_sound }
 
-value_same : (v : Value) → eq_value v v ≡ true
-value_same (Result p i) = all _ _ (ptr_tells.same p) (eq-eqb i i refl)
-value_same (Argument p i) = all _ _ (ptr_tells.same p) (eq-eqb i i refl)
-
 value_sound : (v w : Value) → eq_value v w ≡ true → v ≡ w
 value_sound (Result p i) (Result q j) e = let k = both _ _ e in rw (ptr_tells.sound p q k.0, eqb-true i j k.1) refl
 value_sound (Argument p i) (Argument q j) e = let k = both _ _ e in rw (ptr_tells.sound p q k.0, eqb-true i j k.1) refl
 value_sound (Result p i) (Argument q j) e = absurd (cc)
 value_sound (Argument p i) (Result q j) e = absurd (cc)
+
+value_same : (v : Value) → eq_value v v ≡ true
+value_same (Result p i) = all _ _ (ptr_tells.same p) (eq-eqb i i refl)
+value_same (Argument p i) = all _ _ (ptr_tells.same p) (eq-eqb i i refl)
 
 defined_same : (d : Defined) → eq_defined d d ≡ true
 defined_same (OfValue v) = value_same v

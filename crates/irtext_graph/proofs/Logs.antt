@@ -175,13 +175,3 @@ module _ {O B T : Type 0} where
   region_ages x a e (TheOperation p) b f = f
   region_ages x a e (TheBlock p) b f = f
   region_ages x a e (TheRegion p) b f = sym (ap (λ xs. born_in (found (slice_get xs p.index) p.generation)) e) ∙ f
-
-  pub block_ages : (x : Objects O B T) (a : Arena (Nest Region Operation (BlockData B T))) → a.slots.items ≡ x.blocks.slots.items → (o : Object) (b : ℕ) → age (record x { blocks = a }) o ≡ Some b → age x o ≡ Some b
-  block_ages x a e (TheOperation p) b f = f
-  block_ages x a e (TheBlock p) b f = sym (ap (λ xs. born_in (found (slice_get xs p.index) p.generation)) e) ∙ f
-  block_ages x a e (TheRegion p) b f = f
-
-  pub operation_ages : (x : Objects O B T) (a : Arena (Nest BasicBlock Region (OperationData O T))) → a.slots.items ≡ x.operations.slots.items → (o : Object) (b : ℕ) → age (record x { operations = a }) o ≡ Some b → age x o ≡ Some b
-  operation_ages x a e (TheOperation p) b f = sym (ap (λ xs. born_in (found (slice_get xs p.index) p.generation)) e) ∙ f
-  operation_ages x a e (TheBlock p) b f = f
-  operation_ages x a e (TheRegion p) b f = f

@@ -126,7 +126,7 @@ module _ {O B T : Type 0} where
 
   pub dropped_numbers : (old new : GraphView O B T) (o : Object) → ((q : Object) → (IsInside old o q) ⊎ (IsInside old o q → ⊥)) → DropsUses old new o → KeepsNumbers old new
   dropped_numbers old new o known d = record {
-    values = let k = d.values in omega (arith, k);
+    values = let k = d.rest.values in omega (arith, k);
     at = λ v. elim (known (owner v)) [
       | inl w ↦ inl (value_is new v ∙ ap (λ k. value_in k v) (d.inside (owner v) w) ∙ idle_value (content old (owner v)) v ∙ sym (value_is old v))
       | inr out ↦ inl (value_is new v ∙ ap (λ k. value_in k v) (d.others (owner v) out) ∙ sym (value_is old v))

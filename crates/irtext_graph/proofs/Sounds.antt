@@ -175,6 +175,21 @@ module _ {O B T : Type 0} where
     older_regions = p.region_places.age made i.older_regions;
   }
 
+  -- the uses are linked as they were
+  pub uses_alike : (x y : Objects O B T) → ((u : Site) → use_at y u ≡ use_at x u) → ((d : Defined) → head_at y d ≡ head_at x d) → AreUsesLinked x → AreUsesLinked y
+  uses_alike x y same_use same_head c = reframed eq_site site_tells eq_defined defined_tells c (record {
+    vals = λ u. ap def_of (same_use u);
+    prevs = λ u d e. ap prev_of (same_use u);
+    nexts = λ u d e. ap next_of (same_use u);
+    same_heads = λ d. inl (same_head d);
+  })
+
+  -- objects with the same parents, children and uses, in the same places
+  pub sound_alike : (made : ℕ) (x y : Objects O B T) → ((q : Object) → kids y q ≡ kids x q) → ((q : Object) → up y q ≡ up x q) → ((u : Site) → use_at y u ≡ use_at x u) → ((d : Defined) → head_at y d ≡ head_at x d)
+      → SamePlaces x y → IsSound made x → IsSound made y
+  sound_alike made x y same_kids same_up same_use same_head p i =
+      sound_dropped made x y i (renested eq_object object_tells i.forest same_kids same_up) (uses_alike x y same_use same_head i.uses) (λ u l. rw (same_use u) (i.all_used u (rw (same_use u) at l))) p
+
   module _ (x y : Objects O B T) (s : SameData x y) where
     pub same_use : (u : Site) → use_at y u ≡ use_at x u
     same_use u = use_same x y u (datum_at s (user u))
@@ -183,12 +198,7 @@ module _ {O B T : Type 0} where
     same_head d = head_same x y d (datum_at s (owner d))
 
     pub uses_kept : AreUsesLinked x → AreUsesLinked y
-    uses_kept c = reframed eq_site site_tells eq_defined defined_tells c (record {
-      vals = λ u. ap def_of (same_use u);
-      prevs = λ u d e. ap prev_of (same_use u);
-      nexts = λ u d e. ap next_of (same_use u);
-      same_heads = λ d. inl (same_head d);
-    })
+    uses_kept = uses_alike x y same_use same_head
 
     -- another forest of the same objects
     pub sound_moved : (made : ℕ) → IsSound made x → IsForest y → SamePlaces x y → IsSound made y

@@ -17,7 +17,7 @@ use Rattle.irtext_graph.specs.Used.{without_operands}
 use Rattle.irtext_graph.specs.Uses.{val}
 use Rattle.irtext_graph.specs.Content.{Content, Content.{AnOperation, ABlock, ARegion}}
 use Rattle.irtext_graph.specs.Store.{generation_at}
-use Rattle.irtext_graph.specs.Graph.{GraphView, SamePlaces, parent, children, content, IsInside}
+use Rattle.irtext_graph.specs.Graph.{GraphView, KeepsRest, parent, children, content, IsInside}
 
 -- the content of an object without operands and successors
 abbrev pub without_uses : {O B T : Type 0} → Content O B T → Content O B T
@@ -60,12 +60,7 @@ module _ {O B T : Type 0} where
     pub others : (q : Object) → (IsInside old o q → ⊥) → content new q ≡ content old q
     pub parents : (q : Object) → parent new q ≡ parent old q
     pub lists : (q : Object) → children new q ≡ children old q
-    pub operation_places : SamePlaces old.operations new.operations
-    pub block_places : SamePlaces old.blocks new.blocks
-    pub region_places : SamePlaces old.regions new.regions
-    pub made : new.made ≡ old.made
-    pub values : new.values ≡ old.values
-    pub first_place : new.first_place ≡ old.first_place
+    pub rest : KeepsRest old new
 
   -- o and everything nested in it is gone, o is removed from its parent's children, and all else is unchanged
   pub record Erases (old new : GraphView O B T) (o : Object) : Type 0 where

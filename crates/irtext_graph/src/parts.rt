@@ -70,14 +70,6 @@ impl<O: Drop, B: Drop, T: Drop> Graph<O, B, T> {
         self.objects.operations.content(op).data.operands[i].def
     }
 
-    /// The number of successors of an operation. A block that is used twice counts twice.
-    pub fn num_successors(&self, op: Ptr<Operation>) -> usize
-        requires { IsLive self.now (TheOperation op) }
-        ensures { result ≡ length (successors self.now op) }
-    {
-        self.objects.operations.content(op).data.successors.len()
-    }
-
     /// Returns the successor of an operation at an index.
     pub fn get_successor(&self, op: Ptr<Operation>, i: usize) -> Ptr<BasicBlock>
         requires stands { IsLive self.now (TheOperation op) }
@@ -85,6 +77,14 @@ impl<O: Drop, B: Drop, T: Drop> Graph<O, B, T> {
         ensures { slice_get (successors self.now op) i ≡ Some result }
     {
         self.objects.operations.content(op).data.successors[i].def
+    }
+
+    /// The number of successors of an operation. A block that is used twice counts twice.
+    pub fn num_successors(&self, op: Ptr<Operation>) -> usize
+        requires { IsLive self.now (TheOperation op) }
+        ensures { result ≡ length (successors self.now op) }
+    {
+        self.objects.operations.content(op).data.successors.len()
     }
 
     /// The number of arguments of a block.

@@ -21,8 +21,8 @@ impl<O: Drop, B: Drop, T: Drop> Objects<O, B, T> {
 
     /// Removes a use from its use list, if it is in one.
     fn detach_linked(&mut self, u: Site)
-        requires linked { AreUsesLinked self.old }
         requires there { IsSome (use_at self.old u) }
+        requires linked { AreUsesLinked self.old }
         ensures linked { AreUsesLinked self.new }
         ensures gone { val self.new u ≡ None }
         ensures kept { (w : _) → w ≢ u → val self.new w ≡ val self.old w }

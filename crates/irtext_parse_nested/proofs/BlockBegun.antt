@@ -99,7 +99,7 @@ module _ {T A : Type 0} (old mid : ContextView T A) (r : Ptr Region) (b : Ptr Ba
     blocks = λ d h i. let s = placed_spares.spared (TheBlock d) (h, i) (λ j. elim j [ inl e ↦ was_new (subst (IsThere old) e (h, i)) | inr k ↦ elim k [ inl f ↦ cc f | inr m ↦ m ] ]) in (subst IsSome (sym s.0) h, s.1);
     regions = λ q h. subst IsSome (sym (content_same (TheRegion q) (λ e. cc))) h;
     newer = still_new;
-    made = let e = p.makes.graph.made in let f = p.appends.objects.made in omega (arith, e, f);
+    made = let e = p.makes.graph.made in let f = p.appends.objects.rest.made in omega (arith, e, f);
     dialects = p.dialects;
   }
 

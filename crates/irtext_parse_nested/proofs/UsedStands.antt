@@ -223,7 +223,7 @@ module _ {T A : Type 0} (old new : ContextView T A) (b : Ptr BasicBlock) (op : P
     blocks = λ k h x. (stands_block new k (subst IsSome (sym (a.objects.contents (TheBlock k))) (block_stands old k h)), a.parents (TheBlock k) (λ e. cc));
     regions = λ r h. subst IsSome (sym (a.objects.contents (TheRegion r))) h;
     newer = λ m q le n. ap (is_older m) (a.objects.contents q) ∙ n;
-    made = let e = a.objects.made in omega (arith, e);
+    made = let e = a.objects.rest.made in omega (arith, e);
     dialects = same;
   }
     where
