@@ -1,6 +1,5 @@
 -- Steps of the parsers of pieces.
-use Rattle.std.proofs.Common.{◌≡◌, ℕ, Bool, true, false, cond, Result, Ok, Err, Some, None, IfOk, List, [], ◌∷◌, ◌++◌, length, refl, ap, subst, ◌∙◌, arith, inr}
-use Rattle.std.proofs.lemmas.Bool.Decides.{nat_tests}
+use Rattle.std.proofs.Common.{◌≡◌, ℕ, Bool, true, false, cond, Result, Ok, Err, Some, None, IfOk, List, [], ◌∷◌, ◌++◌, length, refl, ap, subst, ◌∙◌, inr}
 use Rattle.std.specs.Char.{is_whitespace}
 use Rattle.irtext_base.specs.Text.{Text, front, after}
 use Rattle.irtext_base.specs.Reading.{the}
@@ -23,34 +22,10 @@ use Rattle.irtext_grammar.specs.Grammar.Tree.{Piece}
 use Rattle.irtext_parse_spec.specs.Readers.Directives.{attribute_at}
 use Rattle.irtext_parse_spec.specs.Readers.Marker.{marker, starts_with}
 use Rattle.irtext_parse_spec.specs.Heads.{outlined_or_at}
+use Rattle.irtext_parse_spec.proofs.Readers.MarkerSteps.{starts_whole, starts_not}
 use Rattle.irtext_parse_pieces.specs.Pieces.{MustTypes, TypesBehind, seen_attribute}
 use Rattle.irtext_parse_pieces.specs.Named.{Each, MayMean, MustMean}
 use Rattle.irtext_parse_pieces.proofs.Listings.{list_some}
-
-same_the : (c d : ℕ) → the c d ≡ true → d ≡ c
-same_the c d e = grind (arith, nat_tests)
-
-the-same : (c : ℕ) → the c c ≡ true
-the-same c = grind (arith, nat_tests)
-
--- a text with the word as its prefix begins with the word
-starts_whole : (w rest : Text) → starts_with w (w ++ rest) ≡ true
-starts_whole [] rest = refl
-starts_whole (c ∷ w) rest = rw (the-same c) (starts_whole w rest)
-
--- if a text begins with the word, it is the word and a rest
-starts_rest : (w text : Text) → starts_with w text ≡ true → (rest : Text) × (text ≡ w ++ rest)
-starts_rest [] text e = (text, refl)
-starts_rest (c ∷ w) [] e = absurd (cc)
-starts_rest (c ∷ w) (d ∷ text) e = go (the c d) refl e (starts_rest w text)
-  where
-    go : (b : Bool) → the c d ≡ b → cond b (starts_with w text) false ≡ true → (starts_with w text ≡ true → (rest : Text) × (text ≡ w ++ rest)) → (rest : Text) × (d ∷ text ≡ c ∷ (w ++ rest))
-    go true b q h = let r = h q in (r.0, ap (λ z. z ∷ text) (same_the c d b) ∙ ap (λ z. c ∷ z) r.1)
-    go false b q h = absurd (cc)
-
-starts_not : (w text : Text) → BeginsOtherwise w text → starts_with w text ≡ false
-starts_not w text h =
-    elim (starts_with w text) as (λ b. starts_with w text ≡ b → b ≡ false) [ true ↦ (λ e. let r = starts_rest w text e in absurd (h r.0 r.1)) | false ↦ (λ e. refl) ] refl
 
 gives_demanded : {S X : Type 0} (l : Lens S) (f : Text → Outcome X) (old new : S) (x : X) → (l.view old).failed ≡ false → Gives l.view l.at (f (l.view old).rest) old x new → Gives l.view l.at (demanded (unless_failed (l.view old).failed (f (l.view old).rest))) old x new
 gives_demanded l f old new x e h = rw e (there (f (l.view old).rest) h)
