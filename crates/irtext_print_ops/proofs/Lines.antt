@@ -18,6 +18,10 @@ newline_bytes i = encodes-ascii (newline i) (newline-ascii i)
 pub line_bytes : (c i : ℕ) → c < 128 → encode_utf8_all (c ∷ newline i) ≡ c ∷ newline i
 line_bytes c i h = encodes-ascii (c ∷ newline i) (front-ascii c i h)
 
+-- the bytes after a region's blocks
+pub closing_bytes : (i : ℕ) → encode_utf8_all (newline i ++ codes "}") ≡ newline i ++ codes "}"
+closing_bytes i = encodes-ascii (newline i ++ codes "}") (IsAscii-append (newline i) (codes "}") (newline-ascii i) (ascii-from (codes "}") refl))
+
 -- the bytes before a region's blocks
 pub opening_bytes : (joins : Bool) (i j : ℕ) → encode_utf8_all (cond joins [] (codes " ") ++ (newline i ++ (codes "{" ++ newline j))) ≡ cond joins [] (codes " ") ++ (newline i ++ (codes "{" ++ newline j))
 opening_bytes joins i j = encodes-ascii (cond joins [] (codes " ") ++ (newline i ++ (codes "{" ++ newline j)))

@@ -6,6 +6,7 @@ use Rattle.std.specs.Str.{encode_utf8_all}
 use Rattle.std.proofs.lemmas.List.{append-nil}
 use Rattle.irtext_base.specs.Text.{Text}
 use Rattle.irtext_grammar.specs.Contexts.Held.{known_types}
+use Rattle.irtext_grammar.specs.Spelling.Spell.{comma, joined}
 use Rattle.irtext_print.proofs.Printers.Locations.{left_text}
 use Rattle.irtext_print.proofs.Printers.PieceTexts.{row_written}
 use Rattle.irtext_print_ops.specs.Listed.{next_text, are_none}
@@ -49,6 +50,11 @@ none_left [] zero h = refl
 none_left [] (suc i) h = refl
 none_left (x ∷ xs) zero h = absurd (omega (arith, h))
 none_left (x ∷ xs) (suc i) h = none_left xs i (omega (arith, h))
+
+-- nothing is written where there is no item
+pub nothing_listed : (texts : List (Option Text)) → length texts ≡ 0 → joined comma (known_types (drop 0 texts)) ≡ []
+nothing_listed [] e = refl
+nothing_listed (x ∷ xs) e = absurd (omega (arith, e))
 
 -- all items were written
 pub all_written : (texts : List (Option Text)) (i : ℕ) (first : Bool) (now all : List ℕ) → length texts ≤ i → now ++ encode_utf8_all (left_text first (known_types (drop i texts))) ≡ all → now ≡ all

@@ -1,6 +1,7 @@
 -- Names of values and labels of blocks, appended piece by piece.
-use Rattle.std.proofs.Common.{◌≡◌, ◌∙◌, ◌++◌, ℕ, List, refl, sym, ap, append_assoc, Option, Some, None, IsTrue, codes}
+use Rattle.std.proofs.Common.{◌≡◌, ◌∙◌, ◌++◌, ℕ, List, refl, sym, ap, append_assoc, arith, Option, Some, None, IsTrue, codes}
 use Rattle.std.specs.Fmt.{decimal}
+use Rattle.std.proofs.lemmas.Fmt.{decimal_digit}
 use Rattle.std.specs.Str.{encode_utf8_all}
 use Rattle.irtext_base.specs.Text.{Text, is_identifier}
 use Rattle.irtext_grammar.specs.Spelling.PrintedNames.{prefixed, value_name, block_name}
@@ -41,3 +42,11 @@ block_placed label place generation f0 f1 f2 f3 f4 p q r s =
     let rest = decimal place ++ (codes "v" ++ decimal generation) in
     more f0 f1 f4 (codes "^" ++ prefixed label (codes "block")) rest p (more f1 f2 f4 (decimal place) (codes "v" ++ decimal generation) q (worded f2 f3 f4 (codes "v") (decimal generation) refl r s))
     ∙ ap (λ z. f0 ++ encode_utf8_all (codes "^" ++ z)) (prefixed_more label (codes "block") rest)
+
+-- a block of the first generation
+pub block_first : (label : Option Text) (place generation : ℕ) (f0 f1 f2 f3 : List ℕ) → generation ≡ 1 → f1 ≡ f0 ++ encode_utf8_all (codes "^" ++ prefixed label (codes "block")) → f2 ≡ f1 ++ encode_utf8_all (decimal place)
+    → f3 ≡ f2 ++ codes "v1" → f3 ≡ f0 ++ encode_utf8_all (codes "^" ++ block_name label (place, generation))
+block_first label place generation f0 f1 f2 f3 one p q r =
+    let digit : decimal generation ≡ codes "1" = ap decimal one ∙ decimal_digit 1 (omega arith) in
+    block_placed label place generation f0 f1 f2 (f2 ++ codes "v") f3 p q refl
+    (r ∙ sym (append_assoc f2 (codes "v") (codes "1")) ∙ ap (λ z. (f2 ++ codes "v") ++ z) (word (codes "1") refl ∙ ap encode_utf8_all (sym digit)))
