@@ -1,5 +1,5 @@
 //! The integer types and their parser: a sign, and a width in decimal digits.
-ghost use Rattle.std.specs.Prelude.{◌≡◌, Some, MatchBool, MatchOption};
+ghost use Rattle.std.specs.Prelude.{◌≡◌, ◌++◌, OnOk, Some, MatchBool, MatchOption, codes, decimal, string_bytes};
 ghost use Rattle.irtext_base.specs.Faults.{characters};
 ghost use Rattle.irtext_tokens.specs.Tokens.{word};
 ghost use Rattle.irtext_base.specs.Answers.{Answers, Gives, unless_failed};
@@ -198,6 +198,65 @@ fn integer_type_there(stream: &mut TextStream) -> Option<IntegerType>
     None
 }
 
+/// Appends a sign.
+#[inline(always)]
+fn write_sign(kind: Signedness, f: &mut String) -> fmt::Result
+    ensures { OnOk result (string_bytes f.new ≡ string_bytes f.old ++ signedness_text kind) }
+{
+    match kind {
+        Signedness::Signed => f.push_str("si")?,
+        Signedness::Unsigned => f.push_str("ui")?,
+        Signedness::Signless => f.push_str("i")?,
+    }
+    Ok(())
+}
+
+/// Appends `builtin.integer`, a space and a sign.
+#[inline(always)]
+fn write_front(kind: Signedness, f: &mut String) -> fmt::Result
+    ensures { OnOk result (string_bytes f.new ≡ string_bytes f.old ++ (codes "builtin.integer " ++ signedness_text kind)) }
+{
+    match kind {
+        Signedness::Signed => f.push_str("builtin.integer si")?,
+        Signedness::Unsigned => f.push_str("builtin.integer ui")?,
+        Signedness::Signless => f.push_str("builtin.integer i")?,
+    }
+    Ok(())
+}
+
+/// Appends a number of bits that few types have.
+#[cold]
+fn write_any_width(bits: u16, f: &mut String) -> fmt::Result
+    ensures { OnOk result (string_bytes f.new ≡ string_bytes f.old ++ decimal bits) }
+{
+    write!(f, "{bits}")?;
+    Ok(())
+}
+
+/// Appends a number of bits. Those that most types have are fixed texts.
+#[inline(always)]
+fn write_width(bits: u16, f: &mut String) -> fmt::Result
+    ensures { OnOk result (string_bytes f.new ≡ string_bytes f.old ++ decimal bits) }
+{
+    match bits {
+        1 => f.push_str("1")?,
+        8 => f.push_str("8")?,
+        16 => f.push_str("16")?,
+        32 => f.push_str("32")?,
+        64 => f.push_str("64")?,
+        _ => return write_any_width(bits, f),
+    }
+    Ok(())
+}
+
+/// Appends an integer type as a type of its dialect: `builtin.integer si32`.
+pub(crate) fn write_integer_type(ty: &IntegerType, f: &mut String) -> fmt::Result
+    ensures { OnOk result (string_bytes f.new ≡ string_bytes f.old ++ (codes "builtin.integer " ++ integer_type_text ty.now)) }
+{
+    write_front(ty.kind, f)?;
+    write_width(ty.width.bits(), f)
+}
+
 /// An integer type as a part of other texts. A digit right after it would belong to its width.
 impl<A> Part<A> for IntegerType {
     ghost use Rattle.irtext_demo.specs.IntegerTypes.{integer_type_ends};
@@ -226,8 +285,8 @@ impl<A> Part<A> for IntegerType {
     }
 
     fn write_text(&self, f: &mut String) -> fmt::Result {
-        write!(f, "{self}")?;
-        Ok(())
+        write_sign(self.kind, f)?;
+        write_width(self.width.bits(), f)
     }
 }
 

@@ -306,7 +306,7 @@ module _ {U D : Type 0} where
         below = a_below;
       }
 
-    -- no slot that uses a definition changed, and each definition that came or went had none
+    -- no slot that uses a definition changed, and no definition that was added or removed has a use
     pub record Reframes (val val' : U → Option D) (prv prv' nxt nxt' : U → Option U) (heads heads' : D → Option (Option U)) : Type 0 where
       pub vals : (u : U) → val' u ≡ val u
       pub prevs : (u : U) (d : D) → val u ≡ Some d → prv' u ≡ prv u

@@ -64,7 +64,7 @@ content_set {X} {Y} see change a p x w e same =
     both c c' f f' e g = rw (e, g) refl
 
 module _ {X : Type 0} where
-  -- what stands under a generation is what its cell holds
+  -- the object under a generation is the one in its cell
   cell_there : (c : Option (Cell X)) (g : ℕ) (o : Entry X) → object_in c g ≡ Some o → c ≡ Some (record { generation = g; object = Some o })
   cell_there None g o e = absurd (cc)
   cell_there (Some c) g o e = go (c.generation == g) refl e
@@ -213,7 +213,7 @@ module _ {O B T : Type 0} where
   pub unedited_block : (g : GraphView O B T) (p : Ptr BasicBlock) (d : B) → option_map (λ c. c.data_of) (block_at g p) ≡ Some d → with_block_data g p d ≡ g
   unedited_block g p d e = ap (λ s. record g { blocks = s }) (not_written g.blocks p (λ c. c.data_of) with_block d (λ n. refl) e)
 
-  -- what is older than an operation whose data were written stands as it did
+  -- what is older than an operation whose data were written is unchanged
   pub edited-keeps : (m : ℕ) (old new : GraphView O B T) (p : Ptr Operation) (change : O → O) → before m old.operations p ≡ None → EditsOperation old new p change → KeepsOlder m old new
   edited-keeps m old new p change none e =
       older_kept m old new (store-keeps m old.operations new.operations p (with_data change) none e.operations) (λ q. ap (λ s. before m s q) e.blocks) (λ q. ap (λ s. before m s q) e.regions) (at_least e.made) (at_least e.values) e.first_place

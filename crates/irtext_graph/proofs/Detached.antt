@@ -1,4 +1,4 @@
--- Uses leave their lists, one behind the other.
+-- Uses leave their use lists, one after another.
 use Rattle.std.proofs.Common.{◌≡◌, ◌≢◌, ◌<◌, ◌≤◌, ◌+◌, ◌∙◌, ◌∷◌, inl, inr, ℕ, zero, suc, refl, sym, ap, arith, List, [], Option, Some, None, IsSome, length, slice_get}
 use Rattle.std.specs.Option.{option_map}
 use Rattle.std.proofs.lemmas.Option.{slice_get_past}

@@ -1,4 +1,4 @@
--- An object goes with all that stands in it, innermost objects first.
+-- An object is erased with all objects nested in it, innermost objects first.
 use Rattle.std.proofs.Common.{◌≡◌, ◌≢◌, ◌⊎◌, ℕ, zero, suc, Option, Some, None, refl, sym, ap, subst, ◌∙◌, inl, inr, false, [], slice_get, IsSome}
 use Rattle.irtext_graph.specs.declared.arena.Ptr.{Ptr}
 use Rattle.irtext_graph.specs.declared.arena.Entry.{Entry}
@@ -23,7 +23,7 @@ lifted f g None k e = absurd (cc)
 lifted f g (Some x) k e = refl
 
 module _ {O B T : Type 0} where
-  -- what stands in something lives
+  -- an object with a parent is live
   pub up_lives : (x : Objects O B T) (q k : Object) → up x q ≡ Some k → Lives x q
   up_lives x (TheOperation p) k e = lifted TheBlock (λ d. AnOperation d.0 (operation_content d.1)) (get x.operations p) k e
   up_lives x (TheBlock p) k e = lifted TheRegion (λ d. ABlock d.0 (block_content d.1)) (get x.blocks p) k e
@@ -71,7 +71,7 @@ module _ {O B T : Type 0} where
     leaf = e;
   }
 
-  -- what stands in o and is not o stands in something that stands in o
+  -- an object inside o, other than o, has a parent inside o
   pub parent_inside : (x : Objects O B T) (o q : Object) → Within (up x) o q → q ≢ o → (k : Object) × (up x q ≡ Some k) × Within (up x) o k
   parent_inside x o q w ne = go w.0 w.1
     where
@@ -86,7 +86,7 @@ module _ {O B T : Type 0} where
   pub holder_inside : (x : Objects O B T) (o q k : Object) → Within (up x) o q → q ≢ o → up x q ≡ Some k → Within (up x) o k
   holder_inside x o q k w ne e = let p = parent_inside x o q w ne in subst (Within (up x) o) (some_eq (sym p.1 ∙ e)) p.2
 
-  -- nothing stands in what has no children
+  -- nothing is nested in an object without children
   pub childless : (x : Objects O B T) (c q : Object) → IsForest x → kids x c ≡ [] → up x q ≡ Some c → ⊥
   childless x c q s leaf e =
       let at = s.listed q c e in

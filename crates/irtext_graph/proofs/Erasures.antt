@@ -108,7 +108,7 @@ module _ {O B T : Type 0} where
           on true e = e
           on false e = absurd (cc)
 
-  -- a value or a block of what is gone is not there
+  -- a value or a block of an erased object is not there
   headless : (x : Objects O B T) (d : Defined) → what x (owner d) ≡ None → head_at x d ≡ None
   headless x (OfValue (Result p i)) e = on (arena.get x.operations p) e
     where

@@ -1,4 +1,4 @@
--- A use of another: one use less of what it named, and all else is as it was.
+-- A use of another: one use less of what it named, and all else is unchanged.
 use Rattle.std.proofs.Common.{◌≡◌, ◌≢◌, ◌<◌, ◌+◌, ◌∙◌, ℕ, zero, suc, refl, sym, ap, subst, arith, Bool, true, false, cond, Option, Some, None, List, [], ◌∷◌, slice_get, set, map, get_or, sum_by, option_map}
 use Rattle.std.proofs.lemmas.List.Sums.{sum_by-cons}
 use Rattle.std.proofs.lemmas.Option.{slice_get_within}

@@ -1,4 +1,4 @@
--- The data of all that stands inside an object are changed, one object behind the other: what is done so far, and that all is done at the end.
+-- The data of all objects inside an object are changed, one object after another: what is done so far, and that all is done at the end.
 use Rattle.std.proofs.Common.{◌≡◌, ◌≢◌, ◌<◌, ◌∙◌, ◌⊎◌, ◌∷◌, ℕ, suc, refl, sym, ap, arith, inl, inr, subst, Option, Some, None, IsSome, IfSome, length, map}
 use Rattle.std.specs.Option.{option_map}
 use Rattle.irtext_graph.specs.declared.arena.Ptr.{Ptr}
@@ -243,7 +243,7 @@ module _ {O B T : Type 0} where
             at_stands = found_stands next there;
           }
 
-    -- behind the last all is changed
+    -- after the last object all is changed
     pub going_ends : (old now : GraphView O B T) (o : Object) → Going old now o None → EditsInside old now o f h
     going_ends old now o d = record {
       inside = λ q w. elim (d.inside q w) [ inl none ↦ absurd none | inr done ↦ done ];
@@ -257,7 +257,7 @@ module _ {O B T : Type 0} where
     as_old m (Some (ABlock n c)) = refl
     as_old m (Some (ARegion n c)) = refl
 
-    -- what is older than all inside stands as it did
+    -- what is older than all objects inside is unchanged
     pub edited_inside-keeps : (m : ℕ) (old new : GraphView O B T) (o : Object) → Nested (children old) (parent old) → EditsInside old new o f h → IsNewInside m old o → KeepsOlder m old new
     edited_inside-keeps m old new o s e young = stood_keeps m old new at (let k = e.rest.made in omega (arith, k)) (let k = e.rest.values in omega (arith, k)) e.rest.first_place
       where

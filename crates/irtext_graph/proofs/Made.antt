@@ -1,4 +1,4 @@
--- What is seen of an object that was made, and that what is older stands as it did.
+-- The view of an object that was made; and what is older is unchanged.
 use Rattle.std.proofs.Common.{◌≡◌, ◌≤◌, ◌+◌, ℕ, refl, sym, ap, subst, arith, ◌∙◌, None, List, [], map, slice_get, length, Result, Ok, Err, OnErr}
 use Rattle.irtext_few.specs.Growing.{listed}
 use Rattle.irtext_graph.specs.declared.graph.Counters.{Counters}
@@ -31,7 +31,7 @@ use Rattle.irtext_graph.specs.Log.{age}
 use Rattle.irtext_graph.specs.Numbers.{AreNumbered}
 use Rattle.irtext_graph.specs.Sound.{IsKept}
 
--- what holds in any case holds of a refusal
+-- what holds in any case holds of an error
 pub on_err : {A E P : Type 0} (r : Result A E) → P → OnErr r P
 on_err (Ok a) p = tt
 on_err (Err e) p = p

@@ -238,6 +238,30 @@ impl<O: Drop, B: Drop, T: Drop> Graph<O, B, T> {
         Ok(p)
     }
 
+    /// Makes an operation with this data, without a parent, regions, results, operands and successors. If an allocation fails or a counter
+    /// is at its limit, the graph is unchanged.
+    #[inline(never)]
+    pub fn make_bare_operation(&mut self, value: O) -> Result<Ptr<Operation>, AllocError>
+        ensures made { IfOk result (λ p. MakesOperation self.old self.new p value [] [] []) }
+        ensures err { OnErr result (self.new ≡ self.old) }
+        ensures kept { (m : ℕ) → m ≤ self.old.made → KeepsOlder m self.old self.new }
+    {
+        let made = self.made;
+        if made == u64::MAX {
+            return Err(AllocError);
+        }
+        make_room(&mut self.log)?;
+        let results = Lone::none();
+        let used = Few::none();
+        let led_to = Lone::none();
+        let blank = blank_operation(self.alloc, value, results, used, led_to);
+        let first = self.counters.first_place;
+        let p = self.objects.operations.insert(first, made, blank)?;
+        note(&mut self.log, made, Object::TheOperation(p));
+        self.made = made + 1;
+        Ok(p)
+    }
+
     /// Makes an operation with this data, operands, successors and result types, without a parent and regions. The results get the next
     /// numbers of values. If an allocation fails or a counter is at its limit, the graph is unchanged.
     pub fn make_operation(

@@ -1,5 +1,5 @@
--- What takes no memory may come before what does: a location or a label that is set behind attributes that were put in might as well
--- have been set before them.
+-- A step that takes no memory may precede one that does: a location or a label that is set after attributes were put in might as well have
+-- been set before them.
 use Rattle.std.proofs.Common.{◌≡◌, ◌∙◌, inl, inr, Bool, true, false, cond, is_some, List, Option, Some, None, refl, sym, ap, subst}
 use Rattle.std.specs.Option.{option_map}
 use Rattle.std.specs.Prelude.{option_and_then}
@@ -29,7 +29,7 @@ use Rattle.irtext_parse_section.proofs.Swaps.{operations_swapped, blocks_swapped
 abbrev pub Attributes : Type 0 → Type 0
 Attributes A = List (Text × AttrObj A)
 
--- an operation's attributes, where it stands
+-- an operation's attributes, if it is live
 abbrev pub attributes_at : {T A : Type 0} → ContextView T A → Ptr Operation → Option (Attributes A)
 attributes_at c p = option_map (λ op. op.attributes) (operation c p)
 
@@ -47,7 +47,7 @@ module _ {T A : Type 0} (a b : ContextView T A) where
     stands_still None = refl
     stands_still (Some x) = stands_in x x.content.content.data_of
 
-    -- whatever is done to an operation's data, what stood stands, and nothing else does
+    -- whatever edit is made of an operation's data, the same operations are live
     pub operation_stands : (q : Ptr Operation) → is_some (operation b q) ≡ is_some (operation a q)
     operation_stands q = elim (ptr_or q p) [
       | inl f ↦ ap (λ z. is_some (operation b z)) f
@@ -176,7 +176,7 @@ module _ {T A : Type 0} (content : List (Text × Attribute A)) (n : Option Text)
           let d : EditsOperation a c q h = subst (λ z. EditsOperation z c q h) k e in
           (c, d, taken_false _ (is_some (block c p)) (ap is_some (block_beside_stands a c q h d p) ∙ f) refl)
 
-  -- so does one of a block
+  -- the same for one of a block
   block_passes : (x : Item) (q : Ptr BasicBlock) (h : BlockData A → BlockData A) → IsPlainBlock h → (a b c : ContextView T A) → Stores content x n a b → EditsBlock b c q h
       → (m : ContextView T A) × EditsBlock a m q h × Stores content x n m c
   block_passes (item.Operation p) q h plain a b c r e = go (is_some (operation a p)) refl r
@@ -199,7 +199,7 @@ module _ {T A : Type 0} (content : List (Text × Attribute A)) (n : Option Text)
           let d : EditsBlock a c q h = subst (λ z. EditsBlock z c q h) k e in
           (c, d, taken_false _ (is_some (block c p)) (block_stands a c q h d p ∙ f) refl)
 
-  -- attributes that are put into one item change nothing of what stands
+  -- putting attributes into one item does not change which objects are live
   operation_there : (x : Item) (a b : ContextView T A) → Stores content x n a b → (q : Ptr Operation) → is_some (operation b q) ≡ is_some (operation a q)
   operation_there (item.Operation p) a b r q = go (is_some (operation a p)) r
     where
@@ -230,7 +230,7 @@ module _ {T A : Type 0} (content : List (Text × Attribute A)) (n : Option Text)
   location_passes x q None a b c r e = (a, refl, subst (λ z. Stores content x n a z) (sym e) r)
   location_passes x q (Some l) a b c r e = operation_passes x q (with_loc l) (plain_loc l) a b c r e
 
-  -- so does one of a block
+  -- the same for one of a block
   block_location_passes : (x : Item) (q : Ptr BasicBlock) (l : Option (Location A)) (a b c : ContextView T A) → Stores content x n a b → LocatesBlock q l b c
       → (m : ContextView T A) × LocatesBlock q l a m × Stores content x n m c
   block_location_passes x q None a b c r e = (a, refl, subst (λ z. Stores content x n a z) (sym e) r)

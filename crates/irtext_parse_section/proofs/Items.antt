@@ -91,7 +91,7 @@ module _ {A : Type 0} (marks : List (ℕ × Item)) (rules : ℕ → Rule A) (x :
   avoids_unmarked n (of_once m a ∷ es) = avoids_unmarked n es
   avoids_unmarked n (of_item m y ps ∷ es) = (n m.index, avoids_unmarked n es)
 
-  -- none is behind the one of its mark
+  -- no entry of an item follows the one of its mark
   avoids_later : (k : ℕ) → ((i : ℕ) → lookup (same_index i) marks ≡ Some x → i ≡ k) → (before : List ℕ) (es : List (Entry ℕ A (Written A))) → is_among k before ≡ true → wrong_entries (indices_of marks) rules before es ≡ [] → Avoids marks x es
   avoids_later k only before [] f e = tt
   avoids_later k only before (of_once m a ∷ es) f e = avoids_later k only before es f e
@@ -298,7 +298,7 @@ module _ {T A : Type 0} (marks : List (ℕ × Item)) (rules : ℕ → Rule A) (p
         go false e again =
             again (ap (option_map block_of) (block_beside p one.item one.location given a mid (not_mark marks k m.index (item.Block p) one.item e one.carries only) one.gives) ∙ is) more
 
--- ---- once a section was read
+-- ---- once a section was parsed
 module _ {T A U : Type 0} (attr : Text → Outcome (AttrView A)) (old new : StateStream T A U) (r : ReadsSection attr old new) where
   abbrev c : ContextView T A
   c = old.state.ctx.now
@@ -315,11 +315,11 @@ module _ {T A U : Type 0} (attr : Text → Outcome (AttrView A)) (old new : Stat
   same_paths : d.paths ≡ r.middle.paths
   same_paths = applied_paths marks r.middle.paths r.entries r.entries r.middle d r.applied
 
-  -- an operation without a mark stands as it stood
+  -- an operation without a mark is unchanged
   pub operation_untouched : (p : Ptr Operation) → CarriesOnly marks (item.Operation p) None → get d.graph.operations p ≡ get c.graph.operations p
   operation_untouched p n = operation_avoided marks r.middle.paths r.entries p r.entries r.middle d (avoids_unmarked {A = A} marks (λ i k a. true) (item.Operation p) n r.entries) r.applied ∙ ap (λ g. get g.operations p) same_graph
 
-  -- so does a block
+  -- the same for a block
   pub block_untouched : (p : Ptr BasicBlock) → CarriesOnly marks (item.Block p) None → get d.graph.blocks p ≡ get c.graph.blocks p
   block_untouched p n = block_avoided marks r.middle.paths r.entries p r.entries r.middle d (avoids_unmarked {A = A} marks (λ i k a. true) (item.Block p) n r.entries) r.applied ∙ ap (λ g. get g.blocks p) same_graph
 

@@ -1,4 +1,4 @@
--- Steps of the readers of a section, of their check, and of what they apply
+-- Steps of the parsers of a section, of their check, and of what they apply
 pub mod HeadSteps
 pub mod PairSteps
 pub mod CheckSteps

@@ -26,7 +26,7 @@ abbrev no_text : Option Text
 no_text = None
 
 module _ {T A : Type 0} where
-  -- an operation with the attributes that it has is as it was
+  -- an operation with the attributes that it has is unchanged
   same_data : (x : OperationEntry T A) (o : Option (OperationData A)) (view : OperationView T A) → option_map (view_of {T = T} {A = A} x.content.content.results x.content.children) o ≡ Some view → o ≡ option_map (with_attributes view.attributes) o
   same_data x None view e = refl
   same_data x (Some d) view e =

@@ -18,7 +18,7 @@ use Rattle.irtext_graph.proofs.Pointers.{ptr_or}
 
 -- ---- one kind of objects
 module _ {X : Type 0} where
-  -- an edit of one object, whether it stands or not
+  -- an edit of one object, whether it is live or not
   pub edits_there : {K : Type 0} (s : Store X) (p : Ptr K) (change : X → X) → Edits s (edited_at s p change) p change
   edits_there {K} s p change = go (get s p) refl
     where
@@ -84,7 +84,7 @@ module _ {X : Type 0} where
       go true = refl
       go false = refl
 
-  -- what is older stands as it stood once an edit is taken back
+  -- older objects are as they were before an edit once it is undone
   pub taken_back : {K : Type 0} (mark : ℕ) (a b c d : Store X) (p : Ptr K) (f h : X → X) → Edits a b p f → ((q : Ptr K) → before mark c q ≡ before mark b q) → Edits c d p h
       → ((x : Entry X) → get a p ≡ Some x → h (f x.content) ≡ x.content) → (q : Ptr K) → before mark d q ≡ before mark a q
   taken_back {K} mark a b c d p f h one kept two back q = elim (ptr_or q p) [

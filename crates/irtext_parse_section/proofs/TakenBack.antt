@@ -80,7 +80,7 @@ module _ {T A : Type 0} (mark : ℕ) (a b c d : ContextView T A) (kept : KeepsOl
   item_back (item.Block p) None t e = kept_trans (same-keeps mark a b t) (kept_trans kept (same-keeps mark c d e))
   item_back (item.Block p) (Some had) t e = block_back p had t e
 
--- ---- where nothing stands there is nothing to be put back
+-- ---- where an object is not live, there is nothing to restore
 module _ {T A : Type 0} (a : ContextView T A) where
   module _ (p : Ptr Operation) (h : OperationData A → OperationData A) where
     no_data : (x : OperationEntry T A) (o : Option (OperationData A)) → is_some (option_map (view_of {T = T} {A = A} x.content.content.results x.content.children) o) ≡ false → o ≡ option_map h o

@@ -15,7 +15,7 @@ ghost use Rattle.irtext_print.specs.Given.{given_pair, attributes_of};
 ghost use Rattle.irtext_print.specs.Mentions as mentions;
 
 use crate::given::{Given, GivenAttribute};
-use crate::location::print::{fmt_known, fmt_numbers};
+use crate::location::print::{fmt_known, fmt_numbers, fmt_place};
 use crate::mentions::{Mentions, note};
 use crate::printable::attributes::fmt_attr;
 use crate::printable::numbers::fmt_number;
@@ -195,6 +195,10 @@ fn fmt_entry_location<T: IrText<A>, A: AttrText<A>>(
             f.push_str("], [")?;
             return Ok(());
         }
+        f.push_str(" = @[")?;
+        fmt_place(*src, pos, ctx, f)?;
+        f.push_str("], [")?;
+        return Ok(());
     }
     fmt_any_location(location, ctx, f)
 }

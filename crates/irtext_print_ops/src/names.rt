@@ -74,6 +74,10 @@ fn fmt_placed(
 {
     fmt_block_front(label, f)?;
     fmt_number(place, f)?;
+    if generation == 1 {
+        f.push_str("v1")?;
+        return Ok(());
+    }
     f.push_str("v")?;
     fmt_number(generation as u64, f)
 }

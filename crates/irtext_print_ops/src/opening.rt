@@ -9,6 +9,7 @@ ghost use Rattle.irtext_print_ops.specs.Steps.{IsTooDeep, begun_frames, region_f
 
 use crate::frame::RegionFrame;
 use irtext_context::base::{Ptr, Region};
+use irtext_print::printable;
 use irtext_print::printable::numbers::fmt_number;
 use irtext_print::printable::refusal::memory_alone;
 use irtext_print::printable::{
@@ -96,13 +97,7 @@ pub(crate) fn fmt_closing(indent: u16, f: &mut String) -> Result<(), Refusal>
     ensures text { OnOk result (AppendsText f.old (closing indent) f.new) }
     ensures refused { IfErr result (λ e. e ≡ refusal.Memory) }
 {
-    if indent == 0 {
-        f.push_str("\n}")?;
-        return Ok(());
-    }
-    fmt_line(indent, f)?;
-    f.push_str("}")?;
-    Ok(())
+    memory_alone(printable::fmt_closing(indent, f))
 }
 
 /// Appends a mark with this index.

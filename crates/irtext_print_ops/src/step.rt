@@ -65,6 +65,7 @@ fn fmt_pieces<H: WritesHeads<T, A>, T: IrText<A>, A: AttrText<A>>(
 }
 
 /// Checks that an operation fits its format, and appends what comes before its parts. Returns the frame with its parts open.
+#[inline(always)]
 pub(crate) fn begin_operation<'c, H: WritesHeads<T, A>, T: IrText<A>, A: AttrText<A>>(
     ctx: &'c Context<T, A>,
     op: Ptr<Operation>,

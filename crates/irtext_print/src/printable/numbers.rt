@@ -36,6 +36,34 @@ fn fmt_short(number: usize, f: &mut String) -> fmt::Result
     Ok(())
 }
 
+/// Whether so many more bytes fit without an allocation. Nothing rests on the answer: a call that appends tests again.
+#[inline(always)]
+fn has_room(f: &String, bytes: usize) -> bool {
+    f.capacity().wrapping_sub(f.len()) >= bytes
+}
+
+/// Appends a number below 100 as two digits where no room is left.
+#[cold]
+#[inline(never)]
+fn fmt_pair_slowly(number: usize, f: &mut String) -> fmt::Result
+    requires { number < 100 }
+    ensures { OnOk result (string_bytes f.new ≡ string_bytes f.old ++ (48 + number / 10) ∷ (48 + number % 10) ∷ []) }
+{
+    fmt_pair(number, f)
+}
+
+/// Appends the last two digits of a number, as [`fmt_pair`] does. It is a function of its own, so that it ends the one that calls it.
+#[inline(never)]
+fn fmt_last_pair(number: usize, f: &mut String) -> fmt::Result
+    requires { number < 100 }
+    ensures { OnOk result (string_bytes f.new ≡ string_bytes f.old ++ (48 + number / 10) ∷ (48 + number % 10) ∷ []) }
+{
+    if has_room(f, 2) {
+        return fmt_pair(number, f);
+    }
+    fmt_pair_slowly(number, f)
+}
+
 /// Appends a number below 10,000.
 #[inline(always)]
 fn fmt_small(number: usize, f: &mut String) -> fmt::Result
@@ -46,7 +74,7 @@ fn fmt_small(number: usize, f: &mut String) -> fmt::Result
         return fmt_short(number, f);
     }
     fmt_short(number / 100, f)?;
-    fmt_pair(number % 100, f)
+    fmt_last_pair(number % 100, f)
 }
 
 /// Appends a number of any size.
@@ -59,14 +87,28 @@ fn fmt_any(number: u64, f: &mut String) -> fmt::Result
     Ok(())
 }
 
+/// Appends a number where no room is left.
+#[cold]
+#[inline(never)]
+fn fmt_slowly(number: usize, f: &mut String) -> fmt::Result
+    requires { number < 10000 }
+    ensures { OnOk result (string_bytes f.new ≡ string_bytes f.old ++ decimal number) }
+{
+    fmt_small(number, f)
+}
+
 /// Appends a number. Numbers below 10,000 are appended by slices of a fixed text.
+#[inline(never)]
 pub fn fmt_number(number: u64, f: &mut String) -> fmt::Result
     ensures { OnOk result (AppendsText f.old (decimal number) f.new) }
 {
-    if number < 10_000 {
+    if number >= 10_000 {
+        return fmt_any(number, f);
+    }
+    if has_room(f, 2) {
         return fmt_small(number as usize, f);
     }
-    fmt_any(number, f)
+    fmt_slowly(number as usize, f)
 }
 
 /// Appends a negative number, with its sign.

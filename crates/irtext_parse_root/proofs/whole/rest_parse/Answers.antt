@@ -43,7 +43,7 @@ returns-then-not-has_marks-clause-kept g c = λ mark n. same-keeps mark _ _ refl
 pub returns-then-not-has_marks-clause-unchanged : goal.returns-then-not-has_marks-clause-unchanged
 returns-then-not-has_marks-clause-unchanged g c = λ mark n. always_err c.end_demanded.result (same-keeps mark _ _ refl)
 
--- ---- the section was not read
+-- ---- the section was not parsed
 pub returns-in_err-entries-clause-missed : goal.returns-in_err-entries-clause-missed
 returns-in_err-entries-clause-missed g c = λ fine.
     let noted = noted_there (marks_of c.args.s.now.state) c.has_marks.result c.has_marks.ensures c.if-not-has_marks.false in
@@ -60,7 +60,7 @@ returns-in_err-entries-clause-kept g c = λ mark n. adds_kept mark c.in_err-entr
 pub returns-in_err-entries-clause-unchanged : goal.returns-in_err-entries-clause-unchanged
 returns-in_err-entries-clause-unchanged g c = λ mark n. rw (handed_on c.from_residual.result c.from_residual.ensures.1) (adds_kept mark c.in_err-entries.ensures.adds)
 
--- ---- the text goes on behind it
+-- ---- the text goes on after it
 pub returns-in_err-end_demanded-clause-missed : goal.returns-in_err-end_demanded-clause-missed
 returns-in_err-end_demanded-clause-missed g c = λ fine.
     let old = c.args.s.now in

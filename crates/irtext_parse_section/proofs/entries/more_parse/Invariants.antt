@@ -7,7 +7,7 @@ use Rattle.irtext_parse_spec.specs.Readers.Streams.{KeepsRest}
 use Rattle.irtext_parse_section.specs.Entries.{EntriesSoFar, noted}
 use Rattle.irtext_parse_section.proofs.entries.more_parse.Given as goal
 
--- nothing else of the state changed, and what was noted stands for the entries of the whole text in front of here if it did so at first
+-- nothing else of the state changed, and what was recorded represents the entries of the text up to here if it did so at first
 abbrev pub invariant-loop-s : goal.invariant-loop-s
 invariant-loop-s g l =
     (l.s.state.ctx.ghost_name ≡ l.fn.s.state.ctx.ghost_name)

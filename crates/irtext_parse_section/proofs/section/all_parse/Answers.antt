@@ -17,7 +17,7 @@ use Rattle.irtext_parse_section.specs.Entries.{AreEntriesOver}
 use Rattle.irtext_parse_section.specs.Said.{rules_of}
 use Rattle.irtext_parse_section.proofs.section.all_parse.Goals as goal
 
--- what stands behind the section's first word
+-- what follows the section's first word
 abbrev behind_word : {A : Type 0} → (Text → Outcome (AttrView A)) → List ℕ → (ℕ → Rule A) → Unit {0} → Text → Outcome (List (Entry ℕ A (Written A)))
 behind_word attr marks rules u t = entries_after attr marks rules (length t) [] t
 

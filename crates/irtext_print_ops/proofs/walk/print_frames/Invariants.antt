@@ -8,7 +8,8 @@ use Rattle.irtext_print.specs.declared.printable.refusal.Refusal.TheVariants.{Mi
 use Rattle.irtext_print_ops.proofs.Walked.{frames_text, FramesFault}
 use Rattle.irtext_print_ops.proofs.walk.print_frames.Given as goal
 
--- what was written and gathered, and what is left of the frames, are all; a reason to refuse what is left is one to refuse what was open, and what doesn't fit in that is left; nothing is open where nothing comes next
+-- what was written and gathered, and what is left of the frames, are all; a reason why what is left fails is one why what was open fails,
+-- and what doesn't fit in that is left; no frame is open if none is next
 abbrev pub invariant-loop-next : goal.invariant-loop-next
 invariant-loop-next g l = record {
   text : string_bytes l.f ++ frames_text (heads.printing_of g.T.IrText g.A.IrText g.A.AttrText g.A.PartialEq.eq l.ctx) (heads.language_of g.T.IrText g.A.IrText g.A.AttrText g.A.PartialEq.eq l.ctx) l.ctx l.width (l.frames.items ++ listed l.next) l.items.items
