@@ -59,6 +59,7 @@ mutual
 mutual
   -- the location that a text says has this text
   pub under_written : {A : Type 0} (paths : List (List ℕ)) (l : Written A) → written_with (all_kept paths l) (all_under paths l) ≡ l
+  under_written paths unknown = refl
   under_written paths (src_pos None pos) = refl
   under_written paths (src_pos (Some path) pos) = ap (λ s. src_pos s pos) (path_found paths (with_path paths path) path (record { index = path_index paths path }) refl refl)
   under_written paths (fused metadata locations) = ap (fused metadata) (row_under_written paths locations)
@@ -68,7 +69,6 @@ mutual
       ap₂ call_site
       (written_same before (all_kept before caller) (all_keep before caller) (all_under paths callee) (under_known paths callee) ∙ under_written paths callee)
       (under_written before caller)
-  under_written paths unknown = refl
 
   pub row_under_written : {A : Type 0} (paths : List (List ℕ)) (ls : LocationsOf (Option (List ℕ)) A) → row_sourced (path_of (row_kept paths ls)) (row_under paths ls) ≡ ls
   row_under_written paths no_location = refl
