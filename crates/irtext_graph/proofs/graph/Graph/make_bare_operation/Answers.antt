@@ -1,27 +1,19 @@
-use Rattle.std.proofs.Common.{◌∙◌, subst, sym, refl, arith}
-use Rattle.irtext_graph.specs.Numbers.{AreNumbered}
-use Rattle.irtext_graph.proofs.Sounds.{sound_same}
+use Rattle.std.proofs.Common.{◌∙◌, refl, arith}
 use Rattle.irtext_graph.proofs.Linkings.{blank_bare, sound_bare}
-use Rattle.irtext_graph.proofs.Logs.{logged_list, noted_list, logged_kept, operation_noted, operation_ages as same_ages}
-use Rattle.irtext_graph.proofs.Made.{same_keeps, operations_same, operation_made, operation-keeps}
+use Rattle.irtext_graph.proofs.Logs.{noted_list, operation_noted}
+use Rattle.irtext_graph.proofs.Made.{same_keeps, same_slots, slots_kept, slots_seen, operation_made, operation-keeps}
 use Rattle.irtext_graph.proofs.Numbers.{operation_numbers}
 use Rattle.irtext_graph.proofs.graph.Graph.make_bare_operation.Goals as goal
 
 pub invariant_of-self-in_err-p : goal.invariant_of-self-in_err-p
 invariant_of-self-in_err-p g c =
-    let x = c.self.inside.objects in
-    let y = record x { operations = c.insert.new.self } in
-    record {
-      sound = sound_same c.self.inside.made x (record x { operations = c.insert.new.self }) c.in_err-p.ensures.err refl refl c.self.invariant.sound;
-      logged = logged_list c.self.inside.made c.self.inside.log.items c.make_room.new.log.items y c.make_room.ensures.same (logged_kept c.self.inside.made c.self.inside.log.items x y c.self.invariant.logged (same_ages x c.insert.new.self c.in_err-p.ensures.err));
-      numbered = subst (λ v. AreNumbered v) (sym (operations_same c.self.inside.made c.self.inside.counters x c.insert.new.self c.in_err-p.ensures.err c.in_err-p.ensures.err_free)) c.self.invariant.numbered;
-    }
+    slots_kept c.self.inside.made c.self.inside.counters c.self.inside.log.items c.make_room.new.log.items c.self.inside.objects _ c.make_room.ensures.same (record { items = c.in_err-p.ensures.err; free = c.in_err-p.ensures.err_free }) same_slots same_slots c.self.invariant
 
 pub returns-in_err-make_room-clause-kept : goal.returns-in_err-make_room-clause-kept
 returns-in_err-make_room-clause-kept g c = λ m up. same_keeps m _ _ c.self.view_is
 
 pub returns-in_err-p-clause-kept : goal.returns-in_err-p-clause-kept
-returns-in_err-p-clause-kept g c = λ m up. same_keeps m _ _ (operations_same c.self.inside.made c.self.inside.counters c.self.inside.objects c.insert.new.self c.in_err-p.ensures.err c.in_err-p.ensures.err_free ∙ c.self.view_is)
+returns-in_err-p-clause-kept g c = λ m up. same_keeps m _ _ (slots_seen c.self.inside.made c.self.inside.counters c.self.inside.objects (record c.self.inside.objects { operations = c.insert.new.self }) (record { items = c.in_err-p.ensures.err; free = c.in_err-p.ensures.err_free }) same_slots same_slots ∙ c.self.view_is)
 
 pub invariant_of-self-2 : goal.invariant_of-self-2
 invariant_of-self-2 g c =
