@@ -70,11 +70,6 @@ unmapped f None None e l = l
 unmapped f None (Some b) e l = absurd (cc)
 unmapped f (Some a) o' e l = refl
 
--- an object that has an age is there
-pub aged_there : {X : Type 0} (o : Option ℕ) (b : ℕ) (e : Option (Entry X)) → o ≡ born_in e → o ≡ Some b → IsSome e
-aged_there o b None p q = absurd (cc)
-aged_there o b (Some e) p q = refl
-
 module _ {O T : Type 0} where
   operand_named : (e : Option (Entry (Nest BasicBlock Region (OperationData O T)))) (i : ℕ) → slice_get (operands_of (option_map (object_of (node_of operation_content)) e)) i ≡ option_map (λ o. o.def) (operand_in e i)
   operand_named None i = refl

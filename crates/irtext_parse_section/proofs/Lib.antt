@@ -5,6 +5,7 @@ pub mod CheckSteps
 pub mod EntrySteps
 pub mod ApplySteps
 pub mod EditedBlock
+pub mod Edits
 pub mod GivenSteps
 pub mod LoopText
 pub mod EntryLists

@@ -13,7 +13,6 @@ use Rattle.irtext_base.specs.declared.parsable.fault.ParseFault.{ParseFault}
 use Rattle.irtext_tokens.proofs.Steps.{alone}
 use Rattle.irtext_context.specs.declared.base.item.Item.{Item}
 use Rattle.irtext_parse_state.specs.States.{marks_of}
-use Rattle.irtext_parse_state.specs.declared.parsable.state.State.{State}
 use Rattle.irtext_parse_state.specs.declared.parsable.state.StateStream.{StateStream}
 use Rattle.irtext_grammar.specs.Grammar.Section.{Entry}
 use Rattle.irtext_grammar.specs.Names.Acts.{Rule}
@@ -45,13 +44,6 @@ unless_err (Err y) e h = absurd (true≢false e)
 pub where_err : {X E P : Type 0} (r : Result X E) → is_err r ≡ true → OnErr r P → P
 where_err (Ok x) e h = absurd (true≢false (sym e))
 where_err (Err y) e h = h
-
--- nothing of the rest of a state changed, or twice nothing
-pub rest_stays : {T A U : Type 0} (s : State T A U) → KeepsRest s s
-rest_stays s = record { src = refl; aux_data = refl }
-
-pub rest_joins : {T A U : Type 0} {old mid new : State T A U} → KeepsRest old mid → KeepsRest mid new → KeepsRest old new
-rest_joins a b = record { src = b.src ∙ a.src; aux_data = b.aux_data ∙ a.aux_data }
 
 -- one entry, recorded after no other
 notes_one : {A : Type 0} (e : ReadEntry A) → Notes nothing e (one_noted e)

@@ -1,7 +1,10 @@
 -- Numbers, lines and columns as they are mostly printed are those that the parsers of their parts parse.
 use Rattle.std.proofs.Common.{◌≡◌, ℕ, ℤ, pos, true, false, cond, nat_lt, Option, Some, None, Ok, [], ◌∷◌, ◌++◌, codes, refl, sym, ◌∙◌, ap, subst, arith}
 use Rattle.std.proofs.lemmas.Bool.Decides.{nat_tests}
-use Rattle.std.specs.Str.{chars}
+use Rattle.std.specs.List.{list_all}
+use Rattle.std.specs.Str.{IsAscii, chars}
+use Rattle.std.proofs.lemmas.Str.{chars-IsAscii}
+use Rattle.std.proofs.lemmas.Str.Ascii.{IsAscii-nil, IsAscii-cons}
 use Rattle.std.specs.Option.{option_map}
 use Rattle.std.specs.Prelude.{FitsSigned, ◌<◌, ◌^◌}
 use Rattle.std.specs.Int.{w32}
@@ -10,7 +13,7 @@ use Rattle.irtext_base.specs.Text.{Text, begins, front, after}
 use Rattle.irtext_base.specs.Stream.{StreamView, behind}
 use Rattle.irtext_stream.specs.Stream.{Comes}
 use Rattle.irtext_base.specs.Answers.{Outcome, Read, Missing, Bad, Takes, Gives, SameStream, demanded, followed, mapped, prefixed, unless_failed}
-use Rattle.irtext_base.proofs.Characters.{word_no_space}
+use Rattle.irtext_base.proofs.Characters.{and_left, and_right, word_no_space}
 use Rattle.irtext_base.proofs.Compose.{takes_more, takes_stands, stands_after}
 use Rattle.irtext_base.proofs.Numbers.{digit_in_word}
 use Rattle.irtext_tokens.specs.Infix.{Reader}
@@ -176,13 +179,16 @@ pub number_looks : {old new : StreamView} (n : ℕ) (r : Option ℤ) → TakesDi
 number_looks n (Some z) t e = (integer_taken n z t (sym e), fits_signed n z (sym e))
 number_looks {old = old} n None t e = taken (front is_ascii_digit old.rest) (after is_ascii_digit old.rest) t.takes
 
-chars_line : chars (codes ": line: ") ≡ codes ": line: "
-unfolding chars
-chars_line = refl
+below_ascii : (c : ℕ) → nat_lt c 128 ≡ true → c < 128
+below_ascii c e = grind (arith, nat_tests)
 
-chars_column : chars (codes ", column: ") ≡ codes ", column: "
-unfolding chars
-chars_column = refl
+ascii_tested : (text : Text) → list_all (λ c. nat_lt c 128) text ≡ true → IsAscii text
+ascii_tested [] e = IsAscii-nil
+ascii_tested (c ∷ text) e = IsAscii-cons c text (below_ascii c (and_left (nat_lt c 128) (list_all (λ c. nat_lt c 128) text) e)) (ascii_tested text (and_right (nat_lt c 128) (list_all (λ c. nat_lt c 128) text) e))
+
+-- the characters of an ASCII text are its codes
+pub chars_ascii : (text : Text) → list_all (λ c. nat_lt c 128) text ≡ true → chars text ≡ text
+chars_ascii text e = chars-IsAscii text (ascii_tested text e)
 
 -- a label was consumed, and a number after it is looked for
 labelled_looks : (reader : Reader ℤ) (label : Text) → ((old mid new : StreamView) (rest : Text) (z : ℤ) → old.rest ≡ label ++ rest → mid ≡ behind old label rest → TakesNumber integer_at mid z new → Gets reader old new z)
@@ -191,7 +197,7 @@ labelled_looks reader label takes old mid new (Some z) h n = (takes old mid new 
 labelled_looks reader label takes old mid new None h s = further label h.0 (record { is = h.2; same = sym h.1 }) s
 
 pub line_looks : (old mid new : StreamView) (r : Option ℤ) → Comes (chars (codes ": line: ")) old (λ v. mid ≡ v) → Looks (λ z. TakesNumber integer_at mid z new × FitsSigned w32 z) mid r new → Looks (GetsInteger line_at old new) old r new
-line_looks old mid new r h s = labelled_looks line_at (codes ": line: ") line_taken old mid new r (subst (λ t. Comes t old (λ v. mid ≡ v)) chars_line h) s
+line_looks old mid new r h s = labelled_looks line_at (codes ": line: ") line_taken old mid new r (subst (λ t. Comes t old (λ v. mid ≡ v)) (chars_ascii (codes ": line: ") refl) h) s
 
 pub column_looks : (old mid new : StreamView) (r : Option ℤ) → Comes (chars (codes ", column: ")) old (λ v. mid ≡ v) → Looks (λ z. TakesNumber integer_at mid z new × FitsSigned w32 z) mid r new → Looks (GetsInteger column_at old new) old r new
-column_looks old mid new r h s = labelled_looks column_at (codes ", column: ") column_taken old mid new r (subst (λ t. Comes t old (λ v. mid ≡ v)) chars_column h) s
+column_looks old mid new r h s = labelled_looks column_at (codes ", column: ") column_taken old mid new r (subst (λ t. Comes t old (λ v. mid ≡ v)) (chars_ascii (codes ", column: ") refl) h) s

@@ -19,10 +19,15 @@ pub both_in : {X E P : Type 0} {Q R : X → Type 0} (r : Result X E) → ((x : X
 both_in (Ok x) f p q = f x p q
 both_in (Err e) f p q = tt
 
--- nothing is open where nothing comes next
-pub all_ended : (next : Option Frame) (frames : List Frame) → next ≡ None → IfNone next (frames ≡ []) → frames ++ listed next ≡ []
-all_ended None frames e h = ap (λ z. z ++ []) h
-all_ended (Some f) frames e h = absurd (cc)
+-- what follows of a clause of a call that succeeded, where both speak of what it returns
+pub in_ok : {X E : Type 0} {P Q : X → Type 0} (r : Result X E) → ((x : X) → P x → Q x) → IfOk r P → IfOk r Q
+in_ok (Ok x) f p = f x p
+in_ok (Err e) f p = tt
+
+-- no frame is open where none was closed
+pub no_frame : (closed : Option Frame) (frames : List Frame) → closed ≡ None → IfNone closed (frames ≡ []) → frames ≡ []
+no_frame None frames e h = h
+no_frame (Some f) frames e h = absurd (cc)
 
 -- what is known is known where there is nothing
 pub if_none : {X P : Type 0} (o : Option X) → P → IfNone o P

@@ -53,7 +53,7 @@ module _ {T A : Type 0} (C : Printing T A) (L : Language ⊤ T A) (ctx : Context
   items_both [] hs = sym (append-nil (items_left C L ctx hs))
   items_both (g ∷ gs) hs = ap (λ z. z ++ items_of C L ctx g) (items_both gs hs) ∙ append_assoc (items_left C L ctx hs) (items_left C L ctx gs) (items_of C L ctx g)
 
-  turns_both : (gs hs : List Frame) → turns_left C L ctx (gs ++ hs) ≡ turns_left C L ctx gs + turns_left C L ctx hs
+  pub turns_both : (gs hs : List Frame) → turns_left C L ctx (gs ++ hs) ≡ turns_left C L ctx gs + turns_left C L ctx hs
   turns_both [] hs = omega arith
   turns_both (g ∷ gs) hs = let k = turns_both gs hs in omega (arith, k)
 

@@ -415,7 +415,8 @@ head (x ∷ xs) = Some x
 abbrev pub unresolved_name : ℕ → Text → Failure
 unresolved_name a n = record { cause = script.UnresolvedReference n; at = Some a }
 
-defined_there : (n : Text) (p : Place) (pre fs : List Fact) → (q : Place) × (lookup n (pre ++ defines n p ∷ fs) ≡ Some q)
+-- a name that is defined after some facts is found among all
+pub defined_there : (n : Text) (p : Place) (pre fs : List Fact) → (q : Place) × (lookup n (pre ++ defines n p ∷ fs) ≡ Some q)
 defined_there n p pre fs = go (lookup n pre) refl
   where
     last : lookup n (defines n p ∷ fs) ≡ Some p
