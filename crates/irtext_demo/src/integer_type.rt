@@ -9,8 +9,9 @@ use crate::width::Width;
 use irtext_base::parsable::{CharStream, ParseResult, TextStream};
 use irtext_base::result::{Cause, Expected};
 use irtext_syntax::part::{Last, Part, TryClone};
+use irtext_syntax::range::{FromDigits, digits_parse};
 use irtext_tokens::irfmt::faults::{begins, committed, next_is, refuse, unexpected};
-use irtext_tokens::irfmt::parsers::digits::{Radix, out_of_range, take_digits};
+use irtext_tokens::irfmt::parsers::digits::{Radix, take_digits};
 use irtext_tokens::irfmt::parsers::{Class, text_parse};
 use std::alloc::AllocError;
 use std::fmt;
@@ -78,30 +79,12 @@ fn signedness_parse<A>(stream: &mut TextStream) -> ParseResult<Signedness, A>
     Err(unexpected(stream, Expected::Type))
 }
 
-/// Parses a width: as many decimal digits as come next. Fails with `NumberRange` at its first digit if it is not from 1 to 65,535.
-fn width_parse<A>(stream: &mut TextStream) -> ParseResult<Width, A>
-    ensures { Answers (λ s. s) (λ s v. v) (λ w. w)
-        (unless_failed stream.old.failed (width_at stream.old.rest)) stream.old result stream.new }
-{
-    if stream.has_failed() {
-        return Err(refuse(stream, Cause::StreamFailed));
-    }
-    if !begins(stream, Class::Digit) {
-        return Err(unexpected(stream, Expected::Digit));
-    }
-    let place = stream.position();
-    let number = take_digits(stream, Radix::Decimal);
-    match width_if(number) {
-        Some(width) => Ok(width),
-        None => Err(out_of_range(stream, place)),
-    }
-}
+impl FromDigits for Width {
+    ghost made = { width_if };
 
-/// Returns the width with this number of bits, if it is from 1 to 65,535. `None` is a number that does not fit 64 bits.
-fn width_if(number: Option<u64>) -> Option<Width>
-    ensures { result ≡ width_if number }
-{
-    Width::new(number? as usize)
+    fn from_digits(number: Option<u64>) -> Option<Width> {
+        Width::new(number? as usize)
+    }
 }
 
 /// Parses an integer type, such as `si32`: `si`, `ui` or `i`, and a width in decimal digits, without white space between them. Fails with
@@ -112,7 +95,7 @@ pub fn integer_type_parse<A>(stream: &mut TextStream) -> ParseResult<IntegerType
         (unless_failed stream.old.failed (integer_type_at stream.old.rest)) stream.old result stream.new }
 {
     let kind = signedness_parse(stream)?;
-    let width = width_parse(stream);
+    let width = digits_parse::<Width, A>(stream);
     let width = committed(stream, width)?;
     Ok(IntegerType { kind, width })
 }
@@ -174,7 +157,7 @@ fn width_there(stream: &mut TextStream) -> Option<Width>
     }
     let place = stream.position();
     let number = take_digits(stream, Radix::Decimal);
-    if let Some(width) = width_if(number) {
+    if let Some(width) = Width::from_digits(number) {
         return Some(width);
     }
     stream.reset(place);
