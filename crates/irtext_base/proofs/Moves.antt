@@ -82,11 +82,11 @@ append-none : (xs : List (List ℕ)) → xs ++ [] ≡ xs
 append-none [] = refl
 append-none (x ∷ xs) = ap (λ ys. x ∷ ys) (append-none xs)
 
--- no path came
+-- no path was added
 pub keeps_none : (paths : List (List ℕ)) → KeepsMore paths paths
 keeps_none paths = record { more = []; with_more = sym (append-none paths) }
 
--- the path of one source came, if it has one that is new
+-- the path of one source was added, if it has one that is new
 pub keeps_path : {old new : List (List ℕ)} (o : Option (List ℕ)) → new ≡ path_kept old o → KeepsMore old new
 keeps_path {old} None e = rw e (keeps_none old)
 keeps_path {old} (Some path) e = rw e (by (position (bytes_eq path) old))
@@ -95,7 +95,7 @@ keeps_path {old} (Some path) e = rw e (by (position (bytes_eq path) old))
     by (Some i) = keeps_none old
     by None = record { more = path ∷ []; with_more = refl }
 
--- paths came, and then more
+-- paths were added, and then more
 pub keeps_again : {a b c : List (List ℕ)} → KeepsMore a b → KeepsMore b c → KeepsMore a c
 keeps_again {a} {b} {c} h k = record {
   more = h.more ++ k.more;

@@ -31,7 +31,7 @@ not_below a b le = go (nat_lt a b) refl
     go false e = refl
     go true e = let l = ltb-true a b e in absurd (omega arith)
 
--- a pointer of which the generation was not handed out finds nothing
+-- a pointer with a generation that was not yet used finds nothing
 fresh_in : {X : Type 0} (c : Option (Cell X)) (n : ℕ) → n ≡ drawn c + 1 → object_in c n ≡ None
 fresh_in None n e = refl
 fresh_in (Some c) n e = go (c.generation == n) refl

@@ -1,4 +1,4 @@
--- An operation that is made with what is in hand leaves the machine where it stands, with nothing in hand.
+-- An operation that is made with what is in hand leaves the state of the machine unchanged, with nothing in hand.
 use Rattle.std.proofs.Common.{◌≡◌, ◌<◌, ◌+◌, ◌∙◌, inl, inr, ℕ, zero, suc, List, [], ◌∷◌, ◌++◌, length, Option, Some, IsSome, refl, sym, ap, subst, arith, slice_get}
 use Rattle.std.specs.Option.{option_map}
 use Rattle.irtext_graph.specs.declared.arena.Ptr.{Ptr}
@@ -60,7 +60,7 @@ module _ {O B T : Type 0} {g k : GraphView (Option O) B T} (op : Ptr Operation) 
   result_here : (i : ℕ) → i < length types → IsDefined k (OfValue (Result op i))
   result_here i l = rw make.operations.updates.changed (numbered_there g.values i types l)
 
-  -- it takes what is in hand, as its operands and successors, and its results are made
+  -- it uses what is in hand, as its operands and successors, and its results are made
   pub made_stands : (names : NameTracker Value (Ptr BasicBlock)) (known : Known) (p : Path) (held : List (User × Defined)) (st : State) → AreHeldBy p vs bs held → StandsAt names g known held st
       → StandsAt names k (with_operation p op vs bs types known) [] st
   made_stands names known p held st are s = operation_made g k names known held st op x types vs bs (made_results p op 0 types)

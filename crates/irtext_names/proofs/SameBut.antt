@@ -99,7 +99,7 @@ module _ {O B T : Type 0} where
   same_blank g k (OfValue (Argument c i)) e f b = b
   same_blank g k (OfBlock c) e f b = f ∙ b
 
-  -- each object but this one is as it was, but for what it uses; this one is gone
+  -- each object but this one is unchanged, except for what it uses; this one is erased
   pub record SameBut (g k : GraphView (Option O) B T) (o : Option Object) : Type 0 where
     pub contents : (q : Object) → (o ≡ Some q → ⊥) → option_map without_uses (content k q) ≡ option_map without_uses (content g q)
     pub parents : (q : Object) → (o ≡ Some q → ⊥) → parent k q ≡ parent g q
@@ -109,7 +109,7 @@ module _ {O B T : Type 0} where
   pub same_self : (g : GraphView (Option O) B T) → SameBut g g None
   same_self g = record { contents = λ q n. refl; parents = λ q n. refl; lists = λ q n. refl; gone = λ q e. cc }
 
-  -- nothing is gone, and then one object
+  -- nothing is erased, and then one object
   pub same_then : {g k h : GraphView (Option O) B T} {o : Option Object} → SameBut g k None → SameBut k h o → SameBut g h o
   same_then s t = record {
     contents = λ q n. t.contents q n ∙ s.contents q (λ e. cc);

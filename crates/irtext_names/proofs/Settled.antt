@@ -127,11 +127,11 @@ module _ {O B T : Type 0} where
       let same : x ≡ d = p.alone x (there u x is) (alone nested (owner d) (owner x) p.empty inside) in
       absurd (none u (rw (← same) is))
 
-  -- only a placeholder itself stands in it
+  -- only a placeholder itself is inside it
   pub inside_itself : {g : GraphView (Option O) B T} {d : Defined} → IsPlaceholder g d → Nested (children g) (parent g) → (q : Object) → IsInside g (owner d) q → q ≡ owner d
   inside_itself {g} {d} p nested q w = alone nested (owner d) q p.empty w
 
-  -- what goes with a placeholder is as old as it is
+  -- what is erased with a placeholder is as old as the placeholder
   pub goes_alone : {g : GraphView (Option O) B T} {d : Defined} (o : Object) → o ≡ owner d → IsPlaceholder g d → Nested (children g) (parent g) → (m : ℕ) → IsNew m g (owner d)
       → ((q : Object) → IsInside g o q → IsNew m g q) × ((k : Object) → parent g o ≡ Some k → IsNew m g k)
   goes_alone {g} {d} o same p nested m new =

@@ -1,4 +1,4 @@
--- What stands while an operation is made of what its front came to.
+-- What stays live while an operation is made of what its front was parsed as.
 use Rattle.std.proofs.Common.{Result, Ok, Err, IfOk, OnOk, slice_get, ◌≡◌, ◌≤◌, ◌∙◌, ℕ, List, Option, Some, None, sym, ap, subst, arith}
 use Rattle.std.specs.Prelude.{IfSome}
 use Rattle.irtext_context.specs.Context.{ContextView, MakesOperation, KeepsOlder, with_graph}
@@ -18,7 +18,7 @@ use Rattle.irtext_parse_nested.specs.Items.{Names, KeepsLive}
 use Rattle.irtext_parse_nested.proofs.Lasting.{block_stands}
 use Rattle.irtext_parse_nested.proofs.UsedStands.{lasts_then, used_lasts, made_lasts, made_new}
 
--- what is said of an answer and of what it left
+-- what holds of a result, and of the state that the call left
 pub if_ok_both : {X E : Type 0} {P R : X → Type 0} {Q : Type 0} (r : Result X E) → ((x : X) → P x → Q → R x) → IfOk r P → OnOk r Q → IfOk r R
 if_ok_both (Ok x) f p q = f x p q
 if_ok_both (Err e) f p q = tt
@@ -57,7 +57,7 @@ module _ {T A : Type 0} (old used : ContextView T A) (before names : Names) (all
     lasts_here : KeepsLive old made
     lasts_here = lasts_then old used made lasts_used (made_lasts used made op held types makes)
 
-    -- the block stands where it stood
+    -- the block is still live
     pub block_there : (o : Option (Ptr BasicBlock)) → IfSome o (λ k. IsThere old (TheBlock k)) → IfSome o (λ k. IsLive made.graph (TheBlock k))
     block_there None there = tt
     block_there (Some k) there = block_stands made k (lasts_here.blocks k there.0 there.1).0

@@ -1,4 +1,4 @@
--- Fixed texts that come one after another: what was consumed of them, and how far the reader of a front has come behind them.
+-- Fixed texts that follow one another: which of them were consumed, and how far the parser of a front has come after them.
 use Rattle.std.proofs.Common.{◌≡◌, ℕ, zero, suc, ◌+◌, ◌≤◌, Bool, true, false, Some, List, [], ◌∷◌, ◌++◌, map, drop, slice_get, length, length-append, length-drop, append-nil, append_assoc, refl, sym, ◌∙◌, ap, subst, arith}
 use Rattle.std.specs.Char.{is_whitespace}
 use Rattle.std.proofs.lemmas.List.{map-append}
@@ -31,7 +31,7 @@ step_of_left [] (suc n) step rest e = absurd (cc)
 step_of_left (s ∷ steps) zero step rest e = let same : s ≡ step = cc in ap Some same
 step_of_left (s ∷ steps) (suc n) step rest e = step_of_left steps n step rest e
 
--- and the others are those behind it
+-- and the others are those after it
 pub rest_of_left : {X : Type 0} (steps : List X) (n : ℕ) (step : X) (rest : List X) → drop n steps ≡ step ∷ rest → drop (suc n) steps ≡ rest
 rest_of_left steps n step rest e =
     let h : step ∷ drop (suc n) steps ≡ step ∷ rest = sym (next_left steps n step (step_of_left steps n step rest e)) ∙ e in
@@ -97,7 +97,7 @@ module _ {T A : Type 0} (steps : List Step) where
       subst (λ z. Counts (length z) steps (drop (length z) steps)) (append_assoc found (read.Word ∷ []) (only_words (length texts))) k
 
 module _ {S T A : Type 0} (l : Lens S) (types : Text → Outcome T) (attr : Text → Outcome (AttrView A)) (inside : Bool) (names : List Text) (steps : List Step) (old : S) where
-  -- behind one text
+  -- after one text
   run_once : (t : Text) (found : List (ReadPiece T A)) (now : S) (rest : List Step) → drop (length found) steps ≡ text_step t ∷ rest → Fronting l types attr inside names steps (drop (length found) steps) old now found
       → (r : Text) → (behind_space (l.view now)).rest ≡ t ++ r → Fronting l types attr inside names steps (drop (length (found ++ (read.Word ∷ []))) steps) old (l.at now (behind (behind_space (l.view now)) t r)) (found ++ (read.Word ∷ []))
   run_once t found now rest e p r is =
@@ -117,7 +117,7 @@ module _ {S T A : Type 0} (l : Lens S) (types : Text → Outcome T) (attr : Text
       (drop (suc (length found)) steps) (text_step t) names (next_left steps (length found) (text_step t) there) refl p (record { is = refl; same = front_after is_whitespace (l.view now).rest }) keeps (word_found l found more t refl taken) in
       subst (λ left. Fronting l types attr inside names steps left old new more) (left_more steps found read.Word) k
 
-  -- behind the texts
+  -- after the texts
   pub run_front : (texts : List Text) (found : List (ReadPiece T A)) (now : S) (rest : List Step) → drop (length found) steps ≡ map text_step texts ++ rest → Fronting l types attr inside names steps (drop (length found) steps) old now found
       → (w : StreamView) → ComeSpaced texts (l.view now) w → Fronting l types attr inside names steps (drop (length (found ++ only_words (length texts))) steps) old (l.at now w) (found ++ only_words (length texts))
   run_front [] found now rest e p w h =
@@ -135,7 +135,7 @@ module _ {S T A : Type 0} (l : Lens S) (types : Text → Outcome T) (attr : Text
       subst (λ z. Fronting l types attr inside names steps (drop (length z) steps) old (l.at now w) z) (append_assoc found (read.Word ∷ []) (only_words (length texts)))
       (subst (λ s. Fronting l types attr inside names steps (drop (length (found_more ++ only_words (length texts))) steps) old s (found_more ++ only_words (length texts))) (l.at_at now u w) q)
 
--- the texts that were consumed, and the steps behind them
+-- the texts that were consumed, and the steps after them
 pub texts_first : (all texts later : List Text) (left rest : List Step) → texts ++ later ≡ all → left ≡ map text_step all ++ rest → left ≡ map text_step texts ++ (map text_step later ++ rest)
 texts_first all texts later left rest e f =
     f ∙ (ap (λ z. map text_step z ++ rest) (sym e) ∙ (ap (λ z. z ++ rest) (map-append text_step texts later) ∙ append_assoc (map text_step texts) (map text_step later) rest))
@@ -144,11 +144,11 @@ module _ {S T A : Type 0} (l : Lens S) (steps : List Step) {found more : List (R
   first_steps : drop (length found) steps ≡ map text_step r.ran.texts ++ (map text_step r.ran.later ++ r.rest)
   first_steps = texts_first r.all r.ran.texts r.ran.later (drop (length found) steps) r.rest r.ran.first r.are
 
-  -- behind a run the steps are counted
+  -- after a run the steps are counted
   pub counts_on : Counts (length found) steps (drop (length found) steps) → Counts (length more) steps (drop (length more) steps)
   counts_on h = subst (λ z. Counts (length z) steps (drop (length z) steps)) (sym r.ran.appended) (run_counts steps r.ran.texts found (map text_step r.ran.later ++ r.rest) first_steps h)
 
-  -- the reader of the front has come behind it
+  -- the parser of the front has come to the position after it
   pub fronting_on : (types : Text → Outcome T) (attr : Text → Outcome (AttrView A)) (inside : Bool) (names : List Text) (old : S) → Fronting l types attr inside names steps (drop (length found) steps) old now found
       → Fronting l types attr inside names steps (drop (length more) steps) old new more
   fronting_on types attr inside names old p =

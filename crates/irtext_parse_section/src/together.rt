@@ -168,31 +168,17 @@ fn step_made<T: IrText<A>, A: AttrText<A>>(
     ensures takes { IfOk result (λ step. Takes step.item step.before ctx.old ctx.new) }
     ensures err { OnErr result (ctx.new ≡ ctx.old) }
 {
-    let ItemEntry {
+    let item = entry.item;
+    let (before, label) = match item {
+        Item::Operation(op) => (operation_stepped(ctx, once, op, entry.pairs)?, None),
+        Item::Block(at) => block_stepped(ctx, once, at, entry.pairs)?,
+    };
+    Ok(Step {
         item,
-        location,
-        pairs,
-    } = entry;
-    match item {
-        Item::Operation(op) => {
-            let before = operation_stepped(ctx, once, op, pairs)?;
-            Ok(Step {
-                item,
-                before,
-                location,
-                label: None,
-            })
-        }
-        Item::Block(at) => {
-            let (before, label) = block_stepped(ctx, once, at, pairs)?;
-            Ok(Step {
-                item,
-                before,
-                location,
-                label,
-            })
-        }
-    }
+        before,
+        location: entry.location,
+        label,
+    })
 }
 
 /// Appends a step to the others. There has to be capacity for it.

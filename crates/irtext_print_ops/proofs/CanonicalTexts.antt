@@ -1,4 +1,4 @@
--- The form that any operation has, as it is appended and as the definitions of printing have it.
+-- The canonical form, as it is appended and as the definitions of printing have it.
 use Rattle.std.proofs.Common.{◌≡◌, ◌∙◌, ◌++◌, ◌∷◌, ℕ, refl, sym, ap, Bool, true, IfSome, option_map, List, [], map, filter, codes, filter_map}
 use Rattle.std.proofs.lemmas.List.{append_assoc}
 use Rattle.std.specs.Prelude.{⊤, Some}
@@ -31,7 +31,7 @@ all_kept : {X : Type 0} (xs : List X) → filter (λ x. true) xs ≡ xs
 all_kept [] = refl
 all_kept (x ∷ xs) = ap (λ z. x ∷ z) (all_kept xs)
 
--- the parts, one behind the other
+-- the parts, one after another
 together : (a b r t u : Text) → (codes " (" ++ (a ++ (codes ") [" ++ (b ++ codes "] [")))) ++ (r ++ (codes "]: <(" ++ (t ++ (codes ") -> (" ++ (u ++ codes ")>")))))
     ≡ codes " (" ++ (a ++ (codes ") [" ++ (b ++ (codes "] " ++ ((codes "[" ++ (r ++ codes "]")) ++ (codes ": <(" ++ (t ++ (codes ") -> (" ++ (u ++ codes ")>")))))))))
 together a b r t u = simp append_assoc
@@ -46,7 +46,7 @@ module _ {T A : Type 0} (L : Language ⊤ T A) (C : Printing T A) where
       go (e ∷ es) = ap (λ z. entry_text L.owns.written e ∷ z) (go es)
 
 module _ {T A : Type 0} (L : Language ⊤ T A) (outlined once : A → Bool) (same : A → A → Bool) (written : A → Text) (ctx : ContextView T A) (p : Ptr Operation) where
-  -- what printing asks of this context
+  -- what printing requires of this context
   abbrev printing : Printing T A
   printing = printing_over ctx outlined once same
 
@@ -57,7 +57,7 @@ module _ {T A : Type 0} (L : Language ⊤ T A) (outlined once : A → Bool) (sam
       ++ (listed_text L.owns.written outlined [] (entries_of es)
       ++ (codes "]: <(" ++ (list_text L.types.written ctx (OperandTypes p) 0 ++ (codes ") -> (" ++ (list_text L.types.written ctx (ResultTypes p) 0 ++ codes ")>")))))
 
-  -- what stands behind the id, of these texts
+  -- what follows the id, of these texts
   abbrev whole : Text → Text → Text → Text → Text → Text
   whole a b r t u = codes " (" ++ (a ++ (codes ") [" ++ (b ++ (codes "] " ++ ((codes "[" ++ (r ++ codes "]")) ++ (codes ": <(" ++ (t ++ (codes ") -> (" ++ (u ++ codes ")>")))))))))
 

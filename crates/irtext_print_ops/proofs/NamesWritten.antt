@@ -21,7 +21,7 @@ pub named_value : (name text : Text) (n : ℕ) (f0 f1 f2 f3 : List ℕ) → IsTr
     → f3 ≡ f0 ++ encode_utf8_all (value_name (Some name) n)
 named_value name text n f0 f1 f2 f3 i e p q r = more f0 f1 f3 name (codes "_v" ++ decimal n) (identifier name text f0 f1 i e p) (worded f1 f2 f3 (codes "_v") (decimal n) refl q r)
 
--- what stands in front of the place of a block without a label
+-- what precedes the place of a block without a label
 pub plain_front : (f0 f1 : List ℕ) → f1 ≡ f0 ++ codes "^block" → f1 ≡ f0 ++ encode_utf8_all (codes "^" ++ prefixed None (codes "block"))
 plain_front f0 f1 p = p ∙ ap (λ z. f0 ++ z) (word (codes "^block") refl)
 
@@ -30,7 +30,7 @@ pub labelled_front : (name text : Text) (f0 f1 f2 f3 : List ℕ) → IsTrue (is_
     → f3 ≡ f0 ++ encode_utf8_all (codes "^" ++ prefixed (Some name) (codes "block"))
 labelled_front name text f0 f1 f2 f3 i e p q r = worded f0 f1 f3 (codes "^") (name ++ codes "_block") refl p (ending f1 f2 f3 name (codes "_block") refl (identifier name text f1 f2 i e q) r)
 
--- what stands behind a name's word stands behind the whole
+-- what follows a name's word follows the whole name
 prefixed_more : (label : Option Text) (word rest : Text) → prefixed label word ++ rest ≡ prefixed label (word ++ rest)
 prefixed_more None word rest = refl
 prefixed_more (Some name) word rest = append_assoc name (codes "_" ++ word) rest

@@ -9,12 +9,12 @@ pub not_there : {X : Type 0} (o : Option X) (b : Bool) → (IsTrue b ↔ IsSome 
 not_there None b t e = refl
 not_there (Some x) b t e = absurd (true≢false (sym (t.1 refl) ∙ e))
 
--- what is there
+-- the value, if it is present
 pub is_there : {X : Type 0} (o : Option X) → IsSome o → (x : X) × (o ≡ Some x)
 is_there None h = absurd (true≢false (sym h))
 is_there (Some x) h = (x, refl)
 
--- what follows of two clauses of a call that succeeded, where the second and what follows speak of what it answers
+-- what follows from two clauses of a call that succeeded, if the second and what follows are about what it returns
 pub both_in : {X E P : Type 0} {Q R : X → Type 0} (r : Result X E) → ((x : X) → P → Q x → R x) → OnOk r P → IfOk r Q → IfOk r R
 both_in (Ok x) f p q = f x p q
 both_in (Err e) f p q = tt
@@ -34,7 +34,7 @@ pub if_none : {X P : Type 0} (o : Option X) → P → IfNone o P
 if_none None p = p
 if_none (Some x) p = tt
 
--- nothing is left behind the last
+-- after the last nothing is left
 pub none_left : {X : Type 0} (xs : List X) (i : ℕ) → slice_get xs i ≡ None → drop i xs ≡ []
 none_left [] zero e = refl
 none_left [] (suc i) e = refl

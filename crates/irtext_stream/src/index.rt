@@ -1,7 +1,7 @@
 //! The index of a text, by which a byte offset is turned into a line and a column: where lines begin, and how many characters begin before
 //! the end of each block of bytes.
-ghost use Rattle.std.specs.Prelude.{◌≡◌, ◌<◌, ◌≤◌, ◌-◌, ◌+◌, length, get_or, take, count_by, IfOk};
-ghost use Rattle.std.specs.Str.{chars};
+ghost use Rattle.std.specs.Prelude.{◌≡◌, ◌<◌, ◌≤◌, ◌-◌, ◌+◌, length, get_or, take, count_by, true, IfOk};
+ghost use Rattle.std.specs.Str.{chars, IsAscii};
 ghost use Rattle.irtext_stream.specs.Stream.{IsAt, cut};
 ghost use Rattle.irtext_stream.specs.Places.{AtOffset};
 ghost use Rattle.irtext_stream.specs.Index.{begins_character, entry_before, AreStarts, AreBlocks, AreLines, BeginUpTo, Indexes};
@@ -47,6 +47,17 @@ fn count_characters(bytes: &[u8]) -> usize
         }
     }
     n
+}
+
+/// Whether each byte is ASCII. The loop has no exit, so that it is compiled to tests of many bytes at once.
+fn is_ascii(bytes: &[u8]) -> bool
+    ensures { result ≡ true → IsAscii bytes.now }
+{
+    let mut ascii = true;
+    for byte in bytes {
+        ascii = ascii & (*byte < 128);
+    }
+    ascii
 }
 
 /// Returns the byte offset at which each line but the first begins.
@@ -131,7 +142,7 @@ impl TextIndex {
     {
         let starts = line_starts(alloc, text)?;
         let lines = line_counts(alloc, &starts, text.len())?;
-        if text.is_ascii() {
+        if is_ascii(text.as_bytes()) {
             return Ok(TextIndex {
                 starts,
                 single: true,

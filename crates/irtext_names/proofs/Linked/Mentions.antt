@@ -24,7 +24,7 @@ same_name (defines n p) = refl
 added_mention : (ns : List Text) (f : Fact) → with_mention ns (linked.name_of f) ≡ add ns (name_of f)
 added_mention ns f = ap (with_mention ns) (same_name f) ∙ ap (λ b. cond b ns (ns ++ name_of f ∷ [])) (listed_among (name_of f) ns)
 
--- the names of facts behind others
+-- the names of facts after others
 pub names_mentioned : (ns : List Text) (fs : List Fact) → mentioned_from ns fs ≡ names_from ns fs
 names_mentioned ns [] = refl
 names_mentioned ns (f ∷ fs) = ap (λ z. mentioned_from z fs) (added_mention ns f) ∙ names_mentioned (add ns (name_of f)) fs
@@ -57,7 +57,7 @@ once_add ns t o = go (among t ns) refl
     go true e = o
     go false e = once_last ns t o e
 
--- the names of facts stand once
+-- the names of facts occur once
 pub once_names : (ns : List Text) (fs : List Fact) → Once ns → Once (names_from ns fs)
 once_names ns [] o = o
 once_names ns (f ∷ fs) o = once_names (add ns (name_of f)) fs (once_add ns (name_of f) o)
@@ -152,7 +152,7 @@ defined_there n p pre fs = go (lookup n pre) refl
     go None e = (p, lookup-append n pre (defines n p ∷ fs) ∙ (ap (λ o. or_else o (lookup n (defines n p ∷ fs))) e ∙ last))
     go (Some r) e = (r, lookup-append n pre (defines n p ∷ fs) ∙ ap (λ o. or_else o (lookup n (defines n p ∷ fs))) e)
 
--- the first use without definition, of the facts behind others
+-- the first use without definition, among the facts after others
 first_unresolved : (a : ℕ) (all pre fs : List Fact) → all ≡ pre ++ fs → head (unresolved a all fs) ≡ option_map (unresolved_name a) (first_of all fs)
 first_unresolved a all pre [] e = refl
 first_unresolved a all pre (uses n u ∷ fs) e = go (lookup n all) (first_unresolved a all (pre ++ uses n u ∷ []) fs (e ∙ sym (append_assoc pre (uses n u ∷ []) fs)))
