@@ -1,6 +1,7 @@
 //! Numbers in decimal digits. These calls fail only if out of memory; what was appended up to the error remains.
 ghost use Rattle.std.specs.Prelude.{◌≡◌, ◌+◌, ◌/◌, ◌%◌, ◌<◌, ◌≤◌, ◌∷◌, ◌++◌, [], OnOk, decimal, length, string_bytes};
 ghost use Rattle.std.specs.Fmt.{signed_decimal};
+ghost use Rattle.std.specs.Str.{IsAscii};
 ghost use Rattle.irtext_print.specs.Printers.Appended.{AppendsText};
 
 use arrayvec::ArrayString;
@@ -48,17 +49,37 @@ fn fmt_short(number: usize, f: &mut String) -> fmt::Result
     Ok(())
 }
 
-/// Appends two texts of at most four bytes together.
+/// Appends three texts of at most eight bytes together.
 #[inline(always)]
-fn fmt_joined(front: &str, back: &str, f: &mut String) -> fmt::Result
-    requires { length front.now + length back.now ≤ 4 }
-    ensures { OnOk result (string_bytes f.new ≡ string_bytes f.old ++ (front.now ++ back.now)) }
+fn fmt_joined(front: &str, high: &str, low: &str, f: &mut String) -> fmt::Result
+    requires { length front.now + (length high.now + length low.now) ≤ 8 }
+    ensures { OnOk result (string_bytes f.new ≡ string_bytes f.old ++ (front.now ++ (high.now ++ low.now))) }
 {
-    let mut joined: ArrayString<4> = ArrayString::new();
+    let mut joined: ArrayString<8> = ArrayString::new();
     joined.push_str(front);
-    joined.push_str(back);
+    joined.push_str(high);
+    joined.push_str(low);
     f.push_str(joined.as_str())?;
     Ok(())
+}
+
+/// Appends a text of at most four bytes and a number below 10,000 together.
+#[inline(always)]
+fn fmt_led(front: &str, number: usize, f: &mut String) -> fmt::Result
+    requires few { number < 10000 }
+    requires short { length front.now ≤ 4 }
+    ensures { OnOk result (string_bytes f.new ≡ string_bytes f.old ++ (front.now ++ decimal number)) }
+{
+    if number < 10 {
+        return fmt_joined(front, "", digit(number), f);
+    }
+    if number < 100 {
+        return fmt_joined(front, "", pair(number), f);
+    }
+    if number < 1000 {
+        return fmt_joined(front, digit(number / 100), pair(number % 100), f);
+    }
+    fmt_joined(front, pair(number / 100), pair(number % 100), f)
 }
 
 /// Appends a number below 10,000. Its digits are appended at once.
@@ -70,10 +91,7 @@ fn fmt_small(number: usize, f: &mut String) -> fmt::Result
     if number < 100 {
         return fmt_short(number, f);
     }
-    if number < 1000 {
-        return fmt_joined(digit(number / 100), pair(number % 100), f);
-    }
-    fmt_joined(pair(number / 100), pair(number % 100), f)
+    fmt_led("", number, f)
 }
 
 /// Appends a number of any size.
@@ -97,7 +115,7 @@ fn fmt_large(number: u64, f: &mut String) -> fmt::Result
     }
     let (high, low) = (number as usize / 100, number as usize % 100);
     fmt_short(high / 100, f)?;
-    fmt_joined(pair(high % 100), pair(low), f)
+    fmt_joined("", pair(high % 100), pair(low), f)
 }
 
 /// Whether so many more bytes fit without an allocation. Nothing rests on the answer: a call that appends tests again.
@@ -128,6 +146,20 @@ pub fn fmt_number(number: u64, f: &mut String) -> fmt::Result
         return fmt_small(number as usize, f);
     }
     fmt_slowly(number as usize, f)
+}
+
+/// Appends a text of at most four ASCII bytes and a number, together if the number is below 10,000.
+#[inline(always)]
+pub fn fmt_led_number(front: &str, number: u64, f: &mut String) -> fmt::Result
+    requires short { length front.now ≤ 4 }
+    requires ascii { IsAscii front.now }
+    ensures { OnOk result (AppendsText f.old (front.now ++ decimal number) f.new) }
+{
+    if number < 10_000 && has_room(f, 8) {
+        return fmt_led(front, number as usize, f);
+    }
+    f.push_str(front)?;
+    fmt_number(number, f)
 }
 
 /// Appends a negative number, with its sign.
