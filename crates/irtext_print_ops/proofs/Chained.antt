@@ -1,7 +1,7 @@
 -- Turns one after another are one turn: the innermost frame that the first leaves is replaced by what the next leaves of it.
 use Rattle.std.proofs.Common.{◌≡◌, ◌<◌, ◌+◌, ◌==◌, ℕ, zero, suc, List, [], ◌∷◌, ◌++◌, length, map, drop, Bool, true, false, cond, Option, Some, None, arith, refl, ap, sym, subst, ◌∙◌, append_assoc, append-nil, length-append, inl, inr, ◌⊎◌, true≢false}
 use Rattle.std.specs.Prelude.{⊤}
-use Rattle.std.proofs.lemmas.List.{append_cancel_left, map-append}
+use Rattle.std.proofs.lemmas.List.{map-append}
 use Rattle.std.specs.Str.{encode_utf8_all}
 use Rattle.irtext_base.specs.Own.{Language}
 use Rattle.irtext_context.specs.Context.{ContextView}
@@ -173,24 +173,3 @@ module _ {T A : Type 0} (C : Printing T A) (L : Language ⊤ T A) (ctx : Context
         (subst (λ z. Steps C L ctx width here z items2 [] pushed old new) u.marks
         (subst (λ z. Steps C L ctx width here items1 items2 [] pushed z new) u.bytes t))
     left_more here items1 items2 pushed mid new (inr s) t = chained first here items items1 items2 [] pushed old mid new s t
-
-    -- one turn more, inside of other frames
-    pub left_inside : (here : Frame) (items1 items2 : List Item) (gs gs' : List Frame) (mid new : List ℕ) → Left here items1 mid →
-        Steps C L ctx width here items1 items2 gs gs' mid new → Steps C L ctx width first items items2 gs gs' old new
-    left_inside here items1 items2 gs gs' mid new l t =
-        subst (λ z. Steps C L ctx width first items items2 gs z old new) (sym t.stack)
-        (inside_others first items items2 gs t.pushed old new (left_more here items1 items2 t.pushed mid new l (alone here items1 items2 gs gs' mid new t)))
-
-    -- one more turn, which leaves the same frame as the innermost, and the outer frames unchanged
-    pub left_on : (here next : Frame) (items1 items2 : List Item) (gs gs' : List Frame) (mid new : List ℕ) → Left here items1 mid →
-        Steps C L ctx width here items1 items2 gs (gs' ++ next ∷ []) mid new → gs' ≡ gs → Steps C L ctx width first items items2 [] (next ∷ []) old new
-    left_on here next items1 items2 gs gs' mid new l t k =
-        let one : next ∷ [] ≡ t.pushed = append_cancel_left gs (next ∷ []) t.pushed (ap (λ z. z ++ next ∷ []) (sym k) ∙ t.stack) in
-        subst (λ z. Steps C L ctx width first items items2 [] z old new) (sym one) (left_more here items1 items2 t.pushed mid new l (alone here items1 items2 gs (gs' ++ next ∷ []) mid new t))
-
-    -- that leaves fewer turns
-    pub fewer_on : (here next : Frame) (items1 items2 : List Item) (gs gs' : List Frame) (mid new : List ℕ) →
-        Steps C L ctx width here items1 items2 gs (gs' ++ next ∷ []) mid new → gs' ≡ gs → turns_left C L ctx (next ∷ []) < turns_left C L ctx (here ∷ [])
-    fewer_on here next items1 items2 gs gs' mid new t k =
-        let one : next ∷ [] ≡ t.pushed = append_cancel_left gs (next ∷ []) t.pushed (ap (λ z. z ++ next ∷ []) (sym k) ∙ t.stack) in
-        let a = t.fewer in let e = ap (turns_left C L ctx) one in omega (arith, a, e)

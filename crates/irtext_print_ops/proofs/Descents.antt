@@ -1,7 +1,6 @@
 -- Steps that lead to a frame inside of another one, and what follows after them.
 use Rattle.std.proofs.Common.{◌≡◌, ◌<◌, ◌+◌, List, ℕ, [], ◌∷◌, ◌++◌, ◌∙◌, arith, refl, sym, ap, subst, append_assoc, Option, Some, None, inl, inr}
 use Rattle.std.specs.Prelude.{⊤}
-use Rattle.std.proofs.lemmas.List.{append_cancel_left}
 use Rattle.irtext_base.specs.Own.{Language}
 use Rattle.irtext_context.specs.Context.{ContextView}
 use Rattle.irtext_context.specs.declared.base.item.Item.{Item}

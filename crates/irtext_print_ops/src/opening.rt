@@ -10,7 +10,7 @@ ghost use Rattle.irtext_print_ops.specs.Steps.{IsTooDeep, begun_frames, region_f
 use crate::frame::RegionFrame;
 use irtext_context::base::{Ptr, Region};
 use irtext_print::printable;
-use irtext_print::printable::numbers::fmt_number;
+use irtext_print::printable::numbers::fmt_led_number;
 use irtext_print::printable::refusal::memory_alone;
 use irtext_print::printable::{
     Refusal, RegionPrintDepthLimit, fmt_colon_newline, fmt_newline, fmt_opening,
@@ -101,13 +101,12 @@ pub(crate) fn fmt_closing(indent: u16, f: &mut String) -> Result<(), Refusal>
 }
 
 /// Appends a mark with this index.
-#[inline(always)]
+#[inline(never)]
 pub(crate) fn fmt_index(index: usize, f: &mut String) -> Result<(), Refusal>
     ensures text { OnOk result (AppendsText f.old (codes " !" ++ decimal index) f.new) }
     ensures refused { IfErr result (λ e. e ≡ refusal.Memory) }
 {
-    f.push_str(" !")?;
-    match fmt_number(index as u64, f) {
+    match fmt_led_number(" !", index as u64, f) {
         Ok(()) => Ok(()),
         Err(_) => Err(Refusal::Memory),
     }

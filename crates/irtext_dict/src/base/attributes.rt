@@ -194,7 +194,6 @@ impl<A: Drop> AttributeDict<A> {
     }
 
     /// Returns the entry at an index, from 0, in the order in which the keys were inserted; or `None` if there are fewer entries.
-    #[inline(always)]
     pub fn get_index(&self, index: usize) -> Option<(&Identifier, &AttrObj<A>)>
         ensures { option_map deref_pair result ≡ slice_get self.now index }
     {

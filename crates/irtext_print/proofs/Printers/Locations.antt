@@ -22,6 +22,10 @@ more old mid new t u p q = q ∙ ap (λ z. z ++ encode_utf8_all u) p ∙ append_
 pub worded : (old mid new : List ℕ) (w u : Text) → list_all is_ascii w ≡ true → mid ≡ old ++ w → new ≡ mid ++ encode_utf8_all u → new ≡ old ++ encode_utf8_all (w ++ u)
 worded old mid new w u e p q = more old mid new w u (p ∙ ap (λ z. old ++ z) (word w e)) q
 
+-- what follows a word
+pub unworded : (old new : List ℕ) (w u : Text) → list_all is_ascii w ≡ true → new ≡ old ++ encode_utf8_all (w ++ u) → new ≡ (old ++ w) ++ encode_utf8_all u
+unworded old new w u e q = q ∙ sym (worded old (old ++ w) ((old ++ w) ++ encode_utf8_all u) w u e refl refl)
+
 -- a word at the end
 pub ending : (old mid new : List ℕ) (t w : Text) → list_all is_ascii w ≡ true → mid ≡ old ++ encode_utf8_all t → new ≡ mid ++ w → new ≡ old ++ encode_utf8_all (t ++ w)
 ending old mid new t w e p q = more old mid new t w p (q ∙ ap (λ z. mid ++ z) (word w e))

@@ -1,7 +1,7 @@
-use Rattle.std.proofs.Common.{◌++◌, ◌*◌, ◌+◌, ◌≤◌, ◌∙◌, ap, arith, string_bytes}
+use Rattle.std.proofs.Common.{◌*◌, ◌+◌, ◌≤◌, ◌∙◌, ap, arith, length}
 use Rattle.std.proofs.lemmas.Str.{IsCharBoundary-from_ascii}
 use Rattle.irtext_print.proofs.Digits.{pairs, pairs-ascii, pair-slice}
-use Rattle.irtext_print.proofs.printable.numbers.fmt_pair.Goals as goal
+use Rattle.irtext_print.proofs.printable.numbers.pair.Goals as goal
 
 pub range-requires-clause-start_boundary : goal.range-requires-clause-start_boundary
 range-requires-clause-start_boundary c =
@@ -14,4 +14,6 @@ range-requires-clause-end_boundary c =
     IsCharBoundary-from_ascii (pairs 0 100) (2 * c.args.number + 2) (pairs-ascii 0 100 (omega arith)) few
 
 pub returns : goal.returns
-returns c = c.in_ok-push_str.ensures.bytes ∙ ap (λ z. string_bytes c.args.f.now ++ z) (c.range.ensures.value ∙ pair-slice c.args.number c.requires)
+returns c =
+    let digits = c.range.ensures.value ∙ pair-slice c.args.number c.requires in
+    record { value = digits; len = ap length digits }
