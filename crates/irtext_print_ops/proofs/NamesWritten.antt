@@ -12,10 +12,6 @@ use Rattle.irtext_print.proofs.Printers.Locations.{word, more, worded, ending}
 identifier : (name text : Text) (old new : List ℕ) → IsTrue (is_identifier name) → text ≡ name → new ≡ old ++ text → new ≡ old ++ encode_utf8_all name
 identifier name text old new i e p = p ∙ ap (λ z. old ++ z) (e ∙ sym (encodes-ascii name (ascii-identifier name i)))
 
--- a value without a given name
-pub plain_value : (n : ℕ) (f0 f1 f2 : List ℕ) → f1 ≡ f0 ++ codes "v" → f2 ≡ f1 ++ encode_utf8_all (decimal n) → f2 ≡ f0 ++ encode_utf8_all (value_name None n)
-plain_value n f0 f1 f2 p q = worded f0 f1 f2 (codes "v") (decimal n) refl p q
-
 -- a value with a given name
 pub named_value : (name text : Text) (n : ℕ) (f0 f1 f2 f3 : List ℕ) → IsTrue (is_identifier name) → text ≡ name → f1 ≡ f0 ++ text → f2 ≡ f1 ++ codes "_v" → f3 ≡ f2 ++ encode_utf8_all (decimal n)
     → f3 ≡ f0 ++ encode_utf8_all (value_name (Some name) n)
