@@ -1,5 +1,5 @@
 -- Steps that lead to a frame inside of another one, and what follows after them.
-use Rattle.std.proofs.Common.{◌≡◌, ◌<◌, ◌+◌, List, ℕ, [], ◌∷◌, ◌++◌, ◌∙◌, arith, refl, sym, ap, subst, append_assoc, Option, Some, None, inl, inr}
+use Rattle.std.proofs.Common.{◌≡◌, ◌<◌, List, ℕ, [], ◌∷◌, ◌++◌, ◌∙◌, arith, sym, ap, subst, append_assoc, Option, Some, None, inl, inr}
 use Rattle.std.specs.Prelude.{⊤}
 use Rattle.irtext_base.specs.Own.{Language}
 use Rattle.irtext_context.specs.Context.{ContextView}

@@ -1,8 +1,7 @@
 -- Whether an operation is there, by the test of it.
 use Rattle.std.specs.Prelude.{IfOk, IfNone}
-use Rattle.irtext_print_ops.specs.Steps.{listed}
 use Rattle.irtext_print_ops.specs.declared.frame.Frame.{Frame}
-use Rattle.std.proofs.Common.{◌≡◌, ◌↔◌, Bool, false, Option, Some, None, IsSome, IsTrue, refl, sym, ap, ◌++◌, true≢false, ◌∙◌, Result, Ok, Err, OnOk, ℕ, zero, suc, List, [], ◌∷◌, drop, slice_get}
+use Rattle.std.proofs.Common.{◌≡◌, ◌↔◌, Bool, false, Option, Some, None, IsSome, IsTrue, refl, sym, true≢false, ◌∙◌, Result, Ok, Err, OnOk, ℕ, zero, suc, List, [], ◌∷◌, drop, slice_get}
 
 -- where the test fails there is none
 pub not_there : {X : Type 0} (o : Option X) (b : Bool) → (IsTrue b ↔ IsSome o) → b ≡ false → o ≡ None

@@ -1,5 +1,5 @@
 -- What single steps of the walk print, and which frames they leave.
-use Rattle.std.specs.Prelude.{◌+◌, ◌≤◌, ◌^◌, ◌==◌, ℕ, Bool, IsSome, true, false, cond, List, [], ◌∷◌, ◌++◌, length, slice_get, Option, Some, None, codes}
+use Rattle.std.specs.Prelude.{◌+◌, ◌≤◌, ◌^◌, ◌==◌, ℕ, IsSome, true, false, cond, List, [], ◌∷◌, ◌++◌, length, slice_get, Option, Some, None, codes}
 use Rattle.irtext_base.specs.Format as format
 use Rattle.irtext_base.specs.Format.{Format, Directive}
 use Rattle.irtext_base.specs.Text.{Text}

@@ -43,7 +43,7 @@ fn fmt_numbered(given: Option<&Identifier>, number: u64, f: &mut String) -> fmt:
             f.push_str(name.as_str())?;
             fmt_suffix(number, f)
         }
-        None => { fmt_led_number("v", number, f) }
+        None => fmt_led_number("v", number, f),
     }
 }
 
