@@ -28,3 +28,4 @@ pub mod FrameOutcomes
 pub mod FrameSteps
 pub mod Places
 pub mod Plain
+pub mod SetBack

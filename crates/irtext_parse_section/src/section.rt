@@ -54,8 +54,8 @@ pub fn section_checked<T: IrText<A>, A: AttrText<A>, U>(
 /// Gives each item what its entry gives. If an allocation fails and `earlier` is set, no item changes.
 fn entries_given<T: IrText<A>, A: AttrText<A>, U>(
     s: &mut StateStream<'_, T, A, U>,
-    entries: Entries<A>,
     earlier: bool,
+    entries: Entries<A>,
 ) -> Result<(), AllocError>
     ensures lent { s.new.state.ctx.ghost_name ≡ s.old.state.ctx.ghost_name }
     ensures rest { KeepsRest s.old.state s.new.state }
@@ -78,9 +78,9 @@ pub fn section_given<T: IrText<A>, A: AttrText<A>, U>(
     entries: Entries<A>,
     earlier: bool,
 ) -> ParseResult<(), A>
+    ensures gives { OnOk result (GivesAll (once_of entries) (items_of entries) s.old.state.ctx.now s.new.state.ctx.now) }
     ensures lent { s.new.state.ctx.ghost_name ≡ s.old.state.ctx.ghost_name }
     ensures rest { KeepsRest s.old.state s.new.state }
-    ensures gives { OnOk result (GivesAll (once_of entries) (items_of entries) s.old.state.ctx.now s.new.state.ctx.now) }
     ensures stream { OnOk result (s.new.stream ≡ s.old.stream) }
     ensures fresh { OnOk result (marks_of s.new.state ≡ []) }
     ensures starved { IfErr result (λ fault. StarvesHere itself replaced s.old.stream fault s.new.stream) }
@@ -89,7 +89,7 @@ pub fn section_given<T: IrText<A>, A: AttrText<A>, U>(
     ensures closed { (mark : ℕ) → IsClosedBelow mark s.old.state.ctx.now.graph → IsClosedBelow mark s.new.state.ctx.now.graph }
     ensures unchanged { (mark : ℕ) → earlier ≡ true → OnErr result (KeepsOlder mark s.old.state.ctx.now s.new.state.ctx.now) }
 {
-    if entries_given(s, entries, earlier).is_err() {
+    if entries_given(s, earlier, entries).is_err() {
         return Err(out_of_memory(&mut s.stream));
     }
     s.state.truncate_marks(0);
@@ -105,9 +105,9 @@ pub fn section_parse<T: IrText<A>, A: AttrText<A>, U>(
     s: &mut StateStream<'_, T, A, U>,
     earlier: bool,
 ) -> ParseResult<(), A>
+    ensures read { OnOk result (ReadsSection (attr_at A.IrText.reading) s.old s.new) }
     ensures lent { s.new.state.ctx.ghost_name ≡ s.old.state.ctx.ghost_name }
     ensures rest { KeepsRest s.old.state s.new.state }
-    ensures read { OnOk result (ReadsSection (attr_at A.IrText.reading) s.old s.new) }
     ensures missed { s.old.stream.failed ≡ false → IfErr result (λ fault. Faults true (RefusedAs
         (section_at (attr_at A.IrText.reading) (indices_of (marks_of s.old.state)) (rules_of (marks_of s.old.state)) s.old.stream.rest))
         s.old.stream fault) }

@@ -363,8 +363,8 @@ pub(crate) fn items_given_together<T: IrText<A>, A: AttrText<A>>(
     once: &Once<A>,
     items: Vec<ItemEntry<A>>,
 ) -> Result<(), AllocError>
-    ensures gives { OnOk result (GivesAll once.now.entries items.items ctx.old ctx.new) }
     ensures unchanged { (mark : ℕ) → OnErr result (KeepsOlder mark ctx.old ctx.new) }
+    ensures gives { OnOk result (GivesAll once.now.entries items.items ctx.old ctx.new) }
     ensures kept { (mark : ℕ) → ItemsAreNewer mark ctx.old items.items → KeepsOlder mark ctx.old ctx.new }
     ensures closed { (mark : ℕ) → IsClosedBelow mark ctx.old.graph → IsClosedBelow mark ctx.new.graph }
 {

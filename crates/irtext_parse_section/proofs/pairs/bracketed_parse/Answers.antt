@@ -42,8 +42,8 @@ returns-in_err-pairs g c =
 pub returns-in_err-text_demanded-2 : goal.returns-in_err-text_demanded-2
 unfolding pairs_at
 returns-in_err-text_demanded-2 g c =
-    let attr = attr_at g.A.IrText.reading in
     let rule = rule_for c.args.of_block in
+    let attr = attr_at g.A.IrText.reading in
     let h = c.in_ok-pairs.ensures in
     let ps = h.meant c.in_ok-pairs.pairs in
     let p1 = spaced alone (λ _ u. followed (separated_at 44 (kept_at attr rule) u) behind_pairs) (first alone (behind_bracket attr rule) c.in_ok-text_demanded.ensures) c.skip_white_space.ensures in

@@ -12,6 +12,9 @@ use Rattle.irtext_parse_section.specs.Said.{rules_of}
 use Rattle.irtext_parse_section.proofs.SectionSteps.{either_way, adds_closed, starved_refusal, starved_there, given_kept, reads_section}
 use Rattle.irtext_parse_section.proofs.section.section_parse.Goals as goal
 
+pub returns-in_err-entries-clause-kept : goal.returns-in_err-entries-clause-kept
+returns-in_err-entries-clause-kept g c = λ mark n. adds_kept mark c.in_err-entries.ensures.only.adds
+
 pub returns-in_err-entries-clause-missed : goal.returns-in_err-entries-clause-missed
 returns-in_err-entries-clause-missed g c = λ fine.
     rw (handed_on c.from_residual.result c.from_residual.ensures.1) (not_answered fine c.in_err-entries.ensures.read.read)
@@ -20,9 +23,6 @@ pub returns-in_err-entries-clause-refused : goal.returns-in_err-entries-clause-r
 returns-in_err-entries-clause-refused g c =
     let marks = marks_of c.args.s.now.state in
     rw (handed_on c.from_residual.result c.from_residual.ensures.1) (demands (λ text. (fine_section g.A.IrText.reading g.met.A.IrText.sincere (indices_of marks) (rules_of marks) text).spares) c.in_err-entries.ensures.read.read)
-
-pub returns-in_err-entries-clause-kept : goal.returns-in_err-entries-clause-kept
-returns-in_err-entries-clause-kept g c = λ mark n. adds_kept mark c.in_err-entries.ensures.only.adds
 
 pub returns-in_err-entries-clause-closed : goal.returns-in_err-entries-clause-closed
 returns-in_err-entries-clause-closed g c = λ mark h. adds_closed mark c.args.s.now.state.ctx.now c.section_checked.new.s.state.ctx.now c.in_err-entries.ensures.only.adds h
