@@ -44,25 +44,13 @@ module _ {O B T : Type 0} where
   data_in (Some (ARegion b c)) = None
 
   results_are : (g : GraphView O B T) (p : Ptr Operation) → results g p ≡ results_in (option_map without_uses (content g (TheOperation p)))
-  results_are g p = go (get g.operations p)
-    where
-      go : (e : Option (Entry (Node BasicBlock Region (OperationContent O T)))) → results_of (option_map (λ e. e.content.content) e) ≡ results_in (option_map without_uses (option_map (λ d. AnOperation d.0 d.1) (content_of e)))
-      go None = refl
-      go (Some e) = refl
+  results_are g p = elim (get g.operations p) as (λ e. results_of (option_map (λ e. e.content.content) e) ≡ results_in (option_map without_uses (option_map (λ d. AnOperation d.0 d.1) (content_of e)))) [ None ↦ refl | Some e ↦ refl ]
 
   arguments_are : (g : GraphView O B T) (b : Ptr BasicBlock) → arguments g b ≡ arguments_in (option_map without_uses (content g (TheBlock b)))
-  arguments_are g b = go (get g.blocks b)
-    where
-      go : (e : Option (Entry (Node Region Operation (BlockContent B T)))) → arguments_of (option_map (λ e. e.content.content) e) ≡ arguments_in (option_map without_uses (option_map (λ d. ABlock d.0 d.1) (content_of e)))
-      go None = refl
-      go (Some e) = refl
+  arguments_are g b = elim (get g.blocks b) as (λ e. arguments_of (option_map (λ e. e.content.content) e) ≡ arguments_in (option_map without_uses (option_map (λ d. ABlock d.0 d.1) (content_of e)))) [ None ↦ refl | Some e ↦ refl ]
 
   pub data_is : (g : GraphView O B T) (p : Ptr Operation) → option_map (λ c. c.data_of) (operation_at g p) ≡ data_in (option_map without_uses (content g (TheOperation p)))
-  data_is g p = go (get g.operations p)
-    where
-      go : (e : Option (Entry (Node BasicBlock Region (OperationContent O T)))) → option_map (λ c. c.data_of) (option_map (λ e. e.content.content) e) ≡ data_in (option_map without_uses (option_map (λ d. AnOperation d.0 d.1) (content_of e)))
-      go None = refl
-      go (Some e) = refl
+  data_is g p = elim (get g.operations p) as (λ e. option_map (λ c. c.data_of) (option_map (λ e. e.content.content) e) ≡ data_in (option_map without_uses (option_map (λ d. AnOperation d.0 d.1) (content_of e)))) [ None ↦ refl | Some e ↦ refl ]
 
   age_bare : (m : ℕ) (c : Option (Content O B T)) → is_older m c ≡ is_older m (option_map without_uses c)
   age_bare m None = refl
