@@ -240,8 +240,9 @@ fn slices(alloc: Global, text: &str) -> Result<String, Fail> {
 
 #[test]
 fn a_stream_goes_by_slices(rt: HostRuntime) -> Result<(), Fail> {
+    let said = slices(rt.alloc(), " \u{3000}\né!=a")?;
     assert_eq!(rt;
-        slices(rt.alloc(), " \u{3000}\né!=a")?.as_str(),
+        said.as_str(),
         "true false line: 2, column: 4 Some('a') false"
     );
     Ok(())
