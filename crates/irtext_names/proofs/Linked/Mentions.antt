@@ -6,9 +6,9 @@ use Rattle.irtext_graph.specs.Chained.{Among}
 use Rattle.irtext_grammar.specs.Names.Script.{Place, User, UnresolvedReference}
 use Rattle.irtext_grammar.specs.Names.Scopes.{uses, defines, fail, link}
 use Rattle.irtext_grammar.specs.Names.TextScopes.{Fact, lookup, bound_in, unresolved}
-use Rattle.irtext_grammar.proofs.Lists.Lists.{among, or_else, or_else-none, lookup-append, add, name_of, names_from, among-new, among-added, among-names}
+use Rattle.irtext_grammar.proofs.Lists.Lists.{among, or_else, or_else-none, add, name_of, names_from, among-new, among-added, among-names}
 use Rattle.irtext_grammar.proofs.Lists.SameText.{same_text_refl, same_text_true}
-use Rattle.irtext_grammar.proofs.Names.PlaceholderMap.{head, unresolved_name}
+use Rattle.irtext_grammar.proofs.Names.PlaceholderMap.{head, unresolved_name, defined_there}
 use Rattle.irtext_names.specs.Linked as linked
 use Rattle.irtext_names.specs.Linked.{is_listed, with_mention, mentioned_from}
 
@@ -141,16 +141,6 @@ undefined_names all ns (f ∷ fs) =
     undefined_names all (add ns (name_of f)) fs
     ∙ (ap (λ o. or_else o (first_of all fs)) (undefined_add all ns (name_of f))
     ∙ or_else_assoc (first_undefined all ns) (undefined_of (lookup (name_of f) all) (name_of f)) (first_of all fs))
-
-defined_there : (n : Text) (p : Place) (pre fs : List Fact) → (q : Place) × (lookup n (pre ++ defines n p ∷ fs) ≡ Some q)
-defined_there n p pre fs = go (lookup n pre) refl
-  where
-    last : lookup n (defines n p ∷ fs) ≡ Some p
-    last = ap (λ c. cond c (Some p) (lookup n fs)) (same_text_refl n)
-
-    go : (o : Option Place) → lookup n pre ≡ o → (q : Place) × (lookup n (pre ++ defines n p ∷ fs) ≡ Some q)
-    go None e = (p, lookup-append n pre (defines n p ∷ fs) ∙ (ap (λ o. or_else o (lookup n (defines n p ∷ fs))) e ∙ last))
-    go (Some r) e = (r, lookup-append n pre (defines n p ∷ fs) ∙ ap (λ o. or_else o (lookup n (defines n p ∷ fs))) e)
 
 -- the first use without definition, among the facts after others
 first_unresolved : (a : ℕ) (all pre fs : List Fact) → all ≡ pre ++ fs → head (unresolved a all fs) ≡ option_map (unresolved_name a) (first_of all fs)
