@@ -1,4 +1,4 @@
-//! Numbers with a range, in decimal digits without a sign.
+//! Numbers in decimal digits without a sign: those of a range, and values of any type that are made of such numbers.
 ghost use Rattle.std.specs.Prelude.{◌≡◌, ◌^◌, ℕ, true, nat_lt, nat_eq, Option, OnOk, ◌++◌, string_bytes, decimal};
 ghost use Rattle.std.specs.Cmp.{on_equiv, on_per, partial_equiv_from_equiv, nat_eq_equiv};
 ghost use Rattle.std.specs.Hash as fed;
