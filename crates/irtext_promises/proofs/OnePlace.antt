@@ -173,40 +173,34 @@ module _ {O B T : Type 0} (g : GraphView O B T) (nest : Nested (children g) (par
     bl_same : (a b : Ptr BasicBlock) → TheBlock a ≡ TheBlock b → a ≡ b
     bl_same a b e = cc
 
+    -- two kinds of places have no place in common
+    never_both : (make other : Path → Place) → ((x y : Path) → make x ≡ other y → ⊥) → (q : Place) (x y : Option Path) → option_map make x ≡ Some q → option_map other y ≡ Some q → ⊥
+    never_both make other apart q None y e f = cc
+    never_both make other apart q (Some x) None e f = cc
+    never_both make other apart q (Some x) (Some y) e f = apart x y (some_eq e ∙ sym (some_eq f))
+
+    -- an object and a number of one place are one object and one number
+    same_owner : (make : Path → ℕ → Place) → ((x y : Path) (i j : ℕ) → make x i ≡ make y j → (x ≡ y) × (i ≡ j)) → (o k : Object) (i j : ℕ) (q : Place) → option_map (λ r. make r i) (path_of all o) ≡ Some q → option_map (λ r. make r j) (path_of all k) ≡ Some q
+        → (o ≡ k) × (i ≡ j)
+    same_owner make alike o k i j q e f = go (path_of all o) refl (path_of all k) refl e f
+      where
+        go : (x : Option Path) → path_of all o ≡ x → (y : Option Path) → path_of all k ≡ y → option_map (λ r. make r i) x ≡ Some q → option_map (λ r. make r j) y ≡ Some q → (o ≡ k) × (i ≡ j)
+        go None s y t e f = absurd (cc)
+        go (Some x) s None t e f = absurd (cc)
+        go (Some x) s (Some y) t e f = let same = alike x y i j (some_eq e ∙ sym (some_eq f)) in (same_found o k y (s ∙ ap Some same.0) t, same.1)
+
+    result_alike : (x y : Path) (i j : ℕ) → result x i ≡ result y j → (x ≡ y) × (i ≡ j)
+    result_alike x y i j e = (cc, cc)
+
+    argument_alike : (x y : Path) (i j : ℕ) → argument x i ≡ argument y j → (x ≡ y) × (i ≡ j)
+    argument_alike x y i j e = (cc, cc)
+
     -- a place is that of one value
     pub one_value : (v w : Value) (q : Place) → value_place all v ≡ Some q → value_place all w ≡ Some q → v ≡ w
-    one_value (Result a i) (Result b j) q e f = go (path_of all (TheOperation a)) refl (path_of all (TheOperation b)) refl e f
-      where
-        go : (x : Option Path) → path_of all (TheOperation a) ≡ x → (y : Option Path) → path_of all (TheOperation b) ≡ y → option_map (λ r. result r i) x ≡ Some q → option_map (λ r. result r j) y ≡ Some q → Result a i ≡ Result b j
-        go None s y t e f = absurd (cc)
-        go (Some x) s None t e f = absurd (cc)
-        go (Some x) s (Some y) t e f =
-            let both : result x i ≡ result y j = some_eq e ∙ sym (some_eq f) in
-            let path : x ≡ y = cc in
-            let number : i ≡ j = cc in
-            ap₂ Result (op_same a b (same_found (TheOperation a) (TheOperation b) y (s ∙ ap Some path) t)) number
-    one_value (Argument a i) (Argument b j) q e f = go (path_of all (TheBlock a)) refl (path_of all (TheBlock b)) refl e f
-      where
-        go : (x : Option Path) → path_of all (TheBlock a) ≡ x → (y : Option Path) → path_of all (TheBlock b) ≡ y → option_map (λ r. argument r i) x ≡ Some q → option_map (λ r. argument r j) y ≡ Some q → Argument a i ≡ Argument b j
-        go None s y t e f = absurd (cc)
-        go (Some x) s None t e f = absurd (cc)
-        go (Some x) s (Some y) t e f =
-            let both : argument x i ≡ argument y j = some_eq e ∙ sym (some_eq f) in
-            let path : x ≡ y = cc in
-            let number : i ≡ j = cc in
-            ap₂ Argument (bl_same a b (same_found (TheBlock a) (TheBlock b) y (s ∙ ap Some path) t)) number
-    one_value (Result a i) (Argument b j) q e f = absurd (go (path_of all (TheOperation a)) (path_of all (TheBlock b)) e f)
-      where
-        go : (x y : Option Path) → option_map (λ r. result r i) x ≡ Some q → option_map (λ r. argument r j) y ≡ Some q → ⊥
-        go None y e f = cc
-        go (Some x) None e f = cc
-        go (Some x) (Some y) e f = cc
-    one_value (Argument a i) (Result b j) q e f = absurd (go (path_of all (TheBlock a)) (path_of all (TheOperation b)) e f)
-      where
-        go : (x y : Option Path) → option_map (λ r. argument r i) x ≡ Some q → option_map (λ r. result r j) y ≡ Some q → ⊥
-        go None y e f = cc
-        go (Some x) None e f = cc
-        go (Some x) (Some y) e f = cc
+    one_value (Result a i) (Result b j) q e f = let same = same_owner result result_alike (TheOperation a) (TheOperation b) i j q e f in ap₂ Result (op_same a b same.0) same.1
+    one_value (Argument a i) (Argument b j) q e f = let same = same_owner argument argument_alike (TheBlock a) (TheBlock b) i j q e f in ap₂ Argument (bl_same a b same.0) same.1
+    one_value (Result a i) (Argument b j) q e f = absurd (never_both (λ r. result r i) (λ r. argument r j) (λ x y e. cc) q (path_of all (TheOperation a)) (path_of all (TheBlock b)) e f)
+    one_value (Argument a i) (Result b j) q e f = absurd (never_both (λ r. argument r i) (λ r. result r j) (λ x y e. cc) q (path_of all (TheBlock a)) (path_of all (TheOperation b)) e f)
 
     -- and that of one block
     pub one_block : (a b : Ptr BasicBlock) (q : Place) → block_place all a ≡ Some q → block_place all b ≡ Some q → a ≡ b

@@ -31,11 +31,7 @@ context = record {
     first_place = 1;
     operations = record {
       cells =
-          cell 0 (record {
-            parent = None;
-            children = pointer 0 ∷ [];
-            content = record { data_of = Some (record { id = op_id (id_of (codes "h")); attributes = []; loc = loc_at 25 }); operands = []; successors = []; results = [] };
-          })
+          cell 0 (record { parent = None; children = pointer 0 ∷ []; content = record { data_of = Some (record { id = op_id (id_of (codes "h")); attributes = []; loc = loc_at 25 }); operands = []; successors = []; results = [] } })
           ∷ cell 3 (record {
             parent = Some (pointer 0);
             children = [];

@@ -78,7 +78,7 @@ module _ {T A : Type 0} (c : ContextView T A) (all : List (Object × Path)) wher
         let r = typed_true (suc k) vs types rest (λ i u f. let n : k + suc i ≡ suc k + i = omega arith in subst (λ (m : ℕ). TrueValue (defines (a_value u.number) (at m))) n (true_at (suc i) u f)) h in
         let z : k + 0 ≡ k = omega arith in
         let first : Trues (does_all (acts k ((v.number, t) ∷ filter_map typed_number vs)) x) = subst (λ a. Trues (does_all a x)) (sym (next_acts k (v.number, t) (filter_map typed_number vs)))
-            (record { values = (subst (λ (m : ℕ). TrueValue (defines (a_value v.number) (at m))) z (true_at 0 v refl), r.values); labels = r.labels }) in
+        (record { values = (subst (λ (m : ℕ). TrueValue (defines (a_value v.number) (at m))) z (true_at 0 v refl), r.values); labels = r.labels }) in
         subst (λ (o : Option T). Trues (does_all (acts k (cons_option (option_map (λ (t : T). (v.number, t)) o) (filter_map typed_number vs))) x)) (sym here) first
 
   results_true : (q : Path) (k : ℕ) (vs : List (Typed (Option T))) (types : List T) → map (λ (v : Typed (Option T)). v.of_type) vs ≡ known types
