@@ -1,9 +1,7 @@
 -- Two graphs that differ in one object alone, and in what operations use.
 use Rattle.std.proofs.Common.{◌≡◌, ◌∙◌, ℕ, refl, sym, ap, subst, List, [], Option, Some, None, IsSome, slice_get}
 use Rattle.std.specs.Option.{option_map}
-use Rattle.irtext_graph.specs.declared.arena.Entry.{Entry}
 use Rattle.irtext_graph.specs.declared.object.BasicBlock.{BasicBlock}
-use Rattle.irtext_graph.specs.declared.object.Region.{Region}
 use Rattle.irtext_graph.specs.declared.object.Operation.{Operation}
 use Rattle.irtext_graph.specs.declared.arena.Ptr.{Ptr}
 use Rattle.irtext_graph.specs.declared.object.Object.{Object}
@@ -11,7 +9,7 @@ use Rattle.irtext_graph.specs.declared.object.Object.TheVariants.{TheOperation, 
 use Rattle.irtext_graph.specs.declared.object.Value.TheVariants.{Result, Argument}
 use Rattle.irtext_graph.specs.declared.object.Defined.{Defined}
 use Rattle.irtext_graph.specs.declared.object.Defined.TheVariants.{OfValue, OfBlock}
-use Rattle.irtext_graph.specs.Content.{Typed, Node, Content, Content.{AnOperation, ABlock, ARegion}, OperationContent, BlockContent}
+use Rattle.irtext_graph.specs.Content.{Typed, Content, Content.{AnOperation, ABlock, ARegion}}
 use Rattle.irtext_graph.specs.Erasing.{without_uses, owner}
 use Rattle.irtext_graph.specs.Graph.{GraphView, content, content_of, parent, children, IsLive}
 use Rattle.irtext_graph.specs.Objects.{is_older}

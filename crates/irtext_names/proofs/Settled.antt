@@ -2,7 +2,6 @@
 use Rattle.std.proofs.Common.{◌≡◌, ◌≢◌, ◌∙◌, ℕ, zero, refl, sym, ap, subst, Bool, true, false, cond, map, Option, Some, None, slice_get}
 use Rattle.std.specs.Option.{option_map}
 use Rattle.irtext_graph.specs.declared.arena.Entry.{Entry}
-use Rattle.irtext_graph.specs.declared.arena.Ptr.{Ptr}
 use Rattle.irtext_graph.specs.declared.object.BasicBlock.{BasicBlock}
 use Rattle.irtext_graph.specs.declared.object.Region.{Region}
 use Rattle.irtext_graph.specs.declared.object.Object.{Object}

@@ -1,5 +1,5 @@
 -- Names that are used one after another: what holds after so many of them, for values and for labels alike.
-use Rattle.std.proofs.Common.{◌≡◌, ◌≤◌, ◌<◌, ◌∙◌, ℕ, Option, Some, List, [], ◌∷◌, ◌++◌, true, refl, sym, ap, subst, arith, slice_get, append-nil, append_assoc}
+use Rattle.std.proofs.Common.{◌≡◌, ◌≤◌, ◌∙◌, ℕ, Option, Some, List, [], ◌∷◌, ◌++◌, true, refl, sym, ap, subst, arith, slice_get, append-nil, append_assoc}
 use Rattle.irtext_graph.specs.declared.arena.Ptr.{Ptr}
 use Rattle.irtext_graph.specs.declared.object.BasicBlock.{BasicBlock}
 use Rattle.irtext_graph.specs.declared.object.Value.{Value}
