@@ -1,5 +1,5 @@
 -- What stays live while an operation is made of what its front was parsed as.
-use Rattle.std.proofs.Common.{Result, Ok, Err, IfOk, OnOk, slice_get, ◌≡◌, ◌≤◌, ◌∙◌, ℕ, List, Option, Some, None, sym, ap, subst, arith}
+use Rattle.std.proofs.Common.{Result, Ok, Err, IfOk, OnOk, slice_get, ◌≡◌, ◌≤◌, ◌∙◌, ◌++◌, ℕ, List, [], length, Option, Some, None, refl, sym, ap, subst, arith}
 use Rattle.std.specs.Prelude.{IfSome}
 use Rattle.irtext_context.specs.Context.{ContextView, MakesOperation, KeepsOlder, with_graph}
 use Rattle.irtext_context.specs.declared.base.operation.OperationData.{OperationData}
@@ -13,7 +13,10 @@ use Rattle.irtext_graph.specs.declared.object.Operation.{Operation}
 use Rattle.irtext_graph.specs.declared.object.Object.TheVariants.{TheBlock, TheOperation}
 use Rattle.irtext_graph.specs.declared.object.Value.{Value}
 use Rattle.irtext_parse_spec.specs.Unchanged.{IsThere}
-use Rattle.irtext_parse_nested.specs.Gathered.{KeepsScopes}
+use Rattle.irtext_grammar.specs.Grammar.Tree.{in_order}
+use Rattle.irtext_parse_nested.specs.declared.operation_parts.Gathered.{Gathered}
+use Rattle.irtext_parse_nested.specs.Beginning.{types_made}
+use Rattle.irtext_parse_nested.specs.Gathered.{KeepsScopes, IsNothing}
 use Rattle.irtext_parse_nested.specs.Items.{Names, KeepsLive}
 use Rattle.irtext_parse_nested.proofs.Lasting.{block_stands}
 use Rattle.irtext_parse_nested.proofs.UsedStands.{lasts_then, used_lasts, made_lasts, made_new}
@@ -70,3 +73,12 @@ module _ {T A : Type 0} (old used : ContextView T A) (before names : Names) (all
     pub keeps_placed : (new : ContextView T A) (o : Option (Ptr BasicBlock)) (m : ℕ) → m ≤ old.graph.made → IfSome o (λ b. IsNew m old.graph (TheBlock b)) → KeepsOlder m used made
         → (IfSome o (λ b. IsNew m made.graph (TheBlock b)) → IsNew m made.graph (TheOperation op) → KeepsOlder m made new) → KeepsOlder m old new
     keeps_placed new o m le n k f = keeps_then m old used new (keeps_used m le) (keeps_then m used made new k (f (block_newer m le o n) (made_new used made op held types makes m (used_more m le))))
+
+module _ {T A : Type 0} where
+  -- what was made of nothing has no results, operands and successors
+  pub bare_makes : (old made : ContextView T A) (op : Ptr Operation) (held : OperationData A) (x : Gathered T A) → IsNothing x → MakesOperation old made op held [] [] []
+      → MakesOperation old made op held (types_made x.types.items x.listed) (in_order x.operands.single.items ++ x.operands.list.items) (in_order x.successors.single.items ++ x.successors.list.items)
+  bare_makes old made op held x n k = rw (n.types.0, n.types.1, n.operands.0, n.operands.1, n.successors.0, n.successors.1) k
+
+  pub bare_count : (x : Gathered T A) → IsNothing x → 0 ≡ length (types_made x.types.items x.listed)
+  bare_count x n = rw (n.types.0, n.types.1) refl
