@@ -2,7 +2,7 @@
 //! the expected text of the operation, and has to parse back.
 
 use crate::directives::format_of;
-use crate::said::{Ctx, fate_of, print_of};
+use crate::said::{Ctx, print_of};
 use irtext_demo::DemoAttr;
 use irtext_demo::dialects::register_demo;
 use pliron_text::base::{Context, OpId};
@@ -71,7 +71,20 @@ fn fate(alloc: Global, words: &str, text: &str, wanted: &str) -> Result<&'static
     if !first.as_str().contains(wanted) {
         return Ok("wrong: it is printed otherwise");
     }
-    fate_of(first.as_str(), "back", |text| print(alloc, words, text))
+    let Some(second) = print(alloc, words, first.as_str())? else {
+        return Ok("wrong: its print is not printed");
+    };
+    if second.as_str() == first.as_str() {
+        return Ok("back");
+    }
+    let Some(third) = print(alloc, words, second.as_str())? else {
+        return Ok("wrong: its second print is not printed");
+    };
+    Ok(if third.as_str() == second.as_str() {
+        "filled"
+    } else {
+        "wrong: its second print is printed otherwise"
+    })
 }
 
 /// Checks a row. If it has only a format, returns why that is rejected, or `accepted`.

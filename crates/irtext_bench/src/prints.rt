@@ -1,7 +1,7 @@
 //! Texts that are parsed and printed, and whose printed texts are parsed and printed again, each with a new context; and each also with
 //! a context that already contains a root.
 
-use crate::said::{Ctx, Said, erase, fate_of, print_of, printed, read, refused, said_of};
+use crate::said::{Ctx, Said, erase, print_of, printed, read, refused, said_of};
 use irtext_demo::dialects::register_demo;
 use pliron_text::base::{Context, Operation, Ptr};
 use std::alloc::{AllocError, Global};
@@ -47,7 +47,20 @@ fn print_again(alloc: Global, print: &str) -> Result<Option<String>, AllocError>
 
 /// Checks a printed text. Returns `same` if it is printed unchanged, `filled` if the print of that is.
 fn fate(alloc: Global, first: &str) -> Result<&'static str, AllocError> {
-    fate_of(first, "same", |text| print_again(alloc, text))
+    let Some(second) = print_again(alloc, first)? else {
+        return Ok("wrong: its print is not printed");
+    };
+    if second.as_str() == first {
+        return Ok("same");
+    }
+    let Some(third) = print_again(alloc, second.as_str())? else {
+        return Ok("wrong: its second print is not printed");
+    };
+    Ok(if third.as_str() == second.as_str() {
+        "filled"
+    } else {
+        "wrong: its second print is printed otherwise"
+    })
 }
 
 /// Returns the line for a text with this result.

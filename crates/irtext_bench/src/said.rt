@@ -87,27 +87,3 @@ pub fn print_of(alloc: Global, ctx: &mut Ctx, text: &str) -> Result<Option<Strin
         _ => Ok(None),
     }
 }
-
-/// Checks a printed text by printing it again. Returns this word if it is printed unchanged, `filled` if the print of that is.
-pub fn fate_of<F: Fn(&str) -> Result<Option<String>, AllocError>>(
-    first: &str,
-    same: &'static str,
-    print: F,
-) -> Result<&'static str, AllocError>
-    requires { F.IsAlwaysCallable print }
-{
-    let Some(second) = print(first)? else {
-        return Ok("wrong: its print is not printed");
-    };
-    if second.as_str() == first {
-        return Ok(same);
-    }
-    let Some(third) = print(second.as_str())? else {
-        return Ok("wrong: its second print is not printed");
-    };
-    Ok(if third.as_str() == second.as_str() {
-        "filled"
-    } else {
-        "wrong: its second print is printed otherwise"
-    })
-}

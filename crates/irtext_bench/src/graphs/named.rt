@@ -1,5 +1,4 @@
 //! Calls on names and a graph together.
-ghost use Rattle.std.specs.Prelude.{◌<◌, length};
 ghost use Rattle.irtext_names.specs.Tied.{MatchesGraph};
 
 use crate::graphs::names::texts;
@@ -89,6 +88,28 @@ fn define_number(names: &mut Names, graph: &mut Measured, name: usize) -> bool
     ssa_def(names, graph, name, def).is_ok()
 }
 
+/// Creates an operation with one result, and defines a name as that result.
+fn define(names: &mut Names, graph: &mut Measured, text: &str) -> bool
+    requires { MatchesGraph names.old.values names.old.labels graph.old }
+    ensures { MatchesGraph names.new.values names.new.labels graph.new }
+{
+    match names.intern(text) {
+        Ok(name) => define_number(names, graph, name),
+        Err(_) => false,
+    }
+}
+
+/// Uses a name.
+fn use_name(names: &mut Names, graph: &mut Measured, text: &str) -> bool
+    requires { MatchesGraph names.old.values names.old.labels graph.old }
+    ensures { MatchesGraph names.new.values names.new.labels graph.new }
+{
+    let Ok(name) = names.intern(text) else {
+        return false;
+    };
+    names.has_value_scope() && ssa_opd(names, graph, name).is_ok()
+}
+
 /// Creates an operation that uses the name with this number.
 fn use_number(names: &mut Names, graph: &mut Measured, name: usize) -> bool
     requires { MatchesGraph names.old.values names.old.labels graph.old }
@@ -103,6 +124,17 @@ fn use_number(names: &mut Names, graph: &mut Measured, name: usize) -> bool
     graph
         .make_operation(Some(1), Few::none(), &[value], &[])
         .is_ok()
+}
+
+/// Creates an operation that uses a name.
+fn use_by(names: &mut Names, graph: &mut Measured, text: &str) -> bool
+    requires { MatchesGraph names.old.values names.old.labels graph.old }
+    ensures { MatchesGraph names.new.values names.new.labels graph.new }
+{
+    match names.intern(text) {
+        Ok(name) => use_number(names, graph, name),
+        Err(_) => false,
+    }
 }
 
 /// Creates a block, and checks that it is live.
@@ -134,19 +166,26 @@ fn define_label_number(names: &mut Names, graph: &mut Measured, name: usize) -> 
     block_def(names, graph, name, made).is_ok()
 }
 
-/// Makes this call for the name with this number.
-fn call_number(names: &mut Names, graph: &mut Measured, call: Call, name: usize) -> bool
-    requires tied { MatchesGraph names.old.values names.old.labels graph.old }
-    requires known { name < length names.old.names }
+/// Creates a block, and defines a label as that block.
+fn define_label(names: &mut Names, graph: &mut Measured, text: &str) -> bool
+    requires { MatchesGraph names.old.values names.old.labels graph.old }
     ensures { MatchesGraph names.new.values names.new.labels graph.new }
 {
-    match call {
-        Call::Define => define_number(names, graph, name),
-        Call::Use => names.has_value_scope() && ssa_opd(names, graph, name).is_ok(),
-        Call::UseBy => use_number(names, graph, name),
-        Call::DefineLabel => define_label_number(names, graph, name),
-        _ => names.has_label_scope() && block_opd(names, graph, name, 0).is_ok(),
+    match names.intern(text) {
+        Ok(name) => define_label_number(names, graph, name),
+        Err(_) => false,
     }
+}
+
+/// Uses a label.
+fn use_label(names: &mut Names, graph: &mut Measured, text: &str) -> bool
+    requires { MatchesGraph names.old.values names.old.labels graph.old }
+    ensures { MatchesGraph names.new.values names.new.labels graph.new }
+{
+    let Ok(name) = names.intern(text) else {
+        return false;
+    };
+    names.has_label_scope() && block_opd(names, graph, name, 0).is_ok()
 }
 
 /// Makes this call for one name.
@@ -158,13 +197,12 @@ fn call_one(names: &mut Names, graph: &mut Measured, call: Call, text: &str) -> 
         Call::Skip => true,
         Call::Mention => mention(names, graph, text),
         Call::Make => make(names, graph),
+        Call::Define => define(names, graph, text),
+        Call::Use => use_name(names, graph, text),
+        Call::UseBy => use_by(names, graph, text),
         Call::MakeBlock => make_block(names, graph),
-        Call::Define | Call::Use | Call::UseBy | Call::DefineLabel | Call::UseLabel => {
-            match names.intern(text) {
-                Ok(name) => call_number(names, graph, call, name),
-                Err(_) => false,
-            }
-        }
+        Call::DefineLabel => define_label(names, graph, text),
+        Call::UseLabel => use_label(names, graph, text),
     }
 }
 

@@ -5,40 +5,22 @@ use irtext_tests_roots::reading::{root, whole};
 use std::alloc::Global;
 use std::test::Fail;
 
-/// The expected result for a text that is broken at an offset: each row begins where the one before it ends, and its first part is the
-/// offset at which it ends.
+/// The expected result for a text that is broken at an offset.
 #[derive(Clone, Copy)]
-pub(crate) enum Row {
-    /// It is parsed, and printed as the text of this number.
-    Read(usize, usize),
+pub(crate) enum Outcome {
+    /// It is parsed, and printed as this text.
+    Read(&'static str),
     /// The character there is unexpected; this names what is expected.
-    Here(usize, &'static str),
+    Here(&'static str),
     /// These words, and after them the word from the first offset to the place where the text is broken. The fault is at the
     /// second offset.
-    Word(usize, &'static str, usize, usize),
+    Word(&'static str, usize, usize),
     /// The fault is at this offset, with these words.
-    At(usize, usize, &'static str),
+    At(usize, &'static str),
 }
 
-impl Row {
-    /// The offset at which the row ends.
-    fn end(self) -> usize {
-        match self {
-            Row::Read(end, _) | Row::Here(end, _) | Row::Word(end, _, _, _) | Row::At(end, _, _) =>
-                end,
-        }
-    }
-}
-
-/// The rows of what every such text begins with: `builtin.module @`, and a letter.
-const MODULE: &[Row] = &[
-    Row::Here(1, "operation"),
-    Row::Here(8, "`.`"),
-    Row::Here(9, "identifier"),
-    Row::Word(14, "Unregistered Op ", 0, 0),
-    Row::Here(16, "`@`"),
-    Row::Here(17, "identifier"),
-];
+/// The expected result for a text that is broken at an offset from the first up to, and without, the second.
+pub(crate) type Row = (usize, usize, Outcome);
 
 /// How a text is broken.
 #[derive(Clone, Copy)]
@@ -55,15 +37,6 @@ impl Break {
         match self {
             Break::End => "end of input",
             Break::Character => "`#`",
-        }
-    }
-
-    /// The number of offsets at which a text can be broken so.
-    fn num_places(self, text: &str) -> usize {
-        let count = text.chars().count();
-        match self {
-            Break::End => count.saturating_add(1),
-            Break::Character => count,
         }
     }
 }
@@ -114,22 +87,22 @@ fn place(alloc: Global, text: &str, at: usize) -> Result<String, Fail> {
 }
 
 /// The expected text of the result for the text that is broken at an offset.
-fn wanted(alloc: Global, text: &str, at: usize, way: Break, row: Row) -> Result<String, Fail> {
+fn wanted(alloc: Global, text: &str, at: usize, way: Break, row: Outcome) -> Result<String, Fail> {
     // a fault is uncommitted if nothing was consumed
     let mark = if at == 0 { "" } else { "!" };
     match row {
-        Row::Read(_, _) => Ok(String::from_str(alloc, "read")?),
-        Row::Here(_, expected) => {
+        Outcome::Read(_) => Ok(String::from_str(alloc, "read")?),
+        Outcome::Here(expected) => {
             let place = place(alloc, text, at)?;
             let found = way.found();
             Ok(format!(in alloc; "{place}: Unexpected {found}, expected {expected}{mark}")?)
         }
-        Row::Word(_, words, from, where_it_stands) => {
+        Outcome::Word(words, from, where_it_stands) => {
             let place = place(alloc, text, where_it_stands)?;
             let word = between(alloc, text, from, at)?;
             Ok(format!(in alloc; "{place}: {words}{word}!")?)
         }
-        Row::At(_, offset, words) => {
+        Outcome::At(offset, words) => {
             let place = place(alloc, text, offset)?;
             Ok(format!(in alloc; "{place}: {words}!")?)
         }
@@ -143,51 +116,49 @@ fn printed(alloc: Global, ctx: &mut Ctx, text: &str) -> Result<String, Fail> {
 }
 
 /// Whether a broken text that is expected to be parsed is printed as it has to be, in a context of its own.
-fn is_printed(alloc: Global, broken: &str, row: Row, texts: &[&str]) -> Result<bool, Fail> {
-    let Row::Read(_, number) = row else {
+fn is_printed(alloc: Global, broken: &str, row: Outcome) -> Result<bool, Fail> {
+    let Outcome::Read(wanted) = row else {
         return Ok(true);
     };
     let text = with_demo(alloc, |alloc, ctx| printed(alloc, ctx, broken))?;
-    Ok(matches!(texts.get(number), Some(wanted) if text.as_str() == *wanted))
-}
-
-/// A text that is broken in one way, and the printed texts of what is parsed.
-#[derive(Clone, Copy)]
-struct Broken<'t> {
-    text: &'t str,
-    way: Break,
-    printed: &'t [&'t str],
+    Ok(text.as_str() == wanted)
 }
 
 /// Whether the text that is broken at an offset has the expected result, and an error leaves everything unchanged.
-fn holds(alloc: Global, of: Broken<'_>, at: usize, row: Row) -> Result<bool, Fail> {
-    let broken = broken(alloc, of.text, at, of.way)?;
-    let wanted = wanted(alloc, of.text, at, of.way, row)?;
+fn holds(alloc: Global, text: &str, at: usize, way: Break, row: Outcome) -> Result<bool, Fail> {
+    let broken = broken(alloc, text, at, way)?;
+    let wanted = wanted(alloc, text, at, way, row)?;
     let said = with_demo(alloc, |alloc, ctx| said(alloc, ctx, broken.as_str()))?;
-    Ok(said.as_str() == wanted.as_str() && is_printed(alloc, broken.as_str(), row, of.printed)?)
+    Ok(said.as_str() == wanted.as_str() && is_printed(alloc, broken.as_str(), row)?)
 }
 
-/// The first offset that has another result than its row, or no row, for a text that begins with a module and then has these rows: the last row ends after the last offset.
+/// The first offset of a row with another result.
+fn differing_in(alloc: Global, text: &str, way: Break, row: Row) -> Result<Option<usize>, Fail> {
+    for at in row.0..row.1 {
+        if !holds(alloc, text, at, way, row.2)? {
+            return Ok(Some(at));
+        }
+    }
+    Ok(None)
+}
+
+/// The first offset that has another result than its row, or no row: the rows have to follow one another from 0 up to the end.
 pub(crate) fn differing(
     alloc: Global,
     text: &str,
     way: Break,
     rows: &[Row],
-    printed: &[&str],
+    end: usize,
 ) -> Result<Option<usize>, Fail> {
-    let of = Broken { text, way, printed };
     let mut next = 0;
-    for row in MODULE.iter().chain(rows) {
-        for at in next..row.end() {
-            if !holds(alloc, of, at, *row)? {
-                return Ok(Some(at));
-            }
+    for row in rows {
+        if row.0 != next {
+            return Ok(Some(next));
         }
-        next = row.end();
+        if let Some(at) = differing_in(alloc, text, way, *row)? {
+            return Ok(Some(at));
+        }
+        next = row.1;
     }
-    Ok(if next == way.num_places(text) {
-        None
-    } else {
-        Some(next)
-    })
+    Ok(if next == end { None } else { Some(next) })
 }

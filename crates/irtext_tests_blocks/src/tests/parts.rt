@@ -22,7 +22,11 @@ pub(crate) fn block(
 }
 
 /// The operation of an index in a block.
-fn operation(ctx: &Ctx, block: Ptr<BasicBlock>, index: usize) -> Result<Ptr<Operation>, Fail> {
+pub(crate) fn operation(
+    ctx: &Ctx,
+    block: Ptr<BasicBlock>,
+    index: usize,
+) -> Result<Ptr<Operation>, Fail> {
     if !ctx.contains_block(block) || index >= block.num_operations(ctx) {
         return Err(Fail::from("no such operation"));
     }

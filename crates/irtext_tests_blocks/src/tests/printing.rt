@@ -1,7 +1,5 @@
 //! Roots with blocks that were parsed, printed under a limit, with another layout, without locations, and with a state used before.
 use crate::tests::parts::at;
-use irtext_context::base::Item;
-use irtext_tests_common::building::erase;
 use irtext_tests_common::contexts::{Ctx, with_demo};
 use irtext_tests_roots::reading::{concrete, root, whole};
 use pliron_text::base::{Operation, Ptr};
@@ -66,9 +64,9 @@ fn layouts_hold_inside(rt: HostRuntime) -> Result<(), Fail> {
 /// The text that is appended with a state that is passed as `&mut`.
 fn appended(
     alloc: Global,
-    state: &mut State<()>,
     ctx: &Ctx,
     op: Ptr<Operation>,
+    state: &mut State<()>,
 ) -> Result<String, Fail> {
     if !ctx.contains_operation(op) {
         return Err(Fail::from("no such operation"));
@@ -78,14 +76,26 @@ fn appended(
     Ok(text)
 }
 
+/// Erases an operation.
+fn erased(ctx: &mut Ctx, op: Ptr<Operation>) -> Result<(), Fail> {
+    if !ctx.contains_operation(op) {
+        return Err(Fail::from("no such operation"));
+    }
+    if !op.can_erase(ctx) {
+        return Err(Fail::from("it is used"));
+    }
+    op.erase(ctx);
+    Ok(())
+}
+
 /// Whether an item (an operation or a block with a mark) that was printed and then erased keeps its index and has no entry.
 fn with_one_state(alloc: Global, ctx: &mut Ctx) -> Result<bool, Fail> {
     let op = root(ctx, BRANCHES).ok_or("refused")?;
     let first = at(ctx, op, &[(0, 0, 0)])?;
     let mut state: State<()> = State::new(alloc, ());
-    let branch = appended(alloc, &mut state, ctx, first)?;
-    erase(ctx, Item::Operation(first))?;
-    let behind = appended(alloc, &mut state, ctx, op)?;
+    let branch = appended(alloc, ctx, first, &mut state)?;
+    erased(ctx, first)?;
+    let behind = appended(alloc, ctx, op, &mut state)?;
     Ok(branch.as_str() == "test.br ^b_block3v1 !0" && behind.as_str() == BEHIND)
 }
 

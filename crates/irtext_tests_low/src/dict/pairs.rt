@@ -134,19 +134,13 @@ fn step(alloc: Global, dictionary: &mut AttributeDict<()>, number: usize) -> Res
 }
 
 /// The number of the first step with another text than expected, with a dictionary of its own.
-pub fn first_differing<F: Fn(Global, &mut AttributeDict<()>, usize) -> Result<String, Fail>>(
-    alloc: Global,
-    wanted: &[&str],
-    step: F,
-) -> Result<Option<usize>, Fail>
-    requires { F.IsAlwaysCallable step }
-{
+fn first_differing(alloc: Global) -> Result<Option<usize>, Fail> {
     let mut dictionary: AttributeDict<()> = AttributeDict::new(alloc);
-    differing(alloc, wanted, &mut dictionary, step)
+    differing(alloc, STEPS, &mut dictionary, step)
 }
 
 #[test]
 fn pairs_are_put_replaced_and_taken_out(rt: HostRuntime) -> Result<(), Fail> {
-    assert_eq!(rt; first_differing(rt.alloc(), STEPS, step)?, None);
+    assert_eq!(rt; first_differing(rt.alloc())?, None);
     Ok(())
 }

@@ -19,44 +19,45 @@ enum Reader {
     Lines,
 }
 
-/// Parsers, and texts with the result for the list that each begins with.
-const LISTS: &[(Reader, &[(&str, &str)])] = &[
+/// Parsers, texts, and the result for the list that each text begins with.
+const LISTS: &[(Reader, &str, &str)] = &[
     (
         Reader::Commas,
-        &[
-            ("1 , 2 ,3 x", "[1, 2, 3], line: 1, column: 10: Some('x')"),
-            ("", "[], line: 1, column: 1: None"),
-        ],
+        "1 , 2 ,3 x",
+        "[1, 2, 3], line: 1, column: 10: Some('x')",
+    ),
+    (Reader::Commas, "", "[], line: 1, column: 1: None"),
+    (Reader::Brackets, "[ ]", "[], line: 1, column: 4: None"),
+    (
+        Reader::Brackets,
+        "[\n1 ,\n2]",
+        "[1, 2], line: 3, column: 3: None",
     ),
     (
         Reader::Brackets,
-        &[
-            ("[ ]", "[], line: 1, column: 4: None"),
-            ("[\n1 ,\n2]", "[1, 2], line: 3, column: 3: None"),
-            (
-                "[1,]",
-                "line: 1, column: 4: Unexpected `]`, expected digit!",
-            ),
-            (
-                "[1\n2]",
-                "line: 2, column: 1: Unexpected `2`, expected `]`!",
-            ),
-            (
-                "x",
-                "line: 1, column: 1: Unexpected `x`, expected `[`|Some('x')",
-            ),
-        ],
+        "[1,]",
+        "line: 1, column: 4: Unexpected `]`, expected digit!",
+    ),
+    (
+        Reader::Brackets,
+        "[1\n2]",
+        "line: 2, column: 1: Unexpected `2`, expected `]`!",
+    ),
+    (
+        Reader::Brackets,
+        "x",
+        "line: 1, column: 1: Unexpected `x`, expected `[`|Some('x')",
     ),
     (
         Reader::Items,
-        &[
-            ("  1 2  3 x", "[1, 2, 3], line: 1, column: 10: Some('x')"),
-            ("   ", "[], line: 1, column: 4: None"),
-        ],
+        "  1 2  3 x",
+        "[1, 2, 3], line: 1, column: 10: Some('x')",
     ),
+    (Reader::Items, "   ", "[], line: 1, column: 4: None"),
     (
         Reader::Empty,
-        &[(" x", "line: 1, column: 2: Repeated item reads nothing!")],
+        " x",
+        "line: 1, column: 2: Repeated item reads nothing!",
     ),
 ];
 
@@ -103,11 +104,8 @@ fn read_text(alloc: Global, reader: Reader, text: &str) -> Result<String, Fail> 
 
 #[test]
 fn lists_of_a_text(rt: HostRuntime) -> Result<(), Fail> {
-    for (reader, rows) in LISTS {
-        for (text, wanted) in rows.iter() {
-            let said = read_text(rt.alloc(), *reader, text)?;
-            assert_eq!(rt; said.as_str(), *wanted);
-        }
+    for row in LISTS {
+        assert_eq!(rt; read_text(rt.alloc(), row.0, row.1)?.as_str(), row.2);
     }
     Ok(())
 }

@@ -33,154 +33,156 @@ enum Kind {
     Truth,
 }
 
-/// What is parsed, and texts with the result for each.
-const READ: &[(Kind, &[(&str, &str)])] = &[
+/// What a text is parsed as, the text, and the result.
+const READ: &[(Kind, &str, &str)] = &[
+    (Kind::I8, "-128", "-128"),
+    (Kind::I8, "127", "127"),
     (
         Kind::I8,
-        &[
-            ("-128", "-128"),
-            ("127", "127"),
-            ("-129", "line: 1, column: 1: Number out of range: -129!"),
-        ],
+        "-129",
+        "line: 1, column: 1: Number out of range: -129!",
     ),
     (
         Kind::I32,
-        &[
-            ("- 1", "line: 1, column: 2: Unexpected ` `, expected digit!"),
-            (
-                "",
-                "line: 1, column: 1: Unexpected end of input, expected digit",
-            ),
-            ("-2147483648", "-2147483648"),
-            ("+2147483647", "2147483647"),
-            (
-                "2147483648",
-                "line: 1, column: 1: Number out of range: 2147483648!",
-            ),
-            ("-0", "0"),
-        ],
+        "- 1",
+        "line: 1, column: 2: Unexpected ` `, expected digit!",
+    ),
+    (
+        Kind::I32,
+        "",
+        "line: 1, column: 1: Unexpected end of input, expected digit",
     ),
     (
         Kind::U32,
-        &[("-1", "line: 1, column: 1: Number out of range: -1!")],
+        "-1",
+        "line: 1, column: 1: Number out of range: -1!",
     ),
-    (Kind::I16, &[("-32768", "-32768")]),
+    (Kind::I16, "-32768", "-32768"),
     (
         Kind::I64,
-        &[(
-            "9223372036854775808",
-            "line: 1, column: 1: Number out of range: 9223372036854775808!",
-        )],
+        "9223372036854775808",
+        "line: 1, column: 1: Number out of range: 9223372036854775808!",
     ),
-    (
-        Kind::Isize,
-        &[("-9223372036854775808", "-9223372036854775808")],
-    ),
+    (Kind::Isize, "-9223372036854775808", "-9223372036854775808"),
     (
         Kind::U8,
-        &[("256", "line: 1, column: 1: Number out of range: 256!")],
+        "256",
+        "line: 1, column: 1: Number out of range: 256!",
     ),
-    (Kind::U16, &[("+065535", "65535")]),
-    (
-        Kind::U64,
-        &[("18446744073709551615", "18446744073709551615")],
-    ),
+    (Kind::U16, "+065535", "65535"),
+    (Kind::U64, "18446744073709551615", "18446744073709551615"),
     (
         Kind::Usize,
-        &[
-            (
-                "18446744073709551616",
-                "line: 1, column: 1: Number out of range: 18446744073709551616!",
-            ),
-            ("0", "0"),
-            ("+0042x", "42"),
-            ("18446744073709551615", "18446744073709551615"),
-            ("-0", "line: 1, column: 1: Number out of range: -0!"),
-            (
-                "",
-                "line: 1, column: 1: Unexpected end of input, expected digit",
-            ),
-            ("+x", "line: 1, column: 2: Unexpected `x`, expected digit!"),
-        ],
+        "18446744073709551616",
+        "line: 1, column: 1: Number out of range: 18446744073709551616!",
+    ),
+    (Kind::HexU64, "0xff", "255"),
+    (Kind::HexU64, "0xDEAD", "57005"),
+    (
+        Kind::HexU64,
+        "0x",
+        "line: 1, column: 3: Unexpected end of input, expected hexadecimal digit!",
     ),
     (
         Kind::HexU64,
-        &[
-            ("0xff", "255"),
-            ("0xDEAD", "57005"),
-            (
-                "0x",
-                "line: 1, column: 3: Unexpected end of input, expected hexadecimal digit!",
-            ),
-            ("ff", "line: 1, column: 1: Unexpected `f`, expected `0x`"),
-            ("0y1", "line: 1, column: 2: Unexpected `y`, expected `0x`!"),
-            (
-                "0xg",
-                "line: 1, column: 3: Unexpected `g`, expected hexadecimal digit!",
-            ),
-        ],
+        "ff",
+        "line: 1, column: 1: Unexpected `f`, expected `0x`",
     ),
-    (Kind::HexI64, &[("0x1234", "4660")]),
-    (Kind::HexUsize, &[("0xABCDEF", "11259375")]),
-    (Kind::HexU32, &[("0xCAFE", "51966")]),
+    (
+        Kind::HexU64,
+        "0y1",
+        "line: 1, column: 2: Unexpected `y`, expected `0x`!",
+    ),
+    (
+        Kind::HexU64,
+        "0xg",
+        "line: 1, column: 3: Unexpected `g`, expected hexadecimal digit!",
+    ),
+    (Kind::HexI64, "0x1234", "4660"),
+    (Kind::HexUsize, "0xABCDEF", "11259375"),
+    (Kind::HexU32, "0xCAFE", "51966"),
+    (Kind::HexU8, "0x7f", "127"),
     (
         Kind::HexU8,
-        &[
-            ("0x7f", "127"),
-            ("0x100", "line: 1, column: 1: Number out of range: 0x100!"),
-        ],
+        "0x100",
+        "line: 1, column: 1: Number out of range: 0x100!",
     ),
     (
         Kind::HexU16,
-        &[(
-            "0x10000",
-            "line: 1, column: 1: Number out of range: 0x10000!",
-        )],
+        "0x10000",
+        "line: 1, column: 1: Number out of range: 0x10000!",
+    ),
+    (Kind::Usize, "0", "0"),
+    (Kind::Usize, "+0042x", "42"),
+    (Kind::Usize, "18446744073709551615", "18446744073709551615"),
+    (
+        Kind::Usize,
+        "-0",
+        "line: 1, column: 1: Number out of range: -0!",
+    ),
+    (
+        Kind::Usize,
+        "",
+        "line: 1, column: 1: Unexpected end of input, expected digit",
+    ),
+    (
+        Kind::Usize,
+        "+x",
+        "line: 1, column: 2: Unexpected `x`, expected digit!",
+    ),
+    (Kind::I32, "-2147483648", "-2147483648"),
+    (Kind::I32, "+2147483647", "2147483647"),
+    (
+        Kind::I32,
+        "2147483648",
+        "line: 1, column: 1: Number out of range: 2147483648!",
+    ),
+    (Kind::I32, "-0", "0"),
+    (Kind::Text, "0", "0"),
+    (Kind::Text, "42", "42"),
+    (Kind::Text, "+42", "+42"),
+    (Kind::Text, "-42", "-42"),
+    (
+        Kind::Text,
+        "-1606938044258990275541962092341162602522202993782792835301376",
+        "-1606938044258990275541962092341162602522202993782792835301376",
     ),
     (
         Kind::Text,
-        &[
-            ("0", "0"),
-            ("42", "42"),
-            ("+42", "+42"),
-            ("-42", "-42"),
-            (
-                "-1606938044258990275541962092341162602522202993782792835301376",
-                "-1606938044258990275541962092341162602522202993782792835301376",
-            ),
-            (
-                "",
-                "line: 1, column: 1: Unexpected end of input, expected digit",
-            ),
-            (
-                "-",
-                "line: 1, column: 2: Unexpected end of input, expected digit!",
-            ),
-            (
-                "+",
-                "line: 1, column: 2: Unexpected end of input, expected digit!",
-            ),
-            ("x1", "line: 1, column: 1: Unexpected `x`, expected digit"),
-        ],
+        "",
+        "line: 1, column: 1: Unexpected end of input, expected digit",
+    ),
+    (
+        Kind::Text,
+        "-",
+        "line: 1, column: 2: Unexpected end of input, expected digit!",
+    ),
+    (
+        Kind::Text,
+        "+",
+        "line: 1, column: 2: Unexpected end of input, expected digit!",
+    ),
+    (
+        Kind::Text,
+        "x1",
+        "line: 1, column: 1: Unexpected `x`, expected digit",
+    ),
+    (Kind::Truth, "true", "true"),
+    (Kind::Truth, "falsehood", "false"),
+    (
+        Kind::Truth,
+        "no",
+        "line: 1, column: 1: Unexpected `n`, expected true or false",
     ),
     (
         Kind::Truth,
-        &[
-            ("true", "true"),
-            ("falsehood", "false"),
-            (
-                "no",
-                "line: 1, column: 1: Unexpected `n`, expected true or false",
-            ),
-            (
-                "trie",
-                "line: 1, column: 3: Unexpected `i`, expected `true`!",
-            ),
-            (
-                "fals",
-                "line: 1, column: 5: Unexpected end of input, expected `false`!",
-            ),
-        ],
+        "trie",
+        "line: 1, column: 3: Unexpected `i`, expected `true`!",
+    ),
+    (
+        Kind::Truth,
+        "fals",
+        "line: 1, column: 5: Unexpected end of input, expected `false`!",
     ),
 ];
 
@@ -266,10 +268,8 @@ fn behind(alloc: Global, skipped: u8, text: &str) -> Result<String, Fail> {
 
 #[test]
 fn numbers_and_truth_values_of_a_text(rt: HostRuntime) -> Result<(), Fail> {
-    for (kind, rows) in READ {
-        for (text, wanted) in rows.iter() {
-            assert_eq!(rt; read(rt.alloc(), *kind, text)?.as_str(), *wanted);
-        }
+    for row in READ {
+        assert_eq!(rt; read(rt.alloc(), row.0, row.1)?.as_str(), row.2);
     }
     Ok(())
 }

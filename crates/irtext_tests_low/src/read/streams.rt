@@ -240,9 +240,8 @@ fn slices(alloc: Global, text: &str) -> Result<String, Fail> {
 
 #[test]
 fn a_stream_goes_by_slices(rt: HostRuntime) -> Result<(), Fail> {
-    let said = slices(rt.alloc(), " \u{3000}\né!=a")?;
     assert_eq!(rt;
-        said.as_str(),
+        slices(rt.alloc(), " \u{3000}\né!=a")?.as_str(),
         "true false line: 2, column: 4 Some('a') false"
     );
     Ok(())

@@ -4,16 +4,16 @@ use irtext_base::base::{AttrObj, GIVEN_NAMES_KEY, SYM_NAME_KEY};
 use irtext_base::location::Source;
 use irtext_base::result::Result as Answer;
 use irtext_context::base::context::making::Making;
-use irtext_context::base::{BasicBlock, BlockAccess, NewBlock, Operation, OperationAccess, Ptr};
+use irtext_context::base::{
+    BasicBlock, BlockAccess, NewBlock, Operation, OperationAccess, Ptr, Region,
+};
 use irtext_context::location::erase_locations;
 use irtext_demo::{DemoAttr, DemoType};
 use irtext_few::Few;
 use irtext_graph::held::HasGraph;
 use irtext_graph::object::Value;
-use irtext_tests_common::building::{into_block, into_region};
 use irtext_tests_common::contexts::{Ctx, named, with_context, with_counters};
-use irtext_tests_common::tables::failing;
-use std::alloc::Global;
+use std::alloc::{AllocError, Global};
 use std::test::Fail;
 
 /// Makes a block with this many arguments, each a pointer, and without a label.
@@ -93,24 +93,21 @@ const STEPS: &[(Step, bool, &str)] = &[
     (Step::NoLabel, true, "- 3 1 false"),
 ];
 
-/// Whether a step on a block has the expected result.
-fn holds(
-    alloc: Global,
-    ctx: &mut Ctx,
-    block: Ptr<BasicBlock>,
-    row: &(Step, bool, &str),
-) -> Result<bool, Fail> {
-    let allowed = write(alloc, ctx, block, row.0)?;
-    Ok(allowed == row.1 && shown(alloc, ctx, block)?.as_str() == row.2)
-}
-
 /// The first step with another result than expected, for a block that begins with three arguments.
 fn differing(alloc: Global, ctx: &mut Ctx) -> Result<Option<usize>, Fail> {
     let block = made(alloc, ctx, 3)?.ok().ok_or("refused")?;
     if !begins_with_pointer(ctx, block) || shown(alloc, ctx, block)?.as_str() != "- 3 0 true" {
         return Ok(Some(STEPS.len()));
     }
-    failing(STEPS, ctx, |ctx, row| holds(alloc, ctx, block, row))
+    for number in 0..STEPS.len() {
+        let (step, allowed, said) = STEPS[number];
+        if write(alloc, ctx, block, step)? != allowed
+            || shown(alloc, ctx, block)?.as_str() != said
+        {
+            return Ok(Some(number));
+        }
+    }
+    Ok(None)
 }
 
 #[test]
@@ -140,6 +137,38 @@ fn arguments_end_at_the_greatest_number(rt: HostRuntime) -> Result<(), Fail> {
     Ok(())
 }
 
+/// Puts a block into a region, and returns whether it could.
+fn holds_block(
+    ctx: &mut Ctx,
+    region: Ptr<Region>,
+    block: Ptr<BasicBlock>,
+) -> Result<bool, AllocError> {
+    if !ctx.contains_region(region) || !ctx.contains_block(block) {
+        return Ok(false);
+    }
+    if !block.can_insert_at_back(region, ctx) {
+        return Ok(false);
+    }
+    block.insert_at_back(region, ctx)?;
+    Ok(true)
+}
+
+/// Puts an operation into a block, and returns whether it could.
+fn holds_operation(
+    ctx: &mut Ctx,
+    block: Ptr<BasicBlock>,
+    op: Ptr<Operation>,
+) -> Result<bool, AllocError> {
+    if !ctx.contains_block(block) || !ctx.contains_operation(op) {
+        return Ok(false);
+    }
+    if !op.can_insert_at_back(block, ctx) {
+        return Ok(false);
+    }
+    op.insert_at_back(block, ctx)?;
+    Ok(true)
+}
+
 /// Which of three locations are known: those of an operation, of a block in it, and of an operation in the block.
 fn known(
     ctx: &Ctx,
@@ -161,9 +190,10 @@ fn erased_inside(alloc: Global, ctx: &mut Ctx) -> Result<bool, Fail> {
     if !write(alloc, ctx, block, Step::Place)? || !ctx.contains_operation(outer) {
         return Ok(false);
     }
-    ctx.add_region(outer)?;
-    into_region(ctx, block, outer, 0)?;
-    into_block(ctx, inner, block)?;
+    let region = ctx.add_region(outer)?;
+    if !holds_block(ctx, region, block)? || !holds_operation(ctx, block, inner)? {
+        return Ok(false);
+    }
     let before = known(ctx, outer, block, inner);
     if !ctx.contains_operation(outer) {
         return Ok(false);

@@ -7,14 +7,16 @@ use irtext_base::location::Location;
 use irtext_context::base::context::making::Making;
 use irtext_context::base::{Operation, OperationAccess, Ptr};
 use irtext_dict::base::AttributeDict;
-use irtext_tests_common::building::id;
-use irtext_tests_common::contexts::{Ctx, with_context, with_counters};
+use irtext_tests_common::contexts::{Ctx, named, with_context, with_counters};
 use std::alloc::{AllocError, Global};
 use std::test::Fail;
 
 /// The id of modules.
 fn module_id(alloc: Global) -> Result<OpId, Fail> {
-    id(alloc, "builtin", "module")
+    Ok(OpId {
+        dialect: named(alloc, "builtin")?,
+        name: named(alloc, "module")?,
+    })
 }
 
 /// Makes an operation without attributes.
@@ -42,9 +44,6 @@ fn passes(alloc: Global, ctx: &mut Ctx, id: OpId) -> Result<(Ptr<Operation>, u64
     Ok((op, live))
 }
 
-/// What is live after the roll-back.
-const ROLLED_BACK: &str = "true 3 true 2 2 2 2 builtin.module 1 true";
-
 /// Makes a module with a region, and another after a mark to which the context is then rolled back; returns what is live.
 fn rolled_back(alloc: Global, ctx: &mut Ctx) -> Result<String, Fail> {
     let first = make(alloc, ctx, module_id(alloc)?)?;
@@ -65,6 +64,15 @@ fn rolled_back(alloc: Global, ctx: &mut Ctx) -> Result<String, Fail> {
     )?)
 }
 
+#[test]
+fn objects_are_made_kept_and_given_back(rt: HostRuntime) -> Result<(), Fail> {
+    assert_eq!(rt;
+        with_context(rt.alloc(), rolled_back)?.as_str(),
+        "true 3 true 2 2 2 2 builtin.module 1 true"
+    );
+    Ok(())
+}
+
 /// Whether one operation is made, and then another, and the number of live objects.
 fn filled(alloc: Global, ctx: &mut Ctx) -> Result<String, Fail> {
     let first = make(alloc, ctx, module_id(alloc)?).is_ok();
@@ -73,11 +81,9 @@ fn filled(alloc: Global, ctx: &mut Ctx) -> Result<String, Fail> {
 }
 
 #[test]
-fn objects_are_made_and_given_back_while_places_are_left(rt: HostRuntime) -> Result<(), Fail> {
-    let (alloc, last) = (rt.alloc(), u32::MAX - 1);
-    assert_eq!(rt; with_context(alloc, rolled_back)?.as_str(), ROLLED_BACK);
+fn places_end_below_the_greatest_number(rt: HostRuntime) -> Result<(), Fail> {
     assert_eq!(rt;
-        with_counters(alloc, 0, last, filled)?.as_str(),
+        with_counters(rt.alloc(), 0, u32::MAX - 1, filled)?.as_str(),
         "true false 1"
     );
     Ok(())

@@ -1,4 +1,5 @@
 //! Operations of a context that are made with results, operands, successors and regions, or fail.
+use irtext_base::base::OpId;
 use irtext_base::result::Result as Answer;
 use irtext_context::base::{
     BasicBlock, NewBlock, NewOperation, Operation, OperationAccess, Ptr, Value,
@@ -9,9 +10,7 @@ use irtext_few::Few;
 use irtext_graph::held::HasGraph;
 use irtext_graph_queries::operation::OperationParts;
 use irtext_graph_queries::value::ValueUses;
-use irtext_tests_common::building::id;
-use irtext_tests_common::contexts::{Ctx, with_counters, with_demo};
-use irtext_tests_common::tables::failing;
+use irtext_tests_common::contexts::{Ctx, named, with_counters, with_demo};
 use std::alloc::{AllocError, Global};
 use std::test::Fail;
 
@@ -27,11 +26,14 @@ fn byte() -> Option<DemoType> {
 fn answered(
     alloc: Global,
     ctx: &mut Ctx,
-    words: (&str, &str),
+    id: (&str, &str),
     operands: &[Value],
     successors: &[Ptr<BasicBlock>],
 ) -> Result<Answer<Ptr<Operation>, DemoAttr>, Fail> {
-    let id = id(alloc, words.0, words.1)?;
+    let id = OpId {
+        dialect: named(alloc, id.0)?,
+        name: named(alloc, id.1)?,
+    };
     let byte = byte().ok_or("no such width")?;
     if !ctx.graph().contains_values(operands) || !ctx.graph().contains_blocks(successors) {
         return Err(Fail::from("no such value or block"));
@@ -136,26 +138,20 @@ const UNREGISTERED: &[(&str, &str, &str)] = &[
     ("builtin", "other", "Unregistered Op builtin.other"),
 ];
 
-/// Whether an operation of an id that is to use a result has the expected error, and leaves no trace.
-fn is_refused(
-    alloc: Global,
-    ctx: &mut Ctx,
-    used: Value,
-    row: &(&str, &str, &str),
-) -> Result<bool, Fail> {
-    let answer = answered(alloc, ctx, (row.0, row.1), &[used], &[])?;
-    let same = ctx.num_live() == 3 && num_uses(ctx, used) == Some(0);
-    Ok(same && said(alloc, &answer)?.as_str() == row.2)
-}
-
-/// The first id for which this is not so.
+/// The first id for which an operation that is to use a result has another error, or leaves a trace.
 fn differing(alloc: Global, ctx: &mut Ctx) -> Result<Option<usize>, Fail> {
     let used = Value::Result(made(alloc, ctx, &[], &[])?, 0);
-    failing(
-        UNREGISTERED,
-        ctx,
-        |ctx, row| is_refused(alloc, ctx, used, row),
-    )
+    for number in 0..UNREGISTERED.len() {
+        let (dialect, name, cause) = UNREGISTERED[number];
+        let answer = answered(alloc, ctx, (dialect, name), &[used], &[])?;
+        if said(alloc, &answer)?.as_str() != cause
+            || ctx.num_live() != 3
+            || num_uses(ctx, used) != Some(0)
+        {
+            return Ok(Some(number));
+        }
+    }
+    Ok(None)
 }
 
 #[test]

@@ -93,12 +93,13 @@ fn name_arguments(
 
 /// The names of the first four arguments of a block.
 fn argument_names(alloc: Global, ctx: &Ctx, block: Ptr<BasicBlock>) -> Result<String, Fail> {
-    let argument = |index| Value::Argument(block, index);
-    value_names(
-        alloc,
-        ctx,
-        &[argument(0), argument(1), argument(2), argument(3)],
-    )
+    let values = [
+        Value::Argument(block, 0),
+        Value::Argument(block, 1),
+        Value::Argument(block, 2),
+        Value::Argument(block, 3),
+    ];
+    value_names(alloc, ctx, &values)
 }
 
 /// The names of a block's three arguments, without given names and with two, of which one is left out.
@@ -108,6 +109,15 @@ fn of_arguments(alloc: Global, ctx: &mut Ctx) -> Result<String, Fail> {
     name_arguments(alloc, ctx, block, &[None, Some("x")])?;
     let with = argument_names(alloc, ctx, block)?;
     Ok(format!(in alloc; "{without}| {with}")?)
+}
+
+#[test]
+fn arguments_have_their_blocks_names(rt: HostRuntime) -> Result<(), Fail> {
+    assert_eq!(rt;
+        with_context(rt.alloc(), of_arguments)?.as_str(),
+        "v0 v1 v2 - | v0 x_v1 v2 - "
+    );
+    Ok(())
 }
 
 /// The data of a module whose first result has the name `c0`.
@@ -148,6 +158,15 @@ fn of_results(alloc: Global, ctx: &mut Ctx) -> Result<String, Fail> {
     value_names(alloc, ctx, &values)
 }
 
+#[test]
+fn results_have_their_operations_names(rt: HostRuntime) -> Result<(), Fail> {
+    assert_eq!(rt;
+        with_context(rt.alloc(), of_results)?.as_str(),
+        "c0_v0 v1 - v2 "
+    );
+    Ok(())
+}
+
 /// Erases a block, if nothing uses it.
 fn erase(ctx: &mut Ctx, block: Ptr<BasicBlock>) {
     if ctx.contains_block(block) && block.can_erase(ctx) {
@@ -170,16 +189,14 @@ fn of_blocks(alloc: Global, ctx: &mut Ctx) -> Result<String, Fail> {
 }
 
 #[test]
-fn values_and_blocks_have_names_of_their_own(rt: HostRuntime) -> Result<(), Fail> {
-    let alloc = rt.alloc();
+fn blocks_have_their_place_and_generation(rt: HostRuntime) -> Result<(), Fail> {
     assert_eq!(rt;
-        with_context(alloc, of_arguments)?.as_str(),
-        "v0 v1 v2 - | v0 x_v1 v2 - "
+        with_context(rt.alloc(), of_blocks)?.as_str(),
+        "block1v1 - entry_block2v1 block1v2 v1"
     );
-    assert_eq!(rt; with_context(alloc, of_results)?.as_str(), "c0_v0 v1 - v2 ");
-    let first = with_context(alloc, of_blocks)?;
-    assert_eq!(rt; first.as_str(), "block1v1 - entry_block2v1 block1v2 v1");
-    let later = with_counters(alloc, 7, 40, of_blocks)?;
-    assert_eq!(rt; later.as_str(), "block40v1 - entry_block41v1 block40v2 v8");
+    assert_eq!(rt;
+        with_counters(rt.alloc(), 7, 40, of_blocks)?.as_str(),
+        "block40v1 - entry_block41v1 block40v2 v8"
+    );
     Ok(())
 }

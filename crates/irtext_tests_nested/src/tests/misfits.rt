@@ -1,11 +1,10 @@
 //! Which operations fit their formats, and the first reason why the others do not.
-use crate::tests::building::{block, give_letter, operation, register};
+use crate::tests::building::{block, give_operation, id, operation, register};
 use irtext_base::location::Location;
 use irtext_context::base::context::making::Making;
-use irtext_context::base::{BasicBlock, Item, Operation, Ptr, Value};
+use irtext_context::base::{BasicBlock, Operation, Ptr, Value};
 use irtext_dict::base::AttributeDict;
 use irtext_print_ops::fits::{FitFault, check_fits};
-use irtext_tests_common::building::id;
 use irtext_tests_common::contexts::{Ctx, with_context};
 use std::alloc::Global;
 use std::test::Fail;
@@ -64,7 +63,7 @@ fn told(alloc: Global, answer: Result<(), FitFault<'_>>) -> Result<String, Fail>
 
 /// Makes an operation that is not registered.
 fn unregistered(alloc: Global, ctx: &mut Ctx) -> Result<Ptr<Operation>, Fail> {
-    let id = id(alloc, "lab", "d")?;
+    let id = id(alloc, "d")?;
     Ok(ctx.make_operation(id, AttributeDict::new(alloc), Location::Unknown)?)
 }
 
@@ -98,7 +97,7 @@ fn registered(alloc: Global, ctx: &mut Ctx, row: &Row) -> Result<Ptr<Operation>,
     let second = block(alloc, ctx, "", "")?;
     let op = made(alloc, ctx, row, [first, second])?;
     for letter in row.3.chars() {
-        give_letter(alloc, ctx, Item::Operation(op), letter)?;
+        give_operation(alloc, ctx, op, letter)?;
     }
     Ok(op)
 }
@@ -111,21 +110,25 @@ fn checked(alloc: Global, ctx: &Ctx, op: Ptr<Operation>) -> Result<String, Fail>
     told(alloc, check_fits(ctx, op))
 }
 
-/// The text of the result for the operation of a row, in a context of its own.
-fn said(alloc: Global, row: &Row) -> Result<String, Fail> {
-    with_context(alloc, |alloc, ctx| {
-        let op = match row.0 {
-            "?" => unregistered(alloc, ctx)?,
-            _ => registered(alloc, ctx, row)?,
-        };
-        checked(alloc, ctx, op)
-    })
+/// The text of the result for the operation of a row.
+fn said(alloc: Global, ctx: &mut Ctx, row: &Row) -> Result<String, Fail> {
+    let op = if row.0 == "?" {
+        unregistered(alloc, ctx)?
+    } else {
+        registered(alloc, ctx, row)?
+    };
+    checked(alloc, ctx, op)
+}
+
+/// The same in a context of its own.
+fn in_its_own(alloc: Global, row: &Row) -> Result<String, Fail> {
+    with_context(alloc, |alloc, ctx| said(alloc, ctx, row))
 }
 
 #[test]
 fn operations_fit_or_say_the_first_reason(rt: HostRuntime) -> Result<(), Fail> {
     for row in ROWS {
-        assert_eq!(rt; said(rt.alloc(), row)?.as_str(), row.4);
+        assert_eq!(rt; in_its_own(rt.alloc(), row)?.as_str(), row.4);
     }
     Ok(())
 }

@@ -1,10 +1,16 @@
 //! The text of demo operations with everything nested in them, as users print it: roots, concrete texts, blocks, regions, and with regions
 //! elided.
-use irtext_base::base::AttrObj;
+use crate::tests::building::{into_block, into_region, new_operation};
+use irtext_base::base::{AttrObj, OpId};
 use irtext_base::format::{Directive, OpFormat};
-use irtext_base::parsable::{ParseFault, TextStream};
+use irtext_base::location::{Location, Source};
+use irtext_base::parsable::{ParseFault, SourcePosition, TextStream};
+use irtext_base::result::Result as Answer;
 use irtext_base::text::IrText;
-use irtext_context::base::{BasicBlock, Item, Operation, OperationAccess, Ptr, Value};
+use irtext_context::base::{
+    BasicBlock, BlockAccess, NewBlock, Operation, OperationAccess, Ptr, Value,
+};
+use irtext_context::dialect::{Dialect, DialectName};
 use irtext_demo::{DemoAttr, DemoType};
 use irtext_few::Few;
 use irtext_print::printable::{RegionPrintDepthLimit, State};
@@ -12,15 +18,18 @@ use irtext_print_ir::ir::print::concrete::OpObj;
 use irtext_print_ir::ir::print::debug::OpDbg;
 use irtext_print_ir::irfmt::printers::op::{region, symb_op_header, typed_symb_op_header};
 use irtext_print_ir::printable::{Disp, Printable};
-use irtext_tests_common::building;
-use irtext_tests_common::building::{
-    erase, give_operation, id, into_block, into_region, one_name, operation, place, register,
-};
 use irtext_tests_common::contexts::{Ctx, named, with_demo};
-use irtext_tests_common::formats::format_of;
 use irtext_tests_common::tables::differing;
 use std::alloc::Global;
 use std::test::Fail;
+
+/// An id by its two words.
+fn id(alloc: Global, dialect: &str, name: &str) -> Result<OpId, Fail> {
+    Ok(OpId {
+        dialect: named(alloc, dialect)?,
+        name: named(alloc, name)?,
+    })
+}
 
 /// The attribute with this text.
 fn attribute(alloc: Global, text: &str) -> Result<AttrObj<DemoAttr>, Fail> {
@@ -40,6 +49,18 @@ fn demo_type(alloc: Global, text: &str) -> Result<DemoType, Fail> {
     Ok(answer.ok().ok_or("no type")?)
 }
 
+/// Registers an operation with its dialect.
+fn add(ctx: &mut Ctx, name: &DialectName, id: OpId, format: OpFormat) -> Answer<(), DemoAttr> {
+    Dialect::register(ctx, name)?.add_op(id, format, false)
+}
+
+/// Registers `test.NAME` with this format.
+fn register(alloc: Global, ctx: &mut Ctx, name: &str, format: OpFormat) -> Result<(), Fail> {
+    let dialect = DialectName::from(named(alloc, "test")?);
+    let answer = add(ctx, &dialect, id(alloc, "test", name)?, format);
+    Ok(answer.ok().ok_or("refused")?)
+}
+
 /// The format of a constant.
 fn constant_format(alloc: Global) -> Result<OpFormat, Fail> {
     let mut directives = Vec::new(alloc);
@@ -49,12 +70,42 @@ fn constant_format(alloc: Global) -> Result<OpFormat, Fail> {
     Ok(OpFormat::Custom(directives))
 }
 
+/// The format of one directive.
+fn format_of_one(alloc: Global, directive: Directive) -> Result<OpFormat, Fail> {
+    let mut directives = Vec::new(alloc);
+    directives.push(directive)?;
+    Ok(OpFormat::Custom(directives))
+}
+
 /// Registers the demo operations that use or define values and blocks.
 fn register_all(alloc: Global, ctx: &mut Ctx) -> Result<(), Fail> {
-    register(alloc, ctx, "test", "constant", constant_format(alloc)?)?;
-    register(alloc, ctx, "test", "return", format_of(alloc, "O")?)?;
-    register(alloc, ctx, "test", "br", format_of(alloc, "s")?)?;
-    register(alloc, ctx, "test", "global", OpFormat::Canonical)
+    register(alloc, ctx, "constant", constant_format(alloc)?)?;
+    register(
+        alloc,
+        ctx,
+        "return",
+        format_of_one(alloc, Directive::Operands)?,
+    )?;
+    register(
+        alloc,
+        ctx,
+        "br",
+        format_of_one(alloc, Directive::Successor(0))?,
+    )?;
+    register(alloc, ctx, "global", OpFormat::Canonical)
+}
+
+/// Makes an operation without results.
+fn plain(
+    alloc: Global,
+    ctx: &mut Ctx,
+    words: (&str, &str),
+    operands: &[Value],
+    successors: &[Ptr<BasicBlock>],
+    regions: usize,
+) -> Result<Ptr<Operation>, Fail> {
+    let id = id(alloc, words.0, words.1)?;
+    new_operation(ctx, id, Few::none(), operands, successors, regions)
 }
 
 /// Makes an operation with one result, which uses nothing.
@@ -65,14 +116,30 @@ fn with_result(
     text: &str,
 ) -> Result<Ptr<Operation>, Fail> {
     let id = id(alloc, words.0, words.1)?;
-    let types = Few::one(demo_type(alloc, text)?);
-    operation(ctx, id, types, &[], &[], 0)
+    let mut types = Vec::new(alloc);
+    types.push(demo_type(alloc, text)?)?;
+    new_operation(ctx, id, Few::from_vec(types), &[], &[], 0)
+}
+
+/// Gives an operation an attribute.
+fn give(
+    alloc: Global,
+    ctx: &mut Ctx,
+    op: Ptr<Operation>,
+    key: &str,
+    attr: AttrObj<DemoAttr>,
+) -> Result<(), Fail> {
+    let key = named(alloc, key)?;
+    if !ctx.contains_operation(op) {
+        return Err(Fail::from("no such operation"));
+    }
+    Ok(op.set_attribute(ctx, key, attr).ok().ok_or("refused")?)
 }
 
 /// Gives an operation its symbol's name.
 fn name(alloc: Global, ctx: &mut Ctx, op: Ptr<Operation>, symbol: &str) -> Result<(), Fail> {
-    let symbol = AttrObj::Ident(named(alloc, symbol)?);
-    give_operation(alloc, ctx, op, "builtin_sym_name", symbol)
+    let symbol = named(alloc, symbol)?;
+    give(alloc, ctx, op, "builtin_sym_name", AttrObj::Ident(symbol))
 }
 
 /// Makes a block in the region of an operation, with a label if that is not empty.
@@ -82,15 +149,20 @@ fn block(
     op: Ptr<Operation>,
     label: &str,
 ) -> Result<Ptr<BasicBlock>, Fail> {
-    let block = building::block(alloc, ctx, label, Few::none())?;
+    let label = if label.is_empty() {
+        None
+    } else {
+        Some(named(alloc, label)?)
+    };
+    let answer = BasicBlock::new(ctx, label, Few::none());
+    let block = answer.ok().ok_or("refused")?;
     into_region(ctx, block, op, 0)?;
     Ok(block)
 }
 
 /// `builtin.module` with this name and one region.
 fn module(alloc: Global, ctx: &mut Ctx, symbol: &str) -> Result<Ptr<Operation>, Fail> {
-    let id = id(alloc, "builtin", "module")?;
-    let op = operation(ctx, id, Few::none(), &[], &[], 1)?;
+    let op = plain(alloc, ctx, ("builtin", "module"), &[], &[], 1)?;
     name(alloc, ctx, op, symbol)?;
     Ok(op)
 }
@@ -147,6 +219,23 @@ fn region_text(alloc: Global, ctx: &Ctx, op: Ptr<Operation>) -> Result<String, F
     shown(alloc, ctx, &inside)
 }
 
+/// The text of a block.
+fn block_text(alloc: Global, ctx: &Ctx, block: Ptr<BasicBlock>) -> Result<String, Fail> {
+    if !ctx.contains_block(block) {
+        return Err(Fail::from("no such block"));
+    }
+    shown(alloc, ctx, &block)
+}
+
+/// The text of an operation's header with a type.
+fn typed_header(alloc: Global, ctx: &Ctx, op: Ptr<Operation>) -> Result<String, Fail> {
+    let ty = demo_type(alloc, "test.ptr")?;
+    if !ctx.contains_operation(op) {
+        return Err(Fail::from("no such operation"));
+    }
+    shown(alloc, ctx, &typed_symb_op_header(op, &ty))
+}
+
 /// The printed text of a part of the module, by its number.
 fn module_text(
     alloc: Global,
@@ -155,18 +244,17 @@ fn module_text(
     entry: Ptr<BasicBlock>,
     number: usize,
 ) -> Result<String, Fail> {
-    let pointer = demo_type(alloc, "test.ptr")?;
-    if !ctx.contains_operation(op) || !ctx.contains_block(entry) {
-        return Err(Fail::from("no such operation or block"));
+    if !ctx.contains_operation(op) {
+        return Err(Fail::from("no such operation"));
     }
     match number {
-        0 => shown(alloc, ctx, &OpObj { op }),
-        1 => shown(alloc, ctx, &op),
+        0 => concrete(alloc, ctx, op),
+        1 => whole(alloc, ctx, op),
         2 => region_text(alloc, ctx, op),
         3 => shown(alloc, ctx, &region(op)),
-        4 => shown(alloc, ctx, &entry),
+        4 => block_text(alloc, ctx, entry),
         5 => shown(alloc, ctx, &symb_op_header(op)),
-        6 => shown(alloc, ctx, &typed_symb_op_header(op, &pointer)),
+        6 => typed_header(alloc, ctx, op),
         _ => Ok(format!(in alloc; "{}", OpDbg { op, ctx })?),
     }
 }
@@ -195,29 +283,34 @@ const FUNCTION: (&str, &str) = (
     "\n\noutlined_attributes:\n!0 = [builtin_block_label = builtin.identifier entry]\n!1 = [builtin_given_names = builtin.given_names [c0]]\n",
 );
 
+/// One given name.
+fn one_name(alloc: Global, name: &str) -> Result<AttrObj<DemoAttr>, Fail> {
+    let mut names = Vec::new(alloc);
+    names.push(Some(named(alloc, name)?))?;
+    Ok(AttrObj::GivenNames(names))
+}
+
 /// Makes a constant whose result has a name, last in a block.
 fn constant(alloc: Global, ctx: &mut Ctx, entry: Ptr<BasicBlock>) -> Result<Value, Fail> {
     let op = with_result(alloc, ctx, ("test", "constant"), "builtin.integer si64")?;
     let zero = attribute(alloc, "builtin.integer <0: si64>")?;
-    give_operation(alloc, ctx, op, "test_value", zero)?;
+    give(alloc, ctx, op, "test_value", zero)?;
     let names = one_name(alloc, "c0")?;
-    give_operation(alloc, ctx, op, "builtin_given_names", names)?;
+    give(alloc, ctx, op, "builtin_given_names", names)?;
     into_block(ctx, op, entry)?;
     Ok(Value::Result(op, 0))
 }
 
 /// Makes a function with one block, last in a block.
 fn function(alloc: Global, ctx: &mut Ctx, outer: Ptr<BasicBlock>) -> Result<(), Fail> {
-    let func = id(alloc, "builtin", "func")?;
-    let op = operation(ctx, func, Few::none(), &[], &[], 1)?;
+    let op = plain(alloc, ctx, ("builtin", "func"), &[], &[], 1)?;
     name(alloc, ctx, op, "foo")?;
     let of_type = attribute(alloc, "builtin.function <()->(builtin.integer si64)>")?;
-    give_operation(alloc, ctx, op, "builtin_func_type", of_type)?;
+    give(alloc, ctx, op, "builtin_func_type", of_type)?;
     into_block(ctx, op, outer)?;
     let entry = block(alloc, ctx, op, "entry")?;
     let value = constant(alloc, ctx, entry)?;
-    let returns = id(alloc, "test", "return")?;
-    let last = operation(ctx, returns, Few::none(), &[value], &[], 0)?;
+    let last = plain(alloc, ctx, ("test", "return"), &[value], &[], 0)?;
     into_block(ctx, last, entry)
 }
 
@@ -239,24 +332,50 @@ fn a_module_with_a_function_is_printed(rt: HostRuntime) -> Result<(), Fail> {
     Ok(())
 }
 
-/// The printed text of an operation in the canonical form, whose result is the second value.
+/// An operation in the canonical form, whose result is the second value.
+const GLOBAL: &str =
+    "v1 = test.global () [] [builtin_sym_name: builtin.identifier global_0, test_global_op_const_val: builtin.integer <0: si64>]: <() -> (test.ptr )>";
+
+/// The printed text of this operation.
 fn globals(alloc: Global, ctx: &mut Ctx) -> Result<String, Fail> {
     register_all(alloc, ctx)?;
     with_result(alloc, ctx, ("test", "constant"), "builtin.integer si64")?;
     let op = with_result(alloc, ctx, ("test", "global"), "test.ptr")?;
     name(alloc, ctx, op, "global_0")?;
     let zero = attribute(alloc, "builtin.integer <0: si64>")?;
-    give_operation(alloc, ctx, op, "test_global_op_const_val", zero)?;
+    give(alloc, ctx, op, "test_global_op_const_val", zero)?;
     concrete(alloc, ctx, op)
 }
-
-/// The expected text.
-const GLOBAL: &str =
-    "v1 = test.global () [] [builtin_sym_name: builtin.identifier global_0, test_global_op_const_val: builtin.integer <0: si64>]: <() -> (test.ptr )>";
 
 #[test]
 fn an_operation_without_a_format_of_its_own_is_printed(rt: HostRuntime) -> Result<(), Fail> {
     assert_eq!(rt; with_demo(rt.alloc(), globals)?.as_str(), GLOBAL);
+    Ok(())
+}
+
+/// A place in memory.
+fn place(column: i32) -> Location<DemoAttr> {
+    Location::SrcPos {
+        src: Source::InMemory,
+        pos: SourcePosition { line: 1, column },
+    }
+}
+
+/// Gives an operation a place.
+fn place_operation(ctx: &mut Ctx, op: Ptr<Operation>, column: i32) -> Result<(), Fail> {
+    if !ctx.contains_operation(op) {
+        return Err(Fail::from("no such operation"));
+    }
+    op.set_loc(ctx, place(column));
+    Ok(())
+}
+
+/// Gives a block a place.
+fn place_block(ctx: &mut Ctx, block: Ptr<BasicBlock>, column: i32) -> Result<(), Fail> {
+    if !ctx.contains_block(block) {
+        return Err(Fail::from("no such block"));
+    }
+    block.set_loc(ctx, place(column));
     Ok(())
 }
 
@@ -268,9 +387,8 @@ fn branch(
     to: Ptr<BasicBlock>,
     column: i32,
 ) -> Result<Ptr<Operation>, Fail> {
-    let id = id(alloc, "test", "br")?;
-    let op = operation(ctx, id, Few::none(), &[], &[to], 0)?;
-    place(ctx, Item::Operation(op), column)?;
+    let op = plain(alloc, ctx, ("test", "br"), &[], &[to], 0)?;
+    place_operation(ctx, op, column)?;
     into_block(ctx, op, from)?;
     Ok(op)
 }
@@ -279,15 +397,24 @@ fn branch(
 fn branches(alloc: Global, ctx: &mut Ctx) -> Result<(Ptr<Operation>, Ptr<Operation>), Fail> {
     register_all(alloc, ctx)?;
     let root = module(alloc, ctx, "m")?;
-    place(ctx, Item::Operation(root), 1)?;
+    place_operation(ctx, root, 1)?;
     let a = block(alloc, ctx, root, "a")?;
-    place(ctx, Item::Block(a), 21)?;
+    place_block(ctx, a, 21)?;
     let b = block(alloc, ctx, root, "b")?;
-    place(ctx, Item::Block(b), 38)?;
+    place_block(ctx, b, 38)?;
     let first = branch(alloc, ctx, a, b, 27)?;
     branch(alloc, ctx, b, a, 44)?;
     Ok((root, first))
 }
+
+/// The printed texts of the module, in this order: the module, with its region elided, its first branch, and the module after that branch,
+/// which was printed with the same state, is erased.
+const BRANCHES: &[&str] = &[
+    "builtin.module @m \n{\n  ^a_block1v1() !0:\n    test.br ^b_block2v1 !1\n\n  ^b_block2v1() !2:\n    test.br ^a_block1v1 !3\n} !4\n\noutlined_attributes:\n!0 = @[<in-memory>: line: 1, column: 21], [builtin_block_label = builtin.identifier a]\n!1 = @[<in-memory>: line: 1, column: 27], []\n!2 = @[<in-memory>: line: 1, column: 38], [builtin_block_label = builtin.identifier b]\n!3 = @[<in-memory>: line: 1, column: 44], []\n!4 = @[<in-memory>: line: 1, column: 1], []\n",
+    "builtin.module @m {..} !0\n\noutlined_attributes:\n!0 = @[<in-memory>: line: 1, column: 1], []\n",
+    "test.br ^b_block2v1 !0",
+    "builtin.module @m \n{\n  ^a_block1v1() !1:\n    \n\n  ^b_block2v1() !2:\n    test.br ^a_block1v1 !3\n} !4\n\noutlined_attributes:\n!1 = @[<in-memory>: line: 1, column: 21], [builtin_block_label = builtin.identifier a]\n!2 = @[<in-memory>: line: 1, column: 38], [builtin_block_label = builtin.identifier b]\n!3 = @[<in-memory>: line: 1, column: 44], []\n!4 = @[<in-memory>: line: 1, column: 1], []\n",
+];
 
 /// The whole text of an operation, its regions elided.
 fn elided(alloc: Global, ctx: &Ctx, op: Ptr<Operation>) -> Result<String, Fail> {
@@ -314,36 +441,52 @@ fn appended(
     Ok(text)
 }
 
-/// The printed texts of the module, in this order: the module, with its region elided, its first branch, and the module after that branch,
-/// which was printed with the same state, is erased.
-const BRANCHES: &[&str] = &[
-    "builtin.module @m \n{\n  ^a_block1v1() !0:\n    test.br ^b_block2v1 !1\n\n  ^b_block2v1() !2:\n    test.br ^a_block1v1 !3\n} !4\n\noutlined_attributes:\n!0 = @[<in-memory>: line: 1, column: 21], [builtin_block_label = builtin.identifier a]\n!1 = @[<in-memory>: line: 1, column: 27], []\n!2 = @[<in-memory>: line: 1, column: 38], [builtin_block_label = builtin.identifier b]\n!3 = @[<in-memory>: line: 1, column: 44], []\n!4 = @[<in-memory>: line: 1, column: 1], []\n",
-    "builtin.module @m {..} !0\n\noutlined_attributes:\n!0 = @[<in-memory>: line: 1, column: 1], []\n",
-    "test.br ^b_block2v1 !0",
-    "builtin.module @m \n{\n  ^a_block1v1() !1:\n    \n\n  ^b_block2v1() !2:\n    test.br ^a_block1v1 !3\n} !4\n\noutlined_attributes:\n!1 = @[<in-memory>: line: 1, column: 21], [builtin_block_label = builtin.identifier a]\n!2 = @[<in-memory>: line: 1, column: 38], [builtin_block_label = builtin.identifier b]\n!3 = @[<in-memory>: line: 1, column: 44], []\n!4 = @[<in-memory>: line: 1, column: 1], []\n",
-];
+/// Erases an operation.
+fn erase(ctx: &mut Ctx, op: Ptr<Operation>) -> Result<(), Fail> {
+    if !ctx.contains_operation(op) {
+        return Err(Fail::from("no such operation"));
+    }
+    if !op.can_erase(ctx) {
+        return Err(Fail::from("it is used"));
+    }
+    op.erase(ctx);
+    Ok(())
+}
 
-/// The printed texts of the module.
-fn cycles(alloc: Global, ctx: &mut Ctx) -> Result<[String; 4], Fail> {
-    let (root, first) = branches(alloc, ctx)?;
+/// The printed text of the module, by its number.
+fn branches_text(
+    alloc: Global,
+    ctx: &mut Ctx,
+    made: (Ptr<Operation>, Ptr<Operation>),
+    state: &mut State<()>,
+    number: usize,
+) -> Result<String, Fail> {
+    match number {
+        0 => whole(alloc, ctx, made.0),
+        1 => elided(alloc, ctx, made.0),
+        2 => appended(alloc, ctx, made.1, state),
+        _ => {
+            erase(ctx, made.1)?;
+            appended(alloc, ctx, made.0, state)
+        }
+    }
+}
+
+/// The number of the first text that differs.
+fn cycles(alloc: Global, ctx: &mut Ctx) -> Result<Option<usize>, Fail> {
+    let made = branches(alloc, ctx)?;
     let mut state: State<()> = State::new(alloc, ());
-    let shown = whole(alloc, ctx, root)?;
-    let short = elided(alloc, ctx, root)?;
-    let branch = appended(alloc, ctx, first, &mut state)?;
-    erase(ctx, Item::Operation(first))?;
-    Ok([
-        shown,
-        short,
-        branch,
-        appended(alloc, ctx, root, &mut state)?,
-    ])
+    for (number, wanted) in BRANCHES.iter().enumerate() {
+        let text = branches_text(alloc, ctx, made, &mut state, number)?;
+        if text.as_str() != *wanted {
+            return Ok(Some(number));
+        }
+    }
+    Ok(None)
 }
 
 #[test]
 fn blocks_that_branch_to_one_another_are_printed(rt: HostRuntime) -> Result<(), Fail> {
-    let texts = with_demo(rt.alloc(), cycles)?;
-    for (text, wanted) in texts.iter().zip(BRANCHES) {
-        assert_eq!(rt; text.as_str(), *wanted);
-    }
+    assert_eq!(rt; with_demo(rt.alloc(), cycles)?, None);
     Ok(())
 }

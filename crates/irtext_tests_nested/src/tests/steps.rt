@@ -1,8 +1,10 @@
 //! The steps on an empty context, one after the other: operations and blocks are given by their number, in the order in which they
 //! were made.
-use crate::tests::building::{block, give_letter, operation, placeholder, register};
-use irtext_context::base::{BasicBlock, Item, Operation, Ptr, Value};
-use irtext_tests_common::building::{into_block, into_region, place};
+use crate::tests::building::{
+    block, give_block, give_operation, into_block, into_region, operation, place_block,
+    place_operation, placeholder, register,
+};
+use irtext_context::base::{BasicBlock, Operation, Ptr, Value};
 use irtext_tests_common::contexts::Ctx;
 use std::alloc::Global;
 use std::test::Fail;
@@ -14,19 +16,29 @@ pub(crate) enum Used {
     Argument(usize, usize),
 }
 
+/// An operation: its name, the types of its results, what it uses, and how many regions it has.
+#[derive(Clone, Copy)]
+pub(crate) struct Shape {
+    pub name: &'static str,
+    pub results: &'static str,
+    pub operands: &'static [Used],
+    pub successors: &'static [usize],
+    pub regions: usize,
+}
+
 /// One step.
 #[derive(Clone, Copy)]
 pub(crate) enum Step {
     /// Registers an operation of the dialect `lab` with the format of these letters.
     Register(&'static str, &'static str),
-    /// Makes an operation in no block, with so many regions.
-    Root(&'static str, usize),
-    /// Makes an operation in a block, with so many regions.
-    Inner(usize, &'static str, usize),
-    /// Makes an operation in a block, with results of these types, operands and successors.
-    Using(usize, &'static str, &'static str, &'static [Used], &'static [usize]),
-    /// Makes a block in a region of an operation, with this label or none, and arguments of these types.
-    Block(usize, usize, &'static str, &'static str),
+    /// Makes an operation.
+    Operation(Shape),
+    /// Makes a block with this label or none, and arguments of these types.
+    Block(&'static str, &'static str),
+    /// Puts a block into the region of an operation.
+    IntoRegion(usize, usize, usize),
+    /// Puts an operation into a block.
+    IntoBlock(usize, usize),
     /// Puts a placeholder into a block.
     Placeholder(usize),
     /// Gives an operation an attribute.
@@ -88,63 +100,53 @@ fn blocks_of(alloc: Global, made: &Made, numbers: &[usize]) -> Result<Vec<Ptr<Ba
     Ok(blocks)
 }
 
-/// Makes an operation that uses these values and blocks.
-fn using(
-    alloc: Global,
-    ctx: &mut Ctx,
-    made: &Made,
-    name: (&str, &str),
-    operands: &[Used],
-    successors: &[usize],
-) -> Result<Ptr<Operation>, Fail> {
-    let values = values_of(alloc, made, operands)?;
-    let blocks = blocks_of(alloc, made, successors)?;
-    operation(alloc, ctx, name, &values, &blocks, 0)
+/// Makes an operation.
+fn make_operation(alloc: Global, ctx: &mut Ctx, made: &mut Made, shape: Shape) -> Result<(), Fail> {
+    let values = values_of(alloc, made, shape.operands)?;
+    let blocks = blocks_of(alloc, made, shape.successors)?;
+    let name = (shape.name, shape.results);
+    let op = operation(alloc, ctx, name, &values, &blocks, shape.regions)?;
+    Ok(made.operations.push(op)?)
 }
 
-/// Adds an operation to what was made, and puts it into a block.
-fn put(ctx: &mut Ctx, made: &mut Made, op: Ptr<Operation>, block: usize) -> Result<(), Fail> {
-    made.operations.push(op)?;
-    into_block(ctx, op, block_of(made, block)?)
+/// Makes a block.
+fn make_block(
+    alloc: Global,
+    ctx: &mut Ctx,
+    made: &mut Made,
+    label: &str,
+    types: &str,
+) -> Result<(), Fail> {
+    let block = block(alloc, ctx, label, types)?;
+    Ok(made.blocks.push(block)?)
 }
 
 /// Makes the step if it makes an object.
 fn make(alloc: Global, ctx: &mut Ctx, made: &mut Made, step: Step) -> Result<(), Fail> {
     match step {
-        Step::Root(name, regions) => {
-            let op = operation(alloc, ctx, (name, ""), &[], &[], regions)?;
-            Ok(made.operations.push(op)?)
-        }
-        Step::Inner(block, name, regions) => {
-            let op = operation(alloc, ctx, (name, ""), &[], &[], regions)?;
-            put(ctx, made, op, block)
-        }
-        Step::Using(block, name, results, operands, successors) => {
-            let op = using(alloc, ctx, made, (name, results), operands, successors)?;
-            put(ctx, made, op, block)
-        }
-        Step::Block(op, index, label, types) => {
-            let block = block(alloc, ctx, label, types)?;
-            made.blocks.push(block)?;
-            into_region(ctx, block, operation_of(made, op)?, index)
-        }
+        Step::Register(name, letters) => register(alloc, ctx, name, letters),
+        Step::Operation(shape) => make_operation(alloc, ctx, made, shape),
+        Step::Block(label, types) => make_block(alloc, ctx, made, label, types),
         _ => change(alloc, ctx, made, step),
     }
 }
 
-/// Makes the step if it makes no object, or a placeholder.
+/// Makes the step if it changes an object.
 fn change(alloc: Global, ctx: &mut Ctx, made: &Made, step: Step) -> Result<(), Fail> {
     match step {
-        Step::Register(name, letters) => register(alloc, ctx, name, letters),
+        Step::IntoRegion(block, op, index) => {
+            into_region(ctx, block_of(made, block)?, operation_of(made, op)?, index)
+        }
+        Step::IntoBlock(op, block) => {
+            into_block(ctx, operation_of(made, op)?, block_of(made, block)?)
+        }
         Step::Placeholder(block) => placeholder(ctx, block_of(made, block)?),
         Step::GiveOperation(op, letter) => {
-            give_letter(alloc, ctx, Item::Operation(operation_of(made, op)?), letter)
+            give_operation(alloc, ctx, operation_of(made, op)?, letter)
         }
-        Step::GiveBlock(block, letter) => {
-            give_letter(alloc, ctx, Item::Block(block_of(made, block)?), letter)
-        }
-        Step::PlaceOperation(op) => place(ctx, Item::Operation(operation_of(made, op)?), 1),
-        Step::PlaceBlock(block) => place(ctx, Item::Block(block_of(made, block)?), 1),
+        Step::GiveBlock(block, letter) => give_block(alloc, ctx, block_of(made, block)?, letter),
+        Step::PlaceOperation(op) => place_operation(ctx, operation_of(made, op)?),
+        Step::PlaceBlock(block) => place_block(ctx, block_of(made, block)?),
         _ => Ok(()),
     }
 }
@@ -167,22 +169,45 @@ pub(crate) const FUNCTION: &[Step] = &[
     Step::Register("const", "k:v"),
     Step::Register("add", "0,1:v"),
     Step::Register("br", "s"),
-    Step::Root("fn", 1),
+    Step::Operation(Shape {
+        name: "fn",
+        results: "",
+        operands: &[],
+        successors: &[],
+        regions: 1,
+    }),
     Step::GiveOperation(0, 's'),
     Step::GiveOperation(0, 'k'),
     Step::PlaceOperation(0),
-    Step::Block(0, 0, "", ""),
-    Step::Block(0, 0, "exit", "p"),
-    Step::Using(0, "const", "p", &[], &[]),
+    Step::Block("", ""),
+    Step::IntoRegion(0, 0, 0),
+    Step::Block("exit", "p"),
+    Step::IntoRegion(1, 0, 0),
+    Step::Operation(Shape {
+        name: "const",
+        results: "p",
+        operands: &[],
+        successors: &[],
+        regions: 0,
+    }),
     Step::GiveOperation(1, 'k'),
     Step::GiveOperation(1, 'g'),
-    Step::Using(
-        0,
-        "add",
-        "p",
-        &[Used::Result(1, 0), Used::Result(1, 0)],
-        &[],
-    ),
-    Step::Using(0, "br", "", &[], &[1]),
+    Step::IntoBlock(1, 0),
+    Step::Operation(Shape {
+        name: "add",
+        results: "p",
+        operands: &[Used::Result(1, 0), Used::Result(1, 0)],
+        successors: &[],
+        regions: 0,
+    }),
+    Step::IntoBlock(2, 0),
+    Step::Operation(Shape {
+        name: "br",
+        results: "",
+        operands: &[],
+        successors: &[1],
+        regions: 0,
+    }),
+    Step::IntoBlock(3, 0),
     Step::PlaceOperation(3),
 ];

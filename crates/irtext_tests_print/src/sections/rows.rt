@@ -11,6 +11,8 @@ use std::test::Fail;
 type Row = (&'static [Step], &'static str, &'static str);
 
 const ROWS: &[Row] = &[
+    // nothing was marked
+    (&[], "", ""),
     // two operations with one note, which is printed once
     (
         &[
@@ -22,16 +24,19 @@ const ROWS: &[Row] = &[
         "\n\noutlined_attributes:\n!0 = [dbg = !2]\n!1 = [dbg = !2]\n!2 = test.dbg \"s\"\n",
         "!!",
     ),
-    // nothing was marked
-    (&[], "", ""),
     // a label first, then positions
     (
         &[
-            Step::BlockAt("a", 21),
-            Step::NopAt(27),
-            Step::BlockAt("b", 38),
-            Step::NopAt(44),
-            Step::NopAt(1),
+            Step::Block("a"),
+            Step::Place(0, 21),
+            Step::Nop,
+            Step::Place(1, 27),
+            Step::Block("b"),
+            Step::Place(2, 38),
+            Step::Nop,
+            Step::Place(3, 44),
+            Step::Nop,
+            Step::Place(4, 1),
         ],
         "\n\noutlined_attributes:\n!0 = @[<in-memory>: line: 1, column: 21], [builtin_block_label = builtin.identifier a]\n!1 = @[<in-memory>: line: 1, column: 27], []\n!2 = @[<in-memory>: line: 1, column: 38], [builtin_block_label = builtin.identifier b]\n!3 = @[<in-memory>: line: 1, column: 44], []\n!4 = @[<in-memory>: line: 1, column: 1], []\n",
         "!!!!!",
@@ -39,10 +44,13 @@ const ROWS: &[Row] = &[
     // a label before given names
     (
         &[
-            Step::BlockAt("b", 21),
+            Step::Block("b"),
             Step::Name(0, "x"),
-            Step::NopAt(50),
-            Step::NopAt(1),
+            Step::Place(0, 21),
+            Step::Nop,
+            Step::Place(1, 50),
+            Step::Nop,
+            Step::Place(2, 1),
         ],
         "\n\noutlined_attributes:\n!0 = @[<in-memory>: line: 1, column: 21], [builtin_block_label = builtin.identifier b, builtin_given_names = builtin.given_names [x]]\n!1 = @[<in-memory>: line: 1, column: 50], []\n!2 = @[<in-memory>: line: 1, column: 1], []\n",
         "!!!",
@@ -55,18 +63,21 @@ const ROWS: &[Row] = &[
     ),
     // one note of a root
     (
-        &[Step::NopAt(1), Step::Note(0, "dbg", "s")],
+        &[Step::Nop, Step::Place(0, 1), Step::Note(0, "dbg", "s")],
         "\n\noutlined_attributes:\n!0 = @[<in-memory>: line: 1, column: 1], [dbg = !1]\n!1 = test.dbg \"s\"\n",
         "!",
     ),
     // names and an outlined attribute, in the dictionary's order
     (
         &[
-            Step::BlockAt("a", 21),
-            Step::NopAt(27),
+            Step::Block("a"),
+            Step::Place(0, 21),
+            Step::Nop,
+            Step::Place(1, 27),
             Step::Name(1, "x"),
             Step::Note(1, "test_value", "s"),
-            Step::NopAt(1),
+            Step::Nop,
+            Step::Place(2, 1),
         ],
         "\n\noutlined_attributes:\n!0 = @[<in-memory>: line: 1, column: 21], [builtin_block_label = builtin.identifier a]\n!1 = @[<in-memory>: line: 1, column: 27], [builtin_given_names = builtin.given_names [x], test_value = !3]\n!2 = @[<in-memory>: line: 1, column: 1], []\n!3 = test.dbg \"s\"\n",
         "!!!",
@@ -74,10 +85,13 @@ const ROWS: &[Row] = &[
     // an item that was erased keeps its index
     (
         &[
-            Step::NopAt(27),
+            Step::Nop,
+            Step::Place(0, 27),
             Step::Note(0, "dbg", "gone"),
-            Step::BlockAt("a", 21),
-            Step::NopAt(44),
+            Step::Block("a"),
+            Step::Place(1, 21),
+            Step::Nop,
+            Step::Place(2, 44),
             Step::Note(2, "dbg", "s"),
             Step::Erase(0),
         ],
@@ -87,7 +101,8 @@ const ROWS: &[Row] = &[
     // all were erased
     (
         &[
-            Step::NopAt(27),
+            Step::Nop,
+            Step::Place(0, 27),
             Step::Block("a"),
             Step::Erase(0),
             Step::Erase(1),
@@ -130,20 +145,32 @@ fn marks(alloc: Global, ctx: &Ctx, items: &[Item]) -> Result<String, Fail> {
     Ok(text)
 }
 
-/// The section of a row's items, and their marks.
-fn printed(alloc: Global, ctx: &mut Ctx, row: &Row) -> Result<(String, String), Fail> {
+/// The section of a row's items.
+fn said(alloc: Global, ctx: &mut Ctx, row: &Row) -> Result<String, Fail> {
     let items = built(alloc, ctx, row.0)?;
-    Ok((section(alloc, ctx, &items)?, marks(alloc, ctx, &items)?))
+    section(alloc, ctx, &items)
+}
+
+/// The marks of a row's items.
+fn marked(alloc: Global, ctx: &mut Ctx, row: &Row) -> Result<String, Fail> {
+    let items = built(alloc, ctx, row.0)?;
+    marks(alloc, ctx, &items)
 }
 
 #[test]
-fn items_are_marked_and_have_an_entry_where_the_section_gives_something(
-    rt: HostRuntime,
-) -> Result<(), Fail> {
+fn sections_give_each_item_an_entry(rt: HostRuntime) -> Result<(), Fail> {
     for row in ROWS {
-        let (section, marks) = with_demo(rt.alloc(), |alloc, ctx| printed(alloc, ctx, row))?;
-        assert_eq!(rt; section.as_str(), row.1);
-        assert_eq!(rt; marks.as_str(), row.2);
+        let text = with_demo(rt.alloc(), |alloc, ctx| said(alloc, ctx, row))?;
+        assert_eq!(rt; text.as_str(), row.1);
+    }
+    Ok(())
+}
+
+#[test]
+fn items_are_marked_where_the_section_gives_something(rt: HostRuntime) -> Result<(), Fail> {
+    for row in ROWS {
+        let text = with_demo(rt.alloc(), |alloc, ctx| marked(alloc, ctx, row))?;
+        assert_eq!(rt; text.as_str(), row.2);
     }
     Ok(())
 }

@@ -1,16 +1,17 @@
 //! Which operations fit their formats, and the reason why the others don't.
-use irtext_base::base::{AttrObj, Identifier};
+use irtext_base::base::{AttrObj, Identifier, OpId};
+use irtext_base::format::OpFormat;
 use irtext_base::location::Location;
+use irtext_base::result::Result as Answer;
 use irtext_context::base::context::making::Making;
 use irtext_context::base::operation::add_regions;
 use irtext_context::base::{Operation, Ptr};
-use irtext_demo::DemoAttr;
+use irtext_context::dialect::{Dialect, DialectName};
+use irtext_demo::{Characters, DemoAttr};
 use irtext_dict::base::AttributeDict;
 use irtext_print_ops::fits::check_fits;
-use irtext_tests_common::building;
-use irtext_tests_common::building::{attribute, id};
 use irtext_tests_common::contexts::{Ctx, named, with_context};
-use irtext_tests_common::formats::format_or_canonical;
+use irtext_tests_common::formats::format_of;
 use std::alloc::Global;
 use std::test::Fail;
 
@@ -52,13 +53,45 @@ const ROWS: &[Row] = &[
     ("ka", 1, "n", "fits"),
 ];
 
+/// The format of these letters: the canonical one for `-`, else one directive for each.
+fn format(alloc: Global, letters: &str) -> Result<OpFormat, Fail> {
+    if letters == "-" {
+        return Ok(OpFormat::Canonical);
+    }
+    format_of(alloc, letters)
+}
+
+/// The id `lab.d`.
+fn id(alloc: Global) -> Result<OpId, Fail> {
+    Ok(OpId {
+        dialect: named(alloc, "lab")?,
+        name: named(alloc, "d")?,
+    })
+}
+
+/// Registers an operation with the dialect of a name.
+fn add(ctx: &mut Ctx, name: &DialectName, id: OpId, format: OpFormat) -> Answer<(), DemoAttr> {
+    let dialect = Dialect::register(ctx, name)?;
+    dialect.add_op(id, format, false)
+}
+
 /// Registers `lab.d` with the format of these letters, unless they are `?`.
 fn register(alloc: Global, ctx: &mut Ctx, letters: &str) -> Result<(), Fail> {
     if letters == "?" {
         return Ok(());
     }
-    let format = format_or_canonical(alloc, letters)?;
-    building::register(alloc, ctx, "lab", "d", format)
+    let name = DialectName::from(named(alloc, "lab")?);
+    let answer = add(ctx, &name, id(alloc)?, format(alloc, letters)?);
+    Ok(answer.ok().ok_or("refused")?)
+}
+
+/// The attribute for a letter: one that is outlined, a text, or an identifier.
+fn attr_of(alloc: Global, letter: char) -> Result<AttrObj<DemoAttr>, Fail> {
+    match letter {
+        'n' => Ok(AttrObj::Own(DemoAttr::Debug(Characters::new(String::from_str(alloc, "x")?)))),
+        't' => Ok(AttrObj::Own(DemoAttr::String(Characters::new(String::from_str(alloc, "x")?)))),
+        _ => Ok(AttrObj::Ident(named(alloc, "x")?)),
+    }
 }
 
 /// The key of the attribute for a letter.
@@ -85,7 +118,7 @@ fn insert(
     letter: char,
 ) -> Result<(), Fail> {
     let key = named(alloc, key_of(letter))?;
-    let attr = attribute(alloc, letter)?;
+    let attr = attr_of(alloc, letter)?;
     Ok(put(attributes, key, attr).ok_or("refused")?)
 }
 
@@ -116,8 +149,7 @@ fn said(alloc: Global, ctx: &mut Ctx, op: Ptr<Operation>, regions: usize) -> Res
 /// The text of the result for the operation of a row.
 fn made(alloc: Global, ctx: &mut Ctx, row: &Row) -> Result<String, Fail> {
     register(alloc, ctx, row.0)?;
-    let (id, attributes) = (id(alloc, "lab", "d")?, attributes_of(alloc, row.2)?);
-    let op = ctx.make_operation(id, attributes, Location::Unknown)?;
+    let op = ctx.make_operation(id(alloc)?, attributes_of(alloc, row.2)?, Location::Unknown)?;
     said(alloc, ctx, op, row.1)
 }
 

@@ -1,13 +1,12 @@
 //! Roots that are printed by the call that returns why it fails.
 use crate::tests::errors::at;
-use irtext_base::base::{AttrObj, Identifier};
+use irtext_base::base::{AttrObj, Identifier, OpId};
 use irtext_context::base::context::making::Making;
 use irtext_context::base::{Operation, Ptr};
 use irtext_demo::DemoAttr;
 use irtext_dict::base::AttributeDict;
 use irtext_print_ir::ir::print::print_root;
 use irtext_print_ir::printable::{RegionPrintDepthLimit, State};
-use irtext_tests_common::building::id;
 use irtext_tests_common::contexts::{Ctx, named, with_demo};
 use irtext_tests_common::tables::differing;
 use std::alloc::Global;
@@ -43,7 +42,10 @@ fn attributes(alloc: Global) -> Result<AttributeDict<DemoAttr>, Fail> {
 
 /// Makes `builtin.module @m` at a place in memory, without regions.
 fn make(alloc: Global, ctx: &mut Ctx) -> Result<Ptr<Operation>, Fail> {
-    let id = id(alloc, "builtin", "module")?;
+    let id = OpId {
+        dialect: named(alloc, "builtin")?,
+        name: named(alloc, "module")?,
+    };
     Ok(ctx.make_operation(id, attributes(alloc)?, at(1, 2))?)
 }
 

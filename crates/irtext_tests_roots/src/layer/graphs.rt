@@ -1,17 +1,18 @@
 //! Graphs with blocks and values that a caller makes by the names of this layer, and their printed texts.
 use crate::reading::{concrete, whole};
 use crate::registering::register_operation;
-use irtext_context::base::Item;
-use irtext_demo::{DemoType, IntegerType, Signedness, Width};
+use irtext_demo::{Characters, DemoAttr, DemoType, IntegerType, Signedness, Width};
 use irtext_graph::held::HasGraph;
-use irtext_tests_common::building;
-use irtext_tests_common::building::{give, give_operation, id, into_block, into_region, one_name};
 use irtext_tests_common::contexts::{Ctx, named, with_counters, with_demo};
 use irtext_tests_common::tables::differing;
-use pliron_text::base::{AttrObj, BasicBlock, Few, NewOperation, OpId, Operation, Ptr, Value};
+use pliron_text::base::{
+    AttrObj, BasicBlock, BlockAccess, Few, NewBlock, NewOperation, OpId, Operation,
+    OperationAccess, Ptr, Value,
+};
 use pliron_text::dialect::DialectName;
 use pliron_text::format::{Directive, OpFormat};
 use pliron_text::ir::print_root;
+use pliron_text::location::{Location, Source, SourcePosition};
 use pliron_text::printable::State;
 use std::alloc::Global;
 use std::test::Fail;
@@ -24,7 +25,10 @@ fn register(
     directives: Vec<Directive>,
 ) -> Result<(), Fail> {
     let dialect = DialectName::from(named(alloc, "test")?);
-    let id = id(alloc, "test", name)?;
+    let id = OpId {
+        dialect: named(alloc, "test")?,
+        name: named(alloc, name)?,
+    };
     let format = OpFormat::Custom(directives);
     let answer = register_operation(ctx, &dialect, id, format, false);
     Ok(answer.ok().ok_or("refused")?)
@@ -80,10 +84,39 @@ fn inner(
     types: Few<DemoType>,
     operands: &[Value],
 ) -> Result<Ptr<Operation>, Fail> {
-    let id = id(alloc, "test", name)?;
+    let id = OpId {
+        dialect: named(alloc, "test")?,
+        name: named(alloc, name)?,
+    };
     let op = operation(ctx, id, types, operands, 0)?;
     into_block(ctx, op, block)?;
     Ok(op)
+}
+
+/// Puts an operation last into a block.
+fn into_block(ctx: &mut Ctx, op: Ptr<Operation>, block: Ptr<BasicBlock>) -> Result<(), Fail> {
+    if !ctx.contains_operation(op) || !ctx.contains_block(block) {
+        return Err(Fail::from("no such operation"));
+    }
+    if !op.can_insert_at_back(block, ctx) {
+        return Err(Fail::from("not to be inserted"));
+    }
+    Ok(op.insert_at_back(block, ctx)?)
+}
+
+/// Puts a block last into an operation's first region.
+fn into_region(ctx: &mut Ctx, block: Ptr<BasicBlock>, op: Ptr<Operation>) -> Result<(), Fail> {
+    if !ctx.contains_operation(op) || op.num_regions(ctx) == 0 {
+        return Err(Fail::from("no such region"));
+    }
+    let region = op.get_region(ctx, 0);
+    if !ctx.contains_region(region) || !ctx.contains_block(block) {
+        return Err(Fail::from("no such block"));
+    }
+    if !block.can_insert_at_back(region, ctx) {
+        return Err(Fail::from("not to be inserted"));
+    }
+    Ok(block.insert_at_back(region, ctx)?)
 }
 
 /// Makes a block with this label, or none if it is empty, last in a root's region.
@@ -94,20 +127,59 @@ fn block(
     label: &str,
     types: Few<DemoType>,
 ) -> Result<Ptr<BasicBlock>, Fail> {
-    let block = building::block(alloc, ctx, label, types)?;
-    into_region(ctx, block, root, 0)?;
+    let label = if label.is_empty() {
+        None
+    } else {
+        Some(named(alloc, label)?)
+    };
+    let block = BasicBlock::new(ctx, label, types).ok().ok_or("refused")?;
+    into_region(ctx, block, root)?;
     Ok(block)
+}
+
+/// Gives an operation an attribute.
+fn give(
+    alloc: Global,
+    ctx: &mut Ctx,
+    op: Ptr<Operation>,
+    key: &str,
+    attr: AttrObj<DemoAttr>,
+) -> Result<(), Fail> {
+    let key = named(alloc, key)?;
+    if !ctx.contains_operation(op) {
+        return Err(Fail::from("no such operation"));
+    }
+    Ok(op.set_attribute(ctx, key, attr).ok().ok_or("refused")?)
 }
 
 /// Gives an operation the debug note `s`.
 fn note(alloc: Global, ctx: &mut Ctx, op: Ptr<Operation>, key: &str) -> Result<(), Fail> {
-    let text = building::note(alloc, "s")?;
-    give_operation(alloc, ctx, op, key, text)
+    let text = Characters::new(String::from_str(alloc, "s")?);
+    give(alloc, ctx, op, key, AttrObj::Own(DemoAttr::Debug(text)))
+}
+
+/// The given name `x`.
+fn given(alloc: Global) -> Result<AttrObj<DemoAttr>, Fail> {
+    let mut names = Vec::new(alloc);
+    names.push(Some(named(alloc, "x")?))?;
+    Ok(AttrObj::GivenNames(names))
+}
+
+/// A place in memory.
+fn at(column: i32) -> Location<DemoAttr> {
+    Location::SrcPos {
+        src: Source::InMemory,
+        pos: SourcePosition { line: 1, column },
+    }
 }
 
 /// Gives an operation a place.
 fn place(ctx: &mut Ctx, op: Ptr<Operation>, column: i32) -> Result<(), Fail> {
-    building::place(ctx, Item::Operation(op), column)
+    if !ctx.contains_operation(op) {
+        return Err(Fail::from("no such operation"));
+    }
+    op.set_loc(ctx, at(column));
+    Ok(())
 }
 
 /// Gives a block a place, and its argument the name `x` if it is to have one.
@@ -118,19 +190,30 @@ fn place_block(
     column: i32,
     has_name: bool,
 ) -> Result<(), Fail> {
-    let names = one_name(alloc, "x")?;
-    if has_name {
-        give(alloc, ctx, Item::Block(block), "builtin_given_names", names)?;
+    let key = named(alloc, "builtin_given_names")?;
+    let names = given(alloc)?;
+    if !ctx.contains_block(block) {
+        return Err(Fail::from("no such block"));
     }
-    building::place(ctx, Item::Block(block), column)
+    if has_name {
+        block.set_attribute(ctx, key, names).ok().ok_or("refused")?;
+    }
+    if !ctx.contains_block(block) {
+        return Err(Fail::from("no such block"));
+    }
+    block.set_loc(ctx, at(column));
+    Ok(())
 }
 
 /// `builtin.module @m` with one region.
 fn module(alloc: Global, ctx: &mut Ctx) -> Result<Ptr<Operation>, Fail> {
-    let id = id(alloc, "builtin", "module")?;
+    let id = OpId {
+        dialect: named(alloc, "builtin")?,
+        name: named(alloc, "module")?,
+    };
     let root = operation(ctx, id, Few::none(), &[], 1)?;
     let symbol = AttrObj::Ident(named(alloc, "m")?);
-    give_operation(alloc, ctx, root, "builtin_sym_name", symbol)?;
+    give(alloc, ctx, root, "builtin_sym_name", symbol)?;
     Ok(root)
 }
 
@@ -173,13 +256,21 @@ fn constants(alloc: Global, ctx: &mut Ctx, has_value: bool) -> Result<Ptr<Operat
     place_block(alloc, ctx, inside, 21, false)?;
     let op = inner(alloc, ctx, inside, "constant", one_type(alloc)?, &[])?;
     place(ctx, op, 27)?;
-    let names = one_name(alloc, "x")?;
-    give_operation(alloc, ctx, op, "builtin_given_names", names)?;
+    give(alloc, ctx, op, "builtin_given_names", given(alloc)?)?;
     if has_value {
         note(alloc, ctx, op, "test_value")?;
     }
     Ok(root)
 }
+
+/// The printed text of each root, and the error of the last.
+const ROOTS: &[&str] = &[
+    "builtin.module @m \n{\n  \n} !0\n\noutlined_attributes:\n!0 = @[<in-memory>: line: 1, column: 1], [dbg = !1]\n!1 = test.dbg \"s\"\n",
+    "builtin.module @m \n{\n  ^block1v1():\n    test.nop !0;\n    test.nop !1\n}\n\noutlined_attributes:\n!0 = [dbg = !2]\n!1 = [dbg = !2]\n!2 = test.dbg \"s\"\n",
+    "builtin.module @m \n{\n  ^b_block2v1(x_v0: builtin.integer si64) !0:\n    test.use x_v0 !1\n} !2\n\noutlined_attributes:\n!0 = @[<in-memory>: line: 1, column: 21], [builtin_block_label = builtin.identifier b, builtin_given_names = builtin.given_names [x]]\n!1 = @[<in-memory>: line: 1, column: 50], []\n!2 = @[<in-memory>: line: 1, column: 1], []\n",
+    "builtin.module @m \n{\n  ^a_block3v1() !0:\n    x_v1 = test.constant !outlined: builtin.integer si64 !1\n} !2\n\noutlined_attributes:\n!0 = @[<in-memory>: line: 1, column: 21], [builtin_block_label = builtin.identifier a]\n!1 = @[<in-memory>: line: 1, column: 27], [builtin_given_names = builtin.given_names [x], test_value = !3]\n!2 = @[<in-memory>: line: 1, column: 1], []\n!3 = test.dbg \"s\"\n",
+    "Misfit",
+];
 
 /// The reason why a root is not printed.
 fn refusal(alloc: Global, ctx: &Ctx, root: Ptr<Operation>) -> Result<String, Fail> {
@@ -208,15 +299,6 @@ fn printed(alloc: Global, ctx: &mut Ctx, number: usize) -> Result<String, Fail> 
     }
 }
 
-/// The printed text of each root, and the error of the last.
-const ROOTS: &[&str] = &[
-    "builtin.module @m \n{\n  \n} !0\n\noutlined_attributes:\n!0 = @[<in-memory>: line: 1, column: 1], [dbg = !1]\n!1 = test.dbg \"s\"\n",
-    "builtin.module @m \n{\n  ^block1v1():\n    test.nop !0;\n    test.nop !1\n}\n\noutlined_attributes:\n!0 = [dbg = !2]\n!1 = [dbg = !2]\n!2 = test.dbg \"s\"\n",
-    "builtin.module @m \n{\n  ^b_block2v1(x_v0: builtin.integer si64) !0:\n    test.use x_v0 !1\n} !2\n\noutlined_attributes:\n!0 = @[<in-memory>: line: 1, column: 21], [builtin_block_label = builtin.identifier b, builtin_given_names = builtin.given_names [x]]\n!1 = @[<in-memory>: line: 1, column: 50], []\n!2 = @[<in-memory>: line: 1, column: 1], []\n",
-    "builtin.module @m \n{\n  ^a_block3v1() !0:\n    x_v1 = test.constant !outlined: builtin.integer si64 !1\n} !2\n\noutlined_attributes:\n!0 = @[<in-memory>: line: 1, column: 21], [builtin_block_label = builtin.identifier a]\n!1 = @[<in-memory>: line: 1, column: 27], [builtin_given_names = builtin.given_names [x], test_value = !3]\n!2 = @[<in-memory>: line: 1, column: 1], []\n!3 = test.dbg \"s\"\n",
-    "Misfit",
-];
-
 /// The number of the first root with another text.
 fn differing_root(alloc: Global, ctx: &mut Ctx) -> Result<Option<usize>, Fail> {
     register_both(alloc, ctx)?;
@@ -229,12 +311,19 @@ fn graphs_made_by_a_caller_are_printed(rt: HostRuntime) -> Result<(), Fail> {
     Ok(())
 }
 
-/// The printed text of a root with two blocks, made with counters that are nearly full.
+/// A root with two blocks, made with counters that are nearly full.
+const LAST: &str =
+    "test.scope \n{\n  ^a_block4294967293v1() !0:\n    \n\n  ^b_block4294967294v1() !1:\n    \n}";
+
+/// The printed text of this root.
 fn last(alloc: Global, ctx: &mut Ctx) -> Result<String, Fail> {
     let mut scope = Vec::new(alloc);
     scope.push(Directive::Region(0))?;
     register(alloc, ctx, "scope", scope)?;
-    let id = id(alloc, "test", "scope")?;
+    let id = OpId {
+        dialect: named(alloc, "test")?,
+        name: named(alloc, "scope")?,
+    };
     let root = operation(ctx, id, Few::none(), &[], 1)?;
     let a = block(alloc, ctx, root, "a", Few::none())?;
     let b = block(alloc, ctx, root, "b", Few::none())?;
@@ -242,10 +331,6 @@ fn last(alloc: Global, ctx: &mut Ctx) -> Result<String, Fail> {
     place_block(alloc, ctx, b, 27, false)?;
     concrete(alloc, ctx, root)
 }
-
-/// The expected text.
-const LAST: &str =
-    "test.scope \n{\n  ^a_block4294967293v1() !0:\n    \n\n  ^b_block4294967294v1() !1:\n    \n}";
 
 #[test]
 fn the_last_places_are_printed(rt: HostRuntime) -> Result<(), Fail> {

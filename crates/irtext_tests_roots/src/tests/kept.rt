@@ -59,18 +59,20 @@ fn answered(
 fn two_calls(alloc: Global, ctx: &mut Ctx, other: &mut Ctx) -> Result<String, Fail>
     requires { other.old.dialects ≡ ctx.old.dialects }
 {
-    let layout = State::new(alloc, ());
     let op = make(alloc, ctx)?;
     if !ctx.contains_operation(op) {
         return Err(Fail::from("no such operation"));
     }
+    let layout = State::new(alloc, ());
     let answer = printed_and_read(ctx, op, &layout, other);
     answered(alloc, &answer)
 }
 
 /// The same with two contexts that have no dialects.
 fn without_dialects(alloc: Global) -> Result<String, Fail> {
-    two_calls(alloc, &mut Context::new(alloc), &mut Context::new(alloc))
+    let mut ctx: Ctx = Context::new(alloc);
+    let mut other: Ctx = Context::new(alloc);
+    two_calls(alloc, &mut ctx, &mut other)
 }
 
 #[test]

@@ -1,18 +1,25 @@
 //! Roots that are parsed, one after the other, and what is left after an error.
-use crate::reading::{root, two_roots, whole};
+use crate::reading::{root, whole};
 use irtext_demo::{DemoAttr, DemoType};
 use irtext_tests_common::contexts::{Ctx, Stream, with_demo};
-use irtext_tests_common::tables::failing;
 use pliron_text::base::{Operation, OperationAccess, Ptr};
-use pliron_text::ir::OperationParserConfig;
+use pliron_text::ir::{OperationParserConfig, OperationText};
 use pliron_text::irfmt::parsers::location;
 use pliron_text::location::{Location, Source};
 use pliron_text::parsable::{
-    Parsable, ParseResult, State, StreamLocation, state_stream_from_iterator,
+    Parsable, ParseResult, State, StateStream, StreamLocation, TextStream,
+    state_stream_from_iterator,
 };
 use pliron_text::printable::Disp;
 use std::alloc::Global;
 use std::test::Fail;
+
+/// Two roots on one stream.
+fn two(s: &mut Stream<'_>) -> Option<(Ptr<Operation>, Ptr<Operation>)> {
+    let first = Operation::top_level_parse(s).ok()?;
+    let second = Operation::top_level_parse(s).ok()?;
+    Some((first, second))
+}
 
 /// The location of the second of two roots, and the number of objects.
 fn located(
@@ -29,8 +36,15 @@ fn located(
 
 /// The result for the second of two roots on one stream.
 fn in_a_row(alloc: Global, ctx: &mut Ctx, text: &str) -> Result<String, Fail> {
-    let (first, second) = two_roots(alloc, ctx, text)?;
-    located(alloc, ctx, first, second)
+    let stream = TextStream::new(alloc, text)?;
+    let state = State::new(ctx, Source::InMemory, ());
+    let mut s = StateStream { stream, state };
+    let roots = two(&mut s);
+    let ctx = s.into_ctx();
+    match roots {
+        Some((first, second)) => located(alloc, ctx, first, second),
+        None => Err(Fail::from("refused")),
+    }
 }
 
 /// Parses a root without looking for its section.
@@ -123,7 +137,12 @@ fn leaves(alloc: Global, ctx: &mut Ctx, stands: Ptr<Operation>, text: &str) -> R
 /// The number of the first text that is not rejected, or leaves something else.
 fn differing(alloc: Global, ctx: &mut Ctx) -> Result<Option<usize>, Fail> {
     let stands = root(ctx, "builtin.module @m {}").ok_or("refused")?;
-    failing(REFUSED, ctx, |ctx, text| leaves(alloc, ctx, stands, text))
+    for (number, text) in REFUSED.iter().enumerate() {
+        if !leaves(alloc, ctx, stands, text)? {
+            return Ok(Some(number));
+        }
+    }
+    Ok(None)
 }
 
 #[test]

@@ -63,7 +63,11 @@ fn each_location_of_an_entry_comes_back(rt: HostRuntime) -> Result<(), Fail> {
     for line in LOCATIONS {
         assert!(rt; comes_back(rt.alloc(), line.0, line.1)?, "{}", line.0);
     }
-    // an unknown location leaves no mark
+    Ok(())
+}
+
+#[test]
+fn an_unknown_location_leaves_no_mark(rt: HostRuntime) -> Result<(), Fail> {
     assert_eq!(rt;
         row(rt.alloc(), "?")?.as_str(),
         "builtin.module @m \n{\n  \n}"
