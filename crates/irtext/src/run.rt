@@ -125,28 +125,18 @@ fn printed(
     }
 }
 
-/// Parses `text` with this context, and returns the root's text in this form.
-fn read_and_printed(
-    alloc: Global,
-    ctx: &mut Context<DemoType, DemoAttr>,
-    form: Form,
-    text: &str,
-) -> Result<String, Fault> {
-    match parse_from_str(|stream| Operation::top_level_parse(stream), ctx, text) {
-        Ok(root) => printed(alloc, ctx, root, form),
-        Err(error) => Err(refusal(alloc, ctx, &error)),
-    }
-}
-
-/// Registers the demo dialects first, and then does the same.
+/// Registers the demo dialects with this context, parses `text`, and returns the root's text in this form.
 fn registered(
     alloc: Global,
     ctx: &mut Context<DemoType, DemoAttr>,
     form: Form,
     text: &str,
 ) -> Result<String, Fault> {
-    match register_demo(ctx) {
-        Ok(()) => read_and_printed(alloc, ctx, form, text),
+    if let Err(error) = register_demo(ctx) {
+        return Err(refusal(alloc, ctx, &error));
+    }
+    match parse_from_str(|stream| Operation::top_level_parse(stream), ctx, text) {
+        Ok(root) => printed(alloc, ctx, root, form),
         Err(error) => Err(refusal(alloc, ctx, &error)),
     }
 }

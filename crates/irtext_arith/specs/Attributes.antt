@@ -86,16 +86,10 @@ module _ {T : Type 0} (type_at : Reader T) (type_text : T → Text) (type_eq : T
 
 -- the attributes that the section after the root holds
 abbrev pub is_outlined : {T : Type 0} → ArithAttr T → Bool
-is_outlined (attr.Value x) = false
-is_outlined (attr.Compares x) = false
-is_outlined (attr.Overflow x) = false
-is_outlined (attr.Align x) = false
 is_outlined (attr.Doc x) = true
+is_outlined _ = false
 
 -- the attributes that the section prints once
 abbrev pub is_print_once : {T : Type 0} → ArithAttr T → Bool
-is_print_once (attr.Value x) = false
-is_print_once (attr.Compares x) = false
-is_print_once (attr.Overflow x) = false
-is_print_once (attr.Align x) = false
 is_print_once (attr.Doc x) = true
+is_print_once _ = false

@@ -1,11 +1,11 @@
--- A reader that takes characters one by one stands somewhere along the text.
+-- A parser that takes characters one by one is at a position of the text.
 use Rattle.std.proofs.Common.{◌≡◌, ℕ, ◌<◌, Bool, true, Some, [], ◌∷◌, ◌++◌, length, refl, sym, ◌∙◌, ap, append_assoc, arith}
 use Rattle.irtext_base.specs.Text.{Text, front, after}
 use Rattle.irtext_base.specs.Stream.{StreamView, first_of, advanced, advanced_by, behind}
 use Rattle.irtext_stream.proofs.Bytes.{first_some}
 pub use Rattle.irtext_stream.proofs.Slices.{front_after}
 
--- one more character behind those taken
+-- one more character after those taken
 advanced_behind : (v w : StreamView) (taken rest : Text) (c : ℕ) → w.rest ≡ c ∷ rest → w ≡ behind v taken w.rest → advanced w ≡ behind v (taken ++ (c ∷ [])) rest
 advanced_behind v w taken rest c e b =
     let full : w ≡ behind v taken (c ∷ rest) = b ∙ ap (behind v taken) e in
@@ -15,7 +15,7 @@ advanced_behind v w taken rest c e b =
 pub ruleset fronts = front_after
 
 module _ {S : Type 0} (view : S → StreamView) (at : S → StreamView → S) where
-  -- what was taken since the reader began, all of it passing the test
+  -- what was taken since the parser began, all of it passing the test
   pub record Along (p : ℕ → Bool) (old now : S) (taken : Text) : Type 0 where
     pub is : now ≡ at old (behind (view old) taken (view now).rest)
     pub same : taken ++ (view now).rest ≡ (view old).rest
@@ -41,7 +41,7 @@ module _ {S : Type 0} (view : S → StreamView) (at : S → StreamView → S) wh
           after_is = rw r (sym beyond ∙ a.after_is);
         }
 
-    -- less of the text is left behind a character
+    -- less of the text is left after a character
     pub falls : (now next : S) (c : ℕ) → Some c ≡ first_of (view now).rest → next ≡ at now (advanced (view now)) → length (view next).rest < length (view now).rest
     falls now next c e n =
         let f = first_some (view now).rest c e in

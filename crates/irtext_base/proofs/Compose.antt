@@ -1,4 +1,4 @@
--- One reader behind another, and a reader that is demanded.
+-- One parser after another, and a required parser.
 use Rattle.std.proofs.Common.{◌≡◌, Bool, true, false, Result, Ok, Err, [], ◌++◌, refl, sym, ◌∙◌, ap, subst, append_assoc, append-nil, ◌⊎◌, inl, inr}
 use Rattle.irtext_base.specs.Text.{Text}
 use Rattle.irtext_base.specs.Stream.{StreamView, IsAt, behind, after_failure}
@@ -6,7 +6,7 @@ use Rattle.irtext_base.specs.Faults.{Fault, fault_of}
 use Rattle.irtext_base.specs.Answers.{Outcome, Read, Missing, Bad, Takes, SameStream, Starves, FailsBehind, StarvesHere, Commits, Demands, DemandsOf, Answers, Gives, Refuses, demanded, prefixed, mapped, followed, unless_failed}
 use Rattle.irtext_base.specs.declared.parsable.fault.ParseFault.{ParseFault}
 
--- what follows characters taken is demanded already
+-- what follows characters that were taken is required already
 demanded-prefixed : {X : Type 0} (t : Text) (o : Outcome X) → demanded (prefixed t o) ≡ prefixed t o
 demanded-prefixed t (Read x taken rest) = refl
 demanded-prefixed t (Missing cause) = refl
@@ -17,7 +17,7 @@ module _ {S : Type 0} (view : S → StreamView) (at : S → StreamView → S) (v
   pub takes_none : ((s : S) → at s (view s) ≡ s) → (s : S) → Takes view at [] (view s).rest s s
   takes_none at_view s = record { is = sym (at_view s) ∙ ap (λ (p : Text). at s (let v : StreamView = record { passed = p; rest = (view s).rest; failed = (view s).failed } in v)) (sym (append-nil (view s).passed)); same = refl }
 
-  -- what a stream is behind the characters taken
+  -- what a stream is after the characters taken
   pub seen_after : (old mid : S) (t r : Text) → Takes view at t r old mid → view mid ≡ behind (view old) t r
   seen_after old mid t r k = ap view k.is ∙ view_at old (behind (view old) t r)
 
@@ -25,11 +25,11 @@ module _ {S : Type 0} (view : S → StreamView) (at : S → StreamView → S) (v
   pub takes_fine : (old mid : S) (t r : Text) → Takes view at t r old mid → (view old).failed ≡ false → (view mid).failed ≡ false
   takes_fine old mid t r k f = ap (λ v. v.failed) (seen_after old mid t r k) ∙ f
 
-  -- a stream that has not failed behind characters taken had not before
+  -- a stream that has not failed after characters taken had not failed before
   pub fine_before : (old mid : S) (t r : Text) → Takes view at t r old mid → (view mid).failed ≡ false → (view old).failed ≡ false
   fine_before old mid t r k f = sym (ap (λ v. v.failed) (seen_after old mid t r k)) ∙ f
 
-  -- a stream that stands in what follows stands in the whole text
+  -- a stream over the rest of a text is over the whole text
   pub stands_after : (b : Bool) (old mid new : S) (t r : Text) → Takes view at t r old mid → SameStream view at b mid new → SameStream view at b old new
   stands_after b old mid new t r k s =
       let v : view mid ≡ behind (view old) t r = seen_after old mid t r k in
@@ -40,7 +40,7 @@ module _ {S : Type 0} (view : S → StreamView) (at : S → StreamView → S) (v
         same = s.same ∙ (ap (λ w. w.passed ++ w.rest) v ∙ (append_assoc (view old).passed t r ∙ ap (λ z. (view old).passed ++ z) k.same));
       }
 
-  -- characters taken behind others
+  -- characters taken after others
   pub takes_more : (old mid new : S) (t r u q : Text) → Takes view at t r old mid → Takes view at u q mid new → Takes view at (t ++ u) q old new
   takes_more old mid new t r u q k l =
       let v : view mid ≡ behind (view old) t r = seen_after old mid t r k in
@@ -50,7 +50,7 @@ module _ {S : Type 0} (view : S → StreamView) (at : S → StreamView → S) (v
         same = append_assoc t u q ∙ (ap (λ z. t ++ z) (l.same ∙ ap (λ z. z.rest) v) ∙ k.same);
       }
 
-  -- a stream that fails where it stands
+  -- a stream that fails at its position
   pub stands_failed : (b : Bool) (old mid new : S) → SameStream view at b old mid → new ≡ at mid (after_failure (view mid)) → SameStream view at true old new
   stands_failed b old mid new s n =
       let v : view mid ≡ s.seen = ap view s.is ∙ view_at old s.seen in
@@ -61,7 +61,7 @@ module _ {S : Type 0} (view : S → StreamView) (at : S → StreamView → S) (v
         same = s.same;
       }
 
-  -- a stream that fails where it stands has passed no more
+  -- a stream that fails at its position has consumed no more
   passed_still : (mid new : S) → new ≡ at mid (after_failure (view mid)) → (view mid).passed ≡ (view new).passed
   passed_still mid new n = sym (ap (λ z. (view z).passed) n ∙ ap (λ v. v.passed) (view_at mid (after_failure (view mid))))
 
@@ -69,11 +69,11 @@ module _ {S : Type 0} (view : S → StreamView) (at : S → StreamView → S) (v
   beside : (old new : S) (v : StreamView) → new ≡ at old v → new ≡ at old (view new)
   beside old new v e = e ∙ ap (at old) (sym (ap view e ∙ view_at old v))
 
-  -- a stream behind characters taken stands in the text
+  -- a stream after characters taken is over the same text
   pub takes_stands : (old mid : S) (t r : Text) → Takes view at t r old mid → SameStream view at (view old).failed old mid
   takes_stands old mid t r k = record { seen = behind (view old) t r; is = k.is; fails = refl; same = append_assoc (view old).passed t r ∙ ap (λ z. (view old).passed ++ z) k.same }
 
-  -- a reader whose value is seen in another way
+  -- a parser whose value is seen in another way
   pub gives_mapped : {X V : Type 0} (g : X → V) (b : Bool) (o : Outcome X) (old new : S) (x : X) (v : V) → v ≡ g x → Gives view at (unless_failed b o) old x new → Gives view at (unless_failed b (mapped g o)) old v new
   gives_mapped g true o old new x v e h = absurd h
   gives_mapped g false (Read y taken rest) old new x v e h = (e ∙ ap g h.0, h.1)
@@ -81,7 +81,7 @@ module _ {S : Type 0} (view : S → StreamView) (at : S → StreamView → S) (v
   gives_mapped g false (Bad cause upto) old new x v e h = absurd h
 
   module _ {A : Type 0} where
-    -- memory refused to what follows is memory refused
+    -- out of memory in what follows is out of memory in the whole
     pub starves_after : (old mid new : S) (t r : Text) (fault : ParseFault A) → Takes view at t r old mid → Starves view at mid fault new → Starves view at old fault new
     starves_after old mid new t r fault k s = record {
       because = s.because;
@@ -91,7 +91,7 @@ module _ {S : Type 0} (view : S → StreamView) (at : S → StreamView → S) (v
       left = stands_after true old mid new t r k s.left;
     }
 
-    -- memory refused behind characters taken of a stream that had not failed
+    -- out of memory after characters taken from a stream that had not failed
     pub starves_behind : (old mid new : S) (t r : Text) (fault : ParseFault A) → (view old).failed ≡ false → Takes view at t r old mid → StarvesHere view at mid fault new → Starves view at old fault new
     starves_behind old mid new t r fault f k s = record {
       because = s.because;
@@ -101,22 +101,22 @@ module _ {S : Type 0} (view : S → StreamView) (at : S → StreamView → S) (v
       left = stands_failed (view old).failed old mid new (takes_stands old mid t r k) s.left;
     }
 
-    -- memory refused where a stream stands that had not failed
+    -- out of memory at the position of a stream that had not failed
     pub starves_here : (at_view : (s : S) → at s (view s) ≡ s) (old new : S) (fault : ParseFault A) → (view old).failed ≡ false → StarvesHere view at old fault new → Starves view at old fault new
     starves_here at_view old new fault f s = starves_behind old old new [] (view old).rest fault f (takes_none at_view old) s
 
-    -- a committed fault of what follows stands behind the characters taken
+    -- a committed fault of what follows is after the characters taken
     pub commits_after : (cause : Fault) (upto : Text) (old mid new : S) (t r : Text) (fault : ParseFault A) → Takes view at t r old mid → Commits view at cause upto mid fault new → Commits view at cause (t ++ upto) old fault new
     commits_after cause upto old mid new t r fault k s =
         let p : (view mid).passed ++ upto ≡ (view old).passed ++ (t ++ upto) = ap (λ v. v.passed ++ upto) (seen_after old mid t r k) ∙ append_assoc (view old).passed t upto in
         record { because = s.because; committed = s.committed; place = subst (IsAt fault.pos.line fault.pos.column) p s.place; left = stands_after true old mid new t r k s.left }
 
-    -- a fault at the place before the characters taken, or memory refused behind them
+    -- a fault at the place before the characters taken, or out of memory after them
     pub refuses_before : (cause : Fault) (old mid new : S) (t r : Text) (fault : ParseFault A) → (view old).failed ≡ false → Takes view at t r old mid → StarvesHere view at mid fault new ⊎ FailsBehind view at cause (view old).passed mid fault new → Starves view at old fault new ⊎ Commits view at cause [] old fault new
     refuses_before cause old mid new t r fault f k (inl s) = inl (starves_behind old mid new t r fault f k s)
     refuses_before cause old mid new t r fault f k (inr e) = inr (record { because = e.because; committed = e.committed; place = rw append-nil e.place; left = stands_failed (view old).failed old mid new (takes_stands old mid t r k) e.left })
 
-    -- a demanded reader behind the characters taken
+    -- a required parser after the characters taken
     pub answers_after : {X Y : Type 0} (see : Y → X) (o : Outcome X) (old mid new : S) (t r : Text) (a : Result Y (ParseFault A)) → Takes view at t r old mid → Answers view at see (demanded o) mid a new → Answers view at see (prefixed t o) old a new
     answers_after see (Read x more rest) old mid new t r (Ok y) k h = (h.0, takes_more old mid new t r more rest k h.1)
     answers_after see (Read x more rest) old mid new t r (Err fault) k (inl s) = inl (starves_after old mid new t r fault k s)
@@ -128,7 +128,7 @@ module _ {S : Type 0} (view : S → StreamView) (at : S → StreamView → S) (v
     answers_after see (Bad cause upto) old mid new t r (Err fault) k (inl s) = inl (starves_after old mid new t r fault k s)
     answers_after see (Bad cause upto) old mid new t r (Err fault) k (inr e) = inr (commits_after cause upto old mid new t r fault k e)
 
-    -- a reader changes nothing beside the text
+    -- a parser changes nothing beside the text
     pub answers_beside : (at_view : (s : S) → at s (view s) ≡ s) {X Y : Type 0} (see : Y → X) (o : Outcome X) (old new : S) (a : Result Y (ParseFault A)) → Answers view at see o old a new → new ≡ at old (view new)
     answers_beside at_view see (Read x taken rest) old new (Ok y) h = beside old new (behind (view old) taken rest) h.1.is
     answers_beside at_view see (Missing cause) old new (Ok y) h = absurd h
@@ -138,7 +138,7 @@ module _ {S : Type 0} (view : S → StreamView) (at : S → StreamView → S) (v
     answers_beside at_view see (Missing cause) old new (Err fault) (inr e) = beside old new (view old) (e.left ∙ sym (at_view old))
     answers_beside at_view see (Bad cause upto) old new (Err fault) (inr e) = beside old new e.left.seen e.left.is
 
-    -- where the first of two readers refuses, both do
+    -- if the first of two parsers returns an error, both do
     pub refuses_first : {X Y V W : Type 0} (see : Y → X) (sees : W → V) (b : Bool) (o : Outcome X) (next : X → Text → Outcome V) (old new : S) (fault : ParseFault A) → Answers view at see (unless_failed b o) old (Err fault) new → Answers view at sees (unless_failed b (followed o next)) old (Err fault) new
     refuses_first see sees true o next old new fault h = h
     refuses_first see sees false (Read x taken rest) next old new fault (inl s) = inl s
@@ -155,7 +155,7 @@ module _ {S : Type 0} (view : S → StreamView) (at : S → StreamView → S) (v
     follows see sees false (Missing cause) next old mid new y a e h k = absurd h
     follows see sees false (Bad cause upto) next old mid new y a e h k = absurd h
 
-    -- where the first of two readers reads, the second answers for both
+    -- if the first of two parsers parses, the result of the second is that of both
     pub answers_second : {X Y V W : Type 0} (see : Y → X) (sees : W → V) (o : Outcome X) (next : X → Text → Outcome V) (old mid new : S) (y : Y) (a : Result W (ParseFault A)) → Answers view at {A = A} see (unless_failed (view old).failed o) old (Ok y) mid → Answers view at sees (demanded (unless_failed (view mid).failed (next (see y) (view mid).rest))) mid a new → Answers view at sees (unless_failed (view old).failed (followed o next)) old a new
     answers_second see sees o next old mid new y a h k = follows see sees (view old).failed o next old mid new y a refl h k
 
@@ -191,14 +191,14 @@ module _ {S : Type 0} (view : S → StreamView) (at : S → StreamView → S) (v
           left = stands_failed true old mid new e.left d.left;
         })
 
-    -- a demanded answer is what the reader, demanded, answers
+    -- a result that is required is what the required parser returns
     pub answers_demanded : {X Y : Type 0} (see : Y → X) (o : Outcome X) (old mid new : S) (a r : Result Y (ParseFault A)) → Answers view at see o old a mid → DemandsOf view at a mid r new → Answers view at see (demanded o) old r new
     answers_demanded see (Read x taken rest) old mid new (Ok y) r h d = rw (d.0, d.1) h
     answers_demanded see (Missing cause) old mid new (Ok y) r h d = absurd h
     answers_demanded see (Bad cause upto) old mid new (Ok y) r h d = absurd h
     answers_demanded see o old mid new (Err fault) r h d = rw d.1 (demanded_is_failed o old mid new fault d.0 h d.2)
 
-    -- where the first of two readers, both demanded, refuses, both do
+    -- if the first of two required parsers returns an error, both do
     pub refuses_first_demanded : {X Y V W : Type 0} (see : Y → X) (sees : W → V) (b : Bool) (o : Outcome X) (next : X → Text → Outcome V) (old new : S) (fault : ParseFault A) → Answers view at see (demanded (unless_failed b o)) old (Err fault) new → Answers view at sees (demanded (unless_failed b (followed o next))) old (Err fault) new
     refuses_first_demanded see sees true o next old new fault h = h
     refuses_first_demanded see sees false (Read x taken rest) next old new fault (inl s) = inl s
@@ -212,11 +212,11 @@ module _ {S : Type 0} (view : S → StreamView) (at : S → StreamView → S) (v
     follows_demanded see sees false (Missing cause) next old mid new y a e h k = absurd h
     follows_demanded see sees false (Bad cause upto) next old mid new y a e h k = absurd h
 
-    -- where the first of two readers, both demanded, reads, the second answers for both
+    -- if the first of two required parsers parses, the result of the second is that of both
     pub answers_second_demanded : {X Y V W : Type 0} (see : Y → X) (sees : W → V) (o : Outcome X) (next : X → Text → Outcome V) (old mid new : S) (y : Y) (a : Result W (ParseFault A)) → Answers view at {A = A} see (demanded (unless_failed (view old).failed o)) old (Ok y) mid → Answers view at sees (demanded (unless_failed (view mid).failed (next (see y) (view mid).rest))) mid a new → Answers view at sees (demanded (unless_failed (view old).failed (followed o next))) old a new
     answers_second_demanded see sees o next old mid new y a h k = follows_demanded see sees (view old).failed o next old mid new y a refl h k
 
-    -- a demanded reader's fault is the same, however the value is seen
+    -- a required parser's fault is the same, however the value is seen
     pub refuses_mapped_demanded : {X V : Type 0} (g : X → V) (b : Bool) (o : Outcome X) (old new : S) (fault : ParseFault A) → Starves view at old fault new ⊎ Refuses view at (demanded (unless_failed b o)) old fault new → Starves view at old fault new ⊎ Refuses view at (demanded (unless_failed b (mapped g o))) old fault new
     refuses_mapped_demanded g true o old new fault h = h
     refuses_mapped_demanded g false (Read x taken rest) old new fault h = h

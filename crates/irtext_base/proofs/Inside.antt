@@ -1,4 +1,4 @@
--- That what stands in a location weighs less than the location.
+-- That what is nested in a location weighs less than the location.
 use Rattle.std.proofs.Common.{◌≡◌, ◌∙◌, ℕ, zero, suc, ◌+◌, ◌<◌, List, [], ◌∷◌, ◌++◌, length, get_or, Box, Vec, Global, Option, ap, arith}
 use Rattle.irtext_base.specs.declared.base.attributes.AttrObj.{AttrObj}
 use Rattle.irtext_base.specs.declared.location.Location.{Location}

@@ -26,7 +26,7 @@ module _ {X Y : Type 0} (see : X → Y) where
   map-last [] x = refl
   map-last (y ∷ xs) x = ap (λ ys. see y ∷ ys) (map-last xs x)
 
--- a text that none of the paths has comes to stand last
+-- a text that none of the paths has is put last
 pub put_last : (paths : List (String Global)) (text : String Global) (path : List ℕ) → string_bytes text ≡ path → list_any (bytes_eq path) (map string_bytes paths) ≡ false
     → map string_bytes (insert_key string_eq paths text) ≡ map string_bytes paths ++ path ∷ []
 put_last paths text path e none =

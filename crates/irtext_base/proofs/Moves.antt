@@ -59,6 +59,7 @@ mutual
 mutual
   -- the location that a text says has this text
   pub under_written : {A : Type 0} (paths : List (List ℕ)) (l : Written A) → written_with (all_kept paths l) (all_under paths l) ≡ l
+  under_written paths unknown = refl
   under_written paths (src_pos None pos) = refl
   under_written paths (src_pos (Some path) pos) = ap (λ s. src_pos s pos) (path_found paths (with_path paths path) path (record { index = path_index paths path }) refl refl)
   under_written paths (fused metadata locations) = ap (fused metadata) (row_under_written paths locations)
@@ -68,7 +69,6 @@ mutual
       ap₂ call_site
       (written_same before (all_kept before caller) (all_keep before caller) (all_under paths callee) (under_known paths callee) ∙ under_written paths callee)
       (under_written before caller)
-  under_written paths unknown = refl
 
   pub row_under_written : {A : Type 0} (paths : List (List ℕ)) (ls : LocationsOf (Option (List ℕ)) A) → row_sourced (path_of (row_kept paths ls)) (row_under paths ls) ≡ ls
   row_under_written paths no_location = refl
@@ -82,11 +82,11 @@ append-none : (xs : List (List ℕ)) → xs ++ [] ≡ xs
 append-none [] = refl
 append-none (x ∷ xs) = ap (λ ys. x ∷ ys) (append-none xs)
 
--- no path came
+-- no path was added
 pub keeps_none : (paths : List (List ℕ)) → KeepsMore paths paths
 keeps_none paths = record { more = []; with_more = sym (append-none paths) }
 
--- the path of one source came, if it has one that is new
+-- the path of one source was added, if it has one that is new
 pub keeps_path : {old new : List (List ℕ)} (o : Option (List ℕ)) → new ≡ path_kept old o → KeepsMore old new
 keeps_path {old} None e = rw e (keeps_none old)
 keeps_path {old} (Some path) e = rw e (by (position (bytes_eq path) old))
@@ -95,7 +95,7 @@ keeps_path {old} (Some path) e = rw e (by (position (bytes_eq path) old))
     by (Some i) = keeps_none old
     by None = record { more = path ∷ []; with_more = refl }
 
--- paths came, and then more
+-- paths were added, and then more
 pub keeps_again : {a b c : List (List ℕ)} → KeepsMore a b → KeepsMore b c → KeepsMore a c
 keeps_again {a} {b} {c} h k = record {
   more = h.more ++ k.more;

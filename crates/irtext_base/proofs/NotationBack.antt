@@ -22,7 +22,7 @@ use Rattle.irtext_base.proofs.Numbers.{digits_every}
 use Rattle.irtext_stream.proofs.NotationSteps.{index_there}
 use Rattle.irtext_base.proofs.NotationDirectives.{directive_found, directives_step, all_more, faults_as}
 
--- a text that is empty, or in front of which a space is
+-- a text that is empty, or begins with a space
 data Spaced : Text → Type 0 where
   none : Spaced []
   space : (text : Text) → Spaced (32 ∷ text)

@@ -1,4 +1,4 @@
--- A number that is written in decimal digits is read again.
+-- A number that is written in decimal digits is parsed again.
 use Rattle.std.specs.Prelude.{◌≡◌, ℕ, ◌<◌, ◌^◌, Bool, true, false, not, ◌==◌, ◌&&◌, ◌||◌, [], ◌∷◌, ◌++◌, length, refl, decimal}
 use Rattle.std.proofs.Common.{inl, sym, ◌∙◌, ap, true≢false, arith}
 use Rattle.std.proofs.lemmas.Bool.Decides.{nat_tests}

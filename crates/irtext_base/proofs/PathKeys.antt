@@ -1,4 +1,4 @@
--- A path that a context comes to keep stands under its key, and what was written of a location before is written of it after.
+-- A path that a context begins to keep is under its key, and what was printed of a location before is printed of it after.
 use Rattle.std.proofs.Common.{◌≡◌, ◌∙◌, ap, ap₂, refl, sym, ℕ, zero, suc, ◌+◌, ◌<◌, Bool, true, false, not, cond, nat_lt, Option, Some, None, List, [], ◌∷◌, ◌++◌, length, position, arith, true≢false}
 use Rattle.std.proofs.lemmas.Bool.Decides.{nat_tests}
 use Rattle.std.proofs.lemmas.Option.{slice_get_within, none-some}
@@ -29,18 +29,18 @@ found_at {X} p (x ∷ xs) h = by (p x) refl (found_at p xs) h
     by true e rest h = (x, refl, e)
     by false e rest h = let r = rest (less (position_or_len p xs) (length xs) h) in (r.0, onward (position_or_len p xs) ∙ r.1, r.2)
 
--- what stood in a list stands there when one comes behind it
+-- the elements of a list keep their indices when another is appended
 pub appended_get : {X : Type 0} (xs ys : List X) (i : ℕ) (x : X) → slice_get xs i ≡ Some x → slice_get (xs ++ ys) i ≡ Some x
 appended_get [] ys i x h = absurd (none-some x h)
 appended_get (y ∷ xs) ys zero x h = h
 appended_get (y ∷ xs) ys (suc i) x h = appended_get xs ys i x h
 
--- the one behind a list
+-- the last of a list
 last_get : {X : Type 0} (xs : List X) (y : X) → slice_get (xs ++ y ∷ []) (length xs) ≡ Some y
 last_get [] y = refl
 last_get (x ∷ xs) y = last_get xs y
 
--- a kept path stands under its key
+-- a kept path is under its key
 pub path_stands : (paths : List (List ℕ)) (path : List ℕ) → slice_get (with_path paths path) (path_index paths path) ≡ Some path
 path_stands paths path = by (nat_lt (position_or_len (bytes_eq path) paths) (length paths)) refl
   where
@@ -68,7 +68,7 @@ paths_stay paths path = by (position (bytes_eq path) paths)
     by (Some i) = λ i p h. h
     by None = λ i p h. appended_get paths (path ∷ []) i p h
 
--- what stands nowhere in a list is past its end
+-- an index without an element is past the end of the list
 pub within : (xs : List (List ℕ)) (i : ℕ) → slice_get xs i ≡ None → nat_lt i (length xs) ≡ true → ⊥
 within [] i e h = none_less i h
   where

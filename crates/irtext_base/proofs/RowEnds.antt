@@ -1,4 +1,4 @@
--- What is left of a row of locations from a place on; and truth values that stand in a row.
+-- What is left of a list of locations from a place on; and conjunctions of truth values.
 use Rattle.std.proofs.Common.{◌≡◌, ◌<◌, ◌+◌, ◌∙◌, ap, ap₂, sym, refl, suc, arith, Bool, true, false, ◌&&◌, ℕ, List, ◌∷◌, map, drop, length, get_or}
 use Rattle.std.proofs.Math.Seq.{drop-cons}
 use Rattle.irtext_base.specs.declared.location.Location.{Location}
@@ -12,7 +12,7 @@ pub behind : (b c d e : Bool) → d ≡ (c && e) → (b && d) ≡ ((b && c) && e
 behind true c d e h = h
 behind false c d e h = refl
 
--- what is left of a row from a place on is the location there, and what is left behind it
+-- what is left of a list from a place on is the location there, and what is left after it
 pub first_left : {A : Type 0} (all : List (Location A)) (i : ℕ) (l : Location A) → i < length all → l ≡ get_or all i l
     → in_row (map location_view (drop i all)) ≡ location (location_view l) (in_row (map location_view (drop (i + 1) all)))
 first_left all i l h e =

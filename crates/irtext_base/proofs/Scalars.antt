@@ -12,7 +12,7 @@ pub use Rattle.irtext_stream.proofs.Bytes.{scalars_more}
 use Rattle.irtext_base.specs.Quoted.{hexadecimal, image_of, images, quoted}
 use Rattle.irtext_base.proofs.Characters.{ascii, and_left, and_right}
 
--- a text of such characters
+-- a text of Unicode scalar values
 abbrev pub AreScalars : Text → Type 0
 AreScalars text = all_scalars text ≡ true
 
@@ -53,6 +53,6 @@ all_images (c ∷ text) h =
     let one : AreScalars (c ∷ []) = rw (and_left (scalar c) (all_scalars text) h) refl in
     scalars_more (image_of c) (images text) (image c one) (all_images text (and_right (scalar c) (all_scalars text) h))
 
--- what is written of such a text between quotation marks is one
+-- a quoted text of scalar values is one
 pub scalars_quoted : (text : Text) → AreScalars text → AreScalars (quoted text)
 scalars_quoted text h = scalars_more (codes "\"") (images text ++ codes "\"") refl (scalars_more (images text) (codes "\"") (all_images text h) refl)

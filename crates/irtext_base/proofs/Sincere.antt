@@ -6,7 +6,7 @@ use Rattle.irtext_base.specs.Answers.{Outcome, Read, Missing, Bad, prefixed, fol
 use Rattle.irtext_base.specs.Own.{is_first_fault, is_later_fault, is_text_fault, IsFront, Sincere}
 use Rattle.irtext_base.proofs.Characters.{or_left}
 
--- what is read takes a front of the text, and a fault has a cause of a text, at a place in it
+-- what is parsed takes a front of the text, and a fault has a cause of a text, at a place in it
 abbrev pub SaysOf : {X : Type 0} → Text → Outcome X → Type 0
 SaysOf text (Read x taken left) = taken ++ left ≡ text
 SaysOf text (Missing cause) = is_first_fault cause ≡ true
@@ -34,7 +34,7 @@ module _ {X : Type 0} where
   pub of_bad : (text : Text) (cause : Fault) (upto left : Text) → is_text_fault cause ≡ true → upto ++ left ≡ text → Of {X = X} text (Bad cause upto)
   of_bad text cause upto left e f = record { says = (e, (left, f)) }
 
-  -- where it stands is in each text
+  -- an empty prefix is in each text
   pub of_here : (text : Text) (cause : Fault) → is_text_fault cause ≡ true → Of {X = X} text (Bad cause [])
   of_here text cause e = of_bad text cause [] text e refl
 
@@ -58,7 +58,7 @@ of_mapped text see (Missing cause) h = of_missing text cause h.says
 of_mapped text see (Bad cause upto) h = of_bad text cause upto h.says.1.0 h.says.0 h.says.1.1
 
 module _ {X : Type 0} (reading : Text → Outcome X) where
-  -- a reader whose outcomes are of their texts
+  -- a parser whose outcomes are of their texts
   pub sincere_of : ((text : Text) → Of text (reading text)) → Sincere reading
   sincere_of h = record {
     reads = λ text x taken left e. (subst (Of text) e (h text)).says;

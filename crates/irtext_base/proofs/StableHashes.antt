@@ -1,4 +1,4 @@
--- How many locations stand in a row that is seen of a list; and that what is fed depends on the texts of paths alone.
+-- How many locations are in a list that is seen; and that what is hashed depends on the texts of paths alone.
 use Rattle.std.proofs.Common.{◌≡◌, ◌∙◌, ap, ap₂, sym, refl, ℕ, suc, true, Option, Some, None, List, [], ◌∷◌, ◌++◌, length, map, arith}
 use Rattle.std.specs.Prelude.{slice_get}
 use Rattle.std.specs.Hash as fed

@@ -1,4 +1,4 @@
--- What a visit makes of a state: of a row the last is visited behind the others; a visit that writes at each location writes all of it.
+-- What a visit makes of a state: of a list the last is visited after the others; a visit that writes at each location writes all of it.
 use Rattle.std.proofs.Common.{◌≡◌, ◌∙◌, ap, ap₂, sym, refl, ℕ, List, [], ◌∷◌, ◌++◌, map, fold, length, Box, Vec, Global, Option}
 use Rattle.std.proofs.lemmas.List.Sums.{fold-append}
 use Rattle.std.specs.Hash.{HashWrites}
@@ -58,7 +58,7 @@ module _ {S : Type 0} (write : S → List ℕ → S) where
       (at_none : (s : S) → s ≡ fold write s (row no_location))
       (at_more : (s : S) (l : LocationView A) (ls : LocationViews A) → fold write (fold write s (whole l)) (row ls) ≡ fold write s (row (location l ls))) where
     mutual
-      -- a visit that writes at each location what the location is written as in front of what stands in it
+      -- a visit that writes at each location what is written of the location before those nested in it
       pub written_visited : (s : S) (l : LocationView A) → visited v s l ≡ fold write s (whole l)
       written_visited s (src_pos src at) = at_place s src at
       written_visited s (fused m ls) = row_written (v.fused s m (row_len ls)) ls ∙ at_fused s m ls

@@ -29,11 +29,11 @@ mutual
   same_row_taken w no_location = refl
   same_row_taken w (location l ls) = ap (λ t. joined location t (λ u. row_taken same_sources u ls)) (same_taken w l) ∙ ap (made (location l)) (same_row_taken w ls)
 
--- one source came
+-- one source was visited
 pub reached_one : {W : Type 0} (r : Rule W) (s : Source) (old new : W) → new ≡ r.after old s → Reached r old new
 reached_one r s old new e = record { sources = s ∷ []; by_sources = e }
 
--- some sources came, and then some more
+-- some sources were visited, and then some more
 pub reached_again : {W : Type 0} {r : Rule W} {a b c : W} → Reached r a b → Reached r b c → Reached r a c
 reached_again {W} {r} {a} {b} {c} h k = record {
   sources = h.sources ++ k.sources;
@@ -48,7 +48,7 @@ in_front_none : {S A : Type 0} (ks : List (LocationOf S A)) → in_front ks no_l
 in_front_none [] = refl
 in_front_none (k ∷ ks) = ap (location k) (in_front_none ks)
 
--- what is open, with one location more inside
+-- the open frames, with one more location inside
 resume_push : {W A : Type 0} (r : Rule W) (frames : List (Frame A)) (f : Frame A) (t : Taken W (LocationView A)) → resume r (frames ++ f ∷ []) t ≡ resume r frames (closed r f t)
 resume_push r [] f t = refl
 resume_push r (g ∷ frames) f t = ap (closed r g) (resume_push r frames f t)
@@ -78,7 +78,7 @@ resume_known : {W A : Type 0} (r : Rule W) (frames : List (Frame A)) (t : Taken 
 resume_known r [] t h = h
 resume_known r (f ∷ frames) t h = resume_known r frames t (closed_known r f (resume r frames t) h)
 
--- where all sources of a location are known, so are those of what is at hand
+-- if all sources of a location are known, so are those of the location at hand
 pub still_known : {W A : Type 0} (r : Rule W) (w : W) (frames : List (Frame A)) (u : Turn A) (l : Bor (Location A)) (whole : Taken W (LocationView A)) → u ≡ Inside l
     → resume r frames (begun r u w) ≡ whole → whole.known ≡ true → (taken r w (location_view l.now)).known ≡ true
 still_known r w frames u l whole is e h =
@@ -92,7 +92,7 @@ module _ {A : Type 0} (old new : List (Frame A)) (f : Frame A) (e : new ≡ old 
   stack_new : stack_turns new ≡ stack_turns old + frame_turns f
   stack_new = ap stack_turns e ∙ stack_push old f
 
--- a row goes on with the next of its locations
+-- a list goes on with the next of its locations
 module _ {A : Type 0} (old new : List (Frame A)) (row : Row A) (next : Location A) (others : Bor (List (Location A)))
     (e : new ≡ old ++ frame.Fused (record { metadata = row.metadata; copies = row.copies; left = others }) ∷ []) (s : row.left.now ≡ next ∷ others.now) where
   pub row_goes_on : {W : Type 0} (r : Rule W) (w : W) → resume r new (taken r w (location_view next)) ≡ resume r old (row_rest row r w)
@@ -134,7 +134,7 @@ pub continues_as : {W A : Type 0} (r : Rule W) (rest other : Rule W → W → Ta
     → ((w : W) → rest r w ≡ other r w) → Continues r rest old t new → Continues r other old t new
 continues_as r rest other old t new e h = λ w. h w ∙ ap (resume r old.items) (e w)
 
--- behind a callee comes its caller
+-- after a callee comes its caller
 module _ {A : Type 0} (old new : List (Frame A)) (f : Frame A) (caller : Bor (Location A)) (copy : Location A) (is : f ≡ frame.Callee caller) (e : new ≡ old ++ frame.Caller copy ∷ []) where
   pub caller_next : {W : Type 0} (r : Rule W) (w : W) → resume r new (taken r w (location_view caller.now)) ≡ resume r old (closing f copy r w)
   caller_next r w = resume_new old new _ e r (taken r w (location_view caller.now)) ∙ ap (λ g. resume r old (closing g copy r w)) (sym is)

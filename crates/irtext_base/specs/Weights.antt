@@ -22,11 +22,11 @@ abbrev mutual
 abbrev mutual
   -- the measure of a location in the chain of those that are left to drop, with the rest of the chain in its first place
   pub waiting : {S A : Type 0} → LocationOf S A → ℕ
+  waiting unknown = 0
   waiting (src_pos src pos) = 0
   waiting (fused metadata locations) = 1 + row_waiting locations
   waiting (named name child) = 1 + weight child
   waiting (call_site callee caller) = 1 + (waiting callee + weight caller)
-  waiting unknown = 0
 
   -- the same for a row, whose first location is the rest of the chain
   pub row_waiting : {S A : Type 0} → LocationsOf S A → ℕ

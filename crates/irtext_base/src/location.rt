@@ -96,7 +96,11 @@ impl<A: Hash> Hash for Location<A> {
 impl<A: Drop> Drop for Location<A> {
     /// Drops the location and all that are nested in it, by a loop that allocates nothing.
     fn drop(self) {
-        release::release(self);
+        match self {
+            Location::SrcPos { src: _, pos: _ } => (),
+            Location::Unknown => (),
+            nested => release::release(nested),
+        }
     }
 }
 

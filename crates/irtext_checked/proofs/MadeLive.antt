@@ -12,7 +12,7 @@ use Rattle.irtext_context.specs.Made.{bare, AddsRegions, MakesWithRegions}
 use Rattle.irtext_context.proofs.Contexts.{with_region, made_seen, grown_seen}
 
 module _ {T A : Type 0} where
-  -- what is there is there with one more region
+  -- a live operation is live with one more region
   with_more : (r : Ptr Region) (o : Option (OperationView T A)) → IsSome o → IsSome (option_map (with_region r) o)
   with_more r None h = h
   with_more r (Some op) h = h

@@ -1,4 +1,4 @@
--- Attributes that are lent for writing: what the context holds behind them, and what stays.
+-- Attributes that are borrowed for writing: what the context holds once the borrow has ended, and what is unchanged.
 use Rattle.std.proofs.Common.{◌≡◌, ◌∙◌, refl, sym, ap, subst, List, Option, None, Some}
 use Rattle.std.specs.Option.{option_map}
 use Rattle.std.specs.Prelude.{option_and_then}
@@ -74,7 +74,7 @@ module _ {T A : Type 0} (c : ContextView T A) where
     pub changed_alike : (held : Option (OperationData A)) (f h : OperationData A → OperationData A) → Holds held → option_map f held ≡ option_map h held → with_changed_operation c p f ≡ with_changed_operation c p h
     changed_alike held f h e same = sym (changed held f e) ∙ ap (λ d. record c { graph = with_operation_data c.graph p d }) same ∙ changed held h e
 
-    -- a change that does nothing there leaves the context as it is
+    -- a change that does nothing there leaves the context unchanged
     pub unchanged : (held : Option (OperationData A)) (f : OperationData A → OperationData A) → Holds held → option_map f held ≡ held → with_changed_operation c p f ≡ c
     unchanged held f e same = sym (changed held f e) ∙ ap (λ d. record c { graph = with_operation_data c.graph p d }) same
         ∙ ap (λ g. record c { graph = g }) (unedited c.graph p held e)
@@ -131,7 +131,7 @@ module _ {T A : Type 0} (c : ContextView T A) where
     pub changed_block_alike : (held : BlockData A) (f h : BlockData A → BlockData A) → HoldsBlock held → f held ≡ h held → with_changed_block c p f ≡ with_changed_block c p h
     changed_block_alike held f h e same = sym (changed_block held f e) ∙ ap (λ d. record c { graph = with_block_data c.graph p d }) same ∙ changed_block held h e
 
-    -- a change that does nothing there leaves the context as it is
+    -- a change that does nothing there leaves the context unchanged
     pub unchanged_block : (held : BlockData A) (f : BlockData A → BlockData A) → HoldsBlock held → f held ≡ held → with_changed_block c p f ≡ c
     unchanged_block held f e same = sym (changed_block held f e) ∙ ap (λ d. record c { graph = with_block_data c.graph p d }) same
         ∙ ap (λ g. record c { graph = g }) (unedited_block c.graph p held e)

@@ -102,7 +102,7 @@ module _ {T A : Type 0} where
         go None = refl
         go (Some x) = ap (λ v. Some v) (same x.content.content.arguments x.content.children x.content.content.data_of)
 
-    -- an operation to which a region came is seen with it
+    -- an operation that gained a region has the view with this region
     pub grown_seen : (op : Ptr Operation) (r : Ptr Region) → AddsRegion old new op r → operation new op ≡ option_map (with_region r) (operation old op)
     grown_seen op r a = ap (option_and_then operation_of) a.graph.operations.updates.changed ∙ go (get old.graph.operations op)
       where
@@ -114,6 +114,6 @@ module _ {T A : Type 0} where
         go None = refl
         go (Some x) = inner x.content.content.results x.content.children x.content.content.data_of
 
-    -- the region that came is seen
+    -- the region that was created has a view
     pub region_seen : (op : Ptr Operation) (r : Ptr Region) → AddsRegion old new op r → region new r ≡ Some (record { parent = Some op; blocks = [] })
     region_seen op r a = ap (option_map region_of) a.graph.regions.updates.changed

@@ -1,4 +1,4 @@
--- Where the dialect of a name stands among those of a context.
+-- The index of a name's dialect among those of a context.
 use Rattle.std.proofs.Common.{◌≡◌, ◌∙◌, ℕ, zero, suc, Bool, true, List, [], ◌∷◌, ◌++◌, length, length-append, slice_get, Option, Some, None, refl, sym, ap, arith, position, unwrap_or, is_some, true≢false}
 use Rattle.std.specs.Map.{lookup, keys_of, values_of}
 use Rattle.std.specs.Str.{bytes_eq}
@@ -28,7 +28,7 @@ set_same [] i v e = refl
 set_same (x ∷ es) zero v e = let same : x.1 ≡ v = cc e in ap (λ w. (x.0, w) ∷ es) (sym same)
 set_same (x ∷ es) (suc i) v e = ap (λ l. x ∷ l) (set_same es i v e)
 
--- a new key comes last
+-- a new key is put last
 pub entry_last : {X : Type 0} (es : List (Text × X)) (k : Text) (v : X) → lookup (bytes_eq k) es ≡ None → insert_entry bytes_eq es k v ≡ es ++ (k, v) ∷ []
 entry_last es k v none = insert_entry-absent bytes_eq k v es (absent_from_lookup (bytes_eq k) es none)
 
@@ -46,7 +46,7 @@ kept_there es name i p =
     found (Some table) s h e = sym e
     found None s h e = absurd (true≢false (sym h))
 
--- a dialect that came
+-- a dialect that was added
 pub kept_last : (es : List (Text × Table)) (name : Text) → lookup (bytes_eq name) es ≡ None → IsKeptAt es name (length es) (es ++ (name, no_operations name) ∷ [])
 kept_last es name none = record {
   within = rw (length-append es ((name, no_operations name) ∷ [])) (omega arith);
@@ -54,7 +54,7 @@ kept_last es name none = record {
   replaced = λ w. set_last name es (no_operations name) w ∙ sym (entry_last es name w none);
 }
 
--- a dialect that came with one operation
+-- a dialect that was added with one operation
 pub first_op : (es new : List (Text × Table)) (id : OpId) (format : Format) (isolated : Bool) (key : Text) (table : Table)
     → lookup (bytes_eq id.dialect) es ≡ None → key ≡ id.dialect → table ≡ with_op (no_operations id.dialect) id format isolated
     → new ≡ es ++ (key, table) ∷ [] → new ≡ with_operation es id format isolated

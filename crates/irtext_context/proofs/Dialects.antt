@@ -40,7 +40,7 @@ known_found test (e ∷ es) = go (test e.0) (known_found test es)
     go true r = refl
     go false r = r
 
--- the same behind the reference that a look-up lends
+-- the same for the value under the reference that a look-up returns
 pub known_behind : (r : Option (Bor OpInfo)) (test : OpId → Bool) (es : List (OpId × OpInfo)) → option_copied r ≡ lookup test es → option_map (λ info. known_of info.now) r ≡ lookup test (known_entries es)
 known_behind r test es e = go r ∙ ap (option_map known_of) e ∙ sym (known_found test es)
   where
@@ -71,7 +71,7 @@ accepted_found name test (e ∷ es) a = go (test e.0) (accepted_found name test 
     go true r = a.1
     go false r = r
 
--- the same behind the reference that a look-up lends
+-- the same for the value under the reference that a look-up returns
 pub accepted_behind : (r : Option (Bor OpInfo)) → IsAccepted (option_map (λ info. known_of info.now) r) → IfSome r (λ info. Accepted (format_of info.now.format))
 accepted_behind None a = tt
 accepted_behind (Some info) a = a
@@ -83,7 +83,7 @@ pub accepted_put : {X E : Type 0} (r : Result X E) (name : Text) (old new : List
 accepted_put (Ok x) name old new id info e f a d k = subst (λ es. AreAccepted name es) (sym (known_put old id info) ∙ ap known_entries (sym e)) (accepted_more name (known_entries old) id (known_of info) a d k)
 accepted_put (Err x) name old new id info e f a d k = subst (λ es. AreAccepted name (known_entries es)) (sym f) a
 
--- what is known of the dialect at an index and of those behind it is known from that index on
+-- what holds of the dialect at an index and of those after it holds from that index on
 pub accepted_from : (i : ℕ) (ds : List (Text × Table)) (x : Table) → slice_get (values_of ds) i ≡ Some x → AreAccepted x.name x.entries → AllAccepted (drop (suc i) ds) → AllAccepted (drop i ds)
 accepted_from zero [] x e a more = absurd (cc)
 accepted_from zero (d ∷ ds) x e a more = let same : d.1 ≡ x = cc e in (subst (λ (t : Table). AreAccepted t.name t.entries) (sym same) a, more)

@@ -21,7 +21,7 @@ module _ {T A : Type 0} where
     dialects = k.dialects ∙ h.dialects;
   }
 
-  -- an operation that was made stood nowhere before
+  -- an operation that was made was not there before
   pub before_made : {old new : ContextView T A} {p : Ptr Operation} {held : OperationData A} {types : List T} {operands : List Value} {successors : List (Ptr BasicBlock)} → (mark : ℕ) → mark ≤ old.graph.made
       → MakesOperation old new p held types operands successors → before mark new.graph.operations p ≡ None
   before_made {old} {new} {p} {held} {types} {operands} {successors} mark up m = operation_came mark old.graph new.graph p (Some held) (known types) operands successors up m.graph
@@ -30,7 +30,7 @@ module _ {T A : Type 0} where
   pub kept_closed : {mark : ℕ} {old mid : ContextView T A} → IsClosedBelow mark old.graph → KeepsOlder mark old mid → IsClosedBelow mark mid.graph
   kept_closed {mark} {old} {mid} c k = closed_kept mark old.graph mid.graph k.graph c
 
-  -- after a rollback all stands that stood when the mark was taken, and nothing else
+  -- after a rollback the live objects are those that were live when the mark was taken, unchanged
   pub rolled_back : {mark : ℕ} {old mid new : ContextView T A} → AllOlder mark old.graph → KeepsOlder mark old mid → RollsBack mark mid new → SameObjects old new
   rolled_back {mark} {old} {mid} {new} a k r =
       let b = back_to mark old.graph mid.graph k.graph a r.graph in

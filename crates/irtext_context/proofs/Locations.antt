@@ -1,4 +1,4 @@
--- Locations are taken away: the second time changes nothing, and what is older than all inside stands as it did.
+-- Locations are removed: the second time changes nothing, and what is older than all objects inside is unchanged.
 use Rattle.std.proofs.Common.{◌≡◌, ℕ, refl, Option, Some, None}
 use Rattle.std.specs.Option.{option_map}
 use Rattle.irtext_base.specs.declared.location.Location.{Unknown}
@@ -20,7 +20,7 @@ erased_twice None = refl
 erased_twice (Some held) = refl
 
 module _ {T A : Type 0} (old new : ContextView T A) (op : Ptr Operation) (forest : Nested (children old.graph) (parent old.graph)) (e : ErasesLocations old new op) where
-  -- where no block stands inside, the operation alone changes
+  -- if no block is inside, the operation alone changes
   pub erased_alone : HoldsNoBlocks old.graph (TheOperation op) → EditsOperation old new op (with_loc Unknown)
   erased_alone none = record {
     graph = edited_alone (option_map (with_loc Unknown)) (with_block_loc Unknown) old.graph new.graph op e.graph none forest;
@@ -28,7 +28,7 @@ module _ {T A : Type 0} (old new : ContextView T A) (op : Ptr Operation) (forest
     dialects = e.dialects;
   }
 
-  -- what is older than all inside stands as it did
+  -- what is older than all objects inside is unchanged
   pub erased-keeps : (mark : ℕ) → IsNewInside mark old.graph (TheOperation op) → KeepsOlder mark old new
   erased-keeps mark young = record {
     graph = edited_inside-keeps (option_map (with_loc Unknown)) (with_block_loc Unknown) mark old.graph new.graph (TheOperation op) forest e.graph young;

@@ -1,4 +1,4 @@
--- Regions that come to an operation one after the other, and what is older than they are.
+-- Regions that are added to an operation one after another, and that objects older than they are unchanged.
 use Rattle.std.proofs.Common.{◌≡◌, ◌≤◌, ◌+◌, ◌∙◌, ℕ, suc, Option, None, Some, IsSome, sym, subst, arith, List}
 use Rattle.std.specs.Option.{option_map}
 use Rattle.irtext_graph.specs.Content.{OperationContent, Content, Content.{AnOperation}}
@@ -27,7 +27,7 @@ abbrev pub There : (T A : Type 0) → Option (OperationEntry T A) → Type 0
 There T A o = IsSome (option_map (shown {O = Option (OperationData A)} {B = BlockData A} {T = Option T}) (content_of o))
 
 module _ {T A : Type 0} where
-  -- an operation stands behind a region that came to it
+  -- an operation is live after a region was added to it
   pub still_stands : {old new : ContextView T A} {op : Ptr Operation} {r : Ptr Region} → IsLive old.graph (TheOperation op) → AddsRegion old new op r → IsLive new.graph (TheOperation op)
   still_stands {old} {new} {op} {r} h a = subst (There T A) (sym a.graph.operations.updates.changed) (go (get old.graph.operations op) h)
     where
@@ -35,14 +35,14 @@ module _ {T A : Type 0} where
       go None h = h
       go (Some x) h = h
 
-  -- what is kept is kept by a region that comes to a newer operation too
+  -- what is unchanged is still unchanged after a region is added to a newer operation
   pub kept_more : {old mid new : ContextView T A} (op : Ptr Operation) (mark : ℕ) → old.graph.made ≤ mid.graph.made → (mark ≤ old.graph.made → before mark old.graph.operations op ≡ None → KeepsOlder mark old mid)
       → ((m : ℕ) → m ≤ mid.graph.made → before m mid.graph.operations op ≡ None → KeepsOlder m mid new) → mark ≤ old.graph.made → before mark old.graph.operations op ≡ None → KeepsOlder mark old new
   kept_more op mark up first more h none =
       let k = first h none in
       kept_trans k (more mark (omega (arith, h, up)) (k.graph.operations op ∙ none))
 
-  -- what is kept as an operation is made is kept by what comes to it
+  -- what is unchanged when an operation is made is unchanged when regions are added to it
   pub kept_made : {old mid new : ContextView T A} {op : Ptr Operation} {held : OperationData A} {types : List T} {operands : List Value} {successors : List (Ptr BasicBlock)} (mark : ℕ) → mark ≤ old.graph.made
       → MakesOperation old mid op held types operands successors → KeepsOlder mark old mid
       → ((m : ℕ) → m ≤ mid.graph.made → before m mid.graph.operations op ≡ None → KeepsOlder m mid new) → KeepsOlder mark old new

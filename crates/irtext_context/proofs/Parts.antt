@@ -14,7 +14,7 @@ use Rattle.irtext_context.proofs.Contexts.{OperationEntry}
 use Rattle.irtext_context.proofs.Made.{There}
 
 module _ {T A : Type 0} (c : ContextView T A) (p : Ptr Operation) where
-  -- an operation that is seen stands in the graph
+  -- an operation with a view is live in the graph
   pub stands_seen : IsSome (operation c p) → IsLive c.graph (TheOperation p)
   stands_seen h = go (get c.graph.operations p) h
     where

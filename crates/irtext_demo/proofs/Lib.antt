@@ -1,1 +1,2 @@
 pub mod DemoFormats
+pub mod TypeTexts

@@ -9,6 +9,7 @@ use Rattle.irtext_base.specs.Answers.{Outcome, Missing}
 use Rattle.irtext_tokens.specs.Tokens.{word, value_of}
 use Rattle.irtext_tokens.specs.Integers.{ranged}
 use Rattle.irtext_tokens.specs.Infix.{either, ◌▶◌, ◌⇒◌}
+use Rattle.irtext_syntax.specs.Ranges.{digits_at}
 use Rattle.irtext_syntax.specs.Shapes.{Shape}
 use Rattle.irtext_demo.specs.WidthOf.{width_of}
 use Rattle.irtext_demo.specs.declared.width.Width.{Width}
@@ -42,7 +43,7 @@ width_if (Some n) = width_of n
 
 -- the decimal digits of a width, as many as come next
 abbrev pub width_at : Text → Outcome Width
-width_at text = cond (begins is_ascii_digit text) (ranged (front is_ascii_digit text) (after is_ascii_digit text) (width_if (value_of (front is_ascii_digit text)))) (Missing (Unexpected (first_of text) ADigit))
+width_at = digits_at width_if
 
 -- the integer type with this sign and this width
 abbrev pub integer_type_with : Signedness → Width → IntegerType

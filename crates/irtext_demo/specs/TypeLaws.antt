@@ -31,9 +31,6 @@ sincere_behind word.Pointer = word_sincere Pointer
 pub type_lawful : Lawful DemoType (texts_of type_at type_text)
 type_lawful = table_lawful (codes "Unregistered type ") AType rows
 
-pub type_led : BeginsWithWord type_words type_text
-type_led = table_led rows
-
 pub type_sincere : Sincere type_at
 type_sincere = table_sincere type_word (codes "Unregistered type ") AType sincere_behind
 
@@ -44,6 +41,9 @@ type_same _ _ e = absurd (true≢false (sym e))
 
 pub type_decides : (x y : DemoType) → IsTrue (type_test.ghosts.eq x y) ↔ (x ≡ y)
 type_decides x y = (type_same x y, λ e. ap (type_test.ghosts.eq x) (sym e) ∙ type_laws.laws-law.refl x)
+
+pub type_led : BeginsWithWord type_words type_text
+type_led = table_led rows
 
 -- as a part of other texts
 pub type_law : PartLaw type_at type_text ends_text

@@ -75,13 +75,6 @@ fn row(demo: Demo) -> (&'static str, &'static str, bool)
     }
 }
 
-/// Returns the literal `:`.
-fn colon(alloc: Global) -> Result<Directive, AllocError>
-    ensures { IfOk result (λ d. directive_of d ≡ word (codes ":")) }
-{
-    Ok(Directive::Literal(String::from_str(alloc, ":")?))
-}
-
 /// Returns the operation's format, newly allocated.
 fn op_format(alloc: Global, demo: Demo) -> Result<OpFormat, AllocError>
     ensures { IfOk result (λ f. format_of f ≡ (demo_op demo).format) }
@@ -117,6 +110,13 @@ fn op_format(alloc: Global, demo: Demo) -> Result<OpFormat, AllocError>
         Demo::Global => return Ok(OpFormat::Canonical),
     }
     Ok(OpFormat::Custom(directives))
+}
+
+/// Returns the literal `:`.
+fn colon(alloc: Global) -> Result<Directive, AllocError>
+    ensures { IfOk result (λ d. directive_of d ≡ word (codes ":")) }
+{
+    Ok(Directive::Literal(String::from_str(alloc, ":")?))
 }
 
 /// Registers the operation, and its dialect if it is not registered yet. On an error the context is unchanged.

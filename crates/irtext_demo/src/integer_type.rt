@@ -1,5 +1,5 @@
 //! The integer types and their parser: a sign, and a width in decimal digits.
-ghost use Rattle.std.specs.Prelude.{◌≡◌, Some, MatchBool, MatchOption};
+ghost use Rattle.std.specs.Prelude.{◌≡◌, ◌++◌, OnOk, Some, MatchBool, MatchOption, codes, decimal, string_bytes};
 ghost use Rattle.irtext_base.specs.Faults.{characters};
 ghost use Rattle.irtext_tokens.specs.Tokens.{word};
 ghost use Rattle.irtext_base.specs.Answers.{Answers, Gives, unless_failed};
@@ -9,8 +9,9 @@ use crate::width::Width;
 use irtext_base::parsable::{CharStream, ParseResult, TextStream};
 use irtext_base::result::{Cause, Expected};
 use irtext_syntax::part::{Last, Part, TryClone};
+use irtext_syntax::range::{FromDigits, digits_parse};
 use irtext_tokens::irfmt::faults::{begins, committed, next_is, refuse, unexpected};
-use irtext_tokens::irfmt::parsers::digits::{Radix, out_of_range, take_digits};
+use irtext_tokens::irfmt::parsers::digits::{Radix, take_digits};
 use irtext_tokens::irfmt::parsers::{Class, text_parse};
 use std::alloc::AllocError;
 use std::fmt;
@@ -78,30 +79,12 @@ fn signedness_parse<A>(stream: &mut TextStream) -> ParseResult<Signedness, A>
     Err(unexpected(stream, Expected::Type))
 }
 
-/// Parses a width: as many decimal digits as come next. Fails with `NumberRange` at its first digit if it is not from 1 to 65,535.
-fn width_parse<A>(stream: &mut TextStream) -> ParseResult<Width, A>
-    ensures { Answers (λ s. s) (λ s v. v) (λ w. w)
-        (unless_failed stream.old.failed (width_at stream.old.rest)) stream.old result stream.new }
-{
-    if stream.has_failed() {
-        return Err(refuse(stream, Cause::StreamFailed));
-    }
-    if !begins(stream, Class::Digit) {
-        return Err(unexpected(stream, Expected::Digit));
-    }
-    let place = stream.position();
-    let number = take_digits(stream, Radix::Decimal);
-    match width_if(number) {
-        Some(width) => Ok(width),
-        None => Err(out_of_range(stream, place)),
-    }
-}
+impl FromDigits for Width {
+    ghost made = { width_if };
 
-/// Returns the width with this number of bits, if it is from 1 to 65,535. `None` is a number that does not fit 64 bits.
-fn width_if(number: Option<u64>) -> Option<Width>
-    ensures { result ≡ width_if number }
-{
-    Width::new(number? as usize)
+    fn from_digits(number: Option<u64>) -> Option<Width> {
+        Width::new(number? as usize)
+    }
 }
 
 /// Parses an integer type, such as `si32`: `si`, `ui` or `i`, and a width in decimal digits, without white space between them. Fails with
@@ -112,7 +95,7 @@ pub fn integer_type_parse<A>(stream: &mut TextStream) -> ParseResult<IntegerType
         (unless_failed stream.old.failed (integer_type_at stream.old.rest)) stream.old result stream.new }
 {
     let kind = signedness_parse(stream)?;
-    let width = width_parse(stream);
+    let width = digits_parse::<Width, A>(stream);
     let width = committed(stream, width)?;
     Ok(IntegerType { kind, width })
 }
@@ -174,7 +157,7 @@ fn width_there(stream: &mut TextStream) -> Option<Width>
     }
     let place = stream.position();
     let number = take_digits(stream, Radix::Decimal);
-    if let Some(width) = width_if(number) {
+    if let Some(width) = Width::from_digits(number) {
         return Some(width);
     }
     stream.reset(place);
@@ -196,6 +179,65 @@ fn integer_type_there(stream: &mut TextStream) -> Option<IntegerType>
     }
     stream.reset(place);
     None
+}
+
+/// Appends a sign.
+#[inline(always)]
+fn write_sign(kind: Signedness, f: &mut String) -> fmt::Result
+    ensures { OnOk result (string_bytes f.new ≡ string_bytes f.old ++ signedness_text kind) }
+{
+    match kind {
+        Signedness::Signed => f.push_str("si")?,
+        Signedness::Unsigned => f.push_str("ui")?,
+        Signedness::Signless => f.push_str("i")?,
+    }
+    Ok(())
+}
+
+/// Appends `builtin.integer`, a space and a sign.
+#[inline(always)]
+fn write_front(kind: Signedness, f: &mut String) -> fmt::Result
+    ensures { OnOk result (string_bytes f.new ≡ string_bytes f.old ++ (codes "builtin.integer " ++ signedness_text kind)) }
+{
+    match kind {
+        Signedness::Signed => f.push_str("builtin.integer si")?,
+        Signedness::Unsigned => f.push_str("builtin.integer ui")?,
+        Signedness::Signless => f.push_str("builtin.integer i")?,
+    }
+    Ok(())
+}
+
+/// Appends a number of bits that few types have.
+#[cold]
+fn write_any_width(bits: u16, f: &mut String) -> fmt::Result
+    ensures { OnOk result (string_bytes f.new ≡ string_bytes f.old ++ decimal bits) }
+{
+    write!(f, "{bits}")?;
+    Ok(())
+}
+
+/// Appends a number of bits. Those that most types have are fixed texts.
+#[inline(always)]
+fn write_width(bits: u16, f: &mut String) -> fmt::Result
+    ensures { OnOk result (string_bytes f.new ≡ string_bytes f.old ++ decimal bits) }
+{
+    match bits {
+        1 => f.push_str("1")?,
+        8 => f.push_str("8")?,
+        16 => f.push_str("16")?,
+        32 => f.push_str("32")?,
+        64 => f.push_str("64")?,
+        _ => return write_any_width(bits, f),
+    }
+    Ok(())
+}
+
+/// Appends an integer type as a type of its dialect: `builtin.integer si32`.
+pub(crate) fn write_integer_type(ty: &IntegerType, f: &mut String) -> fmt::Result
+    ensures { OnOk result (string_bytes f.new ≡ string_bytes f.old ++ (codes "builtin.integer " ++ integer_type_text ty.now)) }
+{
+    write_front(ty.kind, f)?;
+    write_width(ty.width.bits(), f)
 }
 
 /// An integer type as a part of other texts. A digit right after it would belong to its width.
@@ -226,8 +268,8 @@ impl<A> Part<A> for IntegerType {
     }
 
     fn write_text(&self, f: &mut String) -> fmt::Result {
-        write!(f, "{self}")?;
-        Ok(())
+        write_sign(self.kind, f)?;
+        write_width(self.width.bits(), f)
     }
 }
 

@@ -1,11 +1,11 @@
 //! The demo types: integers and a pointer.
-use crate::integer_type::IntegerType;
+use crate::integer_type::{IntegerType, write_integer_type};
 use irtext_base::parsable::{ParseResult, TextStream};
 use irtext_base::result::Expected;
 use irtext_base::text::{Family, IrText, Worded};
 use irtext_syntax::part::{Item, Part, TryClone};
 use irtext_syntax::table::{
-    Table, alone_known, behind_known, behind_word, table_parse, word_alone, write_row, write_word,
+    Table, alone_known, behind_known, behind_word, table_parse, word_alone, write_word,
 };
 use irtext_syntax::words::DottedWord;
 use std::alloc::AllocError;
@@ -103,7 +103,7 @@ impl<A> IrText<A> for DemoType {
 
     fn write_text(&self, f: &mut String) -> fmt::Result {
         match self {
-            DemoType::Integer(ty) => write_row::<IntegerType, A>("builtin.integer", ty, f),
+            DemoType::Integer(ty) => write_integer_type(ty, f),
             DemoType::Pointer => write_word("test.ptr ", f),
         }
     }

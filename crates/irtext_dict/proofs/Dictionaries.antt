@@ -25,7 +25,7 @@ closed_up_after p zero h = refl
 closed_up_after zero (suc i) h = absurd (omega (arith, h))
 closed_up_after (suc p) (suc i) h = ap suc (closed_up_after p i (omega (arith, h)))
 
--- the key that is asked for is the given names'
+-- the key that is looked up is that of the given names
 key_is : (k : Text) → bytes_eq given_names_key k ≡ true → given_names_key ≡ k
 key_is k h = (bytes_decides given_names_key k).0 h
 

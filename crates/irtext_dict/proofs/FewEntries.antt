@@ -13,7 +13,7 @@ use Rattle.irtext_base.specs.Format.{distinct, has}
 use Rattle.irtext_base.specs.Text.{Text}
 
 module _ {K V : Type 0} (t : K → Bool) where
-  -- no key passes where none has a place
+  -- if no key has a place, no key passes the test
   pub absent_from_place : (es : List (K × V)) → position t (keys_of es) ≡ None → IsAbsent t es
   absent_from_place es e = absent_from_none t es (Missing-position t es e).value
 
@@ -46,7 +46,7 @@ module _ {K V : Type 0} (eq : K → K → Bool) (k : K) (v : V) where
   insert-first (x ∷ xs) (suc i) d h =
       ap (λ l. x ∷ l) (insert-first xs i d h.1) ∙ sym (ap (λ b. if b then (x.0, v) ∷ xs else x ∷ insert_entry eq xs k v) h.0)
 
-  -- another goes last
+  -- another key is put last
   pub insert-last : (es : List (K × V)) → IsAbsent (eq k) es → es ++ (k, v) ∷ [] ≡ insert_entry eq es k v
   insert-last [] h = refl
   insert-last (x ∷ xs) h = ap (λ l. x ∷ l) (insert-last xs h.1) ∙ sym (ap (λ b. if b then (x.0, v) ∷ xs else x ∷ insert_entry eq xs k v) h.0)
@@ -77,7 +77,7 @@ module _ {V : Type 0} where
       go false p d =
           ap₂ (λ a b. not a && b) (has_inserted x.0 k v xs (nat_list_eq_equiv.symm x.0 k ∙ p)) (d ∙ sym later) ∙ h
 
-  -- and with one for which memory is asked
+  -- and with one for which memory is allocated
   pub differ_after : {X E : Type 0} (r : Result X E) (k : Text) (v : V) (old new : List (Text × V)) → distinct bytes_eq (keys_of old) ≡ true → OnOk r (new ≡ insert_entry bytes_eq old k v) → OnErr r (new ≡ old) → distinct bytes_eq (keys_of new) ≡ true
   differ_after (Ok x) k v old new h ok err = subst (λ es. distinct bytes_eq (keys_of es) ≡ true) (sym ok) (distinct_inserted k v old h)
   differ_after (Err e) k v old new h ok err = subst (λ es. distinct bytes_eq (keys_of es) ≡ true) (sym err) h

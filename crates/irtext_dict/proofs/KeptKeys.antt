@@ -1,4 +1,4 @@
--- What every dictionary keeps: no key stands twice, and under the reserved one stand given names.
+-- What every dictionary keeps: no key occurs twice, and under the reserved one are given names.
 use Rattle.std.proofs.Common.{◌≡◌, Bool, true, false, not, ◌&&◌, ◌||◌, ℕ, zero, suc, List, [], ◌∷◌, Option, Some, None, refl, sym, ap, ap₂, ◌∙◌, subst}
 use Rattle.std.specs.Cmp.Lexicographic.{nat_list_eq_equiv}
 use Rattle.std.specs.List.{list_all, AllByRecursion}

@@ -10,33 +10,24 @@ mod ir;
 mod pass;
 mod run;
 
+use crate::run::Task;
 use std::process::ExitCode;
 use std::{env, io};
 
-/// Returns the arguments, without the program's name.
-fn words(rt: &HostRuntime) -> io::Result<Vec<String>> {
-    Ok(env::args(rt)?.skip(1).collect(rt.alloc())?)
-}
-
-/// Runs the program, and returns its exit status, or the error of getting the arguments.
-fn status(rt: &HostRuntime) -> io::Result<u8> {
-    let owned = words(rt)?;
-    let words: Vec<&str> = owned.iter().map(|word| word.as_str()).collect(rt.alloc())?;
-    Ok(run::run(
-        rt.alloc(),
-        words.as_slice(),
-        &mut rt.reader(),
-        &mut rt.stdout(),
-        &mut rt.stderr(),
-    ))
+/// Returns the task that the arguments ask for, if they are one word.
+fn task(rt: &HostRuntime) -> io::Result<Option<Task>> {
+    let mut words = env::args(rt)?.skip(1);
+    match (words.next(), words.next()) {
+        (Some(word), None) => Ok(Task::of(word.as_str())),
+        _ => Ok(None),
+    }
 }
 
 fn main(rt: HostRuntime) -> ExitCode {
-    match status(&rt) {
-        Ok(status) => ExitCode::from(status),
-        Err(_) => {
-            let _ = eprintln!(rt; "cannot get the arguments");
-            ExitCode::from(1)
-        }
-    }
+    let Ok(task) = task(&rt) else {
+        let _ = eprintln!(rt; "cannot get the arguments");
+        return ExitCode::from(1);
+    };
+    let (mut input, mut output, mut errors) = (rt.reader(), rt.stdout(), rt.stderr());
+    ExitCode::from(run::run(rt.alloc(), task, &mut input, &mut output, &mut errors))
 }

@@ -18,12 +18,10 @@ use std::fmt::Write as _;
 use std::io::{Read, Write};
 use thiserror::Error as ErrorText;
 
-/// Why the program failed. Its text goes to the error output. `Usage`: the arguments are not the one word `front`, `pass` or `both`. `Refused`:
-/// the input was rejected, or the root could not be printed, with the error's text.
+/// Why a task failed. Its text goes to the error output. `Refused`: the input was rejected, or the root could not be printed, with the
+/// error's text.
 #[derive(Debug, Drop, ErrorText)]
 pub enum Fault {
-    #[error("usage: irtext_examples front|pass|both")]
-    Usage,
     #[error("cannot read standard input as UTF-8")]
     Unreadable,
     #[error("out of memory")]
@@ -34,21 +32,9 @@ pub enum Fault {
     Unwritable,
 }
 
-impl Fault {
-    /// Returns the exit status for this fault: 2 for `Usage`, otherwise 1.
-    fn status(&self) -> u8
-        ensures { result ≤ 2 }
-    {
-        match self {
-            Fault::Usage => 2,
-            _ => 1,
-        }
-    }
-}
-
 /// What the program does.
 #[derive(Clone, Copy)]
-enum Task {
+pub enum Task {
     /// Builds the module of a sum.
     Front,
     /// Doubles the constants of a module.
@@ -57,16 +43,15 @@ enum Task {
     Both,
 }
 
-/// Returns the task that the arguments ask for: one word, `front`, `pass` or `both`.
-fn task_of(args: &[&str]) -> Result<Task, Fault> {
-    let [word] = args else {
-        return Err(Fault::Usage);
-    };
-    match *word {
-        "front" => Ok(Task::Front),
-        "pass" => Ok(Task::Pass),
-        "both" => Ok(Task::Both),
-        _ => Err(Fault::Usage),
+impl Task {
+    /// Returns the task of a word: `front`, `pass` or `both`.
+    pub fn of(word: &str) -> Option<Task> {
+        match word {
+            "front" => Some(Task::Front),
+            "pass" => Some(Task::Pass),
+            "both" => Some(Task::Both),
+            _ => None,
+        }
     }
 }
 
@@ -189,14 +174,13 @@ fn output_of(alloc: Global, task: Task, input: &str) -> Result<String, Fault> {
     }
 }
 
-/// Does the work of `run`, and returns the fault if there is one.
+/// Does a task, and returns the fault if there is one.
 fn try_run(
     alloc: Global,
-    args: &[&str],
+    task: Task,
     input: &mut impl Read,
     output: &mut impl Write,
 ) -> Result<(), Fault> {
-    let task = task_of(args)?;
     let mut text = String::new(alloc);
     input
         .read_to_string(&mut text)
@@ -207,21 +191,26 @@ fn try_run(
         .map_err(|_| Fault::Unwritable)
 }
 
-/// Runs the program, and returns its exit status: 0, or the status of the fault, whose text goes to `errors`.
+/// Does the task that the program's arguments ask for, and returns the exit status: 0, or 1 if the task failed, or 2 if they ask for
+/// none. Why goes to `errors`.
 pub fn run(
     alloc: Global,
-    args: &[&str],
+    task: Option<Task>,
     input: &mut impl Read,
     output: &mut impl Write,
     errors: &mut impl Write,
 ) -> u8
     ensures { result ≤ 2 }
 {
-    let Err(fault) = try_run(alloc, args, input, output) else {
+    let Some(task) = task else {
+        let _ = writeln!(errors, "usage: irtext_examples front|pass|both");
+        return 2;
+    };
+    let Err(fault) = try_run(alloc, task, input, output) else {
         return 0;
     };
     let _ = writeln!(errors, "{fault}");
-    fault.status()
+    1
 }
 
 #[cfg(test)]

@@ -32,7 +32,7 @@ all_from : {X : Type 0} (test : X → Bool) (xs : List X) → ((i : ℕ) (x : X)
 all_from test [] f = refl
 all_from test (y ∷ xs) f = and_from (test y) (list_all test xs) (f zero y refl) (all_from test xs (λ i x h. f (suc i) x h))
 
--- ---- directives that stand once at most
+-- ---- directives that occur at most once
 more : (b : Bool) (n : ℕ) → b ≡ true → cond b (suc n) n ≡ suc n
 more true n e = refl
 more false n e = absurd (true≢false (sym e))
@@ -121,7 +121,7 @@ module _ {X : Type 0} (same : X → X → Bool) (sound : (x y : X) → same x y 
       go None e = e
       go (Some y) e = or_right (same x y) (has same x (names ds)) e
 
-  -- the head names a value, so it is named no more
+  -- the head names a value, so no other directive names it
   named_no_more : (d : Directive) (ds : List Directive) (x : X) → distinct same (cons_option (named d) (names ds)) ≡ true → named d ≡ Some x → has same x (names ds) ≡ true → ⊥
   named_no_more d ds x e p h =
       let q : (not (has same x (names ds)) && distinct same (names ds)) ≡ true = subst (λ o. distinct same (cons_option o (names ds)) ≡ true) p e in
@@ -240,7 +240,7 @@ module _ (named : Directive → Option ℕ) (single : ℕ → Directive) (own : 
       (are_below (length ks) ks
       (λ k h. ⊎_elim (λ (l : k < f.0). omega (arith, l, room)) (λ (l : f.0 ≤ k). absurd (f.2 k l (has_stands ◌==◌ eqb-true (λ x. eq-eqb x x refl) named single own only k ds h))) (cases_lt k f.0)))
 
--- ---- what stands behind what
+-- ---- no early directive is after a late one
 module _ (late early : Directive → Bool) where
   none_at : (ds : List Directive) → none_behind late early ds ≡ true → (i j : ℕ) (d e : Directive) → StandsAt d ds i → StandsAt e ds j → i < j → late d ≡ true → early e ≡ true → ⊥
   none_at [] n i j d e h k l p q = nothing i d h
@@ -308,7 +308,7 @@ is_key _ k e = absurd (cc)
 not_so : {X : Type 0} → false ≡ true → X
 not_so e = absurd (true≢false (sym e))
 
--- a directive that stands for all of a kind, for the dictionary or for the header is that one
+-- a directive for all of a kind, for the dictionary or for the header is that one
 record Bare (d : Directive) : Type 0 where
   operands : is_operands d ≡ true → d ≡ format.operands
   successors : is_successors d ≡ true → d ≡ format.successors
@@ -325,7 +325,7 @@ bare format.header = record { operands = not_so; successors = not_so; regions = 
 bare _ = record { operands = not_so; successors = not_so; regions = not_so; dictionary = not_so; header = not_so }
 
 -- ---- C2 to C4
--- the directives of one kind are places, and one directive stands for all of them once at most
+-- the directives of one kind are places, and at most one directive is for all of them
 module _ (named : Directive → Option ℕ) (single : ℕ → Directive) (sees : (k : ℕ) → named (single k) ≡ Some k) (is_single : (d : Directive) (k : ℕ) → named d ≡ Some k → d ≡ single k)
     (all : Directive) (test : Directive → Bool) (tested : test all ≡ true) (is_all : (d : Directive) → test d ≡ true → d ≡ all) (ds : List Directive) where
   places_say : (are_places (filter_map named ds) && nat_lt (count test ds) 2) ≡ true → NameAllBelow single ds × StandsOnceAtMost all ds

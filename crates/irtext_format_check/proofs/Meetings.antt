@@ -1,4 +1,4 @@
--- What can stand behind a list goes on with it exactly where a character does both.
+-- What can follow a list continues it exactly if a character both begins what follows and continues the list.
 use Rattle.std.proofs.Common.{◌≡◌, ℕ, zero, suc, Bool, true, false, cond, not, ◌||◌, ◌==◌, List, [], ◌∷◌, ◌++◌, length, refl, sym, ap, ◌∙◌, subst, inl, inr, ⊎_elim, true≢false, arith}
 use Rattle.std.specs.Prelude.{codes, ◌⊎◌}
 use Rattle.std.proofs.lemmas.Bool.{and_parts, and_from, or_cases, or_left, or_right, not_from_false, false_from_ne_true, eqb-true, eq-eqb}
@@ -72,7 +72,7 @@ kind_begin (format.region i) q e = (123, sym (one_of q 123 e), refl)
 kind_begin format.regions q e = (123, sym (one_of q 123 e), refl)
 kind_begin format.header q e = (64, sym (one_of q 64 e), refl)
 
--- ---- what a list goes on with
+-- ---- what continues a list
 goes_kind : (d : Directive) (c : ℕ) → GoesOn d c → has ◌==◌ (kind c) (continuings d) ≡ true
 goes_kind format.operands c (inl g) = has_first (kind c) 95 44 (kind_of_word c g)
 goes_kind format.operands c (inr g) = has_second (kind c) 95 44 (ap kind g)
@@ -137,7 +137,7 @@ follow_kind (d ∷ ds) c (inl (suc j, e, h, l, b)) =
 follow_kind (d ∷ ds) c (inr (l, b)) =
     follow_rest (kind c) d ds (lists d (l zero d (omega arith) refl)) (follow_kind ds c (inr ((λ m x k g. l (suc m) x (omega (arith, k)) g), b)))
 
--- lists alone stand in front, one directive on
+-- only lists precede, one directive further on
 alone_more : (d : Directive) (ds : List Directive) (j : ℕ) → WritesList d → ListsAlone j ds → ListsAlone (suc j) (d ∷ ds)
 alone_more d ds j w l zero x k h = subst (λ z. WritesList z) (some_inside d x h) w
 alone_more d ds j w l (suc m) x k h = l m x (omega (arith, k)) h

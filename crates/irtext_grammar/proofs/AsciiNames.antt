@@ -7,7 +7,7 @@ use Rattle.irtext_base.specs.Text.{Text, is_identifier}
 use Rattle.irtext_grammar.proofs.Lists.Ascii.{ascii-from, ascii-identifier}
 use Rattle.irtext_grammar.specs.Spelling.PrintedNames.{prefixed, value_name, block_name}
 
--- a text behind an identifier
+-- a text after an identifier
 ascii-prefixed : (name text : Text) → IsTrue (is_identifier name) → IsAscii text → IsAscii (prefixed (Some name) text)
 ascii-prefixed name text word ascii = IsAscii-append name (codes "_" ++ text) (ascii-identifier name word) (IsAscii-append (codes "_") text (ascii-from (codes "_") refl) ascii)
 

@@ -1,4 +1,4 @@
--- A text has one tree, and what is spelled is read back.
+-- A text has one tree, and what is spelled is parsed back.
 pub mod Nested
 pub mod Unique
 pub mod Sequences

@@ -1,4 +1,4 @@
--- Printed roots are read back.
+-- Printed roots are parsed back.
 pub mod RootBack
 pub mod RootResolves
 pub mod WholeRoot

@@ -1,4 +1,4 @@
--- The section behind a root: its indices, its entries, what comes back of them.
+-- The section after a root: its indices, its entries, and how they are parsed back.
 pub mod BehindRoot
 pub mod Back
 pub mod Marked

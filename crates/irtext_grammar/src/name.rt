@@ -6,7 +6,7 @@ ghost use Rattle.irtext_context.specs.Context.{block, operation};
 ghost use Rattle.irtext_grammar.specs.Spelling.PrintedNames as printed;
 ghost use Rattle.irtext_grammar.specs.UniqueNames.{given_at, given_name, value_name, block_name};
 
-use irtext_base::base::{AttrObj, GIVEN_NAMES_KEY, Identifier};
+use irtext_base::base::{AttrObj, Identifier};
 use irtext_base::text::{AttrText, IrText};
 use irtext_context::base::{BasicBlock, BlockAccess, Context, Operation, OperationAccess, Ptr};
 use irtext_dict::base::AttributeDict;
@@ -18,7 +18,7 @@ use std::alloc::{AllocError, Global};
 fn given_at<A: Drop>(attributes: &AttributeDict<A>, index: usize) -> Option<&Identifier>
     ensures { option_copied result ≡ given_at index attributes.now }
 {
-    match attributes.get_str(GIVEN_NAMES_KEY)? {
+    match attributes.given_names()? {
         AttrObj::GivenNames(names) => match names.get(index)? {
             Some(name) => Some(name),
             None => None,

@@ -1,4 +1,4 @@
--- A region that comes last into an operation as it is made: all is sound, and nothing else changed.
+-- A region that is appended to an operation as it is made: all is sound, and nothing else changed.
 use Rattle.std.proofs.Common.{◌≡◌, ◌≢◌, ◌<◌, ◌≤◌, ◌+◌, ◌∙◌, ◌++◌, ◌∷◌, ◌⊎◌, inl, inr, ℕ, zero, suc, refl, ap, subst, arith, Option, Some, None, List, [], map}
 use Rattle.std.specs.Option.{option_map}
 use Rattle.std.proofs.lemmas.List.{map-append}
@@ -32,9 +32,9 @@ use Rattle.irtext_graph.proofs.Arenas.{older_later, older_inserted, new_view, wa
 use Rattle.irtext_graph.proofs.Logs.{logged_same, logged_list, logged_kept, region_noted, region_ages}
 use Rattle.irtext_graph.proofs.Made.{regions_same}
 use Rattle.irtext_graph.proofs.Nests.{attached, renested, some_eq}
-use Rattle.irtext_graph.proofs.Numbers.{what_kept}
+use Rattle.irtext_graph.proofs.Numbers.{what_kept, moved_kept}
 use Rattle.irtext_graph.proofs.Same.{object_tells}
-use Rattle.irtext_graph.proofs.Sounds.{same_use, uses_kept, sound_moved, sound_same}
+use Rattle.irtext_graph.proofs.Sounds.{same_use, uses_kept, sound_same}
 use Rattle.irtext_graph.proofs.Stores.{inserts_seen, inserted-keeps, edited-keeps}
 
 -- the places of an arena that did not change are kept
@@ -84,14 +84,11 @@ module _ {O B T : Type 0} where
 
     -- with more room all is kept
     pub room_kept : (made : ℕ) (v : Counters) (log : List Made) → IsKept made v log x → IsKept made v log roomy
-    room_kept made v log i = record {
-      sound = sound_moved x roomy (record { operation_data = r.all_data; block_data = λ q. refl }) made i.sound (renested eq_object object_tells i.sound.forest room_kids room_up)
-          (record { operation_places = r.places; block_places = same_places x.blocks; region_places = same_places x.regions });
-      logged = logged_same made log x roomy i.logged room_what;
-      numbered = what_kept made made v x roomy room_what i.numbered;
-    }
+    room_kept made v log i =
+        moved_kept made v log x roomy (record { operation_data = r.all_data; block_data = λ q. refl }) (renested eq_object object_tells i.sound.forest room_kids room_up)
+        (record { operation_places = r.places; block_places = same_places x.blocks; region_places = same_places x.regions }) room_what i
 
-    -- where the region is refused, all is kept too
+    -- if inserting the region is an error, all is unchanged too
     pub refused_kept : (made : ℕ) (v : Counters) (log after : List Made) (a : Arena (Nest Operation BasicBlock RegionData)) → after ≡ log → a.slots.items ≡ x.regions.slots.items → IsKept made v log x
         → IsKept made v after (record x { operations = room; regions = a })
     refused_kept made v log after a f e i =
@@ -138,7 +135,7 @@ module _ {O B T : Type 0} where
     childless : kids x (TheRegion p) ≡ []
     childless = ap (λ s. map TheBlock (children_in s)) (was_none x.regions after p e i)
 
-    -- nothing stands in what is not there yet
+    -- nothing is nested in an object that is not there yet
     apart : IsForest x → Within (up x) (TheRegion p) (TheOperation op) → ⊥
     apart f w = elim (reached (up x) w.0 (Some (TheOperation op)) (TheRegion p) w.1) [
       | inl same ↦ let k : TheOperation op ≡ TheRegion p = some_eq same in cc
@@ -208,7 +205,7 @@ module _ {O B T : Type 0} where
         like : object_of (node_of region_content) e ≡ record { born = made; content = record { parent = Some op; children = []; content = record {} } }
         like = rw (born, stands, empty) refl
 
-  -- what is older than the region and its operation stands as it did
+  -- what is older than the region and its operation is unchanged
   pub added-keeps : (m : ℕ) (old new : GraphView O B T) (op : Ptr Operation) (p : Ptr Region) → m ≤ old.made → before m old.operations op ≡ None → AddsRegion old new op p → KeepsOlder m old new
   added-keeps m old new op p up none k = record {
     operations = edited-keeps m old.operations new.operations op (with_child p) none k.operations;

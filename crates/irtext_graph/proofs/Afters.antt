@@ -1,4 +1,4 @@
--- The object behind another among all inside an object.
+-- The object after another among all objects inside an object.
 use Rattle.std.proofs.Common.{◌≡◌, ◌≢◌, ◌∙◌, ◌≤◌, ℕ, zero, suc, refl, sym, ap, arith, Option, Some, None, List, [], ◌∷◌, slice_get, length}
 use Rattle.irtext_graph.specs.declared.object.Object.{Object}
 use Rattle.irtext_graph.specs.declared.objects.Objects.{Objects}
@@ -12,7 +12,7 @@ use Rattle.irtext_graph.proofs.Rank.{way_le, no_cycle}
 use Rattle.irtext_graph.proofs.Places.{code, counts}
 use Rattle.irtext_graph.proofs.Preorders.{from_leaf, from_first, from_next, from_last, rest_end, comes, onward_same}
 
--- behind a list there is nothing
+-- after the end of a list there is no element
 pub none_behind : (xs : List Object) (i : ℕ) → length xs ≤ i → slice_get xs i ≡ None
 none_behind [] i low = refl
 none_behind (x ∷ xs) zero low = absurd (omega (arith, low))
@@ -23,14 +23,14 @@ empty_list [] low = refl
 empty_list (x ∷ xs) low = absurd (omega (arith, low))
 
 module _ {O B T : Type 0} where
-  -- what comes inside o behind an object and all that stands in it
+  -- what comes inside o after an object and everything nested in it
   abbrev pub rest : Objects O B T → Object → Object → List Object
   rest x o q = behind eq_object (kids x) (up x) (suc (slots x)) o (suc (slots x)) (Some q)
 
   short : (x : Objects O B T) → IsForest x → (n : ℕ) (q z : Object) → climb (up x) n (Some q) ≡ Some z → n ≤ slots x
   short x s = way_le (up x) (code x) (slots x) (counts x) s.ends
 
-  -- what stands directly in something inside o is not o
+  -- a child of an object inside o is not o
   pub child_not : (x : Objects O B T) (o k c : Object) → IsForest x → Within (up x) o k → up x c ≡ Some k → c ≢ o
   child_not x o k c s w e same =
       let d = s.ends o in

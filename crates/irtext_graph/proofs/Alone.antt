@@ -1,4 +1,4 @@
--- Where no block stands inside an operation, the change of all data inside it is a change of its own data alone.
+-- If no block is inside an operation, the change of all data inside it is a change of its own data only.
 use Rattle.std.proofs.Common.{◌≡◌, ◌≢◌, ◌∙◌, ℕ, zero, suc, refl, sym, ap, arith, inl, inr, cond, List, [], ◌∷◌, Option, Some, None, length, slice_get}
 use Rattle.std.specs.Option.{option_map}
 use Rattle.std.proofs.lemmas.Bool.{eq-eqb}
@@ -48,7 +48,7 @@ module _ {O B T : Type 0} (f : O → O) (h : B → B) (old new : GraphView O B T
   abbrev Of : Type 0
   Of = Option (Entry (Node BasicBlock Region (OperationContent O T)))
 
-  -- no other operation stands inside it
+  -- no other operation is inside it
   no_other : (q : Ptr Operation) → q ≢ p → IsInside old (TheOperation p) (TheOperation q) → ⊥
   no_other q ne w = go w.0 w.1
     where

@@ -15,7 +15,7 @@ use Rattle.irtext_graph.specs.Lending.{with_content_at, with_content_of}
 use Rattle.irtext_graph.proofs.Pointers.{equal_or_not, ptr_or, ptr_same, slice_get-set_same, slice_get-set_other}
 
 module _ {X : Type 0} where
-  -- what is found under a generation stands there
+  -- what is found under a generation is in the slot
   pub stands : (s : Option (Slot X)) (g : ℕ) (o : Entry X) → found s g ≡ Some o → s ≡ Some (Full g o)
   stands None g o e = absurd (cc)
   stands (Some (Vacant h n)) g o e = absurd (cc)
@@ -56,7 +56,7 @@ module _ {X : Type 0} where
     pub free : free_place new ≡ free_place old
     pub len : length new.slots.items ≡ length old.slots.items
 
-  -- the arena with another content of an object that stands
+  -- the arena with another content of a live object
   pub lent : {K : Type 0} (a : Arena X) (p : Ptr K) (o : Entry X) (w : X) → get a p ≡ Some o →
       with_content_at a p.index w ≡ record a { slots = with_item a.slots p.index (Full p.generation (filled o w)) }
   lent a p o w e = ap (λ s. with_content_of s a p.index w) (stands (slice_get a.slots.items p.index) p.generation o e)
@@ -104,7 +104,7 @@ module _ {X : Type 0} where
         len = length-set a.slots.items p.index (Full p.generation (filled o w));
       }
 
-  -- the objects of an arena after one came are older than a later mark
+  -- the objects of an arena after one is inserted are older than a later mark
   pub older_inserted : {K : Type 0} (mark next : ℕ) (a b : Arena X) (p : Ptr K) (x : Entry X) → AreOlder mark a → mark ≤ next → x.born < next → Updates a b p (Some x) → AreOlder next b
   older_inserted {K} mark next a b p x h up less u i g y f = go (ptr_or q p)
     where
@@ -186,7 +186,7 @@ module _ {X : Type 0} where
       go (inl e) = ap (λ q. view (get new q)) e ∙ ap view r.now ∙ same r.born ∙ sym (ap view r.was) ∙ sym (ap (λ q. view (get old q)) e)
       go (inr n) = ap view (r.others q n)
 
-  -- what has a content stands
+  -- what has a content is live
   pub stood : {K : Type 0} (a : Arena X) (p : Ptr K) (x : X) → option_map (λ o. o.content) (get a p) ≡ Some x → (b : ℕ) × (get a p ≡ Some (record { born = b; content = x }))
   stood a p x e = go (get a p) e
     where
@@ -214,7 +214,7 @@ module _ {X : Type 0} where
   none_yet (Some (Vacant h n)) g less = refl
   none_yet (Some (Full h x)) g less = found_elsewhere h g x (λ e. omega (arith, e, less))
 
-  -- nothing stood under a pointer that is new
+  -- no object was live under a pointer that is new
   pub was_none : {K : Type 0} (a b : Arena X) (p : Ptr K) (x : Entry X) → Inserts a b p x → get a p ≡ None
   was_none a b p x i = none_yet (slice_get a.slots.items p.index) p.generation (let n = i.next in omega (arith, n))
 

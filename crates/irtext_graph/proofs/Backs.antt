@@ -1,4 +1,4 @@
--- What was made since a point is given back: what is older stands as it did, and all is sound.
+-- What was made since a point is rolled back: what is older is unchanged, and all is sound.
 use Rattle.std.proofs.Common.{◌≡◌, ◌<◌, ◌≤◌, ◌∙◌, ◌⊎◌, inl, inr, ℕ, zero, suc, refl, sym, ap, arith, false, Option, Some, None, IsSome, List, [], map, slice_get}
 use Rattle.std.specs.Option.{option_map}
 use Rattle.std.proofs.lemmas.Bool.{ltb-false, le-ltb}
@@ -70,11 +70,6 @@ unmapped f None None e l = l
 unmapped f None (Some b) e l = absurd (cc)
 unmapped f (Some a) o' e l = refl
 
--- an object that has an age is there
-pub aged_there : {X : Type 0} (o : Option ℕ) (b : ℕ) (e : Option (Entry X)) → o ≡ born_in e → o ≡ Some b → IsSome e
-aged_there o b None p q = absurd (cc)
-aged_there o b (Some e) p q = refl
-
 module _ {O T : Type 0} where
   operand_named : (e : Option (Entry (Nest BasicBlock Region (OperationData O T)))) (i : ℕ) → slice_get (operands_of (option_map (object_of (node_of operation_content)) e)) i ≡ option_map (λ o. o.def) (operand_in e i)
   operand_named None i = refl
@@ -125,7 +120,7 @@ sides mark f h a b p s n = elim (s.at p.index p.generation) [
 ]
 
 module _ {O B T : Type 0} where
-  -- what is used stands in the same place where the same is seen
+  -- a use is in the same place in arenas that are seen to be the same
   pub use_there : (x y : Objects O B T) → seen y ≡ seen x → (u : Site) → IsSome (use_at x u) → IsSome (use_at y u)
   use_there x y e (AtOperand p i) l =
       some_through (λ o. o.def) (either OfValue) (operand_in (get y.operations p) i) (operand_in (get x.operations p) i)
@@ -142,7 +137,7 @@ module _ {O B T : Type 0} where
   pub seen_what : (x y : Objects O B T) → seen y ≡ seen x → (o : Object) → what y o ≡ what x o
   seen_what x y e o = sym (what_seen 0 no_counters y o) ∙ ap (λ (g : GraphView O B T). content g o) e ∙ what_seen 0 no_counters x o
 
-  -- an object that is no older than the mark is new, and the other way round
+  -- an object that is no older than the mark is new, and conversely
   pub is_new : (made : ℕ) (values : Counters) (mark : ℕ) (x : Objects O B T) (o : Object) → AtLeast mark (age x o) → IsNew mark (graph_of made values x) o
   is_new made values mark x o l = ap (is_older mark) (what_seen made values x o) ∙ go (what x o) (subst (AtLeast mark) (age_what x o) l)
     where
@@ -344,7 +339,7 @@ module _ {O B T : Type 0} where
     logged_left n log i since = logged_cut made n mark log x y i since (λ o b e.
         (sym (d_age o) ∙ was_age o b e, elim (lower b mark) [ inl l ↦ l | inr h ↦ absurd (r.none o (subst (AtLeast mark) (sym e) h)) ]))
 
--- what is older than an earlier mark stands as it did
+-- what is older than an earlier mark is unchanged
 pub back_keeps : {O B T : Type 0} (m mark : ℕ) (g h : GraphView O B T) → m ≤ mark → RollsBack mark g h → graph.KeepsOlder m g h
 back_keeps m mark g h up r = record {
   operations = returned-keeps m mark g.operations h.operations up r.operations;
@@ -356,7 +351,7 @@ back_keeps m mark g h up r = record {
 }
 
 module _ {O B T : Type 0} where
-  -- an object that is no older than the mark is listed behind all that are
+  -- an object that is no older than the mark is listed after all that are older
   pub listed_since : (made mark n : ℕ) (log : List Made) (x : Objects O B T) → IsLogged made log x → ((k : ℕ) (a : Made) → k < n → slice_get log k ≡ Some a → a.born < mark)
       → (o : Object) → AtLeast mark (age x o) → (k : ℕ) × (b : ℕ) × (n ≤ k) × (slice_get log k ≡ Some (record { born = b; object = o }))
   listed_since made mark n log x i before o l = go (age x o) refl l

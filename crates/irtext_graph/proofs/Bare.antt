@@ -92,7 +92,7 @@ module _ {O B T : Type 0} where
       go None = refl
       go (Some x) = ap Some (itself d e x same)
 
--- an operation that holds and uses what it did is as it was
+-- an operation with the same children and uses is unchanged
 entry_alike : {O T : Type 0} (a b : Option (Entry (Node BasicBlock Region (OperationContent O T)))) → option_map (object_of without_uses_in) b ≡ option_map (object_of without_uses_in) a
     → operands_of (option_map (λ e. e.content.content) b) ≡ operands_of (option_map (λ e. e.content.content) a) → successors_of (option_map (λ e. e.content.content) b) ≡ successors_of (option_map (λ e. e.content.content) a) → b ≡ a
 entry_alike None None r os ss = refl
@@ -126,7 +126,7 @@ module _ {O B T : Type 0} where
       go None = refl
       go (Some e) = refl
 
-  -- what is older and does not use d is as it was
+  -- what is older and does not use d is unchanged
   pub replaces_keeps : (m : ℕ) (g h : GraphView O B T) (d e : Defined) → Replaces g h d e → IsUnusedBelow m g d → KeepsOlder m g h
   replaces_keeps m g h d e r unused = record {
     operations = λ p. cases p (is_older m (content g (TheOperation p))) refl;

@@ -48,46 +48,49 @@ module _ {U D : Type 0} where
       same_d : (a b : D) (x : U) → val x ≡ Some a → val x ≡ Some b → a ≡ b
       same_d a b x p q = cc
 
+      -- the uses before and after u are of d too, and are others
+      between : (a b : U) → prv u ≡ Some a → nxt u ≡ Some b → (val a ≡ Some d) × (val b ≡ Some d) × (a ≡ u → ⊥) × (b ≡ u → ⊥) × (c.rank b < c.rank a)
+      between a b pu nu =
+          let fb = c.next_ok u b d s.used nu in
+          let ba = c.prev_ok u a d s.used pu in
+          let fa = c.next_ok a u d ba.0 ba.1 in
+          (ba.0, fb.0, λ p. let r : c.rank a ≡ c.rank u = ap c.rank p in omega (arith, fa.2), λ p. let r : c.rank b ≡ c.rank u = ap c.rank p in omega (arith, fb.2), omega (arith, fb.2, fa.2))
+
+      next_over : (x w : U) (e : D) → val x ≡ Some e → prv u ≡ Some x → nxt' x ≡ Some w → (val' w ≡ Some e) × (prv' w ≡ Some x) × (c.rank w < c.rank x)
+      next_over x w e vx before nx =
+          let nu : nxt u ≡ Some w = sym (s.prev_on x before) ∙ nx in
+          let b = between x w before nu in
+          (now w e b.3 (b.1 ∙ ap Some (same_d d e x b.0 vx)), s.next_back w nu ∙ before, b.4)
+
+      next_kept : (x w : U) (e : D) → (x ≡ u → ⊥) → val x ≡ Some e → (prv u ≡ Some x → ⊥) → nxt' x ≡ Some w → (val' w ≡ Some e) × (prv' w ≡ Some x) × (c.rank w < c.rank x)
+      next_kept x w e ne vx not_before nx =
+          let fx = c.next_ok x w e vx (sym (s.on x ne not_before) ∙ nx) in
+          let apart : w ≡ u → ⊥ = λ p. not_before (ap prv (sym p) ∙ fx.1) in
+          let not_next : nxt u ≡ Some w → ⊥ = λ nu. let fu = c.next_ok u w d s.used nu in ne (some_eq (sym fx.1 ∙ fu.1)) in
+          (now w e apart fx.0, s.back w apart not_next ∙ fx.1, fx.2)
+
       next_ok' : (x w : U) (e : D) → val' x ≡ Some e → nxt' x ≡ Some w → (val' w ≡ Some e) × (prv' w ≡ Some x) × (c.rank w < c.rank x)
       next_ok' x w e vx nx =
           let old = was x e vx in
-          elim (is_some_of tU (prv u) x) [
-            | inl before ↦
-                let nu : nxt u ≡ Some w = sym (s.prev_on x before) ∙ nx in
-                let fu = c.next_ok u w d s.used nu in
-                let bu = c.prev_ok u x d s.used before in
-                let fx = c.next_ok x u d bu.0 bu.1 in
-                let apart : w ≡ u → ⊥ = λ p. let r : c.rank w ≡ c.rank u = ap c.rank p in omega (arith, fu.2) in
-                let ed : d ≡ e = same_d d e x bu.0 old.1 in
-                let vd : val w ≡ Some e = fu.0 ∙ ap Some ed in
-                (now w e apart vd, s.next_back w nu ∙ before, omega (arith, fu.2, fx.2))
-            | inr not_before ↦
-                let nx0 : nxt x ≡ Some w = sym (s.on x old.0 not_before) ∙ nx in
-                let fx = c.next_ok x w e old.1 nx0 in
-                let apart : w ≡ u → ⊥ = λ p. not_before (ap prv (sym p) ∙ fx.1) in
-                let not_next : nxt u ≡ Some w → ⊥ = λ nu. let fu = c.next_ok u w d s.used nu in old.0 (some_eq (sym fx.1 ∙ fu.1)) in
-                (now w e apart fx.0, s.back w apart not_next ∙ fx.1, fx.2)
-          ]
+          elim (is_some_of tU (prv u) x) [ inl before ↦ next_over x w e old.1 before nx | inr away ↦ next_kept x w e old.0 old.1 away nx ]
+
+      prev_over : (x w : U) (e : D) → val x ≡ Some e → nxt u ≡ Some x → prv' x ≡ Some w → (val' w ≡ Some e) × (nxt' w ≡ Some x)
+      prev_over x w e vx after px =
+          let pu : prv u ≡ Some w = sym (s.next_back x after) ∙ px in
+          let b = between w x pu after in
+          (now w e b.2 (b.0 ∙ ap Some (same_d d e x b.1 vx)), s.prev_on w pu ∙ after)
+
+      prev_kept : (x w : U) (e : D) → (x ≡ u → ⊥) → val x ≡ Some e → (nxt u ≡ Some x → ⊥) → prv' x ≡ Some w → (val' w ≡ Some e) × (nxt' w ≡ Some x)
+      prev_kept x w e ne vx not_after px =
+          let bx = c.prev_ok x w e vx (sym (s.back x ne not_after) ∙ px) in
+          let apart : w ≡ u → ⊥ = λ p. not_after (ap nxt (sym p) ∙ bx.1) in
+          let not_prev : prv u ≡ Some w → ⊥ = λ pu. let bu = c.prev_ok u w d s.used pu in ne (some_eq (sym bx.1 ∙ bu.1)) in
+          (now w e apart bx.0, s.on w apart not_prev ∙ bx.1)
 
       prev_ok' : (x w : U) (e : D) → val' x ≡ Some e → prv' x ≡ Some w → (val' w ≡ Some e) × (nxt' w ≡ Some x)
       prev_ok' x w e vx px =
           let old = was x e vx in
-          elim (is_some_of tU (nxt u) x) [
-            | inl after ↦
-                let pu : prv u ≡ Some w = sym (s.next_back x after) ∙ px in
-                let fu = c.next_ok u x d s.used after in
-                let bu = c.prev_ok u w d s.used pu in
-                let up = c.next_ok w u d bu.0 bu.1 in
-                let apart : w ≡ u → ⊥ = λ p. let r : c.rank w ≡ c.rank u = ap c.rank p in omega (arith, up.2) in
-                let ed : d ≡ e = same_d d e x fu.0 old.1 in
-                (now w e apart (bu.0 ∙ ap Some ed), s.prev_on w pu ∙ after)
-            | inr not_after ↦
-                let px0 : prv x ≡ Some w = sym (s.back x old.0 not_after) ∙ px in
-                let bx = c.prev_ok x w e old.1 px0 in
-                let apart : w ≡ u → ⊥ = λ p. not_after (ap nxt (sym p) ∙ bx.1) in
-                let not_prev : prv u ≡ Some w → ⊥ = λ pu. let bu = c.prev_ok u w d s.used pu in old.0 (some_eq (sym bx.1 ∙ bu.1)) in
-                (now w e apart bx.0, s.on w apart not_prev ∙ bx.1)
-          ]
+          elim (is_some_of tU (nxt u) x) [ inl after ↦ prev_over x w e old.1 after px | inr away ↦ prev_kept x w e old.0 old.1 away px ]
 
       head_of : (e : D) → (e ≡ d) ⊎ ((e ≡ d) → ⊥)
       head_of e = told tD e d
@@ -303,7 +306,7 @@ module _ {U D : Type 0} where
         below = a_below;
       }
 
-    -- no slot that uses a definition changed, and each definition that came or went had none
+    -- no slot that uses a definition changed, and no definition that was added or removed has a use
     pub record Reframes (val val' : U → Option D) (prv prv' nxt nxt' : U → Option U) (heads heads' : D → Option (Option U)) : Type 0 where
       pub vals : (u : U) → val' u ≡ val u
       pub prevs : (u : U) (d : D) → val u ≡ Some d → prv' u ≡ prv u

@@ -1,5 +1,5 @@
 -- Sums over all objects, when one has another content.
-use Rattle.std.proofs.Common.{◌≡◌, ◌≢◌, ◌+◌, ◌∙◌, ℕ, zero, suc, refl, ap, arith, Option, Some, None, List, [], ◌∷◌, length, slice_get, set, get_or, sum_by, option_map}
+use Rattle.std.proofs.Common.{◌≡◌, ◌+◌, ◌∙◌, ℕ, zero, suc, refl, ap, arith, Option, Some, None, List, [], ◌∷◌, length, slice_get, set, get_or, sum_by, option_map}
 use Rattle.std.proofs.lemmas.List.Sums.{sum_by-set}
 use Rattle.irtext_few.specs.Growing.{listed}
 use Rattle.irtext_graph.specs.declared.arena.Arena.{Arena}
@@ -8,10 +8,10 @@ use Rattle.irtext_graph.specs.declared.arena.Ptr.{Ptr}
 use Rattle.irtext_graph.specs.declared.arena.Slot.{Slot}
 use Rattle.irtext_graph.specs.declared.arena.Slot.TheVariants.{Full}
 use Rattle.irtext_graph.specs.declared.nest.Nest.{Nest}
-use Rattle.irtext_graph.specs.Arena.{get, filled, KeepsPlaces}
+use Rattle.irtext_graph.specs.Arena.{get, filled}
 use Rattle.irtext_graph.specs.Lending.{with_content_at}
-use Rattle.irtext_graph.specs.Nest.{links, size, parent_in, children_in, datum_in}
-use Rattle.irtext_graph.proofs.Arenas.{lent, stands, within, replaced, same_view, places_kept}
+use Rattle.irtext_graph.specs.Nest.{links, size}
+use Rattle.irtext_graph.proofs.Arenas.{lent, stands, within}
 
 get_or-get : {X : Type 0} (xs : List X) (i : ℕ) (y : X) → slice_get xs i ≡ Some y → get_or xs i y ≡ y
 get_or-get [] i y e = refl
@@ -44,20 +44,3 @@ module _ {P C D : Type 0} where
   pub links_with : {K : Type 0} (a : Arena (Nest P C D)) (p : Ptr K) (x w : Nest P C D) → option_map (λ o. o.content) (get a p) ≡ Some x
       → links (with_content_at a p.index w) + length (listed x.children) ≡ links a + length (listed w.children)
   links_with a p x w e = sum_with size (λ (n : Nest P C D). length (listed n.children)) (λ g o. refl) a p x w e
-
-  -- one object has other children, and nothing else changed
-  pub record OtherChildren {K : Type 0} (old new : Arena (Nest P C D)) (p : Ptr K) : Type 0 where
-    pub places : KeepsPlaces old new
-    pub ups : (q : Ptr K) → parent_in (get new q) ≡ parent_in (get old q)
-    pub datums : (q : Ptr K) → datum_in (get new q) ≡ datum_in (get old q)
-    pub others : (q : Ptr K) → q ≢ p → children_in (get new q) ≡ children_in (get old q)
-
-  pub other_children : {K : Type 0} (a : Arena (Nest P C D)) (p : Ptr K) (x w : Nest P C D) → w.parent ≡ x.parent → w.data ≡ x.data → option_map (λ o. o.content) (get a p) ≡ Some x → OtherChildren a (with_content_at a p.index w) p
-  other_children a p x w parent same e =
-      let r = replaced a p x w e in
-      record {
-        places = places_kept a p x w e;
-        ups = same_view parent_in r (λ b. parent);
-        datums = same_view datum_in r (λ b. ap (λ d. Some (b, d)) same);
-        others = λ q ne. ap children_in (r.others q ne);
-      }

@@ -1,4 +1,4 @@
--- When nothing that is older than a mark holds, stands in or uses what is not.
+-- When no object older than a mark has a newer child, parent or use.
 use Rattle.std.proofs.Common.{◌≡◌, ◌∙◌, inl, inr, ℕ, refl, sym, ap, arith, cond, nat_lt, is_some, true, false, Bool, Option, Some, None, IsSome, map, slice_get}
 use Rattle.std.specs.Option.{option_map}
 use Rattle.irtext_graph.specs.declared.graph.Counters.{Counters}
@@ -52,7 +52,7 @@ low made a h i g l = go (found (slice_get a.slots.items i) g) refl l
     go (Some o) e l = let n = h i g o e in omega (arith, n, l)
 
 module _ {P C E : Type 0} where
-  -- what is as it was before a mark and was made before it is the same
+  -- what is unchanged before a mark and was made before it is the same
   entry_was : (m : ℕ) (s t : Option (Entry (Node P C E))) → older m t ≡ older m s → is_some (older m t) ≡ true → t ≡ s
   entry_was m s t e old = elim (seen (older m t)) [
     | inl none ↦ absurd (let k : is_some (older m t) ≡ false = ap is_some none in cc)
@@ -134,7 +134,7 @@ module _ {O B T : Type 0} (m : ℕ) (g h : GraphView O B T) (k : KeepsOlder m g 
     successors = λ p i b e n. new_if (TheOperation p) (λ old. c.successors p i b (ap (λ s. slice_get (successors_of s) i) (sym (was_operation p old)) ∙ e) (new_was (TheBlock b) n));
   }
 
-  -- where all was older than the mark, a roll-back brings back what stood
+  -- if all was older than the mark, a roll-back restores each live object
   pub back_to : AllOlder m g → {f : GraphView O B T} → RollsBack m h f
       → ((p : Ptr Operation) → store.get f.operations p ≡ store.get g.operations p) × ((p : Ptr BasicBlock) → store.get f.blocks p ≡ store.get g.blocks p) × ((p : Ptr Region) → store.get f.regions p ≡ store.get g.regions p)
   back_to a r = (
@@ -173,7 +173,7 @@ module _ {O B T : Type 0} (made : ℕ) (values : Counters) (x : Objects O B T) (
   named_lives : (u : Site) (d : Defined) → (o : Use Defined) × (use_at x u ≡ Some o) × (o.def ≡ d) → Lives x (owner_of d)
   named_lives u d n = used_lives d u (used_def (use_at x u) n.0 n.1 (s.all_used u (rw n.1 refl)) ∙ ap Some n.2)
 
-  -- nothing holds, stands in or uses what was not made yet
+  -- no object has a child, parent or use that was not made yet
   pub closed_all : IsClosedBelow made (graph_of made values x)
   closed_all = record {
     parents = λ o q e n. absurd (not_new q (parent_lives x o q s.forest (sym (up_seen made values x o) ∙ e)) n);

@@ -1,5 +1,5 @@
 -- The data of one operation or of one block are written: all is sound, and nothing else changed.
-use Rattle.std.proofs.Common.{◌≡◌, ◌≢◌, ◌∙◌, ◌⊎◌, inl, inr, ◌==◌, ℕ, refl, sym, ap, subst, arith, Bool, true, false, cond, nat_lt, Option, Some, None, List, [], ◌∷◌, zero, suc, map, set, slice_get}
+use Rattle.std.proofs.Common.{◌≡◌, ◌≢◌, ◌∙◌, ◌⊎◌, inl, inr, ◌==◌, ℕ, refl, sym, ap, subst, Bool, true, false, cond, nat_lt, Option, Some, None, List, [], ◌∷◌, zero, suc, map, set, slice_get}
 use Rattle.std.specs.Option.{option_map}
 use Rattle.std.proofs.lemmas.Bool.{eqb-true, eq-eqb, ne_eqb}
 use Rattle.std.proofs.lemmas.List.{map-set, length-set}
@@ -33,19 +33,19 @@ use Rattle.irtext_graph.specs.Lending.{with_content_at}
 use Rattle.irtext_graph.specs.Log.{age}
 use Rattle.irtext_graph.specs.Nest.{parent_in, children_in}
 use Rattle.irtext_graph.specs.Numbers.{AreNumbered}
-use Rattle.irtext_graph.specs.Objects.{up, kids, eq_object, born_of, is_older}
+use Rattle.irtext_graph.specs.Objects.{up, kids, born_of, is_older}
 use Rattle.irtext_graph.specs.Parts.{operation_at, block_at}
 use Rattle.irtext_graph.specs.Sound.{IsSound, IsKept}
-use Rattle.irtext_graph.specs.Uses.{operand_in, successor_in, result_in, argument_in, preds_in, first_of, use_at, head_at, def_of, prev_of, next_of, either, eq_site, eq_defined}
+use Rattle.irtext_graph.specs.Uses.{operand_in, successor_in, result_in, argument_in, preds_in, first_of, use_at, head_at, either}
 use Rattle.irtext_graph.proofs.Arenas.{Replaced, replaced, same_view, edited as arena_edited, lent, stood, places_kept}
-use Rattle.irtext_graph.proofs.Chains.{reframed}
-use Rattle.irtext_graph.proofs.Linked.{site_tells, defined_tells}
 use Rattle.irtext_graph.proofs.Logs.{logged_kept}
-use Rattle.irtext_graph.proofs.Nests.{renested, some_eq}
-use Rattle.irtext_graph.proofs.Numbers.{numbers_kept, edited_numbers, edited_block_numbers}
+use Rattle.irtext_graph.proofs.Made.{older_kept, at_least}
+use Rattle.irtext_graph.proofs.Kept.{keeps_self}
+use Rattle.irtext_graph.proofs.Sounds.{sound_alike}
+use Rattle.irtext_graph.proofs.Nests.{some_eq}
+use Rattle.irtext_graph.proofs.Numbers.{KeepsNumbers, numbers_kept, edited_numbers, edited_block_numbers}
 use Rattle.irtext_graph.proofs.PartsSeen.{operation_seen, block_seen}
 use Rattle.irtext_graph.proofs.Pointers.{equal_or_not, ptr_same, slice_get-set_same, slice_get-set_other}
-use Rattle.irtext_graph.proofs.Same.{object_tells}
 use Rattle.irtext_graph.proofs.Stores.{get_seen, edited-keeps as store-keeps}
 
 -- another content, as it is seen, is written to one cell
@@ -64,7 +64,7 @@ content_set {X} {Y} see change a p x w e same =
     both c c' f f' e g = rw (e, g) refl
 
 module _ {X : Type 0} where
-  -- what stands under a generation is what its cell holds
+  -- the object under a generation is the one in its cell
   cell_there : (c : Option (Cell X)) (g : ℕ) (o : Entry X) → object_in c g ≡ Some o → c ≡ Some (record { generation = g; object = Some o })
   cell_there None g o e = absurd (cc)
   cell_there (Some c) g o e = go (c.generation == g) refl e
@@ -213,26 +213,23 @@ module _ {O B T : Type 0} where
   pub unedited_block : (g : GraphView O B T) (p : Ptr BasicBlock) (d : B) → option_map (λ c. c.data_of) (block_at g p) ≡ Some d → with_block_data g p d ≡ g
   unedited_block g p d e = ap (λ s. record g { blocks = s }) (not_written g.blocks p (λ c. c.data_of) with_block d (λ n. refl) e)
 
-  -- what is older than an operation whose data were written stands as it did
+  -- what is older than an operation whose data were written is unchanged
   pub edited-keeps : (m : ℕ) (old new : GraphView O B T) (p : Ptr Operation) (change : O → O) → before m old.operations p ≡ None → EditsOperation old new p change → KeepsOlder m old new
-  edited-keeps m old new p change none e = record {
-    operations = store-keeps m old.operations new.operations p (with_data change) none e.operations;
-    blocks = λ q. ap (λ s. before m s q) e.blocks;
-    regions = λ q. ap (λ s. before m s q) e.regions;
-    made = let k = e.made in omega (arith, k);
-    values = let k = e.values in omega (arith, k);
-    first_place = e.first_place;
-  }
+  edited-keeps m old new p change none e =
+      older_kept m old new (store-keeps m old.operations new.operations p (with_data change) none e.operations) (λ q. ap (λ s. before m s q) e.blocks) (λ q. ap (λ s. before m s q) e.regions) (at_least e.made) (at_least e.values) e.first_place
 
   -- the same for a block
   pub edited_block-keeps : (m : ℕ) (old new : GraphView O B T) (p : Ptr BasicBlock) (change : B → B) → before m old.blocks p ≡ None → EditsBlock old new p change → KeepsOlder m old new
-  edited_block-keeps m old new p change none e = record {
-    operations = λ q. ap (λ s. before m s q) e.operations;
-    blocks = store-keeps m old.blocks new.blocks p (with_block change) none e.blocks;
-    regions = λ q. ap (λ s. before m s q) e.regions;
-    made = let k = e.made in omega (arith, k);
-    values = let k = e.values in omega (arith, k);
-    first_place = e.first_place;
+  edited_block-keeps m old new p change none e =
+      older_kept m old new (λ q. ap (λ s. before m s q) e.operations) (store-keeps m old.blocks new.blocks p (with_block change) none e.blocks) (λ q. ap (λ s. before m s q) e.regions) (at_least e.made) (at_least e.values) e.first_place
+
+module _ {O B T : Type 0} where
+  -- all is kept where the objects are as old, and are seen as a graph that keeps the numbers of values
+  kept_as : (made : ℕ) (v : Counters) (log : List Made) (x y : Objects O B T) (g : GraphView O B T) → IsSound made y → ((o : Object) → age y o ≡ age x o) → graph_of made v y ≡ g → KeepsNumbers (graph_of made v x) g → IsKept made v log x → IsKept made v log y
+  kept_as made v log x y g sound ages seen keeps i = record {
+    sound = sound;
+    logged = logged_kept made log x y i.logged (λ o b f. sym (ages o) ∙ f);
+    numbered = subst (λ g. AreNumbered g) (sym seen) (numbers_kept (graph_of made v x) g keeps i.numbered);
   }
 
 module _ {O B T : Type 0} (x : Objects O B T) (p : Ptr Operation) (n : Nest BasicBlock Region (OperationData O T)) (e : option_map (λ o. o.content) (arena.get x.operations p) ≡ Some n) (d : O) where
@@ -273,22 +270,7 @@ module _ {O B T : Type 0} (x : Objects O B T) (p : Ptr Operation) (n : Nest Basi
   same_age (TheRegion q) = refl
 
   sound_data : (made : ℕ) → IsSound made x → IsSound made after
-  sound_data made s = record {
-    forest = renested eq_object object_tells s.forest same_kids same_up;
-    uses = reframed eq_site site_tells eq_defined defined_tells s.uses (record {
-      vals = λ u. ap def_of (same_use u);
-      prevs = λ u d f. ap prev_of (same_use u);
-      nexts = λ u d f. ap next_of (same_use u);
-      same_heads = λ d. inl (same_head d);
-    });
-    all_used = λ u l. rw (same_use u) (s.all_used u (rw (same_use u) at l));
-    few_operations = let l = k.len in let f = s.few_operations in omega (arith, l, f);
-    few_blocks = s.few_blocks;
-    few_regions = s.few_regions;
-    older_operations = k.age made s.older_operations;
-    older_blocks = s.older_blocks;
-    older_regions = s.older_regions;
-  }
+  sound_data made = sound_alike made x after same_kids same_up same_use same_head (record { operation_places = k; block_places = keeps_self x.blocks; region_places = keeps_self x.regions })
 
   -- what is seen of it is the graph with these data
   pub data_seen : (made : ℕ) (values : Counters) → graph_of made values after ≡ with_operation_data (graph_of made values x) p d
@@ -298,12 +280,13 @@ module _ {O B T : Type 0} (x : Objects O B T) (p : Ptr Operation) (n : Nest Basi
 
   -- with other data of an operation all is kept
   pub data_kept : (made : ℕ) (v : Counters) (log : List Made) → IsKept made v log x → IsKept made v log after
-  data_kept made v log i = record {
-    sound = sound_data made i.sound;
-    logged = logged_kept made log x after i.logged (λ o b f. sym (same_age o) ∙ f);
-    numbered = subst (λ g. AreNumbered g) (sym (data_seen made v))
-        (numbers_kept (graph_of made v x) _ (edited_numbers (graph_of made v x) _ p (λ _. d) (edited (graph_of made v x) p n.data.«data» (λ _. d) (ap (option_map (λ c. c.data_of)) (operation_seen made v x p n e)))) i.numbered);
-  }
+  data_kept made v log i =
+      kept_as made v log x after _ (sound_data made i.sound) same_age (data_seen made v)
+      (edited_numbers (graph_of made v x) _ p (λ _. d) (edited (graph_of made v x) p n.data.«data» (λ _. d) (ap (option_map (λ c. c.data_of)) (operation_seen made v x p n e)))) i
+
+  -- the same from a view that is known
+  pub data_lent : (made : ℕ) (v : Counters) (g : GraphView O B T) → graph_of made v x ≡ g → graph_of made v after ≡ with_operation_data g p d
+  data_lent made v g is = data_seen made v ∙ ap (λ g. with_operation_data g p d) is
 
 module _ {O B T : Type 0} (x : Objects O B T) (p : Ptr BasicBlock) (n : Nest Region Operation (BlockData B T)) (e : option_map (λ o. o.content) (arena.get x.blocks p) ≡ Some n) (d : B) where
   abbrev with_b : Nest Region Operation (BlockData B T)
@@ -311,6 +294,10 @@ module _ {O B T : Type 0} (x : Objects O B T) (p : Ptr BasicBlock) (n : Nest Reg
 
   abbrev then : Objects O B T
   then = record x { blocks = with_content_at x.blocks p.index with_b }
+
+  block_use : (u : Site) → use_at then u ≡ use_at x u
+  block_use (AtOperand q i) = refl
+  block_use (AtSuccessor q i) = refl
 
   rb : Replaced x.blocks then.blocks p n with_b
   rb = replaced x.blocks p n with_b e
@@ -338,39 +325,21 @@ module _ {O B T : Type 0} (x : Objects O B T) (p : Ptr BasicBlock) (n : Nest Reg
   block_age (TheBlock q) = same_view born_in rb (λ b. refl) q
   block_age (TheRegion q) = refl
 
-  block_use : (u : Site) → use_at then u ≡ use_at x u
-  block_use (AtOperand q i) = refl
-  block_use (AtSuccessor q i) = refl
-
-  sound_block_data : (made : ℕ) → IsSound made x → IsSound made then
-  sound_block_data made s = record {
-    forest = renested eq_object object_tells s.forest block_kids block_up;
-    uses = reframed eq_site site_tells eq_defined defined_tells s.uses (record {
-      vals = λ u. ap def_of (block_use u);
-      prevs = λ u d f. ap prev_of (block_use u);
-      nexts = λ u d f. ap next_of (block_use u);
-      same_heads = λ d. inl (block_head d);
-    });
-    all_used = λ u l. rw (block_use u) (s.all_used u (rw (block_use u) at l));
-    few_operations = s.few_operations;
-    few_blocks = let l = kb.len in let f = s.few_blocks in omega (arith, l, f);
-    few_regions = s.few_regions;
-    older_operations = s.older_operations;
-    older_blocks = kb.age made s.older_blocks;
-    older_regions = s.older_regions;
-  }
-
   -- what is seen of it is the graph with these data
   pub block_data_seen : (made : ℕ) (values : Counters) → graph_of made values then ≡ with_block_data (graph_of made values x) p d
   block_data_seen made values =
       ap (λ s. record (graph_of made values x) { blocks = s })
       (content_set (node_of block_content) (with_block (λ _. d)) x.blocks p n with_b e refl)
 
+  sound_block_data : (made : ℕ) → IsSound made x → IsSound made then
+  sound_block_data made = sound_alike made x then block_kids block_up block_use block_head (record { operation_places = keeps_self x.operations; block_places = kb; region_places = keeps_self x.regions })
+
+  -- the same from a view that is known
+  pub block_data_lent : (made : ℕ) (v : Counters) (g : GraphView O B T) → graph_of made v x ≡ g → graph_of made v then ≡ with_block_data g p d
+  block_data_lent made v g is = block_data_seen made v ∙ ap (λ g. with_block_data g p d) is
+
   -- with other data of a block all is kept
   pub block_data_kept : (made : ℕ) (v : Counters) (log : List Made) → IsKept made v log x → IsKept made v log then
-  block_data_kept made v log i = record {
-    sound = sound_block_data made i.sound;
-    logged = logged_kept made log x then i.logged (λ o b f. sym (block_age o) ∙ f);
-    numbered = subst (λ g. AreNumbered g) (sym (block_data_seen made v))
-        (numbers_kept (graph_of made v x) _ (edited_block_numbers (graph_of made v x) _ p (λ _. d) (edited_block (graph_of made v x) p n.data.«data» (λ _. d) (ap (option_map (λ c. c.data_of)) (block_seen made v x p n e)))) i.numbered);
-  }
+  block_data_kept made v log i =
+      kept_as made v log x then _ (sound_block_data made i.sound) block_age (block_data_seen made v)
+      (edited_block_numbers (graph_of made v x) _ p (λ _. d) (edited_block (graph_of made v x) p n.data.«data» (λ _. d) (ap (option_map (λ c. c.data_of)) (block_seen made v x p n e)))) i

@@ -1,4 +1,4 @@
--- Uses leave their lists, one behind the other.
+-- Uses leave their use lists, one after another.
 use Rattle.std.proofs.Common.{◌≡◌, ◌≢◌, ◌<◌, ◌≤◌, ◌+◌, ◌∙◌, ◌∷◌, inl, inr, ℕ, zero, suc, refl, sym, ap, arith, List, [], Option, Some, None, IsSome, length, slice_get}
 use Rattle.std.specs.Option.{option_map}
 use Rattle.std.proofs.lemmas.Option.{slice_get_past}
@@ -23,39 +23,6 @@ use Rattle.irtext_graph.proofs.Linked.{site_tells}
 use Rattle.irtext_graph.proofs.Moves.{lower}
 use Rattle.irtext_graph.proofs.Nests.{told}
 use Rattle.irtext_graph.proofs.Pointers.{equal_or_not}
-
-pub some_mapped : {A B : Type 0} (f : A → B) (o : Option A) → IsSome o → IsSome (option_map f o)
-some_mapped f None l = l
-some_mapped f (Some a) l = refl
-
--- an index within a list, and one past its end
-within : {A : Type 0} (xs : List A) (i : ℕ) → i < length xs → IsSome (slice_get xs i)
-within [] i l = absurd (omega (arith, l))
-within (x ∷ xs) zero l = refl
-within (x ∷ xs) (suc i) l = within xs i (omega (arith, l))
-
-module _ {O T : Type 0} (n : Nest BasicBlock Region (OperationData O T)) where
-  operand_at : (s : Option (Entry (Nest BasicBlock Region (OperationData O T)))) (i : ℕ) → option_map (λ o. o.content) s ≡ Some n → operand_in s i ≡ slice_get n.data.operands i
-  operand_at None i e = absurd (cc)
-  operand_at (Some o) i e = let same : o.content ≡ n = cc in ap (λ n. slice_get n.data.operands i) same
-
-  successor_at : (s : Option (Entry (Nest BasicBlock Region (OperationData O T)))) (i : ℕ) → option_map (λ o. o.content) s ≡ Some n → successor_in s i ≡ slice_get n.data.successors i
-  successor_at None i e = absurd (cc)
-  successor_at (Some o) i e = let same : o.content ≡ n = cc in ap (λ n. slice_get n.data.successors i) same
-
-module _ {O B T : Type 0} (x : Objects O B T) (p : Ptr Operation) (n : Nest BasicBlock Region (OperationData O T)) (e : option_map (λ o. o.content) (get x.operations p) ≡ Some n) (i : ℕ) where
-  -- an operation has as many operands and successors as its lists hold
-  pub operand_there : i < length n.data.operands → IsSome (use_at x (AtOperand p i))
-  operand_there l = some_mapped (either OfValue) (operand_in (get x.operations p) i) (rw (operand_at n (get x.operations p) i e) (within n.data.operands i l))
-
-  pub operand_past : length n.data.operands ≤ i → use_at x (AtOperand p i) ≡ None
-  operand_past l = ap (option_map (either OfValue)) (operand_at n (get x.operations p) i e ∙ slice_get_past n.data.operands i l)
-
-  pub successor_there : i < length n.data.successors → IsSome (use_at x (AtSuccessor p i))
-  successor_there l = some_mapped (either OfBlock) (successor_in (get x.operations p) i) (rw (successor_at n (get x.operations p) i e) (within n.data.successors i l))
-
-  pub successor_past : length n.data.successors ≤ i → use_at x (AtSuccessor p i) ≡ None
-  successor_past l = ap (option_map (either OfBlock)) (successor_at n (get x.operations p) i e ∙ slice_get_past n.data.successors i l)
 
 module _ {O B T : Type 0} where
   -- where no use was, none is in a list

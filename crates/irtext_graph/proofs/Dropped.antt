@@ -10,7 +10,6 @@ use Rattle.irtext_graph.specs.declared.object.BasicBlock.{BasicBlock}
 use Rattle.irtext_graph.specs.declared.object.Region.{Region}
 use Rattle.irtext_graph.specs.declared.object.Object.{Object}
 use Rattle.irtext_graph.specs.declared.object.Object.TheVariants.{TheOperation}
-use Rattle.irtext_graph.specs.declared.object.Value.{Value}
 use Rattle.irtext_graph.specs.declared.object.Defined.{Defined}
 use Rattle.irtext_graph.specs.declared.object.Defined.TheVariants.{OfValue, OfBlock}
 use Rattle.irtext_graph.specs.declared.object.Value.TheVariants.{Result, Argument}
@@ -45,6 +44,11 @@ places_alike {X} {Y} see a b e = record {
   age = λ m. older_of see m a b e;
 }
 
+-- what a use names, as a use of either
+named_either : {D : Type 0} (f : D → Defined) (o : Option (Use D)) → option_map f (option_map (λ o. o.def) o) ≡ option_map (λ o. o.def) (option_map (either f) o)
+named_either f None = refl
+named_either f (Some o) = refl
+
 module _ {O B T : Type 0} where
   -- what is named at a place, as the object shows it
   pub named_what : (x : Objects O B T) (u : Site) → named_at (what x (user u)) u ≡ option_map (λ o. o.def) (use_at x u)
@@ -52,20 +56,12 @@ module _ {O B T : Type 0} where
     where
       go : (e : Option (Entry (Nest BasicBlock Region (OperationData O T)))) → named_at {B = B} (option_map (λ d. AnOperation d.0 (operation_content d.1)) (datum_in e)) (AtOperand p i) ≡ option_map (λ o. o.def) (option_map (either OfValue) (operand_in e i))
       go None = refl
-      go (Some e) = ap (option_map OfValue) (slice_get-map (λ o. o.def) e.content.data.operands i) ∙ on (slice_get e.content.data.operands i)
-        where
-          on : (o : Option (Use Value)) → option_map OfValue (option_map (λ o. o.def) o) ≡ option_map (λ o. o.def) (option_map (either OfValue) o)
-          on None = refl
-          on (Some o) = refl
+      go (Some e) = ap (option_map OfValue) (slice_get-map (λ o. o.def) e.content.data.operands i) ∙ named_either OfValue (slice_get e.content.data.operands i)
   named_what x (AtSuccessor p i) = go (arena.get x.operations p)
     where
       go : (e : Option (Entry (Nest BasicBlock Region (OperationData O T)))) → named_at {B = B} (option_map (λ d. AnOperation d.0 (operation_content d.1)) (datum_in e)) (AtSuccessor p i) ≡ option_map (λ o. o.def) (option_map (either OfBlock) (successor_in e i))
       go None = refl
-      go (Some e) = ap (option_map OfBlock) (slice_get-map (λ o. o.def) e.content.data.successors i) ∙ on (slice_get e.content.data.successors i)
-        where
-          on : (o : Option (Use (Ptr BasicBlock))) → option_map OfBlock (option_map (λ o. o.def) o) ≡ option_map (λ o. o.def) (option_map (either OfBlock) o)
-          on None = refl
-          on (Some o) = refl
+      go (Some e) = ap (option_map OfBlock) (slice_get-map (λ o. o.def) e.content.data.successors i) ∙ named_either OfBlock (slice_get e.content.data.successors i)
 
   -- where objects are the same, the same uses are there
   pub use_there : (x y : Objects O B T) (u : Site) → what y (user u) ≡ what x (user u) → IsSome (use_at y u) → IsSome (use_at x u)

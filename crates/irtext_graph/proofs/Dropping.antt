@@ -1,4 +1,4 @@
--- What the operations inside an object use is dropped, and all else is as it was.
+-- What the operations inside an object use is dropped, and all else is unchanged.
 use Rattle.std.proofs.Common.{◌≡◌, ◌≢◌, ◌<◌, ◌∙◌, ◌⊎◌, ◌∷◌, suc, refl, sym, ap, arith, inl, inr, subst, Option, Some, None, IsSome, map, length, option_map}
 use Rattle.irtext_graph.specs.declared.arena.Ptr.{Ptr}
 use Rattle.irtext_graph.specs.declared.arena.Entry.{Entry}

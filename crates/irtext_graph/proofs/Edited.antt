@@ -1,4 +1,4 @@
--- An edit of one operation's data leaves what stands in what, what uses what, and how old each object is.
+-- An edit of one operation's data leaves the nesting, the uses, and the age of each object unchanged.
 use Rattle.std.proofs.Common.{◌≡◌, ◌∙◌, refl, sym, ap, ℕ, Option, Some, slice_get, map}
 use Rattle.std.specs.Option.{option_map}
 use Rattle.irtext_graph.specs.Back.{owner, operands_of, successors_of, IsClosedBelow}
@@ -37,7 +37,7 @@ module _ {O B T : Type 0} (m : ℕ) (g h : GraphView O B T) (p : Ptr Operation) 
   ages_stay (TheBlock b) = ap (λ s. is_older {O = O} {B = B} {T = T} m (option_map (λ d. ABlock d.0 d.1) (content_of (get s b)))) e.blocks
   ages_stay (TheRegion r) = ap (λ s. is_older {O = O} {B = B} {T = T} m (option_map (λ d. ARegion d.0 d.1) (content_of (get s r)))) e.regions
 
-  -- what nothing older than a mark stood in, held or used stays so
+  -- if no object older than a mark has a newer child, parent or use, the same holds after the edit
   pub edited_closed : IsClosedBelow m g → IsClosedBelow m h
   edited_closed c = record {
     parents = λ o k f n. ages_stay o ∙ c.parents o k (sym (parents_stay o) ∙ f) (sym (ages_stay k) ∙ n);

@@ -1,5 +1,5 @@
--- An object goes with all that stands in it, innermost objects first.
-use Rattle.std.proofs.Common.{◌≡◌, ◌≢◌, ◌⊎◌, ℕ, zero, suc, Option, Some, None, refl, sym, ap, ◌∙◌, inl, inr, false, [], slice_get, IsSome}
+-- An object is erased with all objects nested in it, innermost objects first.
+use Rattle.std.proofs.Common.{◌≡◌, ◌≢◌, ◌⊎◌, ℕ, zero, suc, Option, Some, None, refl, sym, ap, subst, ◌∙◌, inl, inr, false, [], slice_get, IsSome}
 use Rattle.irtext_graph.specs.declared.arena.Ptr.{Ptr}
 use Rattle.irtext_graph.specs.declared.arena.Entry.{Entry}
 use Rattle.irtext_graph.specs.declared.object.Object.{Object}
@@ -23,7 +23,7 @@ lifted f g None k e = absurd (cc)
 lifted f g (Some x) k e = refl
 
 module _ {O B T : Type 0} where
-  -- what stands in something lives
+  -- an object with a parent is live
   pub up_lives : (x : Objects O B T) (q k : Object) → up x q ≡ Some k → Lives x q
   up_lives x (TheOperation p) k e = lifted TheBlock (λ d. AnOperation d.0 (operation_content d.1)) (get x.operations p) k e
   up_lives x (TheBlock p) k e = lifted TheRegion (λ d. ABlock d.0 (block_content d.1)) (get x.blocks p) k e
@@ -71,7 +71,7 @@ module _ {O B T : Type 0} where
     leaf = e;
   }
 
-  -- what stands in o and is not o stands in something that stands in o
+  -- an object inside o, other than o, has a parent inside o
   pub parent_inside : (x : Objects O B T) (o q : Object) → Within (up x) o q → q ≢ o → (k : Object) × (up x q ≡ Some k) × Within (up x) o k
   parent_inside x o q w ne = go w.0 w.1
     where
@@ -82,7 +82,11 @@ module _ {O B T : Type 0} where
         | inr (k, f) ↦ (k, f, (n, ap (climb (up x) n) (sym f) ∙ e))
       ]
 
-  -- nothing stands in what has no children
+  -- the parent of what is inside, and is not the outermost, is inside
+  pub holder_inside : (x : Objects O B T) (o q k : Object) → Within (up x) o q → q ≢ o → up x q ≡ Some k → Within (up x) o k
+  holder_inside x o q k w ne e = let p = parent_inside x o q w ne in subst (Within (up x) o) (some_eq (sym p.1 ∙ e)) p.2
+
+  -- nothing is nested in an object without children
   pub childless : (x : Objects O B T) (c q : Object) → IsForest x → kids x c ≡ [] → up x q ≡ Some c → ⊥
   childless x c q s leaf e =
       let at = s.listed q c e in
@@ -92,9 +96,7 @@ module _ {O B T : Type 0} where
   module _ (x0 x y : Objects O B T) (o k c : Object) (v : Erasing x0 x o c) (ne : c ≢ o) (e : up x c ≡ Some k) (d : Drops x y k c) where
     k_inside : Within (up x) o k
     k_inside =
-        let p = parent_inside x o c v.at_inside ne in
-        let s : p.0 ≡ k = some_eq (sym p.1 ∙ e) in
-        rw (← s) p.2
+        holder_inside x o c k v.at_inside ne e
 
     k_lives : Lives x k
     k_lives = parent_lives x c k v.forest e

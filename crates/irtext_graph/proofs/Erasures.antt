@@ -34,7 +34,7 @@ use Rattle.irtext_graph.proofs.Chains.{reframed}
 use Rattle.irtext_graph.proofs.Inside.{within_or}
 use Rattle.irtext_graph.proofs.Stores.{generation_seen}
 use Rattle.irtext_graph.specs.Content.{node_of}
-use Rattle.irtext_graph.proofs.Views.{up_seen, kids_seen, what_seen, within_at, within_seen, places_seen}
+use Rattle.irtext_graph.proofs.Views.{up_seen, kids_seen, what_seen, within_at, within_seen, rest_seen}
 use Rattle.irtext_graph.proofs.Sounds.{use_same, head_same}
 use Rattle.irtext_graph.proofs.Frames.{stood_keeps}
 use Rattle.irtext_graph.proofs.Dropped.{named_what}
@@ -48,12 +48,7 @@ module _ {O B T : Type 0} where
     others = λ q out. what_seen m v y q ∙ others q (λ w. out (within_seen m v x o q w)) ∙ sym (what_seen m v x q);
     parents = λ q. up_seen m v y q ∙ ups q ∙ sym (up_seen m v x q);
     lists = λ q. kids_seen m v y q ∙ lists q ∙ sym (kids_seen m v x q);
-    operation_places = places_seen operation_content x.operations y.operations p.operation_places;
-    block_places = places_seen block_content x.blocks y.blocks p.block_places;
-    region_places = places_seen region_content x.regions y.regions p.region_places;
-    made = refl;
-    values = refl;
-    first_place = refl;
+    rest = rest_seen m v x y p;
   }
 
   as_old : (m : ℕ) (k : Option (Content O B T)) → is_older m (option_map without_uses k) ≡ is_older m k
@@ -64,7 +59,7 @@ module _ {O B T : Type 0} where
 
   pub dropped-keeps : (m : ℕ) (g h : GraphView O B T) (o : Object) → DropsUses g h o → ((q : Object) → (IsInside g o q) ⊎ (IsInside g o q → ⊥))
       → ((p : _) → IsInside g o (TheOperation p) → IsNew m g (TheOperation p)) → KeepsOlder m g h
-  dropped-keeps m g h o d known new = stood_keeps m g h (λ q. at q (known q)) (let e = d.made in omega (arith, e)) (let e = d.values in omega (arith, e)) d.first_place
+  dropped-keeps m g h o d known new = stood_keeps m g h (λ q. at q (known q)) (let e = d.rest.made in omega (arith, e)) (let e = d.rest.values in omega (arith, e)) d.rest.first_place
     where
       same : (q : Object) → content h q ≡ content g q → (IsNew m g q × IsNew m h q) ⊎ ((parent h q ≡ parent g q) × (children h q ≡ children g q) × (content h q ≡ content g q))
       same q e = inr (d.parents q, d.lists q, e)
@@ -113,7 +108,7 @@ module _ {O B T : Type 0} where
           on true e = e
           on false e = absurd (cc)
 
-  -- a value or a block of what is gone is not there
+  -- a value or a block of an erased object is not there
   headless : (x : Objects O B T) (d : Defined) → what x (owner d) ≡ None → head_at x d ≡ None
   headless x (OfValue (Result p i)) e = on (arena.get x.operations p) e
     where

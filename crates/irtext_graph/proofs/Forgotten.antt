@@ -1,4 +1,4 @@
--- The list of what was made without what is gone keeps all that stand.
+-- The list of what was made, without what was erased, keeps all live objects.
 use Rattle.std.proofs.Common.{◌≡◌, ◌≤◌, ◌∙◌, ◌∷◌, ℕ, zero, suc, refl, sym, ap, subst, arith, Bool, true, false, cond, is_some, filter, Option, Some, None, List, [], slice_get}
 use Rattle.std.specs.Option.{option_map}
 use Rattle.irtext_graph.specs.declared.log.Made.{Made}
@@ -49,7 +49,7 @@ by_age p (x ∷ xs) h = go (by_age p xs (λ j k a b le e f. h (suc j) (suc k) a 
     go rest true (suc j) (suc k) a b le e f = rest j k a b (omega (arith, le)) e f
 
 module _ {O B T : Type 0} where
-  -- what has an age stands
+  -- an object with an age is live
   aged : (x : Objects O B T) (o : Object) (b : ℕ) → age x o ≡ Some b → is_some (what x o) ≡ true
   aged x o b e = go (what x o) (sym (age_what x o) ∙ e)
     where

@@ -1,4 +1,4 @@
--- What is older than a mark stands as it did, where newer objects come to stand in newer ones.
+-- What is older than a mark is unchanged if newer objects are added only to newer ones.
 use Rattle.std.proofs.Common.{◌≡◌, ◌≤◌, ◌∙◌, ◌∷◌, ◌⊎◌, ℕ, refl, sym, ap, arith, inl, inr, false, cond, nat_lt, Option, Some, None, List, [], map, Result, Ok, Err, OnOk, OnErr}
 use Rattle.std.specs.Option.{option_map}
 use Rattle.irtext_graph.specs.Arena.{older}
@@ -48,7 +48,7 @@ pub operation_same : (a b : Ptr Operation) → TheOperation a ≡ TheOperation b
 operation_same a b e = cc
 
 module _ {P C E : Type 0} where
-  -- an object is known by what it stands in, what stands in it, and what it is
+  -- an object is determined by its parent, its children and its content
   pub entry_same : (x y : Option (Entry (Node P C E))) → parent_of x ≡ parent_of y → children_of x ≡ children_of y → content_of x ≡ content_of y → x ≡ y
   entry_same None None p c e = refl
   entry_same None (Some y) p c e = absurd (cc)
@@ -101,7 +101,7 @@ module _ {O B T : Type 0} where
       one : (a b : ℕ × RegionContent) → ◌≡◌ {A = Content O B T} (ARegion a.0 a.1) (ARegion b.0 b.1) → a ≡ b
       one a b e = let x : a.0 ≡ b.0 = cc in let y : a.1 ≡ b.1 = cc in pair x y
 
-  -- an object is as it was, or is no older than the mark
+  -- an object is unchanged, or is no older than the mark
   pub record Framed (m : ℕ) (g h : GraphView O B T) : Type 0 where
     pub contents : (q : Object) → content h q ≡ content g q
     pub same : (q : Object) → (IsNew m g q) ⊎ ((parent h q ≡ parent g q) × (children h q ≡ children g q))
@@ -153,15 +153,15 @@ module _ {O B T : Type 0} where
         | inr apart ↦ inr (a.parents q apart, a.others q away)
       ]
     ];
-  }) (let e = a.objects.made in omega (arith, e)) (let e = a.objects.values in omega (arith, e)) a.objects.first_place
+  }) (let e = a.objects.rest.made in omega (arith, e)) (let e = a.objects.rest.values in omega (arith, e)) a.objects.rest.first_place
 
-  -- an insertion, or its refusal
+  -- an insertion, or its error
   pub inserted-keeps : (m : ℕ) (g h : GraphView O B T) (k c : Object) → IsNew m g k → IsNew m g c → {E : Type 0} (r : Result (Unit {0}) E) → OnOk r (Appends g h k c) → OnErr r (h ≡ g) → KeepsOlder m g h
   inserted-keeps m g h k c nk nc (Ok u) a e = appended-keeps m g h k c nk nc a
   inserted-keeps m g h k c nk nc (Err x) a e = same_keeps m g h e
 
   pub unlinked-keeps : (m : ℕ) (g h : GraphView O B T) (c : Object) → IsNew m g c → ((k : Object) → parent g c ≡ Some k → IsNew m g k) → Unlinks g h c → KeepsOlder m g h
-  unlinked-keeps m g h c nc nk a = framed_keeps m g h (record { contents = a.objects.contents; same = same }) (let e = a.objects.made in omega (arith, e)) (let e = a.objects.values in omega (arith, e)) a.objects.first_place
+  unlinked-keeps m g h c nc nk a = framed_keeps m g h (record { contents = a.objects.contents; same = same }) (let e = a.objects.rest.made in omega (arith, e)) (let e = a.objects.rest.values in omega (arith, e)) a.objects.rest.first_place
     where
       same : (q : Object) → (IsNew m g q) ⊎ ((parent h q ≡ parent g q) × (children h q ≡ children g q))
       same q = elim (told object_tells q c) [

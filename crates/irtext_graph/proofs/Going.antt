@@ -1,4 +1,4 @@
--- The data of all that stands inside an object are changed, one object behind the other: what is done so far, and that all is done at the end.
+-- The data of all objects inside an object are changed, one object after another: what is done so far, and that all is done at the end.
 use Rattle.std.proofs.Common.{◌≡◌, ◌≢◌, ◌<◌, ◌∙◌, ◌⊎◌, ◌∷◌, ℕ, suc, refl, sym, ap, arith, inl, inr, subst, Option, Some, None, IsSome, IfSome, length, map}
 use Rattle.std.specs.Option.{option_map}
 use Rattle.irtext_graph.specs.declared.arena.Ptr.{Ptr}
@@ -10,13 +10,13 @@ use Rattle.irtext_graph.specs.declared.object.Object.TheVariants.{TheOperation, 
 use Rattle.irtext_graph.specs.Chained.{Among}
 use Rattle.irtext_graph.specs.Content.{Content, Content.{AnOperation, ABlock, ARegion}, RegionContent}
 use Rattle.irtext_graph.specs.Data.{with_data, with_block, with_operation_data, with_block_data, EditsOperation, EditsBlock}
-use Rattle.irtext_graph.specs.Graph.{GraphView, SamePlaces, parent, children, content, parent_of, children_of, content_of, IsLive, IsInside, IsNew, KeepsOlder}
+use Rattle.irtext_graph.specs.Graph.{GraphView, KeepsRest, SamePlaces, parent, children, content, parent_of, children_of, content_of, IsLive, IsInside, IsNew, KeepsOlder}
 use Rattle.irtext_graph.specs.Nested.{Nested}
 use Rattle.irtext_graph.specs.Objects.{eq_object, is_older}
 use Rattle.irtext_graph.specs.Parts.{operation_at, block_at}
 use Rattle.irtext_graph.specs.Preorder.{onward}
 use Rattle.irtext_graph.specs.Store.{Store, Edits, get, object_of}
-use Rattle.irtext_graph.specs.Throughout.{changed, places, all_from, IsNewInside, SameObject, ChangedObject, KeepsRest, EditsObject, EditsInside}
+use Rattle.irtext_graph.specs.Throughout.{changed, places, all_from, IsNewInside, SameObject, ChangedObject, EditsObject, EditsInside}
 use Rattle.irtext_graph.proofs.Data.{edited, edited_block}
 use Rattle.irtext_graph.proofs.Frames.{stood_keeps}
 use Rattle.irtext_graph.proofs.Inside.{within_self, within_or}
@@ -243,7 +243,7 @@ module _ {O B T : Type 0} where
             at_stands = found_stands next there;
           }
 
-    -- behind the last all is changed
+    -- after the last object all is changed
     pub going_ends : (old now : GraphView O B T) (o : Object) → Going old now o None → EditsInside old now o f h
     going_ends old now o d = record {
       inside = λ q w. elim (d.inside q w) [ inl none ↦ absurd none | inr done ↦ done ];
@@ -257,7 +257,7 @@ module _ {O B T : Type 0} where
     as_old m (Some (ABlock n c)) = refl
     as_old m (Some (ARegion n c)) = refl
 
-    -- what is older than all inside stands as it did
+    -- what is older than all objects inside is unchanged
     pub edited_inside-keeps : (m : ℕ) (old new : GraphView O B T) (o : Object) → Nested (children old) (parent old) → EditsInside old new o f h → IsNewInside m old o → KeepsOlder m old new
     edited_inside-keeps m old new o s e young = stood_keeps m old new at (let k = e.rest.made in omega (arith, k)) (let k = e.rest.values in omega (arith, k)) e.rest.first_place
       where

@@ -1,10 +1,10 @@
--- What stands in what, while an object is taken apart.
+-- Which objects are inside which, while an object is erased piece by piece.
 use Rattle.std.proofs.Common.{◌≡◌, ◌+◌, ◌⊎◌, ℕ, zero, suc, Option, Some, None, refl, sym, ap, ◌∙◌, inl, inr, Bool, List, [], slice_get}
 use Rattle.irtext_graph.specs.Nested.{climb, Within, Nested}
 use Rattle.irtext_graph.proofs.Nests.{Tells, told, seen, some_eq, climb-none, climb-add}
 
 module _ {O : Type 0} (eqO : O → O → Bool) (t : Tells eqO) where
-  -- whether the way from o meets c within n steps
+  -- whether c is among o and its ancestors, within n steps
   way : (up : O → Option O) (c : O) (n : ℕ) (o : Option O) → climb up n o ≡ None → ((m : ℕ) × (climb up m o ≡ Some c)) ⊎ ((m : ℕ) → climb up m o ≡ Some c → ⊥)
   way up c zero o e = inr (λ m f. let k = climb-none up m in let g : climb up m o ≡ climb up m None = ap (climb up m) e in cc)
   way up c (suc n) None e = inr (λ m f. let k = climb-none up m in cc)
@@ -21,7 +21,7 @@ module _ {O : Type 0} (eqO : O → O → Bool) (t : Tells eqO) where
       later ne apart zero f = ne (some_eq f)
       later ne apart (suc m) f = apart m f
 
-  -- where each way ends, it is known whether an object stands in another
+  -- if each way up ends, it is decidable whether an object is inside another
   pub within_or : (up : O → Option O) → ((x : O) → (n : ℕ) × (climb up n (Some x) ≡ None)) → (c x : O) → (Within up c x) ⊎ (Within up c x → ⊥)
   within_or up ends c x = let e = ends x in
       elim (way up c e.0 (Some x) e.1) [
@@ -36,11 +36,11 @@ module _ {O : Type 0} where
   pub within_up : (up : O → Option O) (o x y : O) → up x ≡ Some y → Within up o y → Within up o x
   within_up up o x y e w = (suc w.0, ap (climb up w.0) e ∙ w.1)
 
-  -- what stands in something that stands in o stands in o
+  -- an object inside an object inside o is inside o
   pub within_on : (up : O → Option O) (o c x : O) → Within up o c → Within up c x → Within up o x
   within_on up o c x w v = (v.0 + w.0, climb-add up v.0 w.0 (Some x) ∙ ap (climb up w.0) v.1 ∙ w.1)
 
-  -- only c itself stands in c, or something stands next to it
+  -- if an object is nested in o, o has a child
   pub last_step : (up : O → Option O) (o : O) (n : ℕ) (x : O) → climb up (suc n) (Some x) ≡ Some o → (y : O) × (up y ≡ Some o)
   last_step up o zero x e = (x, e)
   last_step up o (suc n) x e = elim (seen (up x)) [
@@ -48,7 +48,7 @@ module _ {O : Type 0} where
     | inr (y, f) ↦ last_step up o n y (ap (climb up (suc n)) (sym f) ∙ e)
   ]
 
-  -- nothing stands in an object without children
+  -- nothing else is inside an object without children
   pub alone : {kids : O → List O} {up : O → Option O} → Nested kids up → (o x : O) → kids o ≡ [] → Within up o x → x ≡ o
   alone {kids} {up} s o x none w = go w.0 w.1
     where
@@ -60,7 +60,7 @@ module _ {O : Type 0} where
           let f : slice_get (kids o) at.0 ≡ None = ap (λ xs. slice_get xs at.0) none in
           absurd (cc)
 
-  -- ways that lead somewhere in one lead there in another, while a premise on objects goes upwards
+  -- ways up that lead from one object to another lead there in a second graph too, if a premise holds of each object on the way
   pub carried : (up up' : O → Option O) (P : O → Type 0) (o : O) → ((x : O) → P x → (x ≡ o) ⊎ (up' x ≡ up x)) → ((x y : O) → P x → up x ≡ Some y → P y) → (n : ℕ) (x : O) → P x → climb up n (Some x) ≡ Some o → Within up' o x
   carried up up' P o same on zero x p e = (zero, e)
   carried up up' P o same on (suc n) x p e = elim (seen (up x)) [

@@ -1,4 +1,4 @@
--- Steps that leave the places and the data as they were, one behind the other.
+-- Steps that leave the places and the data unchanged, one after another.
 use Rattle.std.proofs.Common.{◌≡◌, ◌≢◌, ◌∙◌, inl, inr, sym, ap, length, ℕ, refl, Option, Some, None, IsSome}
 use Rattle.std.specs.Option.{option_map}
 use Rattle.irtext_graph.specs.Arena.{get, generation_at, KeepsPlaces, ShedsPlaces}
@@ -22,7 +22,7 @@ keeps_on h k = record {
   age = λ m o. k.age m (h.age m o);
 }
 
-keeps_self : {X : Type 0} (a : Arena X) → KeepsPlaces a a
+pub keeps_self : {X : Type 0} (a : Arena X) → KeepsPlaces a a
 keeps_self a = record { generations = λ i. refl; free = refl; len = refl; age = λ m o. o }
 
 shed_on : {X : Type 0} {a b c : Arena X} → ShedsPlaces a b → ShedsPlaces b c → ShedsPlaces a c
@@ -111,7 +111,7 @@ module _ {O B T : Type 0} where
     whats = λ q. (h.at q).same_what ∙ a.whats q;
   }
 
--- an object that has data is there, and the other way round
+-- an object that has data is there, and conversely
 pub datum_there : {P C D V : Type 0} (f : ℕ × D → V) (e : Option (Entry (Nest P C D))) → IsSome e → IsSome (option_map f (datum_in e))
 datum_there f None l = absurd (cc)
 datum_there f (Some e) l = refl

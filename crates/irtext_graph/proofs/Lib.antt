@@ -25,6 +25,7 @@ pub mod PartsSeen
 pub mod Listed
 pub mod UsesSeen
 pub mod Fewer
+pub mod Fields
 pub mod Redirected
 pub mod Bare
 pub mod SameSeen

@@ -1,4 +1,4 @@
--- Tests of equality for uses and values, what a use tells of its place, and lists with another item at one index.
+-- Tests of equality for uses and values, what a use determines of its place, and lists with another item at one index.
 use Rattle.std.proofs.Common.{◌≡◌, ◌≢◌, ◌∙◌, inl, inr, Bool, true, false, refl, sym, ap, Option, Some, None, IsSome, cond, option_map}
 use Rattle.std.proofs.lemmas.Bool.{eqb-true, eq-eqb}
 use Rattle.irtext_graph.specs.declared.object.Defined.{Defined}
@@ -27,15 +27,15 @@ site_sound (AtSuccessor p i) (AtOperand q j) e = absurd (cc)
 pub site_tells : Tells eq_site
 site_tells = record { same = site_is; sound = site_sound }
 
-value_same : (v : Value) → eq_value v v ≡ true
-value_same (Result p i) = all _ _ (ptr_tells.same p) (eq-eqb i i refl)
-value_same (Argument p i) = all _ _ (ptr_tells.same p) (eq-eqb i i refl)
-
 value_sound : (v w : Value) → eq_value v w ≡ true → v ≡ w
 value_sound (Result p i) (Result q j) e = let k = both _ _ e in rw (ptr_tells.sound p q k.0, eqb-true i j k.1) refl
 value_sound (Argument p i) (Argument q j) e = let k = both _ _ e in rw (ptr_tells.sound p q k.0, eqb-true i j k.1) refl
 value_sound (Result p i) (Argument q j) e = absurd (cc)
 value_sound (Argument p i) (Result q j) e = absurd (cc)
+
+value_same : (v : Value) → eq_value v v ≡ true
+value_same (Result p i) = all _ _ (ptr_tells.same p) (eq-eqb i i refl)
+value_same (Argument p i) = all _ _ (ptr_tells.same p) (eq-eqb i i refl)
 
 defined_same : (d : Defined) → eq_defined d d ≡ true
 defined_same (OfValue v) = value_same v
@@ -63,7 +63,7 @@ used_def o p e h = ap def_of e ∙ go p.links.linked (rw e at h)
     go true h = refl
     go false h = absurd (cc)
 
--- where a use got other links, what does not read them is as it was
+-- if a use has other links, what does not depend on them is unchanged
 pub relinked_same : {O B T V : Type 0} (x y : Objects O B T) (u : Site) (l : Links) (o : Use Defined) (view : Option (Use Defined) → V) → use_at x u ≡ Some o → use_at y u ≡ option_map (relinked l) (use_at x u) → ((w : Site) → w ≢ u → use_at y w ≡ use_at x w)
     → view (Some (relinked l o)) ≡ view (Some o) → (s : Site) → view (use_at y s) ≡ view (use_at x s)
 relinked_same x y u l o view read here others same s = elim (told site_tells s u) [

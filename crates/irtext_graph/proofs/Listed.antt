@@ -1,4 +1,4 @@
--- A use list as a list of slots: each slot that uses the definition stands in it once.
+-- A use list as a list of slots: each slot that uses the definition is in it once.
 use Rattle.std.proofs.Common.{◌≡◌, ◌<◌, ◌+◌, ◌++◌, ◌∙◌, ℕ, zero, suc, refl, sym, ap, inl, inr, arith, Option, Some, None, List, [], ◌∷◌, slice_get, subst}
 use Rattle.irtext_graph.specs.Chained.{Chained, Among, Lists}
 use Rattle.irtext_graph.proofs.Nests.{some_eq}
@@ -13,7 +13,7 @@ module _ {U D : Type 0} (val : U → Option D) (prv nxt : U → Option U) (d : D
     pub path : Path val prv nxt d at rest
 
 module _ {U D : Type 0} {val : U → Option D} {prv nxt : U → Option U} {heads : D → Option (Option U)} (c : Chained val prv nxt heads) (d : D) where
-  -- what stands in a list ranks no higher than its first slot
+  -- an element of a list ranks no higher than its first slot
   ranks : (us : List U) (h : Option U) (n : ℕ) → Path val prv nxt d h us → ((w : U) → h ≡ Some w → c.rank w < n) → (i : ℕ) (w : U) → slice_get us i ≡ Some w → c.rank w < n
   ranks [] h n p low i w e = absurd (cc)
   ranks (u ∷ us) h n p low zero w e = low w (p.0 ∙ e)
@@ -44,7 +44,7 @@ module _ {U D : Type 0} {val : U → Option D} {prv nxt : U → Option U} {heads
     once = once us h p;
   }
 
-  -- there is such a list
+  -- the definition has a use list
   listed : (h : Option U) → heads d ≡ Some h → (us : List U) × Path val prv nxt d h us
   listed None at = ([], refl)
   listed (Some x) at = let k = c.head_ok d x at in path_from c d (c.rank x + 1) x (omega arith) k.0
@@ -61,7 +61,7 @@ module _ {U D : Type 0} {val : U → Option D} {prv nxt : U → Option U} {heads
   path_ends [] h e p = refl
   path_ends (x ∷ xs) h e p = absurd (cc)
 
-  -- a walk begins at the first slot, goes on to the next, and ends where there is none
+  -- a walk begins at the first slot, goes on to the next, and ends after the last
   pub walk_begins : (h : Option U) → heads d ≡ Some h → (w : Walk val prv nxt d h) × (w.rest ≡ w.list)
   walk_begins h at = let l = listed h at in (record { list = l.0; lists = path_lists l.0 h at l.1; rest = l.0; path = l.1 }, refl)
 
@@ -71,7 +71,7 @@ module _ {U D : Type 0} {val : U → Option D} {prv nxt : U → Option U} {heads
   pub walk_ends : (at : Option U) → at ≡ None → (w : Walk val prv nxt d at) → w.rest ≡ []
   walk_ends at is w = path_ends w.rest at is w.path
 
--- the first of what is left goes last into what was met
+-- the first of what is left is put at the end of what was visited
 pub pushed : {U : Type 0} (met : List U) (u : U) (left rest list : List U) → rest ≡ u ∷ left → met ++ rest ≡ list → (met ++ u ∷ []) ++ left ≡ list
 pushed {U} met u left rest list first split = go met ∙ ap (λ r. met ++ r) (sym first) ∙ split
   where

@@ -1,4 +1,4 @@
--- The list of what was made keeps all that stand.
+-- The list of what was made keeps all live objects.
 use Rattle.std.proofs.Common.{◌≡◌, ◌<◌, ◌≤◌, ◌+◌, ◌∙◌, ◌⊎◌, ◌++◌, ◌∷◌, ℕ, zero, suc, refl, sym, ap, arith, inl, inr, Option, Some, None, List, [], length, slice_get, take, Result, Ok, Err, OnOk, OnErr}
 use Rattle.std.specs.Option.{option_map}
 use Rattle.irtext_graph.specs.Arena.{get, born_in, found, Updates}
@@ -38,7 +38,7 @@ taken_get (y ∷ ys) zero k x low e = absurd (omega (arith, low))
 taken_get (y ∷ ys) (suc n) zero x low e = e
 taken_get (y ∷ ys) (suc n) (suc k) x low e = taken_get ys n k x (omega (arith, low)) e
 
--- a list with one more, behind another of the same
+-- a list with one more, after another list that is the same
 pub noted_list : (log room after : List Made) (a : Made) → room ≡ log → after ≡ room ++ a ∷ [] → after ≡ log ++ a ∷ []
 noted_list log room after a e f = f ∙ ap (λ xs. xs ++ a ∷ []) e
 
@@ -56,7 +56,7 @@ module _ {O B T : Type 0} where
   pub same_age : (x y : Objects O B T) (o : Object) → what y o ≡ what x o → age y o ≡ age x o
   same_age x y o e = age_what y o ∙ ap (option_map born_of) e ∙ sym (age_what x o)
 
-  -- objects that are as old as they were, or gone
+  -- objects that are as old as they were, or are erased
   pub logged_kept : (made : ℕ) (log : List Made) (x y : Objects O B T) → IsLogged made log x → ((o : Object) (b : ℕ) → age y o ≡ Some b → age x o ≡ Some b) → IsLogged made log y
   logged_kept made log x y i same = record { listed = λ o b e. i.listed o b (same o b e); by_age = i.by_age; below = i.below }
 
@@ -68,7 +68,7 @@ module _ {O B T : Type 0} where
   pub logged_same : (made : ℕ) (log : List Made) (x y : Objects O B T) → IsLogged made log x → ((o : Object) → what y o ≡ what x o) → IsLogged made log y
   logged_same made log x y i same = logged_kept made log x y i (λ o b e. sym (same_age x y o (same o)) ∙ e)
 
-  -- an insertion, or its refusal
+  -- an insertion, or its error
   pub moved_what : (x y : Objects O B T) (k c : Object) {E : Type 0} (r : Result (Unit {0}) E) → OnOk r (Appends x y k c) → OnErr r ((q : Object) → SameAt x y q) → (q : Object) → what y q ≡ what x q
   moved_what x y k c (Ok u) a s q = a.whats q
   moved_what x y k c (Err e) a s q = (s q).same_what
@@ -88,7 +88,7 @@ module _ {O B T : Type 0} where
       none (TheBlock p) = ap born_in (empty x.blocks p eb)
       none (TheRegion p) = ap born_in (empty x.regions p er)
 
-  -- one object came, and is noted
+  -- one object was made, and is listed
   pub logged_noted : (made : ℕ) (log after : List Made) (x y : Objects O B T) (o : Object) → after ≡ log ++ record { born = made; object = o } ∷ [] → IsLogged made log x
       → ((q : Object) (b : ℕ) → age y q ≡ Some b → (age x q ≡ Some b) ⊎ ((q ≡ o) × (b ≡ made))) → IsLogged (made + 1) after y
   logged_noted made log after x y o noted i came = rw noted (record { listed = listed; by_age = by_age; below = below })
@@ -125,7 +125,7 @@ module _ {O B T : Type 0} where
           past (x ∷ xs) zero b e le = omega (arith, le)
           past (x ∷ xs) (suc k) b e le = past xs k b e (omega (arith, le))
 
-  -- the list was cut behind all that stand
+  -- the list was cut after all live objects
   pub logged_cut : (made n : ℕ) (mark : ℕ) (log : List Made) (x y : Objects O B T) → IsLogged made log x
       → ((k : ℕ) (a : Made) → n ≤ k → slice_get log k ≡ Some a → mark ≤ a.born)
       → ((o : Object) (b : ℕ) → age y o ≡ Some b → (age x o ≡ Some b) × (b < mark)) → IsLogged made (take n log) y
@@ -143,17 +143,17 @@ module _ {O B T : Type 0} where
 
 module _ {X K : Type 0} (kind : Ptr K → Object) (o : Object) (made : ℕ) where
   -- each object of one kind was there with its age, or is o and was made then
-  abbrev Advanced : Arena X → Arena X → Type 0
-  Advanced a b = (q : Ptr K) (n : ℕ) → born_in (get b q) ≡ Some n → (born_in (get a q) ≡ Some n) ⊎ ((kind q ≡ o) × (n ≡ made))
+  abbrev IsOldOrMade : Arena X → Arena X → Type 0
+  IsOldOrMade a b = (q : Ptr K) (n : ℕ) → born_in (get b q) ≡ Some n → (born_in (get a q) ≡ Some n) ⊎ ((kind q ≡ o) × (n ≡ made))
 
-  came_in : (a b : Arena X) (p : Ptr K) (x : Entry X) → Updates a b p (Some x) → x.born ≡ made → kind p ≡ o → Advanced a b
+  came_in : (a b : Arena X) (p : Ptr K) (x : Entry X) → Updates a b p (Some x) → x.born ≡ made → kind p ≡ o → IsOldOrMade a b
   came_in a b p x u born is q n e = elim (ptr_or q p) [
     | inr away ↦ inl (ap born_in (sym (u.others q away)) ∙ e)
     | inl here ↦ inr (ap kind here ∙ is, let f : Some x.born ≡ Some n = sym (ap born_in (ap (get b) here ∙ u.changed)) ∙ e in let g : n ≡ x.born = cc in g ∙ born)
   ]
 
 module _ {O B T : Type 0} where
-  came_by : (x y : Objects O B T) (o : Object) (made : ℕ) → Advanced TheOperation o made x.operations y.operations → Advanced TheBlock o made x.blocks y.blocks → Advanced TheRegion o made x.regions y.regions
+  came_by : (x y : Objects O B T) (o : Object) (made : ℕ) → IsOldOrMade TheOperation o made x.operations y.operations → IsOldOrMade TheBlock o made x.blocks y.blocks → IsOldOrMade TheRegion o made x.regions y.regions
       → (q : Object) (b : ℕ) → age y q ≡ Some b → (age x q ≡ Some b) ⊎ ((q ≡ o) × (b ≡ made))
   came_by x y o made operations blocks regions (TheOperation q) = operations q
   came_by x y o made operations blocks regions (TheBlock q) = blocks q
@@ -175,13 +175,3 @@ module _ {O B T : Type 0} where
   region_ages x a e (TheOperation p) b f = f
   region_ages x a e (TheBlock p) b f = f
   region_ages x a e (TheRegion p) b f = sym (ap (λ xs. born_in (found (slice_get xs p.index) p.generation)) e) ∙ f
-
-  pub block_ages : (x : Objects O B T) (a : Arena (Nest Region Operation (BlockData B T))) → a.slots.items ≡ x.blocks.slots.items → (o : Object) (b : ℕ) → age (record x { blocks = a }) o ≡ Some b → age x o ≡ Some b
-  block_ages x a e (TheOperation p) b f = f
-  block_ages x a e (TheBlock p) b f = sym (ap (λ xs. born_in (found (slice_get xs p.index) p.generation)) e) ∙ f
-  block_ages x a e (TheRegion p) b f = f
-
-  pub operation_ages : (x : Objects O B T) (a : Arena (Nest BasicBlock Region (OperationData O T))) → a.slots.items ≡ x.operations.slots.items → (o : Object) (b : ℕ) → age (record x { operations = a }) o ≡ Some b → age x o ≡ Some b
-  operation_ages x a e (TheOperation p) b f = sym (ap (λ xs. born_in (found (slice_get xs p.index) p.generation)) e) ∙ f
-  operation_ages x a e (TheBlock p) b f = f
-  operation_ages x a e (TheRegion p) b f = f

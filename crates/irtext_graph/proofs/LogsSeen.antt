@@ -1,4 +1,4 @@
--- The list of what was made has all that stand where objects are seen as before, but for what operations use.
+-- The list of what was made has all live objects if objects are seen as before, except what operations use.
 use Rattle.std.proofs.Common.{◌≡◌, ◌∙◌, ℕ, inl, inr, refl, sym, ap, Option, Some, None, List}
 use Rattle.std.specs.Option.{option_map}
 use Rattle.irtext_graph.specs.Arena as arena
@@ -63,7 +63,7 @@ module _ {O B T : Type 0} where
         | inr out ↦ same_age x y q (others q out)
       ]
 
-  -- all inside an object is gone
+  -- all objects inside an object are erased
   pub logged_erased : (made : ℕ) (log : List Made) (x y : Objects O B T) (o : Object) → IsForest x
       → ((q : Object) → Within (up x) o q → IsGone y q) → ((q : Object) → (Within (up x) o q → ⊥) → what y q ≡ what x q)
       → IsLogged made log x → IsLogged made log y

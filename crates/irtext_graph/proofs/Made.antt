@@ -1,5 +1,5 @@
--- What is seen of an object that was made, and that what is older stands as it did.
-use Rattle.std.proofs.Common.{◌≡◌, ◌≤◌, ◌+◌, ℕ, refl, sym, ap, subst, arith, ◌∙◌, None, List, [], map, length, Result, Ok, Err, OnErr}
+-- The view of an object that was made; and what is older is unchanged.
+use Rattle.std.proofs.Common.{◌≡◌, ◌≤◌, ◌+◌, ℕ, refl, sym, ap, subst, arith, ◌∙◌, None, List, [], map, slice_get, length, Result, Ok, Err, OnErr}
 use Rattle.irtext_few.specs.Growing.{listed}
 use Rattle.irtext_graph.specs.declared.graph.Counters.{Counters}
 use Rattle.irtext_graph.specs.Arena as arena
@@ -21,13 +21,59 @@ use Rattle.irtext_graph.specs.Linking.{IsBlank}
 use Rattle.irtext_graph.specs.Graph.{GraphView, graph_of, seen, fresh, numbered, MakesRegion, MakesBlock, MakesOperation, KeepsOlder}
 use Rattle.irtext_graph.proofs.Stores.{inserts_seen, inserted-keeps, store_same}
 use Rattle.irtext_graph.proofs.Linkings.{unlinked_defs}
+use Rattle.irtext_graph.proofs.Logs.{logged_kept, logged_list}
+use Rattle.irtext_graph.proofs.Sounds.{sound_same}
+use Rattle.irtext_graph.specs.Arena.{born_in, found}
+use Rattle.irtext_graph.specs.declared.log.Made.{Made}
+use Rattle.irtext_graph.specs.declared.object.Object.{Object}
+use Rattle.irtext_graph.specs.declared.object.Object.TheVariants.{TheOperation, TheBlock, TheRegion}
+use Rattle.irtext_graph.specs.Log.{age}
+use Rattle.irtext_graph.specs.Numbers.{AreNumbered}
+use Rattle.irtext_graph.specs.Sound.{IsKept}
 
--- what holds in any case holds of a refusal
+-- what holds in any case holds of an error
 pub on_err : {A E P : Type 0} (r : Result A E) → P → OnErr r P
 on_err (Ok a) p = tt
 on_err (Err e) p = p
 
+-- a number that is the same, or that grew, is no less
+pub at_least : {a b : ℕ} → b ≡ a → a ≤ b
+at_least e = omega (arith, e)
+
+pub grown : {a b : ℕ} (n : ℕ) → b ≡ a + n → a ≤ b
+grown n e = omega (arith, e)
+
+-- arenas with the same slots, of which the same is free
+pub record SameSlots {X : Type 0} (a b : Arena X) : Type 0 where
+  pub items : b.slots.items ≡ a.slots.items
+  pub free : b.free ≡ a.free
+
+pub same_slots : {X : Type 0} {a : Arena X} → SameSlots a a
+same_slots = record { items = refl; free = refl }
+
 module _ {O B T : Type 0} where
+  -- what is older is kept, by the kinds of objects and the counters
+  pub older_kept : (m : ℕ) (old new : GraphView O B T) → ((q : Ptr Operation) → before m new.operations q ≡ before m old.operations q) → ((q : Ptr BasicBlock) → before m new.blocks q ≡ before m old.blocks q)
+      → ((q : Ptr Region) → before m new.regions q ≡ before m old.regions q) → old.made ≤ new.made → old.values ≤ new.values → new.first_place ≡ old.first_place → KeepsOlder m old new
+  older_kept m old new operations blocks regions made values first = record { operations = operations; blocks = blocks; regions = regions; made = made; values = values; first_place = first }
+
+  -- objects in the same slots are seen as they were, and all is kept
+  pub slots_seen : (m : ℕ) (v : Counters) (x y : Objects O B T) → SameSlots x.operations y.operations → SameSlots x.blocks y.blocks → SameSlots x.regions y.regions → graph_of m v y ≡ graph_of m v x
+  slots_seen m v x y o b r =
+      rw (store_same (node_of operation_content) x.operations y.operations o.items o.free, store_same (node_of block_content) x.blocks y.blocks b.items b.free, store_same (node_of region_content) x.regions y.regions r.items r.free) refl
+
+  pub slots_kept : (m : ℕ) (v : Counters) (log after : List Made) (x y : Objects O B T) → after ≡ log → SameSlots x.operations y.operations → SameSlots x.blocks y.blocks → SameSlots x.regions y.regions → IsKept m v log x → IsKept m v after y
+  slots_kept m v log after x y e o b r i = record {
+    sound = sound_same m x y o.items b.items r.items i.sound;
+    logged = logged_list m log after y e (logged_kept m log x y i.logged (λ q n f. sym (ages q) ∙ f));
+    numbered = subst (λ g. AreNumbered g) (sym (slots_seen m v x y o b r)) i.numbered;
+  }
+    where
+      ages : (q : Object) → age y q ≡ age x q
+      ages (TheOperation p) = ap (λ xs. born_in (found (slice_get xs p.index) p.generation)) o.items
+      ages (TheBlock p) = ap (λ xs. born_in (found (slice_get xs p.index) p.generation)) b.items
+      ages (TheRegion p) = ap (λ xs. born_in (found (slice_get xs p.index) p.generation)) r.items
+
   pub same_keeps : (m : ℕ) (old new : GraphView O B T) → new ≡ old → KeepsOlder m old new
   same_keeps m old new e = record {
     operations = λ q. ap (λ (g : GraphView O B T). before m g.operations q) e;
@@ -41,15 +87,12 @@ module _ {O B T : Type 0} where
   pub regions_same : (m : ℕ) (v : Counters) (x : Objects O B T) (after : Arena (Nest Operation BasicBlock RegionData)) → after.slots.items ≡ x.regions.slots.items → after.free ≡ x.regions.free → graph_of m v (record x { regions = after }) ≡ graph_of m v x
   regions_same m v x after e f = rw (store_same (node_of region_content) x.regions after e f) refl
 
-  pub blocks_same : (m : ℕ) (v : Counters) (x : Objects O B T) (after : Arena (Nest Region Operation (BlockData B T))) → after.slots.items ≡ x.blocks.slots.items → after.free ≡ x.blocks.free → graph_of m v (record x { blocks = after }) ≡ graph_of m v x
-  blocks_same m v x after e f = rw (store_same (node_of block_content) x.blocks after e f) refl
-
   pub region_made : (m : ℕ) (v : Counters) (x : Objects O B T) (after : Arena (Nest Operation BasicBlock RegionData)) (p : Ptr Region) (e : Entry (Nest Operation BasicBlock RegionData)) → arena.Inserts x.regions after p e
       → e.born ≡ m → e.content.parent ≡ None → listed e.content.children ≡ [] → MakesRegion (graph_of m v x) (graph_of (m + 1) v (record x { regions = after })) p
   region_made m v x after p e i born none empty = record {
-    regions = subst (λ o. Inserts (store_of (node_of region_content) x.regions) (store_of (node_of region_content) after) p o) same (inserts_seen (node_of region_content) x.regions after p e i);
     operations = refl;
     blocks = refl;
+    regions = subst (λ o. Inserts (store_of (node_of region_content) x.regions) (store_of (node_of region_content) after) p o) same (inserts_seen (node_of region_content) x.regions after p e i);
     made = refl;
     values = refl;
     first_place = refl;
@@ -59,21 +102,15 @@ module _ {O B T : Type 0} where
       same = rw (born, none, empty) refl
 
   pub region-keeps : (m : ℕ) (old new : GraphView O B T) (p : Ptr Region) → m ≤ old.made → MakesRegion old new p → KeepsOlder m old new
-  region-keeps m old new p up k = record {
-    operations = λ q. ap (λ s. before m s q) k.operations;
-    blocks = λ q. ap (λ s. before m s q) k.blocks;
-    regions = inserted-keeps m old.regions new.regions p _ up k.regions;
-    made = let c = k.made in omega (arith, c);
-    values = let c = k.values in omega (arith, c);
-    first_place = k.first_place;
-  }
+  region-keeps m old new p up k =
+      older_kept m old new (λ q. ap (λ s. before m s q) k.operations) (λ q. ap (λ s. before m s q) k.blocks) (inserted-keeps m old.regions new.regions p _ up k.regions) (grown _ k.made) (at_least k.values) k.first_place
 
   pub block_made : (m : ℕ) (v : Counters) (n : ℕ) (x : Objects O B T) (after : Arena (Nest Region Operation (BlockData B T))) (p : Ptr BasicBlock) (e : Entry (Nest Region Operation (BlockData B T))) (value : B) (types : List T) → arena.Inserts x.blocks after p e
       → e.born ≡ m → e.content.parent ≡ None → listed e.content.children ≡ [] → e.content.data.data ≡ value → map typed e.content.data.arguments ≡ numbered v.values types → n ≡ v.values + length types
       → MakesBlock (graph_of m v x) (graph_of (m + 1) (record v { values = n }) (record x { blocks = after })) p value types
   block_made m v n x after p e value types i born none empty same_value numbers count = record {
-    blocks = subst (λ o. Inserts (store_of (node_of block_content) x.blocks) (store_of (node_of block_content) after) p o) same (inserts_seen (node_of block_content) x.blocks after p e i);
     operations = refl;
+    blocks = subst (λ o. Inserts (store_of (node_of block_content) x.blocks) (store_of (node_of block_content) after) p o) same (inserts_seen (node_of block_content) x.blocks after p e i);
     regions = refl;
     made = refl;
     values = count;
@@ -84,17 +121,8 @@ module _ {O B T : Type 0} where
       same = rw (born, none, empty, same_value, numbers) refl
 
   pub block-keeps : (m : ℕ) (old new : GraphView O B T) (p : Ptr BasicBlock) (value : B) (types : List T) → m ≤ old.made → MakesBlock old new p value types → KeepsOlder m old new
-  block-keeps m old new p value types up k = record {
-    operations = λ q. ap (λ s. before m s q) k.operations;
-    blocks = inserted-keeps m old.blocks new.blocks p _ up k.blocks;
-    regions = λ q. ap (λ s. before m s q) k.regions;
-    made = let c = k.made in omega (arith, c);
-    values = let c = k.values in omega (arith, c);
-    first_place = k.first_place;
-  }
-
-  pub operations_same : (m : ℕ) (v : Counters) (x : Objects O B T) (after : Arena (Nest BasicBlock Region (OperationData O T))) → after.slots.items ≡ x.operations.slots.items → after.free ≡ x.operations.free → graph_of m v (record x { operations = after }) ≡ graph_of m v x
-  operations_same m v x after e f = rw (store_same (node_of operation_content) x.operations after e f) refl
+  block-keeps m old new p value types up k =
+      older_kept m old new (λ q. ap (λ s. before m s q) k.operations) (inserted-keeps m old.blocks new.blocks p _ up k.blocks) (λ q. ap (λ s. before m s q) k.regions) (grown _ k.made) (grown _ k.values) k.first_place
 
   pub operation_made : (m : ℕ) (v : Counters) (n : ℕ) (x : Objects O B T) (after : Arena (Nest BasicBlock Region (OperationData O T))) (p : Ptr Operation) (e : Entry (Nest BasicBlock Region (OperationData O T))) (value : O) (types : List T)
       (operands : List Value) (successors : List (Ptr BasicBlock)) → arena.Inserts x.operations after p e → e.born ≡ m → IsBlank e.content value types v.values operands successors → n ≡ v.values + length types
@@ -125,11 +153,5 @@ module _ {O B T : Type 0} where
 
   pub operation-keeps : (m : ℕ) (old new : GraphView O B T) (p : Ptr Operation) (value : O) (types : List T) (operands : List Value) (successors : List (Ptr BasicBlock)) → m ≤ old.made
       → MakesOperation old new p value types operands successors → KeepsOlder m old new
-  operation-keeps m old new p value types operands successors up k = record {
-    operations = inserted-keeps m old.operations new.operations p _ up k.operations;
-    blocks = λ q. ap (λ s. before m s q) k.blocks;
-    regions = λ q. ap (λ s. before m s q) k.regions;
-    made = let c = k.made in omega (arith, c);
-    values = let c = k.values in omega (arith, c);
-    first_place = k.first_place;
-  }
+  operation-keeps m old new p value types operands successors up k =
+      older_kept m old new (inserted-keeps m old.operations new.operations p _ up k.operations) (λ q. ap (λ s. before m s q) k.blocks) (λ q. ap (λ s. before m s q) k.regions) (grown _ k.made) (grown _ k.values) k.first_place

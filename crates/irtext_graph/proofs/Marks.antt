@@ -14,7 +14,7 @@ use Rattle.irtext_graph.specs.Store.{Store, Inserts, get, before}
 use Rattle.irtext_graph.proofs.Closed.{closed_kept as closed, back_to}
 
 module _ {X K : Type 0} where
-  -- what came since a mark is not there before it
+  -- what was inserted since a mark is not there before it
   pub came : (m : ℕ) (old new : Store X) (p : Ptr K) (x : Entry X) → m ≤ x.born → Inserts old new p x → before m new p ≡ None
   came m old new p x up i = ap (older m) i.updates.changed ∙ ap (λ b. cond b (Some x) None) (le-ltb x.born m up)
 
@@ -34,7 +34,7 @@ module _ {O B T : Type 0} where
   pub can_roll_back : (m : ℕ) (old mid : GraphView O B T) → KeepsOlder m old mid → IsClosedBelow m old → IsClosedBelow m mid
   can_roll_back m old mid k c = closed m old mid k c
 
-  -- and brings back each object that stood, and no other
+  -- and restores each object that was live, and no other
   pub operations_back : (m : ℕ) (old mid new : GraphView O B T) → AllOlder m old → KeepsOlder m old mid → RollsBack m mid new → (p : Ptr Operation) → get new.operations p ≡ get old.operations p
   operations_back m old mid new a k r = (back_to m old mid k a r).0
 

@@ -23,7 +23,7 @@ get-remove-high (x ∷ xs) (suc i) zero high at = absurd (omega arith)
 get-remove-high (x ∷ xs) (suc i) (suc j) high at = get-remove-high xs i j (omega arith) (omega arith)
 
 module _ {O : Type 0} (eqO : O → O → Bool) (t : Tells eqO) where
-  -- c, the i-th child of k, stands nowhere now
+  -- c, the i-th child of k, has no parent now
   pub record Unlinks (kids kids' : O → List O) (up up' : O → Option O) (k c : O) (i : ℕ) : Type 0 where
     pub at : slice_get (kids k) i ≡ Some c
     pub low : (j : ℕ) → j < i → slice_get (kids' k) j ≡ slice_get (kids k) j
@@ -35,7 +35,7 @@ module _ {O : Type 0} (eqO : O → O → Bool) (t : Tells eqO) where
   pub unlinked : {kids kids' : O → List O} {up up' : O → Option O} {k c : O} {i : ℕ} → Nested kids up → Unlinks kids kids' up up' k c i → Nested kids' up'
   unlinked {kids} {kids'} {up} {up'} {k} {c} {i} s a = record { down = down; listed = listed; once = once; ends = ends }
     where
-      -- where a child stood
+      -- the index that a child had
       was_at : (x : O) (j : ℕ) (d : O) → slice_get (kids' x) j ≡ Some d → (m : ℕ) × (slice_get (kids x) m ≡ Some d) × ((x ≡ k) → ((m ≡ j) × (j < i)) ⊎ ((m ≡ suc j) × (i ≤ j))) × ((x ≡ k → ⊥) → m ≡ j)
       was_at x j d e = elim (told t x k) [
         | inr ne ↦ (j, rw (a.others x ne) at e, λ p. absurd (ne p), λ _. refl)

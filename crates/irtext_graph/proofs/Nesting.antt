@@ -18,14 +18,14 @@ mapped f [] i y e = absurd (cc)
 mapped f (x ∷ xs) zero y e = (x, sym (some_eq e))
 mapped f (x ∷ xs) (suc i) y e = mapped f xs i y e
 
--- what stands in an object is of the kind that it holds
+-- a child of an object is of the kind that the object contains
 pub child_fits : {O B T : Type 0} (g : GraphView O B T) (k c : Object) (i : ℕ) → slice_get (children g k) i ≡ Some c → Fits k c
 child_fits g (TheOperation p) c i e = let m = mapped TheRegion (children_of (get g.operations p)) i c e in rw m.1 tt
 child_fits g (TheBlock p) c i e = let m = mapped TheOperation (children_of (get g.blocks p)) i c e in rw m.1 tt
 child_fits g (TheRegion p) c i e = let m = mapped TheBlock (children_of (get g.regions p)) i c e in rw m.1 tt
 
 module _ {O B T : Type 0} (m : ℕ) (v : Counters) (x : Objects O B T) where
-  -- what an object stands in is there
+  -- the parent of an object is live
   pub holder_stands : (o : Object) → IsForest x → (r : Option Object) → r ≡ up x o → IfSome r (λ k. IsLive (graph_of m v x) k)
   holder_stands o f None e = tt
   holder_stands o f (Some k) e = lives_seen m v x k (parent_lives x o k f (sym e))

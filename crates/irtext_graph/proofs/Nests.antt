@@ -67,7 +67,7 @@ module _ {O : Type 0} where
           let ne : x ≡ c → ⊥ = λ e. apart zero (omega arith) (ap Some e) in
           ap (climb up' n) (others x ne) ∙ climb-apart n (up x) (λ m low e. apart (suc m) (omega arith) e)
 
-      -- the way meets c, or does not in so many steps
+      -- c is among the ancestors within this many steps, or is not
       pub meets : (n : ℕ) (o : Option O) → ((m : ℕ) × (m < n) × (climb up m o ≡ Some c) × (climb up' m o ≡ Some c)) ⊎ ((m : ℕ) → m < n → climb up m o ≡ Some c → ⊥)
       meets zero o = inr (λ m low e. omega arith)
       meets (suc n) None = inr (λ m low e. let k = climb-none up m in cc)
@@ -92,7 +92,7 @@ module _ {O : Type 0} where
             | inr apart ↦ (n, climb-apart n o apart ∙ e)
           ]
 
-    -- c, which stood nowhere, comes last in k
+    -- c, which had no parent, is appended to the children of k
     pub record Attaches (kids kids' : O → List O) (up up' : O → Option O) (k c : O) : Type 0 where
       pub free : up c ≡ None
       pub apart : Within up c k → ⊥
@@ -160,7 +160,7 @@ module _ {O : Type 0} where
             let e = s.ends x in
             ends-on up up' c a.ups (suc n.0) from_c e.0 (Some x) e.1
 
-    -- c, the last child of k, stands nowhere now
+    -- c, the last child of k, has no parent now
     pub record Detaches (kids kids' : O → List O) (up up' : O → Option O) (k c : O) : Type 0 where
       pub here : kids k ≡ kids' k ++ c ∷ []
       pub others : (x : O) → (x ≡ k → ⊥) → kids' x ≡ kids x

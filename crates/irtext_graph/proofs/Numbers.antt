@@ -1,4 +1,4 @@
--- Every value's number stays below the counter, and no two values come to have the same.
+-- Every value's number stays below the counter, and no two values get the same number.
 use Rattle.std.proofs.Common.{◌≡◌, ◌<◌, ◌≤◌, ◌+◌, ◌∙◌, ◌⊎◌, ◌∷◌, inl, inr, ℕ, zero, suc, refl, sym, ap, arith, Bool, true, false, cond, nat_lt, Option, Some, None, List, [], map, length, slice_get}
 use Rattle.std.specs.Option.{option_map}
 use Rattle.irtext_graph.specs.declared.graph.Counters.{Counters}
@@ -24,8 +24,14 @@ use Rattle.irtext_graph.specs.Parts.{value_at, results_of, arguments_of}
 use Rattle.irtext_graph.specs.Store.{get, object_of, object_in, cell_of}
 use Rattle.irtext_graph.specs.Used as used
 use Rattle.irtext_graph.specs.Used.{Replaces, without_uses_in}
+use Rattle.irtext_graph.proofs.Logs.{logged_same}
 use Rattle.irtext_graph.proofs.Nests.{told}
 use Rattle.irtext_graph.proofs.Same.{ptr_tells}
+use Rattle.irtext_graph.proofs.Sounds.{sound_moved}
+use Rattle.irtext_graph.specs.declared.log.Made.{Made}
+use Rattle.irtext_graph.specs.Objects as objects
+use Rattle.irtext_graph.specs.Objects.{SameData, IsForest}
+use Rattle.irtext_graph.specs.Sound.{IsKept}
 use Rattle.irtext_graph.proofs.Stores.{get_mapped, seen_mapped, edited_same}
 use Rattle.irtext_graph.proofs.Views.{what_seen}
 
@@ -35,7 +41,7 @@ numbered_at n [] i t e = absurd (cc)
 numbered_at n (x ∷ xs) zero t e = let k : t.number ≡ n = cc in (omega (arith, k), omega arith)
 numbered_at n (x ∷ xs) (suc i) t e = let k = numbered_at (n + 1) xs i t e in let one = k.0 in let two = k.1 in (omega (arith, one), omega (arith, two))
 
--- what is not older is gone, and all else is as it was
+-- what is not older is removed, and all else is unchanged
 older_or_gone : {X Y : Type 0} (m : ℕ) (f : Option (Entry X) → Option Y) → f None ≡ None → (s : Option (Entry X)) → (f (older m s) ≡ f s) ⊎ (f (older m s) ≡ None)
 older_or_gone m f none None = inl refl
 older_or_gone {X} {Y} m f none (Some e) = go (nat_lt e.born m)
@@ -85,7 +91,7 @@ module _ {O B T : Type 0} where
   idle_value (Some (ABlock b c)) (Argument p i) = refl
   idle_value (Some (ARegion b c)) v = refl
 
-  -- each value is as it was, or is gone, and the counter does not go back
+  -- each value is unchanged, or is removed, and the counter does not decrease
   pub record KeepsNumbers (old new : GraphView O B T) : Type 0 where
     pub values : old.values ≤ new.values
     pub at : (v : Value) → (value_at new v ≡ value_at old v) ⊎ (value_at new v ≡ None)
@@ -113,6 +119,14 @@ module _ {O B T : Type 0} where
   pub what_kept : (m n : ℕ) (v : Counters) (x y : Objects O B T) → ((q : Object) → what y q ≡ what x q) → AreNumbered (graph_of m v x) → AreNumbered (graph_of n v y)
   what_kept m n v x y same k = numbers_kept _ _ (contents_keep (graph_of m v x) (graph_of n v y) refl (λ q. what_seen n v y q ∙ same q ∙ sym (what_seen m v x q))) k
 
+  -- where the same objects have other parents and children, all is kept
+  pub moved_kept : (made : ℕ) (v : Counters) (log : List Made) (x y : Objects O B T) → SameData x y → IsForest y → objects.SamePlaces x y → ((q : Object) → what y q ≡ what x q) → IsKept made v log x → IsKept made v log y
+  moved_kept made v log x y alike forest places same i = record {
+    sound = sound_moved x y alike made i.sound forest places;
+    logged = logged_same made log x y i.logged same;
+    numbered = what_kept made made v x y same i.numbered;
+  }
+
   -- without objects there are no values
   pub numbered_empty : (m : ℕ) (v : Counters) (x : Objects O B T) → x.operations.slots.items ≡ [] → x.blocks.slots.items ≡ [] → AreNumbered (graph_of m v x)
   numbered_empty m v x eo eb = record {
@@ -126,7 +140,7 @@ module _ {O B T : Type 0} where
 
   pub dropped_numbers : (old new : GraphView O B T) (o : Object) → ((q : Object) → (IsInside old o q) ⊎ (IsInside old o q → ⊥)) → DropsUses old new o → KeepsNumbers old new
   dropped_numbers old new o known d = record {
-    values = let k = d.values in omega (arith, k);
+    values = let k = d.rest.values in omega (arith, k);
     at = λ v. elim (known (owner v)) [
       | inl w ↦ inl (value_is new v ∙ ap (λ k. value_in k v) (d.inside (owner v) w) ∙ idle_value (content old (owner v)) v ∙ sym (value_is old v))
       | inr out ↦ inl (value_is new v ∙ ap (λ k. value_in k v) (d.others (owner v) out) ∙ sym (value_is old v))
@@ -177,24 +191,24 @@ module _ {O B T : Type 0} where
       at (Result q i) = ap (λ s. result_of i (get s q)) e.operations
       at (Argument q i) = edited_same old.blocks new.blocks p (with_block change) (argument_of i) (λ o. refl) e.blocks q
 
-  -- values came that draw the next numbers, and each other is as it was
+  -- values were added that have the next numbers, and each other value is unchanged
   module _ (old new : GraphView O B T) (types : List T) (made : ℕ → Value) (values : new.values ≡ old.values + length types)
       (at : (v : Value) → (value_at new v ≡ value_at old v) ⊎ ((i : ℕ) × (v ≡ made i) × (value_at new v ≡ slice_get (numbered old.values types) i))) where
-    -- such a value stood before, or is one of those
-    abbrev Advanced : Value → Typed T → Type 0
-    Advanced v t = (value_at old v ≡ Some t) ⊎ ((i : ℕ) × (v ≡ made i) × (t.number ≡ old.values + i) × (i < length types))
+    -- the value was there before, or is one of those
+    abbrev IsOldOrMade : Value → Typed T → Type 0
+    IsOldOrMade v t = (value_at old v ≡ Some t) ⊎ ((i : ℕ) × (v ≡ made i) × (t.number ≡ old.values + i) × (i < length types))
 
-    came : (v : Value) (t : Typed T) → value_at new v ≡ Some t → Advanced v t
+    came : (v : Value) (t : Typed T) → value_at new v ≡ Some t → IsOldOrMade v t
     came v t e = elim (at v) [
       | inl same ↦ inl (sym same ∙ e)
       | inr (i, is, n) ↦ let k = numbered_at old.values types i t (sym n ∙ e) in inr (i, is, k.0, k.1)
     ]
 
-    low : AreNumbered old → (v : Value) (t : Typed T) → Advanced v t → t.number < new.values
+    low : AreNumbered old → (v : Value) (t : Typed T) → IsOldOrMade v t → t.number < new.values
     low n v t (inl e) = let l = n.below v t e in omega (arith, l, values)
     low n v t (inr (i, is, number, within)) = omega (arith, number, within, values)
 
-    apart : AreNumbered old → (v w : Value) (t u : Typed T) → t.number ≡ u.number → Advanced v t → Advanced w u → v ≡ w
+    apart : AreNumbered old → (v w : Value) (t u : Typed T) → t.number ≡ u.number → IsOldOrMade v t → IsOldOrMade w u → v ≡ w
     apart n v w t u s (inl e) (inl f) = n.differ v w t u e f s
     apart n v w t u s (inl e) (inr (j, is, number, within)) = absurd (let l = n.below v t e in omega (arith, l, number, s))
     apart n v w t u s (inr (i, is, number, within)) (inl f) = absurd (let l = n.below w u f in omega (arith, l, number, s))

@@ -41,7 +41,7 @@ there None h = h
 there (Some e) h = refl
 
 module _ {P C D E : Type 0} (see : D → E) where
-  -- what is seen of an object that stands is what is seen of its data
+  -- the view of a live object is the view of its data
   pub seen_of : {K : Type 0} (a : Arena (Nest P C D)) (p : Ptr K) → option_map (λ e. e.content.content) (get (store_of (node_of see) a) p) ≡ option_map (λ o. see o.content.data) (arena.get a p)
   seen_of a p = ap (option_map (λ e. e.content.content)) (get_seen (node_of see) a p) ∙ seen_mapped (object_of (node_of see)) (option_map (λ e. e.content.content)) (option_map (λ o. see o.content.data)) refl (λ o. refl) (arena.get a p)
 

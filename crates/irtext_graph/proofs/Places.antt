@@ -98,7 +98,7 @@ module _ {O B T : Type 0} where
       tells (TheRegion p) o' (TheOperation q) k' a b e = absurd (let l = op_low q k' b in omega (arith, e, l))
       tells (TheRegion p) o' (TheBlock q) k' a b e = absurd (let l = block_low q k' b in omega (arith, e, l))
 
-  -- what stands in another object stands one deeper
+  -- a child is one deeper than its parent
   pub one_deeper : (x : Objects O B T) (c k : Object) → IsForest x → up x c ≡ Some k → depth_of x (Some c) ≡ suc (depth_of x (Some k))
   one_deeper x c k s e = deeper (up x) (code x) (slots x) (counts x) s.ends c k e
 

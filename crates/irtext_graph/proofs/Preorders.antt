@@ -71,7 +71,7 @@ module _ {O : Type 0} where
     abbrev Once : List O → Type 0
     Once xs = (i j : ℕ) (c : O) → slice_get xs i ≡ Some c → slice_get xs j ≡ Some c → i ≡ j
 
-    -- what comes behind one object of a list and behind the next
+    -- what comes after one element of a list and after the next
     past_next : (c d : O) (xs : List O) (i : ℕ) → slice_get xs i ≡ Some c → slice_get xs (suc i) ≡ Some d → Once xs → past eq c xs ≡ d ∷ past eq d xs
     past_next c d [] i e f once = absurd (cc)
     past_next c d (x ∷ []) zero e f once = absurd (cc)
@@ -83,7 +83,7 @@ module _ {O : Type 0} where
         let there : x ≢ d = λ s. let k : 0 ≡ suc (suc i) = once 0 (suc (suc i)) d (ap Some s) f in omega (arith, k) in
         past_other c x xs here ∙ past_next c d xs i e f (λ a b z u v. let k = once (suc a) (suc b) z u v in omega (arith, k)) ∙ ap (λ zs. d ∷ zs) (sym (past_other d x xs there))
 
-    -- nothing comes behind the last
+    -- nothing comes after the last
     past_last : (c : O) (xs : List O) (i : ℕ) → slice_get xs i ≡ Some c → slice_get xs (suc i) ≡ None → Once xs → past eq c xs ≡ []
     past_last c [] i e f once = absurd (cc)
     past_last c (x ∷ []) zero e f once = past_here c x [] (some_eq e)
@@ -125,7 +125,7 @@ module _ {O : Type 0} where
       pub from_leaf : (x : O) → kids x ≡ [] → below x ++ rest x ≡ x ∷ rest x
       from_leaf x e = ap (λ ys. ys ++ rest x) (opened x) ∙ ap (λ ys. x ∷ flat below ys ++ rest x) e
 
-      -- behind an object comes its first child
+      -- after an object comes its first child
       pub from_first : (x c : O) → slice_get (kids x) 0 ≡ Some c → c ≢ o → below x ++ rest x ≡ x ∷ (below c ++ rest c)
       from_first x c e n = go (kids x) refl
         where
@@ -138,13 +138,13 @@ module _ {O : Type 0} where
               ∙ ap (λ zs. x ∷ zs) (append_assoc (below c) (flat below ys) (rest x)
               ∙ ap (λ zs. below c ++ zs) (ap (λ zs. flat below zs ++ rest x) (sym behind_c) ∙ sym (rest_up c x n (s.down x 0 c e))))
 
-      -- behind all of one child comes the next
+      -- after all of one child comes the next
       pub from_next : (x k d : O) (i : ℕ) → x ≢ o → d ≢ o → slice_get (kids k) i ≡ Some x → slice_get (kids k) (suc i) ≡ Some d → rest x ≡ below d ++ rest d
       from_next x k d i n m e f =
           rest_up x k n (s.down k i x e) ∙ ap (λ ys. flat below ys ++ rest k) (past_next x d (kids k) i e f (λ a b z u v. s.once k a b z u v))
           ∙ append_assoc (below d) (flat below (past eq d (kids k))) (rest k) ∙ ap (λ ys. below d ++ ys) (sym (rest_up d k m (s.down k (suc i) d f)))
 
-      -- behind the last child comes what is behind its parent
+      -- after the last child comes what is after its parent
       pub from_last : (x k : O) (i : ℕ) → x ≢ o → slice_get (kids k) i ≡ Some x → slice_get (kids k) (suc i) ≡ None → rest x ≡ rest k
       from_last x k i n e f =
           rest_up x k n (s.down k i x e) ∙ ap (λ ys. flat below ys ++ rest k) (past_last x (kids k) i e f (λ a b z u v. s.once k a b z u v))

@@ -1,4 +1,4 @@
--- How deep an object stands: a number that a measure can compute.
+-- How deep an object is nested: a number that a measure can compute.
 use Rattle.std.proofs.Common.{◌≡◌, ◌<◌, ◌≤◌, ◌+◌, ◌⊎◌, ℕ, zero, suc, Option, Some, None, refl, sym, ap, ◌∙◌, inl, inr, arith, Bool, true, false, List, [], ◌∷◌, length, eqb, ◌||◌}
 use Rattle.std.specs.List.{IsDistinct, AllByRecursion, list_any}
 use Rattle.std.proofs.lemmas.Bool.{eqb-true}
@@ -24,13 +24,13 @@ module _ {O : Type 0} where
   depth-done up (suc n) None e = refl
   depth-done up (suc n) (Some x) e = ap suc (depth-done up n (up x) e)
 
-  -- nothing stands in itself
+  -- no object is nested in itself
   pub no_cycle : (up : O → Option O) (x : O) (k : ℕ) → climb up (suc k) (Some x) ≡ Some x → (fuel n : ℕ) → n ≤ fuel → climb up n (Some x) ≡ None → ⊥
   no_cycle up x k round fuel zero low e = cc
   no_cycle up x k round zero (suc n) low e = omega arith
   no_cycle up x k round (suc fuel) (suc n) low e = elim (split n k) [
     | inl (m, q) ↦
-        -- the way has ended before it comes round
+        -- the way has ended before it returns to its start
         let f : climb up (suc n + m) (Some x) ≡ climb up m (climb up (suc n) (Some x)) = climb-add up (suc n) m (Some x) in
         let g : climb up m (climb up (suc n) (Some x)) ≡ climb up m None = ap (climb up m) e in
         let h : climb up (suc k) (Some x) ≡ climb up (suc n + m) (Some x) = ap (λ (j : ℕ). climb up j (Some x)) q in
@@ -48,7 +48,7 @@ module _ {O : Type 0} where
       split (suc n) zero = inr (suc n, omega arith)
       split (suc n) (suc k) = elim (split n k) [ inl (m, q) ↦ inl (m, omega (arith, q)) | inr (m, q) ↦ inr (m, omega (arith, q)) ]
 
-  -- what stands on a way upwards stands in something
+  -- each object on a way up, before its end, has a parent
   pub upper : (up : O → Option O) (n : ℕ) (o : Option O) (z : O) → climb up n o ≡ Some z → (k : ℕ) (y : O) → k < n → climb up k o ≡ Some y → (w : O) × (up y ≡ Some w)
   upper up zero o z e k y low f = absurd (omega arith)
   upper up (suc n) None z e k y low f = absurd (cc)
@@ -58,7 +58,7 @@ module _ {O : Type 0} where
   ]
   upper up (suc n) (Some x) z e (suc k) y low f = upper up n (up x) z e k y (omega arith) f
 
-  -- a number below B for each object that stands in something, another for each
+  -- a number below B for each object with a parent, another for each
   pub record Counts (up : O → Option O) (code : O → ℕ) (B : ℕ) : Type 0 where
     pub small : (x y : O) → up x ≡ Some y → code x < B
     pub tells : (x x' y y' : O) → up x ≡ Some x' → up y ≡ Some y' → code x ≡ code y → x ≡ y
@@ -117,7 +117,7 @@ module _ {O : Type 0} where
       | inr (z, e) ↦ absurd (let k = way_le (suc B) x z e in omega (arith, k))
     ]
 
-    -- what stands in another object stands deeper
+    -- a child is deeper than its parent
     pub deeper : (x y : O) → up x ≡ Some y → depth up (suc B) (Some x) ≡ suc (depth up (suc B) (Some y))
     deeper x y e =
         let w : climb up B (Some y) ≡ None = ap (climb up B) (sym e) ∙ way_ends x in

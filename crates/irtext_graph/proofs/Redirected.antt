@@ -96,7 +96,7 @@ module _ {O B T : Type 0} where
         apart : (w : Site) (d : Defined) → val x w ≡ Some d → w ≢ u
         apart w d is s = let k = ap (val x) s in let f = free in cc
 
-  -- the uses of d become uses of e, one behind the other
+  -- the uses of d become uses of e, one after another
   pub record Replacing (x0 x : Objects O B T) (d e : Defined) : Type 0 where
     pub linked : AreUsesLinked x
     pub all_used : AreAllUsed x

@@ -1,4 +1,4 @@
--- What stands so many levels round an object: where the levels end, and of which kind it is.
+-- The ancestor a given number of levels above an object: where the levels end, and of which kind it is.
 use Rattle.std.proofs.Common.{◌≡◌, ◌<◌, ◌+◌, ◌∙◌, ℕ, zero, suc, refl, ap, arith, Option, Some, None}
 use Rattle.std.specs.Option.{option_map}
 use Rattle.irtext_graph.specs.declared.arena.Ptr.{Ptr}
@@ -16,7 +16,7 @@ none_climbs : {X : Type 0} (up : X → Option X) (n : ℕ) → climb up n None �
 none_climbs up zero = refl
 none_climbs up (suc n) = refl
 
--- nothing stands round what stands nowhere
+-- an object without a parent has no ancestors
 pub ended : {X : Type 0} (up : X → Option X) (x : X) (n : ℕ) → up x ≡ None → 0 < n → climb up n (Some x) ≡ None
 ended up x zero e l = absurd (omega (arith, l))
 ended up x (suc n) e l = ap (climb up n) e ∙ none_climbs up n

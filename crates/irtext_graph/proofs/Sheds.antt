@@ -29,7 +29,7 @@ module _ {X : Type 0} where
     few = λ f. t.few (s.few f);
   }
 
-  -- who was no older before is no older after, or gone
+  -- an object that is no older than the mark afterwards was no older before
   pub shed_age : (mark : ℕ) (a b : Arena X) → Sheds mark a b → (i g : ℕ) → AtLeast mark (born_in (found (slice_get b.slots.items i) g)) → AtLeast mark (born_in (found (slice_get a.slots.items i) g))
   shed_age mark a b s i g l = elim (s.at i g) [
     | inl same ↦ rw (← same) l

@@ -1,4 +1,4 @@
--- The places of uses in a list, and how far a use stands from the end of its use list.
+-- The places of uses in a list, and how far a use is from the end of its use list.
 use Rattle.std.proofs.Common.{◌≡◌, ◌<◌, ◌+◌, ◌∙◌, ◌⊎◌, ℕ, zero, suc, refl, sym, ap, subst, arith, inl, inr, Bool, true, false, cond, Option, Some, None, IsSome, List, [], ◌∷◌, ◌++◌, slice_get, length, option_map}
 use Rattle.std.proofs.lemmas.Option.{slice_get_within}
 use Rattle.irtext_graph.specs.declared.arena.Ptr.{Ptr}
@@ -189,7 +189,7 @@ module _ {O B T : Type 0} where
   first_used x d at u [] p e = absurd (cc)
   first_used x d at u (w ∷ us) p e = let s : w ≡ u = some_eq (sym p.0 ∙ e) in ap (val x) (sym s) ∙ p.1
 
-  -- what is left behind the first
+  -- what is left after the first
   pub stepped : (x : Objects O B T) (d : Defined) (at : Option Site) (u : Site) (us : List Site) → Path (val x) (prv x) (nxt x) d at us → at ≡ Some u
       → (ws : List Site) × Path (val x) (prv x) (nxt x) d (nxt x u) ws × ((w : Site) → Among w us → (w ≡ u) ⊎ Among w ws)
   stepped x d at u [] p e = absurd (cc)
@@ -202,7 +202,7 @@ module _ {O B T : Type 0} where
   none_rest x d at [] p e u m = m
   none_rest x d at (w ∷ us) p e u m = let k = p.0 in absurd (cc)
 
-  -- what is not there is used nowhere
+  -- a definition that is not there has no uses
   pub none_beyond : (x : Objects O B T) (o : Object) (d : Defined) → AreUsesLinked x → (IsSome (head_at x d) → ⊥) → IsUsedInside x o d
   none_beyond x o d c away = record { uses = λ u e. absurd (let h = c.stands u d e in away (rw h.1 refl)) }
 

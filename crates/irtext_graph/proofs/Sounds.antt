@@ -49,7 +49,7 @@ chained_empty none no_heads = record {
   below = λ u d e. let k = none u in absurd (cc);
 }
 
--- where an object came, the list of what is used is as it was, or nothing used it and its list is empty
+-- after an object is inserted, the use list of each definition is unchanged, or nothing used the definition and its list is empty
 pub new_head : {U D X K : Type 0} (used : U → Option D) (a after : Arena X) (p : Ptr K) (e : Entry X) → Inserts a after p e → (f : Option (Entry X) → Option (Option U)) → f None ≡ None → ((u : U) → f (Some e) ≢ Some (Some u))
     → (d : D) (q : Ptr K) → ((u : U) → used u ≡ Some d → (h : Option U) × (f (get a q) ≡ Some h)) → (f (get after q) ≡ f (get a q)) ⊎ (((u : U) → used u ≡ Some d → ⊥) × ((u : U) → f (get after q) ≡ Some (Some u) → ⊥))
 new_head used a after p e i f none empty d q stands = elim (told ptr_tells q p) [
@@ -175,6 +175,21 @@ module _ {O B T : Type 0} where
     older_regions = p.region_places.age made i.older_regions;
   }
 
+  -- the uses are linked as they were
+  pub uses_alike : (x y : Objects O B T) → ((u : Site) → use_at y u ≡ use_at x u) → ((d : Defined) → head_at y d ≡ head_at x d) → AreUsesLinked x → AreUsesLinked y
+  uses_alike x y same_use same_head c = reframed eq_site site_tells eq_defined defined_tells c (record {
+    vals = λ u. ap def_of (same_use u);
+    prevs = λ u d e. ap prev_of (same_use u);
+    nexts = λ u d e. ap next_of (same_use u);
+    same_heads = λ d. inl (same_head d);
+  })
+
+  -- objects with the same parents, children and uses, in the same places
+  pub sound_alike : (made : ℕ) (x y : Objects O B T) → ((q : Object) → kids y q ≡ kids x q) → ((q : Object) → up y q ≡ up x q) → ((u : Site) → use_at y u ≡ use_at x u) → ((d : Defined) → head_at y d ≡ head_at x d)
+      → SamePlaces x y → IsSound made x → IsSound made y
+  sound_alike made x y same_kids same_up same_use same_head p i =
+      sound_dropped made x y i (renested eq_object object_tells i.forest same_kids same_up) (uses_alike x y same_use same_head i.uses) (λ u l. rw (same_use u) (i.all_used u (rw (same_use u) at l))) p
+
   module _ (x y : Objects O B T) (s : SameData x y) where
     pub same_use : (u : Site) → use_at y u ≡ use_at x u
     same_use u = use_same x y u (datum_at s (user u))
@@ -183,18 +198,13 @@ module _ {O B T : Type 0} where
     same_head d = head_same x y d (datum_at s (owner d))
 
     pub uses_kept : AreUsesLinked x → AreUsesLinked y
-    uses_kept c = reframed eq_site site_tells eq_defined defined_tells c (record {
-      vals = λ u. ap def_of (same_use u);
-      prevs = λ u d e. ap prev_of (same_use u);
-      nexts = λ u d e. ap next_of (same_use u);
-      same_heads = λ d. inl (same_head d);
-    })
+    uses_kept = uses_alike x y same_use same_head
 
     -- another forest of the same objects
     pub sound_moved : (made : ℕ) → IsSound made x → IsForest y → SamePlaces x y → IsSound made y
     sound_moved made i f p = sound_dropped made x y i f (uses_kept i.uses) (λ u l. rw (same_use u) (i.all_used u (rw (same_use u) at l))) p
 
-  -- a region came that stands nowhere and holds none
+  -- a region was inserted that has no parent and no children
   module _ (x : Objects O B T) (made : ℕ) (after : Arena (Nest Operation BasicBlock RegionData)) (p : Ptr Region) (e : Entry (Nest Operation BasicBlock RegionData)) (i : Inserts x.regions after p e) (none : e.content.parent ≡ None) (empty : listed e.content.children ≡ []) where
     abbrev with_region : Objects O B T
     with_region = record x { regions = after }
@@ -222,7 +232,7 @@ module _ {O B T : Type 0} where
       older_regions = older_inserted made (made + 1) x.regions after p e s.older_regions (omega arith) young i.updates;
     }
 
-  -- a block came that stands nowhere, holds none and is used nowhere
+  -- a block was inserted that has no parent, no children and no uses
   module _ (x : Objects O B T) (made : ℕ) (after : Arena (Nest Region Operation (BlockData B T))) (p : Ptr BasicBlock) (e : Entry (Nest Region Operation (BlockData B T))) (i : Inserts x.blocks after p e) (none : e.content.parent ≡ None) (empty : listed e.content.children ≡ [])
       (unused : (j : ℕ) (u : Site) → first_of (slice_get e.content.data.arguments j) ≢ Some (Some u)) (no_preds : e.content.data.preds ≡ None) where
     abbrev with_block : Objects O B T

@@ -16,7 +16,7 @@ use Rattle.irtext_graph.proofs.Pointers.{ptr_or}
 use Rattle.irtext_graph.specs.Lending.{with_content_at}
 use Rattle.irtext_graph.proofs.Arenas.{Edited, edited, lent, stands}
 
--- what is seen of an option that is mapped is what is seen of the option, if that is so of each value and of none
+-- what is seen of an option that is mapped is what is seen of the option, if that holds of each value and of none
 pub seen_mapped : {A B V : Type 0} (change : A → B) (f : Option B → V) (g : Option A → V) → f None ≡ g None → ((a : A) → f (Some (change a)) ≡ g (Some a)) → (s : Option A) → f (option_map change s) ≡ g s
 seen_mapped change f g none some None = none
 seen_mapped change f g none some (Some a) = some a
@@ -72,7 +72,7 @@ module _ {X Y : Type 0} (see : X → Y) where
   pub next_seen : (a : Arena X) → next_index (store_of see a) ≡ arena.next_index a
   next_seen a = ap (unwrap_or (arena.free_place a)) (length_seen a.slots.items)
 
-  -- how many objects stand
+  -- how many objects are live
   pub count_seen : (a : Arena X) → count (store_of see a) ≡ count_by arena.is_full a.slots.items
   count_seen a = go a.slots.items
     where
@@ -116,7 +116,7 @@ module _ {X Y : Type 0} (see : X → Y) where
         len = length_seen b.slots.items ∙ d.len ∙ sym (length_seen a.slots.items);
       }
 
-  -- an object that is seen stands
+  -- an object with a view is live
   pub stands_seen : {K : Type 0} (a : Arena X) (p : Ptr K) → IsSome (option_map (λ o. o.content) (get (store_of see a) p)) → IsSome (arena.get a p)
   stands_seen a p l = go (arena.get a p) (subst (λ s. IsSome (option_map (λ o. o.content) s)) (get_seen a p) l)
     where
@@ -184,7 +184,7 @@ module _ {X Y : Type 0} (see : X → Y) where
   }
 
 module _ {X : Type 0} where
-  -- nothing stands under a generation that was not handed out
+  -- no object is live under a generation that was not yet used
   none_yet : (s : Option (Cell X)) (g : ℕ) → drawn s < g → object_in s g ≡ None
   none_yet None g less = refl
   none_yet (Some c) g less = ap (λ b. cond b c.object None) (ne_eqb c.generation g (λ e. omega (arith, e, less)))
@@ -228,7 +228,7 @@ module _ {X : Type 0} where
   pub returned-keeps : {K : Type 0} (m mark : ℕ) (old new : Store X) → m ≤ mark → Returns K mark old new → (q : Ptr K) → before m new q ≡ before m old q
   returned-keeps m mark old new up r q = ap (older m) (r.at q) ∙ older_older m mark (get old q) up
 
--- an arena that is seen through two views, one behind the other
+-- an arena that is seen through two views, one after the other
 pub mapped_seen : {X Y Z : Type 0} (see : X → Y) (f : Y → Z) (a : Arena X) → mapped f (store_of see a) ≡ store_of (λ x. f (see x)) a
 mapped_seen {X} see f a = ap (λ cs. record { cells = cs; free = arena.free_place a }) (go a.slots.items)
   where

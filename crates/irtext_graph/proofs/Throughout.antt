@@ -1,4 +1,4 @@
--- Going through all that stands inside an object of a graph: what comes is what comes in the arenas.
+-- Going through all objects inside an object of a graph: what comes is what comes in the arenas.
 use Rattle.std.proofs.Common.{◌≡◌, ◌∙◌, ◌∷◌, ℕ, suc, refl, sym, ap, arith, subst, Option, Some, None, IfSome}
 use Rattle.irtext_graph.specs.declared.graph.Counters.{Counters}
 use Rattle.irtext_graph.specs.declared.object.Object.{Object}
@@ -37,6 +37,6 @@ module _ {O B T : Type 0} (m : ℕ) (v : Counters) (x : Objects O B T) where
   found_stands None f = tt
   found_stands (Some q) f = lives_seen m v x q (f q refl)
 
-  -- all that stands inside an object comes from it on
+  -- all objects inside an object come from it on
   pub all_come : (o q : Object) → IsForest x → IsInside (graph_of m v x) o q → Among q (all_from (graph_of m v x) o (Some o))
   all_come o q s w = subst (Among q) (sym (all_seen o (Some o))) (all_left x o q s (within_at m v x o q w))

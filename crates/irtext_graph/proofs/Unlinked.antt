@@ -1,4 +1,4 @@
--- An object leaves what it stands in, and goes with all inside.
+-- An object is removed from its parent, and erased with all objects inside.
 use Rattle.std.proofs.Common.{◌≡◌, ◌≢◌, ℕ, zero, suc, Some, None, refl, sym, ap, ◌∙◌, inl, inr, arith, List, [], ◌∷◌, map}
 use Rattle.std.specs.List.{remove}
 use Rattle.irtext_graph.specs.declared.object.Object.{Object}

@@ -80,7 +80,7 @@ module _ {O B T : Type 0} (m : ℕ) (v : Counters) (x : Objects O B T) where
     | inr (o, e) ↦ used_def (use_at x u) o e (all u (rw e refl)) ∙ sym (used_seen u ∙ ap (option_map (λ o. o.def)) e)
   ]
 
-  -- what is there has a use list
+  -- a live definition has a use list
   pub head_there : (d : Defined) → IsDefined (graph_of m v x) d → IsSome (head_at x d)
   head_there (OfValue (Result p i)) s = first_there _ (value_there m v x (Result p i) s)
   head_there (OfValue (Argument b i)) s = first_there _ (value_there m v x (Argument b i) s)

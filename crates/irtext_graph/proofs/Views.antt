@@ -18,7 +18,7 @@ use Rattle.irtext_graph.proofs.Nests.{climb-same}
 use Rattle.irtext_graph.specs.Nest.{parent_in, children_in, datum_in}
 use Rattle.irtext_graph.specs.Objects.{up, kids, what, Lives, SameNodes}
 use Rattle.irtext_graph.specs.Objects as objects
-use Rattle.irtext_graph.specs.Graph.{SamePlaces, graph_of, parent_of, children_of, content_of, parent, children, content, IsLive, IsInside, CanInsert, KeepsObjects, Appends}
+use Rattle.irtext_graph.specs.Graph.{SamePlaces, graph_of, parent_of, children_of, content_of, parent, children, content, IsLive, IsInside, CanInsert, KeepsObjects, KeepsRest, Appends}
 use Rattle.irtext_graph.proofs.Stores.{get_seen, generation_seen, length_seen, mapped_seen, seen_mapped}
 
 module _ {P C D E : Type 0} (see : D → E) where
@@ -79,15 +79,21 @@ module _ {O B T : Type 0} where
   pub can_at : (m : ℕ) (v : Counters) (x : Objects O B T) (k c : Object) → CanInsert (graph_of m v x) k c → objects.CanInsert x k c
   can_at m v x k c a = record { free = sym (up_seen m v x c) ∙ a.free; apart = λ w. a.apart (within_seen m v x c k w) }
 
-  pub keeps_seen : (m : ℕ) (v : Counters) (x y : Objects O B T) → ((q : Object) → what y q ≡ what x q) → objects.SamePlaces x y → KeepsObjects (graph_of m v x) (graph_of m v y)
-  keeps_seen m v x y w p = record {
-    contents = λ q. what_seen m v y q ∙ w q ∙ sym (what_seen m v x q);
+  -- what is unchanged of the slots is seen as unchanged
+  pub rest_seen : (m : ℕ) (v : Counters) (x y : Objects O B T) → objects.SamePlaces x y → KeepsRest (graph_of m v x) (graph_of m v y)
+  rest_seen m v x y p = record {
     operation_places = places_seen operation_content x.operations y.operations p.operation_places;
     block_places = places_seen block_content x.blocks y.blocks p.block_places;
     region_places = places_seen region_content x.regions y.regions p.region_places;
     made = refl;
     values = refl;
     first_place = refl;
+  }
+
+  pub keeps_seen : (m : ℕ) (v : Counters) (x y : Objects O B T) → ((q : Object) → what y q ≡ what x q) → objects.SamePlaces x y → KeepsObjects (graph_of m v x) (graph_of m v y)
+  keeps_seen m v x y w p = record {
+    contents = λ q. what_seen m v y q ∙ w q ∙ sym (what_seen m v x q);
+    rest = rest_seen m v x y p;
   }
 
   pub appends_seen : (m : ℕ) (v : Counters) (x y : Objects O B T) (k c : Object) → objects.SamePlaces x y → objects.Appends x y k c → Appends (graph_of m v x) (graph_of m v y) k c

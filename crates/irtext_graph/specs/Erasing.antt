@@ -4,6 +4,7 @@ use Rattle.std.specs.Option.{option_map}
 use Rattle.std.specs.List.{remove}
 use Rattle.irtext_graph.specs.declared.object.Object.{Object}
 use Rattle.irtext_graph.specs.declared.object.Object.TheVariants.{TheOperation, TheBlock}
+use Rattle.irtext_graph.specs.declared.object.Value.{Value}
 use Rattle.irtext_graph.specs.declared.object.Value.TheVariants.{Result, Argument}
 use Rattle.irtext_graph.specs.declared.object.Defined.{Defined}
 use Rattle.irtext_graph.specs.declared.object.Defined.TheVariants.{OfValue, OfBlock}
@@ -16,7 +17,7 @@ use Rattle.irtext_graph.specs.Used.{without_operands}
 use Rattle.irtext_graph.specs.Uses.{val}
 use Rattle.irtext_graph.specs.Content.{Content, Content.{AnOperation, ABlock, ARegion}}
 use Rattle.irtext_graph.specs.Store.{generation_at}
-use Rattle.irtext_graph.specs.Graph.{GraphView, SamePlaces, parent, children, content, IsInside}
+use Rattle.irtext_graph.specs.Graph.{GraphView, KeepsRest, parent, children, content, IsInside}
 
 -- the content of an object without operands and successors
 abbrev pub without_uses : {O B T : Type 0} → Content O B T → Content O B T
@@ -29,6 +30,11 @@ abbrev pub owner : Defined → Object
 owner (OfValue (Result p i)) = TheOperation p
 owner (OfValue (Argument b i)) = TheBlock b
 owner (OfBlock b) = TheBlock b
+
+-- the result of the same operation, or the argument of the same block, at an index
+abbrev pub sibling : Value → ℕ → Value
+sibling (Result p _) i = Result p i
+sibling (Argument b _) i = Argument b i
 
 -- the operation of a use
 abbrev pub user : Site → Object
@@ -54,12 +60,7 @@ module _ {O B T : Type 0} where
     pub others : (q : Object) → (IsInside old o q → ⊥) → content new q ≡ content old q
     pub parents : (q : Object) → parent new q ≡ parent old q
     pub lists : (q : Object) → children new q ≡ children old q
-    pub operation_places : SamePlaces old.operations new.operations
-    pub block_places : SamePlaces old.blocks new.blocks
-    pub region_places : SamePlaces old.regions new.regions
-    pub made : new.made ≡ old.made
-    pub values : new.values ≡ old.values
-    pub first_place : new.first_place ≡ old.first_place
+    pub rest : KeepsRest old new
 
   -- o and everything nested in it is gone, o is removed from its parent's children, and all else is unchanged
   pub record Erases (old new : GraphView O B T) (o : Object) : Type 0 where

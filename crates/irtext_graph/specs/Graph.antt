@@ -132,15 +132,19 @@ module _ {O B T : Type 0} where
     pub free : parent g c ≡ None
     pub apart : IsInside g c k → ⊥
 
-  -- the same objects are live, only parents and children may differ, and the slots are unchanged
-  pub record KeepsObjects (old new : GraphView O B T) : Type 0 where
-    pub contents : (q : Object) → content new q ≡ content old q
+  -- the slots are unchanged, and as many objects and values were made
+  pub record KeepsRest (old new : GraphView O B T) : Type 0 where
     pub operation_places : SamePlaces old.operations new.operations
     pub block_places : SamePlaces old.blocks new.blocks
     pub region_places : SamePlaces old.regions new.regions
     pub made : new.made ≡ old.made
     pub values : new.values ≡ old.values
     pub first_place : new.first_place ≡ old.first_place
+
+  -- the same objects are live, only parents and children may differ, and the slots are unchanged
+  pub record KeepsObjects (old new : GraphView O B T) : Type 0 where
+    pub contents : (q : Object) → content new q ≡ content old q
+    pub rest : KeepsRest old new
 
   -- c became the last child of k
   pub record Appends (old new : GraphView O B T) (k c : Object) : Type 0 where

@@ -6,7 +6,7 @@ use Rattle.irtext_graph.specs.declared.object.BasicBlock.{BasicBlock}
 use Rattle.irtext_graph.specs.declared.object.Object.{Object}
 use Rattle.irtext_graph.specs.declared.object.Object.TheVariants.{TheBlock}
 use Rattle.irtext_graph.specs.Content.{Content, Content.{AnOperation, ABlock, ARegion}}
-use Rattle.irtext_graph.specs.Graph.{GraphView, SamePlaces, parent, children, content, IsInside, IsNew}
+use Rattle.irtext_graph.specs.Graph.{GraphView, KeepsRest, parent, children, content, IsInside, IsNew}
 use Rattle.irtext_graph.specs.Objects.{eq_object}
 use Rattle.irtext_graph.specs.Preorder.{onward}
 
@@ -44,15 +44,6 @@ module _ {O B T : Type 0} where
     pub what : content new q ≡ option_map (changed on_operation on_block) (content old q)
     pub holder : parent new q ≡ parent old q
     pub items : children new q ≡ children old q
-
-  -- the slots are unchanged, and as many objects and values were made
-  pub record KeepsRest (old new : GraphView O B T) : Type 0 where
-    pub operation_places : SamePlaces old.operations new.operations
-    pub block_places : SamePlaces old.blocks new.blocks
-    pub region_places : SamePlaces old.regions new.regions
-    pub made : new.made ≡ old.made
-    pub values : new.values ≡ old.values
-    pub first_place : new.first_place ≡ old.first_place
 
   -- the data of one object changed, and nothing else
   pub record EditsObject (old new : GraphView O B T) (o : Object) (on_operation : O → O) (on_block : B → B) : Type 0 where

@@ -45,6 +45,14 @@ pub(crate) enum Slot<X> {
     Full(u32, Entry<X>),
 }
 
+/// A slot that can be used again: its index, its last generation, and the next free slot.
+#[derive(Clone, Copy)]
+struct Freed {
+    index: u32,
+    last: u32,
+    next: u32,
+}
+
 /// The objects of one kind.
 #[derive(Drop)]
 pub(crate) struct Arena<X> {
@@ -100,23 +108,54 @@ impl<X: Drop> Arena<X> {
         ensures err { OnErr result (self.new.slots.items ≡ self.old.slots.items) }
         ensures err_free { OnErr result (self.new.free ≡ self.old.free) }
     {
-        let index = self.free;
-        if (index as usize) < self.slots.len() {
-            if let Slot::Vacant(last, next) = &self.slots[index as usize] {
-                let last = *last;
-                let next = *next;
-                if last < u32::MAX - 1 {
-                    self.free = next;
-                    self.slots[index as usize] = Slot::Full(last + 1, Entry { born, content });
-                    return Ok(Ptr {
-                        index,
-                        generation: last + 1,
-                        of: PhantomData,
-                    });
-                }
-            }
+        if let Some(freed) = self.reusable() {
+            return Ok(self.insert_again(freed, born, content));
         }
         self.insert_last(first, born, content)
+    }
+
+    /// Returns the slot that was freed last, if it can be used again.
+    #[inline(always)]
+    fn reusable(&self) -> Option<Freed>
+        ensures none { result ≡ None → free_place self.now ≡ None }
+        ensures slot { IfSome result (λ f. slice_get self.now.slots.items f.index ≡ Some (Vacant f.last f.next)) }
+        ensures index { IfSome result (λ f. f.index ≡ self.now.free) }
+        ensures last { IfSome result (λ f. f.last < 4294967294) }
+    {
+        let index = self.free;
+        match self.slots.get(index as usize) {
+            Some(Slot::Vacant(last, next)) => {
+                if *last < u32::MAX - 1 {
+                    Some(Freed {
+                        index,
+                        last: *last,
+                        next: *next,
+                    })
+                } else {
+                    None
+                }
+            }
+            _ => None,
+        }
+    }
+
+    /// Stores an object in the slot that was freed last.
+    #[inline(never)]
+    fn insert_again<K>(&mut self, freed: Freed, born: u64, content: X) -> Ptr<K>
+        requires slot { slice_get self.old.slots.items freed.index ≡ Some (Vacant freed.last freed.next) }
+        requires index { freed.index ≡ self.old.free }
+        requires last { freed.last < 4294967294 }
+        ensures inserts { Inserts self.old self.new result (record { born = born; content = content }) }
+        ensures few { HasFew self.old → HasFew self.new }
+    {
+        let generation = freed.last + 1;
+        self.free = freed.next;
+        self.slots[freed.index as usize] = Slot::Full(generation, Entry { born, content });
+        Ptr {
+            index: freed.index,
+            generation,
+            of: PhantomData,
+        }
     }
 
     /// Stores an object in a new slot. No freed slot can be used again.

@@ -1,10 +1,11 @@
 //! Erasing: dropping what the operations nested in an object use, and the test whether the object can be erased.
 ghost use Rattle.std.specs.Prelude.{◌≡◌, ◌≢◌, ◌<◌, ◌↔◌, ℕ, Some, None, IsSome, IsTrue, option_map};
-ghost use Rattle.irtext_graph.specs.Erasing.{user, without_uses, IsUsedInside, IsAllUsedInside};
+ghost use Rattle.irtext_graph.specs.Erasing.{user, owner, sibling, without_uses, IsUsedInside, IsAllUsedInside};
 
-use crate::arena::Ptr;
-use crate::object::{BasicBlock, Defined, Object, Operation, Site, Value};
-use crate::objects::Objects;
+use crate::arena::{Arena, Ptr};
+use crate::nest::Nest;
+use crate::object::{BasicBlock, Defined, Object, Operation, Region, Site, Value};
+use crate::objects::{Objects, OperationData};
 
 /// Returns the operation of a use.
 fn user_of(u: Site) -> Object
@@ -13,6 +14,40 @@ fn user_of(u: Site) -> Object
     match u {
         Site::AtOperand(p, _) => Object::TheOperation(p),
         Site::AtSuccessor(p, _) => Object::TheOperation(p),
+    }
+}
+
+/// Returns the result of the same operation, or the argument of the same block, at an index. It need not be defined.
+fn sibling(v: Value, i: usize) -> Value
+    ensures { result ≡ sibling v i }
+{
+    match v {
+        Value::Result(p, _) => Value::Result(p, i),
+        Value::Argument(b, _) => Value::Argument(b, i),
+    }
+}
+
+impl<O: Drop, T: Drop> Arena<Nest<BasicBlock, Region, OperationData<O, T>>> {
+    ghost use Rattle.irtext_graph.specs.declared.arena.Ptr.{Ptr};
+    ghost use Rattle.irtext_graph.specs.declared.object.Operation.{Operation};
+    ghost use Rattle.irtext_graph.specs.Arena.{get, KeepsPlaces};
+    ghost use Rattle.irtext_graph.specs.Uses.{operand_in, successor_in, result_in, operations_seen as seen};
+    ghost use Rattle.irtext_graph.specs.Used.{without_uses_in};
+    ghost use Rattle.irtext_graph.specs.Store.{Edits};
+
+    /// Drops the operands and successors of an operation.
+    fn clear_uses(&mut self, p: Ptr<Operation>)
+        requires { IsSome (get self.old p) }
+        ensures operands { (i : ℕ) → operand_in (get self.new p) i ≡ None }
+        ensures successors { (i : ℕ) → successor_in (get self.new p) i ≡ None }
+        ensures others { (q : Ptr Operation) → q ≢ p → get self.new q ≡ get self.old q }
+        ensures results { (q : Ptr Operation) (i : ℕ) → result_in (get self.new q) i ≡ result_in (get self.old q) i }
+        ensures edits { Edits (seen self.old) (seen self.new) p without_uses_in }
+        ensures places { KeepsPlaces self.old self.new }
+    {
+        let node = self.content_mut(p);
+        node.data.operands.clear();
+        node.data.successors.clear();
     }
 }
 
@@ -40,8 +75,7 @@ impl<O: Drop, B: Drop, T: Drop> Objects<O, B, T> {
         ensures regions { (seen self.new).regions ≡ (seen self.old).regions }
         ensures places { SamePlaces self.old self.new }
     {
-        self.detach_operands(p);
-        self.detach_successors(p);
+        self.detach_uses(p);
         self.operations.clear_uses(p);
     }
 
@@ -103,32 +137,27 @@ impl<O: Drop, B: Drop, T: Drop> Objects<O, B, T> {
         true
     }
 
-    /// Whether each use of a result of p is in an operation that is o or nested in o.
-    fn are_results_used_inside(&self, o: Object, p: Ptr<Operation>) -> bool
-        requires forest { IsForest self.now }
-        requires linked { AreUsesLinked self.now }
-        requires used { (u : _) → IsSome (use_at self.now u) → IsSome (val self.now u) }
-        requires stands { IsSome (get self.now.operations p) }
-        ensures { IsTrue result ↔ ((i : ℕ) → IsUsedInside self.now o (OfValue (Result p i))) }
+    /// The number of values that the operation or the block of a value defines.
+    fn value_count(&self, v: Value) -> usize
+        requires { Lives self.now (owner (OfValue v)) }
+        ensures { (i : ℕ) → IsSome (head_at self.now (OfValue (sibling v i))) ↔ i < result }
     {
-        for i in 0..self.operations.result_count(p) {
-            if !self.is_used_inside(o, Defined::OfValue(Value::Result(p, i))) {
-                return false;
-            }
+        match v {
+            Value::Result(p, _) => self.operations.content(p).data.results.len(),
+            Value::Argument(b, _) => self.blocks.content(b).data.arguments.len(),
         }
-        true
     }
 
-    /// Whether each use of an argument of b is in an operation that is o or nested in o.
-    fn are_arguments_used_inside(&self, o: Object, b: Ptr<BasicBlock>) -> bool
+    /// Whether each use of a result of v's operation, or of an argument of its block, is in an operation that is o or nested in o.
+    fn are_values_used_inside(&self, o: Object, v: Value) -> bool
         requires forest { IsForest self.now }
         requires linked { AreUsesLinked self.now }
         requires used { (u : _) → IsSome (use_at self.now u) → IsSome (val self.now u) }
-        requires stands { IsSome (get self.now.blocks b) }
-        ensures { IsTrue result ↔ ((i : ℕ) → IsUsedInside self.now o (OfValue (Argument b i))) }
+        requires stands { Lives self.now (owner (OfValue v)) }
+        ensures { IsTrue result ↔ ((i : ℕ) → IsUsedInside self.now o (OfValue (sibling v i))) }
     {
-        for i in 0..self.blocks.argument_count(b) {
-            if !self.is_used_inside(o, Defined::OfValue(Value::Argument(b, i))) {
+        for i in 0..self.value_count(v) {
+            if !self.is_used_inside(o, Defined::OfValue(sibling(v, i))) {
                 return false;
             }
         }
@@ -144,12 +173,12 @@ impl<O: Drop, B: Drop, T: Drop> Objects<O, B, T> {
         ensures { IsTrue result ↔ IsAllUsedInside self.now o q }
     {
         match q {
-            Object::TheOperation(p) => self.are_results_used_inside(o, p),
+            Object::TheOperation(p) => self.are_values_used_inside(o, Value::Result(p, 0)),
             Object::TheBlock(b) => {
                 if !self.is_used_inside(o, Defined::OfBlock(b)) {
                     return false;
                 }
-                self.are_arguments_used_inside(o, b)
+                self.are_values_used_inside(o, Value::Argument(b, 0))
             }
             Object::TheRegion(_) => true,
         }

@@ -15,6 +15,5 @@ mod objects;
 mod parts;
 mod rollback;
 mod standing;
-mod use_fields;
 mod use_lists;
 mod users;

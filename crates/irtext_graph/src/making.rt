@@ -1,5 +1,5 @@
 //! Making objects.
-ghost use Rattle.std.specs.Prelude.{◌≡◌, ◌≢◌, ◌≤◌, ◌+◌, ◌++◌, ◌∷◌, ℕ, Some, None, [], IsSome, IfOk, OnOk, OnErr, length, slice_get};
+ghost use Rattle.std.specs.Prelude.{◌≡◌, ◌≢◌, ◌<◌, ◌≤◌, ◌+◌, ◌++◌, ◌∷◌, ℕ, Some, None, [], IsSome, IfOk, OnOk, OnErr, length, slice_get};
 ghost use Rattle.irtext_graph.specs.Graph.{MakesRegion, MakesBlock, MakesOperation, KeepsOlder, IsLive};
 ghost use Rattle.irtext_graph.specs.Parts.{ValueStands};
 ghost use Rattle.irtext_few.specs.Growing.{listed};
@@ -45,6 +45,28 @@ fn many_definitions<T: Drop>(
         number += 1;
     }
     Ok(defined)
+}
+
+/// Fails if a counter is at its limit, so that no more can be counted.
+#[inline(always)]
+fn check_limit(count: u64) -> Result<(), AllocError>
+    ensures { OnOk result (count < 18446744073709551615) }
+{
+    if count == u64::MAX {
+        return Err(AllocError);
+    }
+    Ok(())
+}
+
+/// Returns the number of the next value when so many are numbered from `from`. Fails if it is too large.
+#[inline(always)]
+fn number_after(from: u64, count: usize) -> Result<u64, AllocError>
+    ensures { IfOk result (λ next. next ≡ from + count) }
+{
+    match from.checked_add(count as u64) {
+        Some(next) => Ok(next),
+        None => Err(AllocError),
+    }
 }
 
 /// Makes values with these types, numbered from `from`, without uses. It allocates nothing for up to one.
@@ -146,9 +168,7 @@ impl<O: Drop, B: Drop, T: Drop> Graph<O, B, T> {
         ensures kept { (m : ℕ) → m ≤ self.old.made → KeepsOlder m self.old self.new }
     {
         let made = self.made;
-        if made == u64::MAX {
-            return Err(AllocError);
-        }
+        check_limit(made)?;
         let region = Nest {
             parent: None,
             children: Growing::new(self.alloc),
@@ -171,9 +191,7 @@ impl<O: Drop, B: Drop, T: Drop> Graph<O, B, T> {
         ensures kept { (m : ℕ) → m ≤ self.old.made → before m self.old.operations op ≡ None → KeepsOlder m self.old self.new }
     {
         let made = self.made;
-        if made == u64::MAX {
-            return Err(AllocError);
-        }
+        check_limit(made)?;
         make_room(&mut self.log)?;
         self.objects.operations.make_region_room(op)?;
         let region = Nest {
@@ -189,6 +207,7 @@ impl<O: Drop, B: Drop, T: Drop> Graph<O, B, T> {
         self.made = made + 1;
         Ok(p)
     }
+
     /// Makes a block with this data, without a parent and operations, with arguments of these types. The arguments get the next numbers
     /// of values. If an allocation fails or a counter is at its limit, the graph is unchanged.
     pub fn make_block(&mut self, value: B, types: Few<T>) -> Result<Ptr<BasicBlock>, AllocError>
@@ -197,14 +216,9 @@ impl<O: Drop, B: Drop, T: Drop> Graph<O, B, T> {
         ensures kept { (m : ℕ) → m ≤ self.old.made → KeepsOlder m self.old self.new }
     {
         let made = self.made;
-        let values = self.counters.values;
-        let Some(next) = values.checked_add(types.len() as u64) else {
-            return Err(AllocError);
-        };
-        if made == u64::MAX {
-            return Err(AllocError);
-        }
-        let arguments = definitions(self.alloc, types, values)?;
+        check_limit(made)?;
+        let next = number_after(self.counters.values, types.len())?;
+        let arguments = definitions(self.alloc, types, self.counters.values)?;
         let block = Nest {
             parent: None,
             children: Growing::new(self.alloc),
@@ -224,6 +238,30 @@ impl<O: Drop, B: Drop, T: Drop> Graph<O, B, T> {
         Ok(p)
     }
 
+    /// Makes an operation with this data, without a parent, regions, results, operands and successors. If an allocation fails or a counter
+    /// is at its limit, the graph is unchanged.
+    #[inline(never)]
+    pub fn make_bare_operation(&mut self, value: O) -> Result<Ptr<Operation>, AllocError>
+        ensures made { IfOk result (λ p. MakesOperation self.old self.new p value [] [] []) }
+        ensures err { OnErr result (self.new ≡ self.old) }
+        ensures kept { (m : ℕ) → m ≤ self.old.made → KeepsOlder m self.old self.new }
+    {
+        let made = self.made;
+        if made == u64::MAX {
+            return Err(AllocError);
+        }
+        make_room(&mut self.log)?;
+        let results = Lone::none();
+        let used = Few::none();
+        let led_to = Lone::none();
+        let blank = blank_operation(self.alloc, value, results, used, led_to);
+        let first = self.counters.first_place;
+        let p = self.objects.operations.insert(first, made, blank)?;
+        note(&mut self.log, made, Object::TheOperation(p));
+        self.made = made + 1;
+        Ok(p)
+    }
+
     /// Makes an operation with this data, operands, successors and result types, without a parent and regions. The results get the next
     /// numbers of values. If an allocation fails or a counter is at its limit, the graph is unchanged.
     pub fn make_operation(
@@ -239,18 +277,13 @@ impl<O: Drop, B: Drop, T: Drop> Graph<O, B, T> {
         ensures err { OnErr result (self.new ≡ self.old) }
         ensures kept { (m : ℕ) → m ≤ self.old.made → KeepsOlder m self.old self.new }
     {
-        let made = self.made;
-        let values = self.counters.values;
-        let Some(next) = values.checked_add(types.len() as u64) else {
-            return Err(AllocError);
-        };
-        if made == u64::MAX {
-            return Err(AllocError);
-        }
-        let results = definitions(self.alloc, types, values)?;
+        let next = number_after(self.counters.values, types.len())?;
+        let results = definitions(self.alloc, types, self.counters.values)?;
         let used = unlinked_uses(self.alloc, operands)?;
         let leads = unlinked_uses(self.alloc, successors)?;
         let led_to = Lone::from_few(self.alloc, leads)?;
+        let made = self.made;
+        check_limit(made)?;
         make_room(&mut self.log)?;
         let blank = blank_operation(self.alloc, value, results, used, led_to);
         let first = self.counters.first_place;

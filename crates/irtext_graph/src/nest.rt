@@ -73,10 +73,7 @@ impl<P, C, D: Drop> Arena<Nest<P, C, D>> {
         ensures data { (q : Ptr K) → datum self.new q ≡ datum self.old q }
         ensures places { KeepsPlaces self.old self.new }
     {
-        match self.content_mut(p).children.push(c) {
-            Ok(()) => Ok(()),
-            Err(_) => Err(AllocError),
-        }
+        self.content_mut(p).children.push(c)
     }
 
     /// The number of children of an object.

@@ -16,7 +16,7 @@ pub(crate) enum Side {
 }
 
 /// Returns the site of an operand or a successor.
-fn site_at(side: Side, p: Ptr<Operation>, i: usize) -> Site
+pub(crate) fn site_at(side: Side, p: Ptr<Operation>, i: usize) -> Site
     ensures { result ≡ site_of side p i }
 {
     match side {
@@ -74,6 +74,7 @@ impl<O: Drop, B: Drop, T: Drop> Objects<O, B, T> {
     ghost use Rattle.irtext_graph.specs.Uses.{use_at, head_at, val, AreUsesLinked};
 
     /// Inserts the operands of an operation, or its successors, into the use lists of what they refer to.
+    #[inline(always)]
     pub(crate) fn attach_all(&mut self, side: Side, p: Ptr<Operation>, count: usize)
         requires linked { AreUsesLinked self.old }
         requires there { (i : ℕ) → i < count → IsSome (use_at self.old (site_of side p i)) }

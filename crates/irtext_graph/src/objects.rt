@@ -102,9 +102,9 @@ impl<O: Drop, B: Drop, T: Drop> Objects<O, B, T> {
         ensures others { (q : _) → q ≢ o → up self.new q ≡ up self.old q }
         ensures kids { (q : _) → kids self.new q ≡ kids self.old q }
         ensures data { (q : _) → what self.new q ≡ what self.old q }
-        ensures links { links self.new ≡ links self.old }
         ensures places { SamePlaces self.old self.new }
         ensures all_data { SameData self.old self.new }
+        ensures links { links self.new ≡ links self.old }
     {
         match o {
             Object::TheOperation(p) => self.operations.set_parent(p, None),

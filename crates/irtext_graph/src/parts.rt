@@ -70,14 +70,6 @@ impl<O: Drop, B: Drop, T: Drop> Graph<O, B, T> {
         self.objects.operations.content(op).data.operands[i].def
     }
 
-    /// The number of successors of an operation. A block that is used twice counts twice.
-    pub fn num_successors(&self, op: Ptr<Operation>) -> usize
-        requires { IsLive self.now (TheOperation op) }
-        ensures { result ≡ length (successors self.now op) }
-    {
-        self.objects.operations.content(op).data.successors.len()
-    }
-
     /// Returns the successor of an operation at an index.
     pub fn get_successor(&self, op: Ptr<Operation>, i: usize) -> Ptr<BasicBlock>
         requires stands { IsLive self.now (TheOperation op) }
@@ -87,12 +79,12 @@ impl<O: Drop, B: Drop, T: Drop> Graph<O, B, T> {
         self.objects.operations.content(op).data.successors[i].def
     }
 
-    /// The number of arguments of a block.
-    pub fn num_arguments(&self, block: Ptr<BasicBlock>) -> usize
-        requires { IsLive self.now (TheBlock block) }
-        ensures { result ≡ length (arguments self.now block) }
+    /// The number of successors of an operation. A block that is used twice counts twice.
+    pub fn num_successors(&self, op: Ptr<Operation>) -> usize
+        requires { IsLive self.now (TheOperation op) }
+        ensures { result ≡ length (successors self.now op) }
     {
-        self.objects.blocks.content(block).data.arguments.len()
+        self.objects.operations.content(op).data.successors.len()
     }
 
     /// Whether a value is defined: its operation or block is live, and has a result or an argument with this index.
@@ -124,6 +116,14 @@ impl<O: Drop, B: Drop, T: Drop> Graph<O, B, T> {
             }
         }
         true
+    }
+
+    /// The number of arguments of a block.
+    pub fn num_arguments(&self, block: Ptr<BasicBlock>) -> usize
+        requires { IsLive self.now (TheBlock block) }
+        ensures { result ≡ length (arguments self.now block) }
+    {
+        self.objects.blocks.content(block).data.arguments.len()
     }
 
     /// Returns the type of a value.

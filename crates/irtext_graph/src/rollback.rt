@@ -4,14 +4,16 @@ ghost use Rattle.std.specs.Prelude.{◌≡◌, ◌≢◌, ◌<◌, ◌≤◌, �
 use crate::arena::Ptr;
 use crate::graph::Graph;
 use crate::log::{Made, count_before, object_at};
+use crate::new_uses::{Side, site_at};
 use crate::object::{Object, Operation, Site};
 use crate::objects::Objects;
 
 impl<O: Drop, B: Drop, T: Drop> Objects<O, B, T> {
     ghost use Rattle.irtext_graph.specs.declared.object.Object.TheVariants.{TheOperation};
-    ghost use Rattle.irtext_graph.specs.declared.object.Site.TheVariants.{AtOperand, AtSuccessor};
     ghost use Rattle.irtext_graph.specs.Arena.{get, AtLeast};
     ghost use Rattle.irtext_graph.specs.Back.{ShedsAll};
+    ghost use Rattle.irtext_graph.specs.Erasing.{user as object_of};
+    ghost use Rattle.irtext_graph.specs.Linking.{site_of};
     ghost use Rattle.irtext_graph.specs.Used.{user};
     ghost use Rattle.irtext_graph.specs.Graph.{seen};
     ghost use Rattle.irtext_graph.specs.Log.{age};
@@ -19,8 +21,8 @@ impl<O: Drop, B: Drop, T: Drop> Objects<O, B, T> {
 
     /// Removes a use from its use list, if it is in one.
     fn detach_linked(&mut self, u: Site)
-        requires linked { AreUsesLinked self.old }
         requires there { IsSome (use_at self.old u) }
+        requires linked { AreUsesLinked self.old }
         ensures linked { AreUsesLinked self.new }
         ensures gone { val self.new u ≡ None }
         ensures kept { (w : _) → w ≢ u → val self.new w ≡ val self.old w }
@@ -32,32 +34,43 @@ impl<O: Drop, B: Drop, T: Drop> Objects<O, B, T> {
         self.detach(u);
     }
 
-    /// Removes the operands of an operation from their use lists.
-    pub(crate) fn detach_operands(&mut self, p: Ptr<Operation>)
-        requires linked { AreUsesLinked self.old }
-        requires lives { IsSome (get self.old.operations p) }
-        ensures linked { AreUsesLinked self.new }
-        ensures gone { (i : ℕ) → val self.new (AtOperand p i) ≡ None }
-        ensures kept { (u : _) → ((i : ℕ) → u ≢ AtOperand p i) → val self.new u ≡ val self.old u }
-        ensures seen { seen self.new ≡ seen self.old }
+    /// The number of operands or successors of an operation.
+    fn use_count(&self, side: Side, p: Ptr<Operation>) -> usize
+        requires { IsSome (get self.now.operations p) }
+        ensures there { (i : ℕ) → i < result → IsSome (use_at self.now (site_of side p i)) }
+        ensures past { (i : ℕ) → result ≤ i → use_at self.now (site_of side p i) ≡ None }
     {
-        for i in 0..self.operations.content(p).data.operands.len() {
-            self.detach_linked(Site::AtOperand(p, i));
+        match side {
+            Side::Operands => self.operations.content(p).data.operands.len(),
+            Side::Successors => self.operations.content(p).data.successors.len(),
         }
     }
 
-    /// Removes the successors of an operation from their use lists.
-    pub(crate) fn detach_successors(&mut self, p: Ptr<Operation>)
+    /// Removes the operands or the successors of an operation from their use lists.
+    fn detach_side(&mut self, side: Side, p: Ptr<Operation>)
         requires linked { AreUsesLinked self.old }
         requires lives { IsSome (get self.old.operations p) }
         ensures linked { AreUsesLinked self.new }
-        ensures gone { (i : ℕ) → val self.new (AtSuccessor p i) ≡ None }
-        ensures kept { (u : _) → ((i : ℕ) → u ≢ AtSuccessor p i) → val self.new u ≡ val self.old u }
+        ensures gone { (i : ℕ) → val self.new (site_of side p i) ≡ None }
+        ensures kept { (u : _) → ((i : ℕ) → u ≢ site_of side p i) → val self.new u ≡ val self.old u }
         ensures seen { seen self.new ≡ seen self.old }
     {
-        for i in 0..self.operations.content(p).data.successors.len() {
-            self.detach_linked(Site::AtSuccessor(p, i));
+        for i in 0..self.use_count(side, p) {
+            self.detach_linked(site_at(side, p, i));
         }
+    }
+
+    /// Removes the uses of an operation from their use lists.
+    pub(crate) fn detach_uses(&mut self, p: Ptr<Operation>)
+        requires linked { AreUsesLinked self.old }
+        requires lives { IsSome (get self.old.operations p) }
+        ensures linked { AreUsesLinked self.new }
+        ensures gone { (u : _) → object_of u ≡ TheOperation p → val self.new u ≡ None }
+        ensures kept { (u : _) → object_of u ≢ TheOperation p → val self.new u ≡ val self.old u }
+        ensures seen { seen self.new ≡ seen self.old }
+    {
+        self.detach_side(Side::Operands, p);
+        self.detach_side(Side::Successors, p);
     }
 
     /// Removes the uses of an object from their use lists, if it is an operation that was not made before the mark.
@@ -78,8 +91,7 @@ impl<O: Drop, B: Drop, T: Drop> Objects<O, B, T> {
         if born < mark {
             return;
         }
-        self.detach_operands(p);
-        self.detach_successors(p);
+        self.detach_uses(p);
     }
 
     /// Removes the uses of those operations in a log, from an index on, that were not made before the mark from their use lists.

@@ -31,18 +31,18 @@ impl<O: Drop, B: Drop, T: Drop> Graph<O, B, T> {
         self.objects.operations.slots.len() as u32
     }
 
-    /// Returns the operation in a slot, if there is one. It may be a placeholder.
-    pub fn operation_in(&self, place: u32) -> Option<Ptr<Operation>>
-        ensures { result ≡ pointer_at self.now.operations place }
-    {
-        self.objects.operations.pointer_at(place)
-    }
-
     /// The number of slots for blocks.
     pub fn block_places(&self) -> u32
         ensures { result ≡ length self.now.blocks.cells }
     {
         self.objects.blocks.slots.len() as u32
+    }
+
+    /// Returns the operation in a slot, if there is one. It may be a placeholder.
+    pub fn operation_in(&self, place: u32) -> Option<Ptr<Operation>>
+        ensures { result ≡ pointer_at self.now.operations place }
+    {
+        self.objects.operations.pointer_at(place)
     }
 
     /// Returns the block in a slot, if there is one.

@@ -16,14 +16,14 @@ impl<O: Drop, B: Drop, T: Drop> Objects<O, B, T> {
     {
         match u {
             Site::AtOperand(p, i) => {
-                let o = self.operations.operand(p, i);
+                let o = self.operations.content(p).data.operands[i];
                 Use {
                     def: Defined::OfValue(o.def),
                     links: o.links,
                 }
             }
             Site::AtSuccessor(p, i) => {
-                let o = self.operations.successor(p, i);
+                let o = self.operations.content(p).data.successors[i];
                 Use {
                     def: Defined::OfBlock(o.def),
                     links: o.links,
@@ -41,8 +41,10 @@ impl<O: Drop, B: Drop, T: Drop> Objects<O, B, T> {
         ensures seen { seen self.new ≡ seen self.old }
     {
         match u {
-            Site::AtOperand(p, i) => self.operations.link_operand(p, i, links),
-            Site::AtSuccessor(p, i) => self.operations.link_successor(p, i, links),
+            Site::AtOperand(p, i) => self.operations.content_mut(p).data.operands[i].links = links,
+            Site::AtSuccessor(p, i) => {
+                self.operations.content_mut(p).data.successors[i].links = links;
+            }
         }
     }
 
@@ -58,10 +60,12 @@ impl<O: Drop, B: Drop, T: Drop> Objects<O, B, T> {
             uses_left e (seen self.new).operations < uses_left e (seen self.old).operations }
     {
         match (u, d) {
-            (Site::AtOperand(p, i), Defined::OfValue(v)) => self.operations.set_operand(p, i, v),
-            (Site::AtSuccessor(p, i), Defined::OfBlock(b)) => self
-                .operations
-                .set_successor(p, i, b),
+            (Site::AtOperand(p, i), Defined::OfValue(v)) => {
+                self.operations.content_mut(p).data.operands[i].def = v;
+            }
+            (Site::AtSuccessor(p, i), Defined::OfBlock(b)) => {
+                self.operations.content_mut(p).data.successors[i].def = b;
+            }
             _ => unreachable!(),
         }
     }
@@ -72,9 +76,17 @@ impl<O: Drop, B: Drop, T: Drop> Objects<O, B, T> {
         ensures { head_at self.now d ≡ Some result }
     {
         match d {
-            Defined::OfValue(Value::Result(p, i)) => self.operations.first_result(p, i),
-            Defined::OfValue(Value::Argument(b, i)) => self.blocks.first_argument(b, i),
-            Defined::OfBlock(b) => self.blocks.first_pred(b),
+            Defined::OfValue(Value::Result(p, i)) => self
+                .operations
+                .content(p)
+                .data
+                .results[i].first,
+            Defined::OfValue(Value::Argument(b, i)) => self
+                .blocks
+                .content(b)
+                .data
+                .arguments[i].first,
+            Defined::OfBlock(b) => self.blocks.content(b).data.preds,
         }
     }
 
@@ -87,9 +99,13 @@ impl<O: Drop, B: Drop, T: Drop> Objects<O, B, T> {
         ensures seen { seen self.new ≡ seen self.old }
     {
         match d {
-            Defined::OfValue(Value::Result(p, i)) => self.operations.set_first_result(p, i, h),
-            Defined::OfValue(Value::Argument(b, i)) => self.blocks.set_first_argument(b, i, h),
-            Defined::OfBlock(b) => self.blocks.set_first_pred(b, h),
+            Defined::OfValue(Value::Result(p, i)) => {
+                self.operations.content_mut(p).data.results[i].first = h;
+            }
+            Defined::OfValue(Value::Argument(b, i)) => {
+                self.blocks.content_mut(b).data.arguments[i].first = h;
+            }
+            Defined::OfBlock(b) => self.blocks.content_mut(b).data.preds = h,
         }
     }
 

@@ -28,7 +28,7 @@ module _ {O B T : Type 0} (g : GraphView O B T) (p : Ptr Operation) where
   abbrev pub IsUseOfFirst : ℕ → Site → Type 0
   IsUseOfFirst n u = (k : ℕ) × (k < n) × IsUse g (OfValue (Result p k)) u
 
-  -- an operand names one of the first n results, or the one behind them, and not both
+  -- an operand uses one of the first n results, or the one after them, and not both
   abbrev Either : ℕ → Site → Type 0
   Either n u = IsUseOfFirst n u ⊎ IsUse g (OfValue (Result p n)) u
 

@@ -6,12 +6,12 @@ use Rattle.std.proofs.Math.Nat.{eq-or-lt_of_le}
 use Rattle.irtext_graph_queries.specs.Lists.{AreGathered, each}
 
 module _ {X : Type 0} where
-  -- the item that was pushed stands last
+  -- the item that was pushed is the last
   at_last : (xs : List X) (x : X) → slice_get (xs ++ x ∷ []) (length xs) ≡ Some x
   at_last [] x = refl
   at_last (z ∷ xs) x = at_last xs x
 
-  -- all other items stand as they did
+  -- all other items are unchanged
   at_earlier : (xs : List X) (x : X) (i : ℕ) → i < length xs → slice_get (xs ++ x ∷ []) i ≡ slice_get xs i
   at_earlier [] x i less = absurd (omega (arith, less))
   at_earlier (z ∷ xs) x zero less = refl
@@ -36,7 +36,7 @@ module _ {X : Type 0} where
   pub none_gathered : {Allows : ℕ → X → Type 0} (xs : List X) → xs ≡ [] → AreGathered Allows 0 xs
   none_gathered xs none = rw none (record { count = refl; each = λ i x e. absurd (cc) })
 
--- what is seen of the items is a list, where what is seen of each stands there at its index
+-- the images of the items are a list, if the image of each is at its index in the list
 all_seen : {X Y : Type 0} (see : X → Y) (xs : List X) (ys : List Y) → length xs ≡ length ys → ((i : ℕ) (x : X) → slice_get xs i ≡ Some x → slice_get ys i ≡ Some (see x)) → map see xs ≡ ys
 all_seen see [] [] e same = refl
 all_seen see [] (y ∷ ys) e same = absurd (omega (arith, e))
@@ -51,12 +51,12 @@ gathered_all : {X Y : Type 0} {Allows : ℕ → X → Type 0} (n : ℕ) (see : X
 gathered_all n see xs ys so count means = all_seen see xs ys (so.count ∙ count) (λ i x at. means i x (rw (← so.count) (slice_get_within xs i x at)) (so.each i x at))
 
 module _ {V E X : Type 0} {Allows : ℕ → X → Type 0} (items : V → List X) (n : ℕ) where
-  -- what is seen of the items that a call gathers is a list, where what is seen of each stands there at its index
+  -- the images of the items that a call gathers are a list, if the image of each is at its index in the list
   pub gathered_seen : {Y : Type 0} (see : X → Y) (ys : List Y) (r : Result V E) → IfOk r (λ all. AreGathered Allows n (items all)) → n ≡ length ys → ((i : ℕ) (x : X) → i < n → Allows i x → slice_get ys i ≡ Some (see x)) → IfOk r (λ all. map see (items all) ≡ ys)
   gathered_seen see ys (Ok all) so count means = gathered_all n see (items all) ys so count means
   gathered_seen see ys (Err e) so count means = tt
 
-  -- the items that a call gathers are a list, where each stands there at its index
+  -- the items that a call gathers are a list, if each is at its index in the list
   pub gathered : (ys : List X) (r : Result V E) → IfOk r (λ all. AreGathered Allows n (items all)) → n ≡ length ys → ((i : ℕ) (x : X) → i < n → Allows i x → slice_get ys i ≡ Some x) → IfOk r (λ all. items all ≡ ys)
   gathered ys (Ok all) so count means = sym (map-id (items all)) ∙ gathered_all n (λ x. x) (items all) ys so count means
   gathered ys (Err e) so count means = tt

@@ -21,7 +21,7 @@ use Rattle.irtext_graph.specs.Store.{get}
 use Rattle.irtext_graph.specs.Used.{IsUse, user}
 use Rattle.irtext_graph.proofs.Listed.{pushed}
 
--- what stands at an index of a list is among it
+-- an element at an index of a list is a member of the list
 pub met_at : {U : Type 0} (us : List U) (i : ℕ) (u : U) → slice_get us i ≡ Some u → Among u us
 met_at [] i u e = absurd (cc)
 met_at (x ∷ us) zero u e = let same : u ≡ x = cc in inl same
@@ -35,7 +35,7 @@ same_block (Some a) None e = absurd (cc)
 same_block (Some a) (Some b) e = cc
 
 module _ {O B T : Type 0} (g : GraphView O B T) where
-  -- what uses something stands
+  -- the user of a definition is live
   pub user_stands : (d : Defined) (u : Site) → IsUse g d u → IsLive g (TheOperation (user u))
   user_stands d (AtOperand p i) e = go (get g.operations p) e
     where
@@ -51,12 +51,12 @@ module _ {O B T : Type 0} (g : GraphView O B T) where
   next_use : (us : List Site) (i : ℕ) (u : Site) → slice_get us i ≡ Some u → blocks_of g (drop i us) ≡ put_first (parent_of (get g.operations (user u))) (blocks_of g (drop (i + 1) us))
   next_use us i u at = ap (blocks_of g) (drop_more us i u (slice_get_within us i u at) ∙ ap (λ x. x ∷ drop (i + 1) us) (get_or_from_slice_get us i u u at))
 
-  -- the operation of a use stands in a block, which was pushed
+  -- the operation of a use has a block as its parent, which was pushed
   pub found : (us : List Site) (i : ℕ) (u : Site) (b : Ptr BasicBlock) (all new : List (Ptr BasicBlock)) → slice_get us i ≡ Some u → parent_of (get g.operations (user u)) ≡ Some b → all ++ blocks_of g (drop i us) ≡ blocks_of g us → new ≡ all ++ b ∷ [] → new ++ blocks_of g (drop (i + 1) us) ≡ blocks_of g us
   found us i u b all new at e so k =
       ap (λ bs. bs ++ blocks_of g (drop (i + 1) us)) k
       ∙ pushed all b (blocks_of g (drop (i + 1) us)) (blocks_of g (drop i us)) (blocks_of g us) (next_use us i u at ∙ ap (λ p. put_first p (blocks_of g (drop (i + 1) us))) e) so
 
-  -- it stands in none
+  -- it has no parent
   pub missed : (us : List Site) (i : ℕ) (u : Site) (all : List (Ptr BasicBlock)) → slice_get us i ≡ Some u → parent_of (get g.operations (user u)) ≡ None → all ++ blocks_of g (drop i us) ≡ blocks_of g us → all ++ blocks_of g (drop (i + 1) us) ≡ blocks_of g us
   missed us i u all at e so = ap (λ bs. all ++ bs) (sym (next_use us i u at ∙ ap (λ p. put_first p (blocks_of g (drop (i + 1) us))) e)) ∙ so

@@ -20,13 +20,13 @@ module _ {U : Type 0} where
     | inr later ↦ elim (among_either xs ys u later) [ inl first ↦ inl (inr first) | inr second ↦ inr second ]
   ]
 
-  -- what stands at an index of both lists stands there in the first one, or is among the second
+  -- an element at an index of both lists is at this index in the first, or is a member of the second
   at_either : (xs ys : List U) (i : ℕ) (u : U) → slice_get (xs ++ ys) i ≡ Some u → (slice_get xs i ≡ Some u) ⊎ Among u ys
   at_either [] ys i u e = inr (met_at ys i u e)
   at_either (x ∷ xs) ys zero u e = inl e
   at_either (x ∷ xs) ys (suc i) u e = at_either xs ys i u e
 
-  -- no item stands at two indices
+  -- no item is at two indices
   abbrev IsOnce : List U → Type 0
   IsOnce us = (i j : ℕ) (u : U) → slice_get us i ≡ Some u → slice_get us j ≡ Some u → i ≡ j
 
@@ -46,7 +46,7 @@ module _ {U : Type 0} where
       behind : IsOnce xs
       behind i j w e f = let same : suc i ≡ suc j = first (suc i) (suc j) w e f in omega (arith, same)
 
-  -- a list of what the one means, in front of a list of what the other means
+  -- a list of what has the one property, before a list of what has the other
   pub lists_both : {P Q : U → Type 0} (xs ys : List U) → ((u : U) → P u → Q u → ⊥) → Lists P xs → Lists Q ys → Lists (λ u. P u ⊎ Q u) (xs ++ ys)
   lists_both xs ys apart first second = record {
     all = λ u m. elim m [ inl p ↦ among_first xs ys u (first.all u p) | inr q ↦ among_second xs ys u (second.all u q) ];

@@ -75,7 +75,7 @@ module _ {O B T : Type 0} where
   pub made_none : {V : Type 0} (of : V → Defined) {g k : GraphView (Option O) B T} (ss : List (Scope V)) (v : V) → Tied of ss g → SameBut k g (Some (owner (of v))) → IsNoPlaceholder ss v
   made_none of {g} ss v t s i n f = none_defined g (of v) (s.gone (owner (of v)) refl) (t.held i n v f).stands
 
-  -- an operation was made, or refused
+  -- an operation was made, or making it was an error
   pub operation_tried : {E : Type 0} {g k : GraphView (Option O) B T} (vs : List (Scope Value)) (ls : List (Scope (Ptr BasicBlock))) (v : Option O) (ts : List T) (os : List Value) (bs : List (Ptr BasicBlock)) (r : Tried (Ptr Operation) E)
       → IfOk r (λ p. MakesOperation g k p v ts os bs) → OnErr r (k ≡ g) → MatchesGraph vs ls g → MatchesGraph vs ls k
   operation_tried vs ls v ts os bs (Ok p) m e t = added_ties (operation_added p m) vs ls t
@@ -96,7 +96,7 @@ module _ {O B T : Type 0} where
           cc
       values (Argument c i) b e = b
 
-  -- a block that was made is one's own until it stands somewhere
+  -- a block that was made is one of the blocks in `own` until it has a parent
   pub block_waits : {g k : GraphView (Option O) B T} (b : Ptr BasicBlock) (x : B) (ts : List T) → MakesBlock g k b x ts
       → (m : ℕ) (own : List (Ptr BasicBlock)) (vs : List (Scope Value)) (ls : List (Scope (Ptr BasicBlock))) → MatchesGraph vs ls g → ArePending m own vs ls g → ArePending m (b ∷ own) vs ls k
   block_waits {g} {k} b x ts make m own vs ls t w = record {

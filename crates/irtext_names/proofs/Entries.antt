@@ -1,4 +1,4 @@
--- What names stand for in scopes of which the innermost gained a name or a definition.
+-- What names refer to in scopes of which the innermost gained a name or a definition.
 use Rattle.std.proofs.Common.{◌≡◌, ◌⊎◌, ◌∙◌, inl, inr, ℕ, zero, suc, refl, sym, ap, Bool, true, false, cond, nat_eq, Option, Some, None, List, [], ◌∷◌, eqb-true, eq-eqb}
 use Rattle.std.specs.Option.{option_or}
 use Rattle.irtext_graph.proofs.Nests.{some_eq}
@@ -87,7 +87,7 @@ module _ {V : Type 0} where
   entry_stays_defined zero l n v x (s ∷ ss) f ne = defined_stays l n v x s f (ne refl)
   entry_stays_defined (suc k) l n v x (s ∷ ss) f ne = f
 
-  -- what a name stands for in the innermost scope
+  -- what a name refers to in the innermost scope
   pub entry_innermost : (n : ℕ) (ss : List (Scope V)) → entry_at 0 n ss ≡ find n (innermost ss)
   entry_innermost n [] = refl
   entry_innermost n (s ∷ ss) = refl

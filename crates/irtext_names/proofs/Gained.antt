@@ -31,7 +31,7 @@ not_below a b le = go (nat_lt a b) refl
     go false e = refl
     go true e = let l = ltb-true a b e in absurd (omega arith)
 
--- a pointer of which the generation was not handed out finds nothing
+-- a pointer with a generation that was not yet used finds nothing
 fresh_in : {X : Type 0} (c : Option (Cell X)) (n : ℕ) → n ≡ drawn c + 1 → object_in c n ≡ None
 fresh_in None n e = refl
 fresh_in (Some c) n e = go (c.generation == n) refl
@@ -97,13 +97,7 @@ module _ {O B T : Type 0} where
     result_placeholder : IsPlaceholder k (OfValue (Result m.operation 0))
     result_placeholder =
         let here = m.makes.operations.updates.changed in
-        record {
-          stands = rw here refl;
-          blank = rw here refl;
-          free = rw here refl;
-          empty = rw here refl;
-          alone = λ x d e. only x d e;
-        }
+        record { stands = rw here refl; blank = rw here refl; free = rw here refl; empty = rw here refl; alone = λ x d e. only x d e }
       where
         only : (x : Defined) → IsDefined k x → owner x ≡ TheOperation m.operation → x ≡ OfValue (Result m.operation 0)
         only (OfValue (Result p zero)) d e = let s : p ≡ m.operation = cc in rw s refl
@@ -131,13 +125,7 @@ module _ {O B T : Type 0} where
     pub block_placeholder : IsPlaceholder k (OfBlock b)
     block_placeholder =
         let here = m.blocks.updates.changed in
-        record {
-          stands = rw here refl;
-          blank = rw here refl;
-          free = rw here refl;
-          empty = rw here refl;
-          alone = λ x d e. only x d e;
-        }
+        record { stands = rw here refl; blank = rw here refl; free = rw here refl; empty = rw here refl; alone = λ x d e. only x d e }
       where
         only : (x : Defined) → IsDefined k x → owner x ≡ TheBlock b → x ≡ OfBlock b
         only (OfValue (Result p i)) d e = absurd (cc)

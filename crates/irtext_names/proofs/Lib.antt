@@ -10,6 +10,7 @@ pub mod Nested
 pub mod Pairs
 pub mod Results
 pub mod Rows
+pub mod UsedRows
 pub mod SameBut
 pub mod Settled
 pub mod Ties

@@ -15,17 +15,17 @@ known_at f count (y ∷ xs) (suc i) x l k = known_at f count xs i x (omega (arit
 pub number_more : {X : Type 0} (f : X → ℕ) (xs : List X) (i : ℕ) (x : X) → i < length xs → map f (take (i + 1) xs) ≡ map f (take i xs) ++ f (get_or xs i x) ∷ []
 number_more f xs i x l = ap (map f) (take_more xs i x l) ∙ map-through f (take i xs) (get_or xs i x) []
 
--- what is as it was keeps all that is older
+-- an unchanged graph keeps all older objects
 pub older_itself : {O B T : Type 0} (m : ℕ) (g : GraphView O B T) → KeepsOlder m g g
 older_itself m g = record { operations = λ p. refl; blocks = λ b. refl; regions = λ r. refl; made = omega arith; values = omega arith; first_place = refl }
 
--- the numbers before one, that one, and those behind it
+-- the numbers before one, that one, and those after it
 pub number_here : {X : Type 0} (f : X → ℕ) (xs : List X) (i : ℕ) (x : X) → i < length xs → map f (take i xs) ++ f (get_or xs i x) ∷ map f (drop (suc i) xs) ≡ map f xs
 number_here f [] i x l = absurd (omega (arith, l))
 number_here f (y ∷ xs) zero x l = refl
 number_here f (y ∷ xs) (suc i) x l = ap (λ ns. f y ∷ ns) (number_here f xs i x (omega (arith, l)))
 
--- so many numbers stand in front
+-- as many numbers precede it as its index says
 pub numbers_before : {X : Type 0} (f : X → ℕ) (xs : List X) (i : ℕ) → i ≤ length xs → length (map f (take i xs)) ≡ i
 numbers_before f xs zero l = refl
 numbers_before f [] (suc i) l = absurd (omega (arith, l))

@@ -11,7 +11,7 @@ use Rattle.irtext_names.specs.Placeholders.{IsBlank, IsPlaceholder}
 use Rattle.irtext_names.proofs.SameBut.{SameBut, same_age, still_defined, not_gone, was_defined, still_blank, was_blank, still_placeholder, was_placeholder}
 
 module _ {O B T : Type 0} where
-  -- all that is defined is defined still, but for this placeholder, and nothing else came
+  -- all definitions are still there, except this placeholder, and none was added
   pub record Loses (g k : GraphView (Option O) B T) (o : Option Defined) : Type 0 where
     pub there : (x : Defined) → IsDefined g x → (o ≡ Some x → ⊥) → IsDefined k x
     pub were : (x : Defined) → IsDefined k x → IsDefined g x

@@ -1,4 +1,4 @@
--- An operation that is made with what is in hand leaves the machine where it stands, with nothing in hand.
+-- An operation that is made with what is in hand leaves the state of the machine unchanged, with nothing in hand.
 use Rattle.std.proofs.Common.{◌≡◌, ◌<◌, ◌+◌, ◌∙◌, inl, inr, ℕ, zero, suc, List, [], ◌∷◌, ◌++◌, length, Option, Some, IsSome, refl, sym, ap, subst, arith, slice_get}
 use Rattle.std.specs.Option.{option_map}
 use Rattle.irtext_graph.specs.declared.arena.Ptr.{Ptr}
@@ -60,7 +60,11 @@ module _ {O B T : Type 0} {g k : GraphView (Option O) B T} (op : Ptr Operation) 
   result_here : (i : ℕ) → i < length types → IsDefined k (OfValue (Result op i))
   result_here i l = rw make.operations.updates.changed (numbered_there g.values i types l)
 
-  -- it takes what is in hand, as its operands and successors, and its results are made
+  -- a user is at a site of the operation, and what it uses is used there
+  sited : (sites : List (User × Site)) {u w : User} {d e : Defined} (at : Site) → u ≡ w → d ≡ e → user at ≡ op → Among (w, at) sites → IsUse k e at → (s : Site) × Among (u, s) sites × (user s ≡ op) × IsUse k d s
+  sited sites at eu ed own among used = (at, subst (λ w. Among (w, at) sites) (sym eu) among, own, subst (λ z. IsUse k z at) (sym ed) used)
+
+  -- it uses what is in hand, as its operands and successors, and its results are made
   pub made_stands : (names : NameTracker Value (Ptr BasicBlock)) (known : Known) (p : Path) (held : List (User × Defined)) (st : State) → AreHeldBy p vs bs held → StandsAt names g known held st
       → StandsAt names k (with_operation p op vs bs types known) [] st
   made_stands names known p held st are s = operation_made g k names known held st op x types vs bs (made_results p op 0 types)
@@ -68,20 +72,10 @@ module _ {O B T : Type 0} {g k : GraphView (Option O) B T} (op : Ptr Operation) 
     where
       placed : (u : User) (d : Defined) → Among (u, d) held → (s : Site) × Among (u, s) (sites_from (operand p) (AtOperand op) 0 vs ++ sites_from (successor p) (AtSuccessor op) 0 bs) × (user s ≡ op) × IsUse k d s
       placed u d a = elim (are.so u d a) [
-        | inl (i, v, eu, ed, at) ↦ (
-          AtOperand op i,
-          subst (λ w. Among (w, AtOperand op i) (sites_from (operand p) (AtOperand op) 0 vs ++ sites_from (successor p) (AtSuccessor op) 0 bs)) (sym eu)
-              (among_left (operand p i, AtOperand op i) (sites_from (operand p) (AtOperand op) 0 vs) (sites_from (successor p) (AtSuccessor op) 0 bs) (site_first (operand p) (AtOperand op) i v vs at)),
-          refl,
-          subst (λ z. IsUse k z (AtOperand op i)) (sym ed) (operand_here i v at),
-        )
-        | inr (i, b, eu, ed, at) ↦ (
-          AtSuccessor op i,
-          subst (λ w. Among (w, AtSuccessor op i) (sites_from (operand p) (AtOperand op) 0 vs ++ sites_from (successor p) (AtSuccessor op) 0 bs)) (sym eu)
-              (among_right (successor p i, AtSuccessor op i) (sites_from (operand p) (AtOperand op) 0 vs) (sites_from (successor p) (AtSuccessor op) 0 bs) (site_first (successor p) (AtSuccessor op) i b bs at)),
-          refl,
-          subst (λ z. IsUse k z (AtSuccessor op i)) (sym ed) (successor_here i b at),
-        )
+        | inl (i, v, eu, ed, at) ↦ sited _ (AtOperand op i) eu ed refl
+            (among_left (operand p i, AtOperand op i) (sites_from (operand p) (AtOperand op) 0 vs) (sites_from (successor p) (AtSuccessor op) 0 bs) (site_first (operand p) (AtOperand op) i v vs at)) (operand_here i v at)
+        | inr (i, b, eu, ed, at) ↦ sited _ (AtSuccessor op i) eu ed refl
+            (among_right (successor p i, AtSuccessor op i) (sites_from (operand p) (AtOperand op) 0 vs) (sites_from (successor p) (AtSuccessor op) 0 bs) (site_first (successor p) (AtSuccessor op) i b bs at)) (successor_here i b at)
       ]
 
       made : (q : Place) (v : Value) → Among (q, v) (made_results p op 0 types) → (owner (OfValue v) ≡ TheOperation op) × IsDefined k (OfValue v)

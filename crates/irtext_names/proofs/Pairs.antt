@@ -21,7 +21,7 @@ use Rattle.irtext_names.proofs.Settled.{settled_if}
 use Rattle.irtext_names.proofs.Ties.{tied_kept, tied_defined, tied_made, tied_gained, waiting_kept, waiting_defined, waiting_made, waiting_gained}
 
 module _ {O B T V : Type 0} (of : V → Defined) {g : GraphView (Option O) B T} (n : ℕ) (ss : List (Scope V)) (t : Tied of ss g) where
-  -- what a name stands for is there
+  -- what a name refers to is live
   pub there_here : (v : V) → option_map value_of (find n (innermost ss)) ≡ Some v → IsDefined g (of v)
   there_here v e = go (find n (innermost ss)) refl e
     where
@@ -80,7 +80,7 @@ module _ {O B T V W : Type 0} (of : V → Defined) (at : W → Defined) (same : 
     pub defined_waits : (m : ℕ) (own : List V) (own' : List W) → Waiting m own of vs g → Waiting m own' at ws g → (Waiting m own of vs' k) × (Waiting m own' at ws k)
     defined_waits m own own' w x = (rw d.scopes_are (waiting_defined of same n v vs (option_map of (placeholder_of (find n (innermost vs)))) refl lost m own t w), waiting_kept at m own' ws u x lost (λ b e. other b))
 
--- ---- what was settled, by what a call answered
+-- ---- what was settled, given what a call returned
 module _ {O B T V : Type 0} (of : V → Defined) (g k : GraphView (Option O) B T) (v : V) where
   pub settles_some : (h : V) {q : Option V} → q ≡ Some h → Settles g k (of h) (of v) → SettlesIfAny g k (option_map of q) (of v)
   settles_some h e s = rw e s
@@ -89,7 +89,7 @@ module _ {O B T V : Type 0} (of : V → Defined) (g k : GraphView (Option O) B T
   settles_none None n e same = rw (← e) same
   settles_none (Some h) n e same = absurd (n h refl)
 
--- ---- what a call leaves that was accepted, or refused
+-- ---- what a call leaves that succeeded, or returned an error
 module _ {A E : Type 0} {P : Type 0} (r : Result A E) (b : Bool) (is : b ≡ is_err r) where
   pub accepted : b ≡ false → OnOk r P → P
   accepted e p = go r (sym is ∙ e) p
@@ -123,7 +123,7 @@ accepted_free r x a o is f = go (is_defined o) refl
     go false e = refl
     go true e = let g = f e in absurd (cc)
 
--- ---- a use, by what a call answered
+-- ---- a use, given what a call returned
 module _ {O B T V : Type 0} {Makes : GraphView (Option O) B T → GraphView (Option O) B T → V → Type 0} (n : ℕ) (v : V) where
   pub uses_known : (ss : List (Scope V)) (g : GraphView (Option O) B T) → option_map value_of (find n (innermost ss)) ≡ Some v → Uses Makes ss ss g g n v
   uses_known ss g e = record { known = λ x f. (some_eq (sym e ∙ ap (option_map value_of) f), refl, refl); unknown = λ f. let k : None ≡ Some v = sym (ap (option_map value_of) f) ∙ e in absurd (cc) }
@@ -131,7 +131,7 @@ module _ {O B T V : Type 0} {Makes : GraphView (Option O) B T → GraphView (Opt
   pub uses_new : (ss ss' : List (Scope V)) (g k : GraphView (Option O) B T) → find n (innermost ss) ≡ None → ss' ≡ in_innermost (mentioned n (Pending v)) ss → Makes g k v → Uses Makes ss ss' g k n v
   uses_new ss ss' g k e f m = record { known = λ x h. absurd (cc); unknown = λ h. (f, m) }
 
--- ---- a refusal that is handed on
+-- ---- an error that is returned by `?`
 pub handed_on : {T E : Type 0} {e : E} (r : Result T E) → IsErrAnd r (λ y. y ≡ e) → r ≡ Err e
 handed_on r h = let p = err_from_is_err_and r h in p.1 ∙ ap Err p.2
 

@@ -1,4 +1,4 @@
--- One name more is defined behind those of a row.
+-- One more name is defined after those of a list.
 use Rattle.std.proofs.Common.{◌≡◌, ◌+◌, ◌∙◌, inl, inr, ℕ, suc, List, [], ◌∷◌, ◌++◌, length, map, Option, Some, refl, sym, ap, subst, arith, true, slice_get}
 use Rattle.std.specs.Option.{option_map}
 use Rattle.irtext_graph.specs.declared.arena.Ptr.{Ptr}
@@ -29,7 +29,7 @@ use Rattle.irtext_names.proofs.Linked.Kept.{made_defined}
 use Rattle.irtext_names.specs.Rows.{AreNamed, AreMadeIn, made_results, DefinesResults, FailsResults}
 use Rattle.irtext_names.proofs.Rows.{run_through, map-through, split, none_behind, rest_fails}
 
--- the definitions of a row's names, of one of them, and of those behind it
+-- the definitions of a list's names, of one of them, and of those after it
 definitions_through : (p : Path) (i : ℕ) (ws : List (Name ℕ)) (w : Name ℕ) (xs : List (Name ℕ))
     → result_definitions p i (ws ++ w ∷ xs) ≡ result_definitions p i ws ++ define_value (word_of w) (result p (i + length ws)) ∷ result_definitions p (suc (i + length ws)) xs
 definitions_through p i [] w xs = ap (λ j. define_value (word_of w) (result p j) ∷ result_definitions p (suc j) xs) (omega arith)
@@ -40,7 +40,7 @@ definitions_first : (p : Path) (ws : List (Name ℕ)) (w : Name ℕ) (xs : List 
     → result_definitions p 0 (ws ++ w ∷ xs) ≡ result_definitions p 0 ws ++ define_value (word_of w) (result p (length ws)) ∷ result_definitions p (suc (length ws)) xs
 definitions_first p ws w xs = definitions_through p 0 ws w xs ∙ ap (λ j. result_definitions p 0 ws ++ define_value (word_of w) (result p j) ∷ result_definitions p (suc j) xs) (omega arith)
 
--- what the machine comes to over them
+-- the outcome of the machine over them
 run_definitions : (p : Path) (st : State) (ws : List (Name ℕ)) (w : Name ℕ) (xs : List (Name ℕ)) → run (going st) (map act (result_definitions p 0 (ws ++ w ∷ xs)))
     ≡ run (next (run (going st) (map act (result_definitions p 0 ws))) (act (define_value (word_of w) (result p (length ws))))) (map act (result_definitions p (suc (length ws)) xs))
 run_definitions p st ws w xs = ap (λ acts. run (going st) (map act acts)) (definitions_first p ws w xs)
@@ -57,7 +57,7 @@ made_here p op i [] n ms known a = subst (λ j. Among (result p j, Result op j) 
 made_here p op i (m ∷ ns) n ms known a = subst (λ j. Among (result p j, Result op j) known.values) (omega arith) (made_here p op (suc i) ns n ms known a.1)
 
 module _ {O B T : Type 0} where
-  -- a definition takes no other value away, and no name comes to wait with one
+  -- a definition removes no other value, and no name begins to wait with one
   pub still_ready : (n : ℕ) (v x : Value) (vs vs' : List (Scope Value)) (ls : List (Scope (Ptr BasicBlock))) (g k : GraphView (Option O) B T) → MatchesGraph vs ls g → Defines OfValue vs vs' g k n v
       → IsDefined g (OfValue x) × IsNoPlaceholder vs x → IsDefined k (OfValue x) × IsNoPlaceholder vs' x
   still_ready n v x vs vs' ls g k t d ready =

@@ -1,4 +1,4 @@
--- One name more is used behind those of a row.
+-- One more name is used after those of a list.
 use Rattle.std.proofs.Common.{◌≡◌, ◌+◌, ◌∙◌, ◌⊎◌, inl, inr, ℕ, suc, List, [], ◌∷◌, ◌++◌, length, map, Option, Some, None, refl, sym, ap, subst, arith, true, append_assoc, append-nil, slice_get}
 use Rattle.irtext_base.specs.Text.{Text}
 use Rattle.irtext_graph.specs.declared.arena.Ptr.{Ptr}
@@ -24,7 +24,7 @@ use Rattle.irtext_names.proofs.SameBut.{was_defined}
 use Rattle.irtext_names.specs.Rows.{AreNamed, uses_from, in_hand_from, TakesUses, UsesRow}
 
 -- ---- lists
--- the events before one, that one, and those behind it
+-- the events before one, that one, and those after it
 pub run_through : (o : Outcome) (es : List Event) (e : Event) (fs : List Event) → run o (es ++ e ∷ fs) ≡ run (next (run o es) e) fs
 run_through o [] e fs = refl
 run_through o (f ∷ es) e fs = run_through (next o f) es e fs
@@ -48,7 +48,7 @@ in_hand_more of user i [] x = ap (λ j. (user j, of x) ∷ []) (omega arith)
 in_hand_more of user i (y ∷ xs) x = ap (λ acts. (user i, of y) ∷ acts) (in_hand_more of user (suc i) xs x
     ∙ ap (λ j. in_hand_from of user (suc i) xs ++ (user j, of x) ∷ []) (omega arith))
 
--- the names of a row, one of them, and those behind it
+-- the names of a list, one of them, and those after it
 pub record Split (table : List Text) (ns : List ℕ) (n : ℕ) (ws : List (Name ℕ)) : Type 0 where
   pub front : List (Name ℕ)
   pub here : Name ℕ
@@ -66,7 +66,7 @@ split table (m ∷ ns) n ms (w ∷ ws) a =
     let s = split table ns n ms ws a.1 in
     record { front = w ∷ s.front; here = s.here; behind = s.behind; whole = ap (λ xs. w ∷ xs) s.whole; are = (a.0, s.are); is = s.is; count = ap suc s.count }
 
--- behind the last name of a row stands none
+-- after the last name of a list there is none
 pub none_behind : (table : List Text) (ns : List ℕ) (n : ℕ) (ws : List (Name ℕ)) (a : AreNamed table (ns ++ n ∷ []) ws) → (split table ns n [] ws a).behind ≡ []
 unfolding split
 none_behind table [] n [] a = absurd a
@@ -128,7 +128,7 @@ module _ {O B T : Type 0} where
         none [] a user i = record { so = λ known held st s. (st, refl, subst (λ xs. StandsAt names g known xs st) (sym (append-nil held)) s) }
         none (w ∷ ws) a user i = absurd a
 
-    -- one more, which is used behind those of a row
+    -- one more, which is used after those of a list
     pub use_more : (ns : List ℕ) (n : ℕ) (old mid new : NameTracker Value (Ptr BasicBlock)) (g h k : GraphView (Option O) B T) (xs : List X) (x : X) → mid.names ≡ old.names
         → UsesRow of uses ns old mid g h xs → ((d : Defined) → IsDefined h d → IsDefined k d) → IsDefined k (of x)
         → ((w : Word) (u : User) → slice_get mid.names n ≡ Some w.name → TakesUse (uses w u) mid new h k u (of x))

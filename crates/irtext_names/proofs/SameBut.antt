@@ -1,9 +1,7 @@
 -- Two graphs that differ in one object alone, and in what operations use.
 use Rattle.std.proofs.Common.{◌≡◌, ◌∙◌, ℕ, refl, sym, ap, subst, List, [], Option, Some, None, IsSome, slice_get}
 use Rattle.std.specs.Option.{option_map}
-use Rattle.irtext_graph.specs.declared.arena.Entry.{Entry}
 use Rattle.irtext_graph.specs.declared.object.BasicBlock.{BasicBlock}
-use Rattle.irtext_graph.specs.declared.object.Region.{Region}
 use Rattle.irtext_graph.specs.declared.object.Operation.{Operation}
 use Rattle.irtext_graph.specs.declared.arena.Ptr.{Ptr}
 use Rattle.irtext_graph.specs.declared.object.Object.{Object}
@@ -11,7 +9,7 @@ use Rattle.irtext_graph.specs.declared.object.Object.TheVariants.{TheOperation, 
 use Rattle.irtext_graph.specs.declared.object.Value.TheVariants.{Result, Argument}
 use Rattle.irtext_graph.specs.declared.object.Defined.{Defined}
 use Rattle.irtext_graph.specs.declared.object.Defined.TheVariants.{OfValue, OfBlock}
-use Rattle.irtext_graph.specs.Content.{Typed, Node, Content, Content.{AnOperation, ABlock, ARegion}, OperationContent, BlockContent}
+use Rattle.irtext_graph.specs.Content.{Typed, Content, Content.{AnOperation, ABlock, ARegion}}
 use Rattle.irtext_graph.specs.Erasing.{without_uses, owner}
 use Rattle.irtext_graph.specs.Graph.{GraphView, content, content_of, parent, children, IsLive}
 use Rattle.irtext_graph.specs.Objects.{is_older}
@@ -44,25 +42,13 @@ module _ {O B T : Type 0} where
   data_in (Some (ARegion b c)) = None
 
   results_are : (g : GraphView O B T) (p : Ptr Operation) → results g p ≡ results_in (option_map without_uses (content g (TheOperation p)))
-  results_are g p = go (get g.operations p)
-    where
-      go : (e : Option (Entry (Node BasicBlock Region (OperationContent O T)))) → results_of (option_map (λ e. e.content.content) e) ≡ results_in (option_map without_uses (option_map (λ d. AnOperation d.0 d.1) (content_of e)))
-      go None = refl
-      go (Some e) = refl
+  results_are g p = elim (get g.operations p) as (λ e. results_of (option_map (λ e. e.content.content) e) ≡ results_in (option_map without_uses (option_map (λ d. AnOperation d.0 d.1) (content_of e)))) [ None ↦ refl | Some e ↦ refl ]
 
   arguments_are : (g : GraphView O B T) (b : Ptr BasicBlock) → arguments g b ≡ arguments_in (option_map without_uses (content g (TheBlock b)))
-  arguments_are g b = go (get g.blocks b)
-    where
-      go : (e : Option (Entry (Node Region Operation (BlockContent B T)))) → arguments_of (option_map (λ e. e.content.content) e) ≡ arguments_in (option_map without_uses (option_map (λ d. ABlock d.0 d.1) (content_of e)))
-      go None = refl
-      go (Some e) = refl
+  arguments_are g b = elim (get g.blocks b) as (λ e. arguments_of (option_map (λ e. e.content.content) e) ≡ arguments_in (option_map without_uses (option_map (λ d. ABlock d.0 d.1) (content_of e)))) [ None ↦ refl | Some e ↦ refl ]
 
   pub data_is : (g : GraphView O B T) (p : Ptr Operation) → option_map (λ c. c.data_of) (operation_at g p) ≡ data_in (option_map without_uses (content g (TheOperation p)))
-  data_is g p = go (get g.operations p)
-    where
-      go : (e : Option (Entry (Node BasicBlock Region (OperationContent O T)))) → option_map (λ c. c.data_of) (option_map (λ e. e.content.content) e) ≡ data_in (option_map without_uses (option_map (λ d. AnOperation d.0 d.1) (content_of e)))
-      go None = refl
-      go (Some e) = refl
+  data_is g p = elim (get g.operations p) as (λ e. option_map (λ c. c.data_of) (option_map (λ e. e.content.content) e) ≡ data_in (option_map without_uses (option_map (λ d. AnOperation d.0 d.1) (content_of e)))) [ None ↦ refl | Some e ↦ refl ]
 
   age_bare : (m : ℕ) (c : Option (Content O B T)) → is_older m c ≡ is_older m (option_map without_uses c)
   age_bare m None = refl
@@ -99,7 +85,7 @@ module _ {O B T : Type 0} where
   same_blank g k (OfValue (Argument c i)) e f b = b
   same_blank g k (OfBlock c) e f b = f ∙ b
 
-  -- each object but this one is as it was, but for what it uses; this one is gone
+  -- each object but this one is unchanged, except for what it uses; this one is erased
   pub record SameBut (g k : GraphView (Option O) B T) (o : Option Object) : Type 0 where
     pub contents : (q : Object) → (o ≡ Some q → ⊥) → option_map without_uses (content k q) ≡ option_map without_uses (content g q)
     pub parents : (q : Object) → (o ≡ Some q → ⊥) → parent k q ≡ parent g q
@@ -109,7 +95,7 @@ module _ {O B T : Type 0} where
   pub same_self : (g : GraphView (Option O) B T) → SameBut g g None
   same_self g = record { contents = λ q n. refl; parents = λ q n. refl; lists = λ q n. refl; gone = λ q e. cc }
 
-  -- nothing is gone, and then one object
+  -- nothing is erased, and then one object
   pub same_then : {g k h : GraphView (Option O) B T} {o : Option Object} → SameBut g k None → SameBut k h o → SameBut g h o
   same_then s t = record {
     contents = λ q n. t.contents q n ∙ s.contents q (λ e. cc);

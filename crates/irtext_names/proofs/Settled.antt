@@ -2,7 +2,6 @@
 use Rattle.std.proofs.Common.{◌≡◌, ◌≢◌, ◌∙◌, ℕ, zero, refl, sym, ap, subst, Bool, true, false, cond, map, Option, Some, None, slice_get}
 use Rattle.std.specs.Option.{option_map}
 use Rattle.irtext_graph.specs.declared.arena.Entry.{Entry}
-use Rattle.irtext_graph.specs.declared.arena.Ptr.{Ptr}
 use Rattle.irtext_graph.specs.declared.object.BasicBlock.{BasicBlock}
 use Rattle.irtext_graph.specs.declared.object.Region.{Region}
 use Rattle.irtext_graph.specs.declared.object.Object.{Object}
@@ -32,32 +31,25 @@ use Rattle.irtext_names.specs.Placeholders.{IsPlaceholder, Settles, SettlesIfAny
 use Rattle.irtext_names.proofs.SameBut.{SameBut, same_self, same_then, still_placeholder}
 use Rattle.irtext_names.proofs.Loses.{Loses, loses, loses_none}
 
+-- a name for something is of one thing
+named_one : {A : Type 0} (f : A → Defined) (o : Option A) (d : Defined) → option_map f o ≡ Some d → (a : A) × (o ≡ Some a) × (d ≡ f a)
+named_one f None d e = absurd (cc)
+named_one f (Some a) d e = (a, refl, sym (some_eq e))
+
 module _ {O B T : Type 0} where
   -- what is seen of an object in a graph without uses
   bare_content : (g : GraphView O B T) (q : Object) → option_map without_uses (content g q) ≡ option_map without_uses (content (used.without_uses g) q)
-  bare_content g (TheOperation p) = go (get g.operations p) ∙ sym (ap (λ e. option_map without_uses (option_map (λ d. AnOperation d.0 d.1) (content_of e))) (get_mapped used.without_uses_in g.operations p))
-    where
-      go : (e : Option (Entry (Node BasicBlock Region (OperationContent O T)))) → option_map (without_uses {O = O} {B = B}) (option_map (λ d. AnOperation d.0 d.1) (content_of e)) ≡ option_map without_uses (option_map (λ d. AnOperation d.0 d.1) (content_of (option_map (object_of used.without_uses_in) e)))
-      go None = refl
-      go (Some e) = refl
+  bare_content g (TheOperation p) = (elim (get g.operations p) as (λ e. option_map (without_uses {O = O} {B = B}) (option_map (λ d. AnOperation d.0 d.1) (content_of e)) ≡ option_map without_uses (option_map (λ d. AnOperation d.0 d.1) (content_of (option_map (object_of used.without_uses_in) e)))) [ None ↦ refl | Some e ↦ refl ]) ∙ sym (ap (λ e. option_map without_uses (option_map (λ d. AnOperation d.0 d.1) (content_of e))) (get_mapped used.without_uses_in g.operations p))
   bare_content g (TheBlock b) = refl
   bare_content g (TheRegion r) = refl
 
   bare_parent : (g : GraphView O B T) (q : Object) → parent g q ≡ parent (used.without_uses g) q
-  bare_parent g (TheOperation p) = go (get g.operations p) ∙ sym (ap (λ e. option_map TheBlock (parent_of e)) (get_mapped used.without_uses_in g.operations p))
-    where
-      go : (e : Option (Entry (Node BasicBlock Region (OperationContent O T)))) → option_map TheBlock (parent_of e) ≡ option_map TheBlock (parent_of (option_map (object_of used.without_uses_in) e))
-      go None = refl
-      go (Some e) = refl
+  bare_parent g (TheOperation p) = (elim (get g.operations p) as (λ e. option_map TheBlock (parent_of e) ≡ option_map TheBlock (parent_of (option_map (object_of used.without_uses_in) e))) [ None ↦ refl | Some e ↦ refl ]) ∙ sym (ap (λ e. option_map TheBlock (parent_of e)) (get_mapped used.without_uses_in g.operations p))
   bare_parent g (TheBlock b) = refl
   bare_parent g (TheRegion r) = refl
 
   bare_children : (g : GraphView O B T) (q : Object) → children g q ≡ children (used.without_uses g) q
-  bare_children g (TheOperation p) = go (get g.operations p) ∙ sym (ap (λ e. map TheRegion (children_of e)) (get_mapped used.without_uses_in g.operations p))
-    where
-      go : (e : Option (Entry (Node BasicBlock Region (OperationContent O T)))) → map TheRegion (children_of e) ≡ map TheRegion (children_of (option_map (object_of used.without_uses_in) e))
-      go None = refl
-      go (Some e) = refl
+  bare_children g (TheOperation p) = (elim (get g.operations p) as (λ e. map TheRegion (children_of e) ≡ map TheRegion (children_of (option_map (object_of used.without_uses_in) e))) [ None ↦ refl | Some e ↦ refl ]) ∙ sym (ap (λ e. map TheRegion (children_of e)) (get_mapped used.without_uses_in g.operations p))
   bare_children g (TheBlock b) = refl
   bare_children g (TheRegion r) = refl
 
@@ -78,26 +70,18 @@ module _ {O B T : Type 0} where
   pub unused_below : (m : ℕ) (g : GraphView O B T) (d : Defined) → IsClosedBelow m g → IsNew m g (owner d) → IsUnusedBelow m g d
   unused_below m g d c new (AtOperand p i) e = go (get g.operations p) refl e
     where
+      same_owner : (v : Value) → owner (OfValue v) ≡ back.owner v
+      same_owner (Result q j) = refl
+      same_owner (Argument q j) = refl
+
       go : (s : Option (Entry (Node BasicBlock Region (OperationContent O T)))) → get g.operations p ≡ s → option_map OfValue (slice_get (operands_of (option_map (λ e. e.content.content) s)) i) ≡ Some d → IsNew m g (TheOperation p)
       go None is f = absurd (cc)
-      go (Some s) is f = value (slice_get s.content.content.operands i) refl f
-        where
-          value : (o : Option Value) → slice_get s.content.content.operands i ≡ o → option_map OfValue o ≡ Some d → IsNew m g (TheOperation p)
-          value None at f = absurd (cc)
-          value (Some v) at f = c.operands p i v (ap (λ e. slice_get (back.operands_of e) i) is ∙ at) (rw (← same_owner v) (subst (λ x. IsNew m g (owner x)) (sym (some_eq f)) new))
-            where
-              same_owner : (v : Value) → owner (OfValue v) ≡ back.owner v
-              same_owner (Result q j) = refl
-              same_owner (Argument q j) = refl
+      go (Some s) is f = let n = named_one OfValue (slice_get s.content.content.operands i) d f in c.operands p i n.0 (ap (λ e. slice_get (back.operands_of e) i) is ∙ n.1) (rw (← same_owner n.0) (subst (λ x. IsNew m g (owner x)) n.2 new))
   unused_below m g d c new (AtSuccessor p i) e = go (get g.operations p) refl e
     where
       go : (s : Option (Entry (Node BasicBlock Region (OperationContent O T)))) → get g.operations p ≡ s → option_map OfBlock (slice_get (successors_of (option_map (λ e. e.content.content) s)) i) ≡ Some d → IsNew m g (TheOperation p)
       go None is f = absurd (cc)
-      go (Some s) is f = block (slice_get s.content.content.successors i) refl f
-        where
-          block : (o : Option (Ptr BasicBlock)) → slice_get s.content.content.successors i ≡ o → option_map OfBlock o ≡ Some d → IsNew m g (TheOperation p)
-          block None at f = absurd (cc)
-          block (Some b) at f = c.successors p i b (ap (λ e. slice_get (back.successors_of e) i) is ∙ at) (subst (λ x. IsNew m g (owner x)) (sym (some_eq f)) new)
+      go (Some s) is f = let n = named_one OfBlock (slice_get s.content.content.successors i) d f in c.successors p i n.0 (ap (λ e. slice_get (back.successors_of e) i) is ∙ n.1) (subst (λ x. IsNew m g (owner x)) n.2 new)
 
 module _ {O B T : Type 0} where
   pub replaced_same : {g k : GraphView (Option O) B T} {d e : Defined} → Replaces g k d e → SameBut g k None
@@ -127,11 +111,11 @@ module _ {O B T : Type 0} where
       let same : x ≡ d = p.alone x (there u x is) (alone nested (owner d) (owner x) p.empty inside) in
       absurd (none u (rw (← same) is))
 
-  -- only a placeholder itself stands in it
+  -- only a placeholder itself is inside it
   pub inside_itself : {g : GraphView (Option O) B T} {d : Defined} → IsPlaceholder g d → Nested (children g) (parent g) → (q : Object) → IsInside g (owner d) q → q ≡ owner d
   inside_itself {g} {d} p nested q w = alone nested (owner d) q p.empty w
 
-  -- what goes with a placeholder is as old as it is
+  -- what is erased with a placeholder is as old as the placeholder
   pub goes_alone : {g : GraphView (Option O) B T} {d : Defined} (o : Object) → o ≡ owner d → IsPlaceholder g d → Nested (children g) (parent g) → (m : ℕ) → IsNew m g (owner d)
       → ((q : Object) → IsInside g o q → IsNew m g q) × ((k : Object) → parent g o ≡ Some k → IsNew m g k)
   goes_alone {g} {d} o same p nested m new =

@@ -16,7 +16,7 @@ use Rattle.irtext_names.proofs.Entries.{entry_mentioned, entry_stays_mentioned, 
 use Rattle.irtext_names.proofs.Loses.{Loses}
 
 module _ {O B T V : Type 0} (of : V → Defined) where
-  -- names keep their ties where nothing that one of them stands for is lost
+  -- names still match the graph if nothing that one of them refers to is lost
   pub tied_kept : {g k : GraphView (Option O) B T} {o : Option Defined} (ss : List (Scope V)) → Tied of ss g → Loses g k o → ((v : V) → IsDefined g (of v) → o ≡ Some (of v) → ⊥) → Tied of ss k
   tied_kept ss t l apart = record {
     there = λ i n e f. let d = t.there i n e f in l.there (of (value_of e)) d (apart (value_of e) d);

@@ -43,8 +43,8 @@ pub fn process_parsed_ssa_defs<N: Named, O: Drop, B: Drop, T: Drop>(
         → FailsResults op (map N.numbered defined.now) undefined.index names.old graph.old) }
     ensures within { IfErr result (λ undefined. undefined.index < length defined.now) }
     ensures open { is_open names.new.values ≡ true }
-    ensures rest { (names.new.names ≡ names.old.names) × (names.new.labels ≡ names.old.labels) }
     ensures tied { MatchesGraph names.new.values names.new.labels graph.new }
+    ensures rest { (names.new.names ≡ names.old.names) × (names.new.labels ≡ names.old.labels) }
     ensures waiting { (m : ℕ) (own : List (Ptr BasicBlock))
         → ArePending m own names.old.values names.old.labels graph.old → ArePending m own names.new.values names.new.labels graph.new }
     ensures kept { (m : ℕ) (own : List (Ptr BasicBlock)) → IsClosedBelow m graph.old

@@ -61,11 +61,11 @@ pub fn block_opds<N: Named, O: Drop, A: Drop, T: Drop>(
     ensures uses { OnOk result ((more : List (Ptr BasicBlock)) × (blocks.new.items ≡ blocks.old.items ++ more)
         × UsesRow OfBlock use_label (map N.numbered used.now) names.old names.new graph.old graph.new more) }
     ensures open { is_open names.new.labels ≡ true }
-    ensures rest { (names.new.names ≡ names.old.names) × (names.new.values ≡ names.old.values) }
-    ensures tied { MatchesGraph names.new.values names.new.labels graph.new }
+    ensures kept { (m : ℕ) → m ≤ graph.old.made → KeepsOlder m graph.old graph.new }
     ensures waiting { (m : ℕ) (own : List (Ptr BasicBlock)) → m ≤ graph.old.made
         → ArePending m own names.old.values names.old.labels graph.old → ArePending m own names.new.values names.new.labels graph.new }
-    ensures kept { (m : ℕ) → m ≤ graph.old.made → KeepsOlder m graph.old graph.new }
+    ensures tied { MatchesGraph names.new.values names.new.labels graph.new }
+    ensures rest { (names.new.names ≡ names.old.names) × (names.new.values ≡ names.old.values) }
 {
     for name in used {
         let value = BlockData::blank(graph.allocator());

@@ -1,5 +1,5 @@
--- What stands while an operation is made of what its front came to.
-use Rattle.std.proofs.Common.{Result, Ok, Err, IfOk, OnOk, slice_get, ◌≡◌, ◌≤◌, ◌∙◌, ℕ, List, Option, Some, None, sym, ap, subst, arith}
+-- What stays live while an operation is made of what its front was parsed as.
+use Rattle.std.proofs.Common.{Result, Ok, Err, IfOk, OnOk, slice_get, ◌≡◌, ◌≤◌, ◌∙◌, ◌++◌, ℕ, List, [], length, Option, Some, None, refl, sym, ap, subst, arith}
 use Rattle.std.specs.Prelude.{IfSome}
 use Rattle.irtext_context.specs.Context.{ContextView, MakesOperation, KeepsOlder, with_graph}
 use Rattle.irtext_context.specs.declared.base.operation.OperationData.{OperationData}
@@ -13,12 +13,15 @@ use Rattle.irtext_graph.specs.declared.object.Operation.{Operation}
 use Rattle.irtext_graph.specs.declared.object.Object.TheVariants.{TheBlock, TheOperation}
 use Rattle.irtext_graph.specs.declared.object.Value.{Value}
 use Rattle.irtext_parse_spec.specs.Unchanged.{IsThere}
-use Rattle.irtext_parse_nested.specs.Gathered.{KeepsScopes}
+use Rattle.irtext_grammar.specs.Grammar.Tree.{in_order}
+use Rattle.irtext_parse_nested.specs.declared.operation_parts.Gathered.{Gathered}
+use Rattle.irtext_parse_nested.specs.Beginning.{types_made}
+use Rattle.irtext_parse_nested.specs.Gathered.{KeepsScopes, IsNothing}
 use Rattle.irtext_parse_nested.specs.Items.{Names, KeepsLive}
 use Rattle.irtext_parse_nested.proofs.Lasting.{block_stands}
 use Rattle.irtext_parse_nested.proofs.UsedStands.{lasts_then, used_lasts, made_lasts, made_new}
 
--- what is said of an answer and of what it left
+-- what holds of a result, and of the state that the call left
 pub if_ok_both : {X E : Type 0} {P R : X → Type 0} {Q : Type 0} (r : Result X E) → ((x : X) → P x → Q → R x) → IfOk r P → OnOk r Q → IfOk r R
 if_ok_both (Ok x) f p q = f x p q
 if_ok_both (Err e) f p q = tt
@@ -57,7 +60,7 @@ module _ {T A : Type 0} (old used : ContextView T A) (before names : Names) (all
     lasts_here : KeepsLive old made
     lasts_here = lasts_then old used made lasts_used (made_lasts used made op held types makes)
 
-    -- the block stands where it stood
+    -- the block is still live
     pub block_there : (o : Option (Ptr BasicBlock)) → IfSome o (λ k. IsThere old (TheBlock k)) → IfSome o (λ k. IsLive made.graph (TheBlock k))
     block_there None there = tt
     block_there (Some k) there = block_stands made k (lasts_here.blocks k there.0 there.1).0
@@ -70,3 +73,12 @@ module _ {T A : Type 0} (old used : ContextView T A) (before names : Names) (all
     pub keeps_placed : (new : ContextView T A) (o : Option (Ptr BasicBlock)) (m : ℕ) → m ≤ old.graph.made → IfSome o (λ b. IsNew m old.graph (TheBlock b)) → KeepsOlder m used made
         → (IfSome o (λ b. IsNew m made.graph (TheBlock b)) → IsNew m made.graph (TheOperation op) → KeepsOlder m made new) → KeepsOlder m old new
     keeps_placed new o m le n k f = keeps_then m old used new (keeps_used m le) (keeps_then m used made new k (f (block_newer m le o n) (made_new used made op held types makes m (used_more m le))))
+
+module _ {T A : Type 0} where
+  -- what was made of nothing has no results, operands and successors
+  pub bare_makes : (old made : ContextView T A) (op : Ptr Operation) (held : OperationData A) (x : Gathered T A) → IsNothing x → MakesOperation old made op held [] [] []
+      → MakesOperation old made op held (types_made x.types.items x.listed) (in_order x.operands.single.items ++ x.operands.list.items) (in_order x.successors.single.items ++ x.successors.list.items)
+  bare_makes old made op held x n k = rw (n.types.0, n.types.1, n.operands.0, n.operands.1, n.successors.0, n.successors.1) k
+
+  pub bare_count : (x : Gathered T A) → IsNothing x → 0 ≡ length (types_made x.types.items x.listed)
+  bare_count x n = rw (n.types.0, n.types.1) refl

@@ -1,4 +1,4 @@
--- What is in hand when all pieces were gathered, and an operation that takes it and comes last into its block.
+-- What is in hand when all pieces are gathered, and an operation that uses it and is appended to its block.
 use Rattle.std.proofs.Common.{◌≡◌, ◌≢◌, ◌+◌, ◌∙◌, inl, inr, ℕ, zero, suc, true, List, [], ◌∷◌, ◌++◌, length, map, flat_map, slice_get, true≢false, Option, Some, None, IsSome, refl, sym, ap, subst, arith, append-nil}
 use Rattle.std.specs.Prelude.{⊤}
 use Rattle.std.specs.Option.{option_map}
@@ -52,7 +52,7 @@ got_behind [] ys n j e = let m : n + j ≡ j = omega (arith, e) in ap (slice_get
 got_behind (x ∷ xs) ys zero j e = absurd (omega (arith, e))
 got_behind (x ∷ xs) ys (suc n) j e = let m : suc n + j ≡ suc (n + j) = omega arith in ap (slice_get (x ∷ (xs ++ ys))) m ∙ got_behind xs ys n j (omega (arith, e))
 
--- ---- what is in hand stands at its place
+-- ---- each use in hand is at its place in the lists
 module _ {X : Type 0} (of : X → Defined) (user : ℕ → User) (single : List (ℕ × X)) (list : List X) (places : are_places (firsts single) ≡ true) where
   among_owned : (es : List (ℕ × X)) (i : ℕ) (x : X) → Among {U = ℕ × X} (i, x) es → In (user i, of x) (flat_map (own of user) es)
   among_owned [] i x a = absurd a
@@ -67,7 +67,7 @@ module _ {X : Type 0} (of : X → Defined) (user : ℕ → User) (single : List 
       (r.0, r.1, eu ∙ (r.3 ∙ ap user m), ed ∙ r.4, got_front (in_order single) list r.0 r.1 r.2)
   hand_place k e u d (inr (j, x, eu, ed, f)) = (k + j, x, eu, ed, got_behind (in_order single) list k j (e ∙ sym (in_order_length single places)) ∙ f)
 
--- all that is in hand is so of the operation with these operands and successors
+-- all uses in hand are those of the operation with these operands and successors
 pub hands_held : (p : Path) (k l : ℕ) (vs : Placed Value) (bs : Placed (Ptr BasicBlock)) (held : List (User × Defined)) → k ≡ length vs.single.items → l ≡ length bs.single.items
     → are_places (firsts vs.single.items) ≡ true → are_places (firsts bs.single.items) ≡ true → AreInHand p k l vs bs held
     → AreHeldBy p (in_order vs.single.items ++ vs.list.items) (in_order bs.single.items ++ bs.list.items) held
@@ -127,7 +127,7 @@ marks_stay (a ∷ acts) st next h e = go (act_failures (scopes_of st) a) e (mark
     go [] f ih = ih f ∙ (ap (λ z. st.marks ++ z) h.0 ∙ append-nil st.marks)
     go (x ∷ xs) f ih = absurd (let none : failed x ≡ going next = sym (rest_fails x (map act acts)) ∙ f in cc)
 
--- ---- an operation came last into a block
+-- ---- an operation was appended to a block
 module _ {O B T : Type 0} {g h : GraphView (Option O) B T} (b : Ptr BasicBlock) (op : Ptr Operation) (a : Appends g h (TheBlock b) (TheOperation op)) (x : O)
     (has : option_map (λ c. c.data_of) (operation_at g op) ≡ Some (Some x)) (inside : IsSome (parent g (TheBlock b))) where
   value_apart : (v : Value) → IsPlaceholder g (OfValue v) → (owner (OfValue v) ≢ TheBlock b) × (owner (OfValue v) ≢ TheOperation op)

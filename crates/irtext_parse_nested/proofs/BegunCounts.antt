@@ -1,4 +1,4 @@
--- How many operands and successors the whole body of an operation names: as many as were used of the pieces in front of its first region.
+-- How many operands and successors the whole body of an operation names: as many as were used by the pieces before its first region.
 use Rattle.std.proofs.Common.{◌≡◌, ◌∙◌, ◌+◌, ℕ, suc, Bool, List, [], ◌∷◌, ◌++◌, length, map, flat_map, Some, refl, sym, ap, ap₂, subst, arith, append-nil, length-append}
 use Rattle.irtext_base.specs.Text.{Text}
 use Rattle.irtext_base.specs.Format as format
@@ -21,7 +21,7 @@ use Rattle.irtext_parse_nested.proofs.BegunParts.{views_both, views_pieces, behi
 use Rattle.irtext_parse_nested.proofs.Faults.{each_length}
 use Rattle.irtext_parse_nested.proofs.StepParts.{AreOfSteps, shown_by_steps, operand_shown, operand_step, successor_shown, successor_step, operand_agrees, successor_agrees}
 
--- parts of steps that read no name show none
+-- parts of steps that parse no name show none
 module _ {T A X : Type 0} (G : Piece ℕ T A → List X) (quiet : (q : Piece ℕ T A) (d : Directive) → directive_of_piece q ≡ Some d → (WritesNamesOrType d → ⊥) → G q ≡ []) where
   later_quiet : (ss : List Step) (later : List (Part ℕ T A)) → ReadNeither ss → ArePartsOf ss later → views G later ≡ []
   later_quiet [] [] n a = refl

@@ -1,5 +1,5 @@
--- What was read in front of an operation's first region: what its pieces show, which can be gathered, and which types and attributes its
--- body has.
+-- What was parsed before an operation's first region: what its pieces show, which of them can be gathered, and which types and attributes
+-- its body has.
 use Rattle.std.proofs.Common.{◌≡◌, ◌∙◌, ◌+◌, ◌<◌, ℕ, zero, suc, Bool, true, false, not, nat_lt, List, [], ◌∷◌, ◌++◌, drop, length, map, flat_map, slice_get, Some, None, refl, sym, ap, ap₂, subst, arith, true≢false, append-nil, append_assoc, length-append, ltb-true}
 use Rattle.std.specs.List.{All, list_all}
 use Rattle.irtext_base.specs.Text.{Text}
@@ -32,7 +32,7 @@ use Rattle.irtext_parse_nested.proofs.Gathers.{map_both, none_left}
 use Rattle.irtext_parse_nested.proofs.StepParts.{AreOfSteps, shown_by_steps, operand_shown, operand_step, successor_shown, successor_step, operands_shown, operands_step, successors_shown, successors_step, types_shown, types_step, operand_agrees, successor_agrees, operands_agree, successors_agree, types_agree, is_early, front_operand_places, front_successor_places, front_operands, front_successors, marked, accepted_places}
 
 -- ---- steps
--- the steps from the first region on stand behind those in front of it
+-- the steps from the first region on follow those before it
 pub steps_behind : (ss : List Step) → region_steps ss ≡ drop (length (front_steps ss)) ss
 steps_behind [] = refl
 steps_behind (flat d ∷ ss) = steps_behind ss
@@ -68,7 +68,7 @@ custom_neither (format.dictionary ∷ ds) e = custom_neither ds e
 custom_neither (format.result_type i ∷ ds) e = custom_neither ds e
 custom_neither (format.header ∷ ds) e = custom_neither ds e
 
--- from the first region on no step of an accepted format reads a name or a type
+-- from the first region on no step of an accepted format parses a name or a type
 pub behind_neither : (f : Format) → Accepted f → ReadNeither (region_steps (steps_of f))
 behind_neither format.canonical a = (tt, tt)
 behind_neither (format.custom ds) a = custom_neither ds (accepted_places ds a).behind
@@ -117,7 +117,7 @@ module _ {T A : Type 0} where
   counted (tree.result_type i t ∷ ps) = counted ps
   counted (tree.header n ∷ ps) = counted ps
 
--- no list of types is read by a directive
+-- no list of types is parsed by a directive
 untyped_front : (ds : List Directive) → flat_map types_step (front_steps (map step_of ds)) ≡ []
 untyped_front [] = refl
 untyped_front (format.region i ∷ ds) = refl
@@ -132,7 +132,7 @@ untyped_front (format.dictionary ∷ ds) = untyped_front ds
 untyped_front (format.result_type i ∷ ds) = untyped_front ds
 untyped_front (format.header ∷ ds) = untyped_front ds
 
--- ---- parts of lists, and what was read of them
+-- ---- parts of lists, and what was parsed for them
 -- ---- which can be gathered
 below_of : (ns : List Text) (i : ℕ) (t : Text) → slice_get ns i ≡ Some t → i < length ns
 below_of [] zero t e = absurd (cc)
@@ -168,7 +168,7 @@ numbers_known names text (n ∷ ns) (m ∷ ms) e = (below_of names n.name m.text
 same_step : {X : Type 0} (test : Step → X) (d e : Directive) → Some d ≡ Some e → test (flat d) ≡ test (flat e)
 same_step test d e f = let g : d ≡ e = cc f in ap (λ z. test (flat z)) g
 
--- ---- what was read shows what the parts show
+-- ---- what was parsed shows what the parts show
 module _ {T A : Type 0} (names : List Text) (text : Text) where
   module _ {X : Type 0} (F : ReadPiece T A → List X) (G : Piece ℕ T A → List X) (agree : (r : ReadPiece T A) (p : Piece ℕ T A) → IsPiece names text r p → F r ≡ G p) where
     pub seen_alike : (rs : List (ReadPiece T A)) (ps : List (Piece ℕ T A)) → Each (IsPiece names text) rs ps → flat_map F rs ≡ flat_map G ps
@@ -318,7 +318,7 @@ module _ {T A : Type 0} (names : List Text) (text : Text) where
   successors_once (read.Header s ∷ rs) (p ∷ ps) e l = successors_once rs ps e.1 (few_behind (successors_shown p) (flat_map successors_shown ps) l)
   successors_once (read.Types ts ∷ rs) (p ∷ ps) e l = successors_once rs ps e.1 (few_behind (successors_shown p) (flat_map successors_shown ps) l)
 
--- ---- a step reads what it shows
+-- ---- a step parses what it shows
 -- the step is no type of a result, no list of types, or no attribute and no symbol
 abbrev pub is_untyped : Step → Bool
 is_untyped (flat (format.result_type i)) = false
@@ -416,7 +416,7 @@ module _ {T A : Type 0} where
   all_more p ps h k zero d l = h
   all_more p ps h k (suc i) d l = k i d (omega (arith, l))
 
-  -- parts of steps that read no name and no type give no result its type
+  -- parts of steps that parse no name and no type give no result its type
   pub later_untyped : (ss : List Step) (later : List (Part ℕ T A)) → ReadNeither ss → ArePartsOf ss later → All HasNoType later
   later_untyped [] [] n a = λ i d l. absurd (omega (arith, l))
   later_untyped (s ∷ ss) [] n a = absurd a
@@ -460,7 +460,7 @@ module _ {T A : Type 0} where
   none_listed (tree.piece (tree.header n) ∷ ps) h = none_listed ps (all_behind (tree.piece (tree.header n)) ps h)
 
 -- ---- bodies
--- the types that were made are those by their places where no list came, and else the last list
+-- the types that were made are those by their places if no list was parsed, and otherwise the last list
 made_placed : {T : Type 0} (typed : List (ℕ × T)) (listed : List T) → listed ≡ [] → in_order typed ≡ types_made typed listed
 made_placed [] listed e = sym e
 made_placed (t ∷ ts) listed e = refl
@@ -481,7 +481,7 @@ canonical_stores [] ps e = absurd (omega (arith, e))
 canonical_stores (xs ∷ []) ps e = absurd (omega (arith, e))
 canonical_stores (xs ∷ ys ∷ ls) ps e = append-nil (map plain_entry (views entries_shown ps))
 
--- behind the regions of the body that any operation can have nothing comes
+-- nothing follows the regions of the body that any operation can have
 pub only_regions : {T A : Type 0} (later : List (Part ℕ T A)) → ArePartsOf (all ∷ []) later → later ≡ tree.regions ∷ []
 only_regions [] a = absurd a
 only_regions (tree.regions ∷ []) a = refl

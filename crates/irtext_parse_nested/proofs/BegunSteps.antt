@@ -1,4 +1,4 @@
--- What an operation that was begun has so far, as its steps are read, and at its end.
+-- What an operation that was begun has so far, as its steps are parsed, and at its end.
 use Rattle.std.proofs.Common.{◌≡◌, ◌∙◌, ℕ, List, [], ◌∷◌, ◌++◌, length, Option, refl, sym, ap, subst, append_assoc}
 use Rattle.irtext_base.specs.Text.{Text}
 use Rattle.irtext_base.specs.Format.{Format, Id}
@@ -12,7 +12,7 @@ use Rattle.irtext_parse_spec.specs.Unchanged.{OwnSoFar}
 use Rattle.irtext_parse_nested.specs.Beginning.{HasBegun, IsPartOf, ArePartsOf}
 use Rattle.irtext_parse_nested.proofs.BegunParts.{views_both}
 
--- entries that are put behind others
+-- entries that are put in after others
 put_both : {V : Type 0} (ds es cs : List (Text × V)) → put_all es (ds ++ cs) ≡ put_all (put_all es ds) cs
 put_both [] es cs = refl
 put_both (d ∷ ds) es cs = put_both ds (put d es) cs
@@ -22,7 +22,7 @@ abbrev pub with_entries : {T A : Type 0} → OwnSoFar T A → List (Text × Attr
 with_entries own es = record { place = own.place; id = own.id; operands = own.operands; successors = own.successors; types = own.types; entries = es }
 
 module _ {T A : Type 0} (formats : Id → Option Format) (o : OpenOperation T A) (own : OwnSoFar T A) (h : HasBegun formats o own) where
-  -- ---- one more step was read
+  -- ---- one more step was parsed
   module _ (s : Step) (ss : List Step) (steps : o.steps ≡ s ∷ ss) (part : Part ℕ T A) (is : IsPartOf s part) where
     behind : (later : List (Part ℕ T A)) → ArePartsOf ss later → ArePartsOf o.steps (part ∷ later)
     behind later a = subst (λ zs. ArePartsOf zs (part ∷ later)) (sym steps) (is, a)

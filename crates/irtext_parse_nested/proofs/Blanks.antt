@@ -34,7 +34,7 @@ module _ {T A : Type 0} where
       go None e = absurd (cc)
       go (Some e) f = (refl, unseen (view_of e.content.content.results e.content.children) e.content.content.data_of f)
 
-  -- what is there and of which nothing is seen has no data
+  -- a live operation without a view has no data
   unseen_blank : (c : ContextView T A) (p : Ptr Operation) → IsSome (get c.graph.operations p) → operation c p ≡ None → option_map (λ c. c.data_of) (operation_at c.graph p) ≡ Some None
   unseen_blank c p i h = go (get c.graph.operations p) i h
     where
@@ -46,11 +46,11 @@ module _ {T A : Type 0} where
       go None i e = absurd (cc)
       go (Some e) i f = none (view_of e.content.content.results e.content.children) e.content.content.data_of f
 
-  -- what is so of a graph is so of a context
+  -- what holds of a graph holds of a context
   pub blanks_on : (old new : ContextView T A) → ((m : ℕ) → BlanksHaveResults m old.graph → BlanksHaveResults m new.graph) → (m : ℕ) → BlanksDefine m old → BlanksDefine m new
   blanks_on old new keeps m h p i e n = keeps m (λ q b new. let u = blank_there old q b in h q u.0 u.1 new) p (unseen_blank new p i e) n
 
--- what is sound is so where nothing but placeholders is lost
+-- what is sound is still sound if only placeholders are lost
 pub loses_sound : {T A U : Type 0} (names new : Names) (s z : code.State T A U) → LosesPlaceholders s.ctx.now.graph z.ctx.now.graph → MatchesGraph new.values new.labels z.ctx.now.graph → (m : ℕ)
     → (ArePending m [] names.values names.labels s.ctx.now.graph → ArePending m [] new.values new.labels z.ctx.now.graph) → IsSound m names s → IsSound m new z
 loses_sound names new s z loses tied m waits h = record { tied = tied; waiting = waits h.waiting; blanks = blanks_on s.ctx.now z.ctx.now loses.blanks m h.blanks }

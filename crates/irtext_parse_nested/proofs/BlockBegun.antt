@@ -1,4 +1,4 @@
--- A block that was begun, as what is open sees it: it came last into its region, with its header, and all else is as it was.
+-- A block that was begun, as seen from the open frames: it was appended to its region, with its header, and all else is unchanged.
 use Rattle.std.proofs.Common.{◌≡◌, ◌≤◌, ◌∙◌, inl, inr, ℕ, List, [], ◌∷◌, ◌++◌, map, length, Option, Some, None, IsSome, option_map, arith, refl, sym, ap, ap₂, subst}
 use Rattle.irtext_base.specs.Text.{Text}
 use Rattle.irtext_base.specs.declared.base.attributes.AttrObj.{AttrObj}
@@ -91,7 +91,7 @@ module _ {T A : Type 0} (old mid : ContextView T A) (r : Ptr Region) (b : Ptr Ba
   was_new : IsThere old (TheBlock b) → ⊥
   was_new = block_was_new (λ n l. Unit {0}) old p.between mid r b held types p.makes p.appends
 
-  -- what is open lasts
+  -- the open objects are still live
   pub placed_lasts : KeepsLive old mid
   placed_lasts = record {
     operations = λ q h. subst IsSome (sym (placed_spares.spared (TheOperation q) h (λ i. elim i [ inl e ↦ cc e | inr j ↦ elim j [ inl f ↦ cc f | inr k ↦ k ] ])).0) h;
@@ -99,7 +99,7 @@ module _ {T A : Type 0} (old mid : ContextView T A) (r : Ptr Region) (b : Ptr Ba
     blocks = λ d h i. let s = placed_spares.spared (TheBlock d) (h, i) (λ j. elim j [ inl e ↦ was_new (subst (IsThere old) e (h, i)) | inr k ↦ elim k [ inl f ↦ cc f | inr m ↦ m ] ]) in (subst IsSome (sym s.0) h, s.1);
     regions = λ q h. subst IsSome (sym (content_same (TheRegion q) (λ e. cc))) h;
     newer = still_new;
-    made = let e = p.makes.graph.made in let f = p.appends.objects.made in omega (arith, e, f);
+    made = let e = p.makes.graph.made in let f = p.appends.objects.rest.made in omega (arith, e, f);
     dialects = p.dialects;
   }
 

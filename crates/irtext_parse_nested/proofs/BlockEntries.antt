@@ -29,11 +29,11 @@ never_both true = refl
 never_both false = refl
 
 module _ {A : Type 0} where
-  -- no attribute may stand under the key of a label
+  -- no attribute is allowed under the key of a label
   pub label_forbidden : (e : Key × AttrObj A) → same_text e.0.name block_label_key ≡ true → Forbids block_may_hold (e ∷ []) (refusal.ReservedKey e.0)
   label_forbidden e is = inl (ap (λ c. may_hold e.0.name (attribute_of e.1) && not c) is ∙ never_both (may_hold e.0.name (attribute_of e.1)), refl)
 
-  -- under another key stands what may stand there
+  -- under another key, what the key may hold is allowed
   pub entry_allowed : (e : Key × AttrObj A) → same_text e.0.name block_label_key ≡ false → MayAllHold (e ∷ []) → AreAllowed block_may_hold (e ∷ [])
   entry_allowed e is h = (ap₂ (λ b c. b && not c) h.0 is, tt)
 
@@ -64,7 +64,7 @@ put_all_both : {V : Type 0} (es ds fs : List (Text × V)) → put_all es (ds ++ 
 put_all_both es [] fs = refl
 put_all_both es (d ∷ ds) fs = put_all_both (put d es) ds fs
 
--- the dictionary, and behind it the names
+-- the dictionary, and after it the names
 pub names_behind : {A : Type 0} (names : List Text) (read : List ReadName) (nothing dictionary all : List (Text × AttrObj A)) (ds : List (Text × Attribute A)) → nothing ≡ [] → entries_of dictionary ≡ put_all (entries_of nothing) ds
     → ((ws : List (Name ℕ)) → AreNamed names (numbers_of read) ws → entries_of all ≡ put_all (entries_of dictionary) (read_names (map (λ w. w.text) ws)))
     → (ws : List (Name ℕ)) → AreNamed names (numbers_of read) ws → entries_of all ≡ put_all [] (ds ++ read_names (map (λ w. w.text) ws))

@@ -1,4 +1,4 @@
--- A block that comes last into a region that is no older than a mark keeps all that is older.
+-- A block that is appended to a region that is no older than a mark keeps all that is older.
 use Rattle.std.proofs.Common.{◌≡◌, ◌≤◌, ◌∙◌, ℕ, Bool, true, false, List, Option, refl, ap, arith, nat_lt, ltb-true}
 use Rattle.std.specs.Option.{option_map}
 use Rattle.irtext_context.specs.Context.{ContextView, MakesBlock, KeepsOlder}

@@ -1,4 +1,4 @@
--- A block that is begun: its header was read, it was made, and its names are defined.
+-- A block that is begun: its header was parsed, it was made, and its names are defined.
 use Rattle.std.proofs.Common.{◌≡◌, ◌<◌, ◌≤◌, ◌∙◌, ℕ, true, List, [], ◌∷◌, ◌++◌, map, length, Ok, IsSome, refl, sym, ap, subst}
 use Rattle.std.proofs.lemmas.List.{length-map}
 use Rattle.irtext_base.specs.Text.{Text}
@@ -47,8 +47,8 @@ use Rattle.irtext_parse_nested.proofs.HeadNamed.{inside_stays, block_stays}
 use Rattle.irtext_parse_nested.proofs.Headers.{arguments_named}
 use Rattle.irtext_parse_nested.proofs.Lasting.{stands_block}
 
--- ---- names that were read besides
--- they are tied to the graph
+-- ---- other names that were parsed
+-- they match the graph
 pub read_tied : {T A : Type 0} (before names : Names) → NamesRead before names → (c : ContextView T A) → MatchesGraph before.values before.labels c.graph → MatchesGraph names.values names.labels c.graph
 read_tied before names reads c t = subst (λ ls. MatchesGraph names.values ls c.graph) (sym reads.labels) (subst (λ vs. MatchesGraph vs before.labels c.graph) (sym reads.values) t)
 
@@ -93,7 +93,7 @@ module _ {T A U : Type 0} (types_at : Text → Outcome T) (attr : Text → Outco
     pub opened_kept : (new : ContextView T A) (n : ℕ) → IsClosedBelow n old.state.ctx.now.graph → IsSound n before old.state → KeepsOlder n old.state.ctx.now m.ctx.now → (IsClosedBelow n m.ctx.now.graph → IsSound n names m → KeepsOlder n m.ctx.now new) → KeepsOlder n old.state.ctx.now new
     opened_kept new n closed s k f = kept_trans k (f (kept_closed closed k) (opened_sound n s))
 
-    -- ---- and behind them
+    -- ---- and after them
     module _ (new : ContextView T A) (loses : LosesPlaceholders m.ctx.now.graph new.graph) where
       pub opened_new : (n : ℕ) → n ≤ old.state.ctx.now.graph.made → IsNew n new.graph (TheBlock b)
       opened_new = begun.begun_new old.state.ctx.now m.ctx.now r b makes.held (map (λ a. a.1) read.arguments) makes.places new loses
@@ -107,7 +107,7 @@ module _ {T A U : Type 0} (types_at : Text → Outcome T) (attr : Text → Outco
       pub opened_gains : IsLive old.state.ctx.now.graph (TheRegion r) → RegionGains old.state.ctx.now new r b
       opened_gains = begun.begun_gains old.state.ctx.now m.ctx.now r b makes.held (map (λ a. a.1) read.arguments) makes.places new loses
 
-      -- it has the header that stands in the text
+      -- it has the header that was parsed from the text
       pub opened_came : marks_of m ≡ marks_of old.state → (z : StreamView) → z ≡ v → (g : Head ℕ T A) (taken : Text) → head_at types_at attr old.stream.rest ≡ Read g taken z.rest → BlockCame old.state.ctx.now new (IsLocated old.state.src (whole old.stream)) b g
       opened_came same z e g taken is =
           let whole_makes = made types_at attr before names old v read h reads distinct m r b makes same in
@@ -115,7 +115,7 @@ module _ {T A U : Type 0} (types_at : Text → Outcome T) (attr : Text → Outco
           (begun.begun_came old.state.ctx.now m.ctx.now r b whole_makes.held (map (λ a. a.1) read.arguments) whole_makes.places new loses (IsLocated old.state.src (whole old.stream)) (h.meant read)
           (begun.has_head names.names old.state.src (whole old.stream) read (h.meant read) h.means old.state.ctx.now m.ctx.now r b whole_makes))
 
-    -- a name of it is refused
+    -- a name of it is an error
     pub opened_refused : marks_of m ≡ marks_of old.state → (arguments : List ReadName) → arguments ≡ map (λ a. a.0) read.arguments → (text : Text) → text ≡ whole v → (fault : ParseFault A)
         → UnlessMemory (RefusesHead b read.label arguments read.mark names m text) fault → UnlessMemory (RefusesBlock types_at attr before old) fault
     opened_refused same arguments are text e fault u =
@@ -123,7 +123,7 @@ module _ {T A U : Type 0} (types_at : Text → Outcome T) (attr : Text → Outco
         (subst (λ t. UnlessMemory (RefusesHead b read.label (map (λ a. a.0) read.arguments) read.mark names m t) fault) e
         (subst (λ ns. UnlessMemory (RefusesHead b read.label ns read.mark names m text) fault) are u))
 
-    -- the mark that was noted is the one that stands in the text
+    -- the mark that was recorded is the one in the text
     pub opened_noted : marks_of m ≡ marks_of old.state → (z : code.State T A U) (after : Names) (arguments : List ReadName) → arguments ≡ map (λ a. a.0) read.arguments → NamesHead b read.label arguments read.mark names m after z
         → (w : StreamView) → w ≡ v → (g : Head ℕ T A) (taken : Text) → head_at types_at attr old.stream.rest ≡ Read g taken w.rest → marks_of z ≡ marks_of old.state ++ noted_as g.mark (item.Block b)
     opened_noted same z after arguments are named w e g taken is =

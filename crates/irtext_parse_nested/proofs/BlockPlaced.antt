@@ -1,4 +1,5 @@
--- A block that was made and came last into its region leaves the machine where it stands, with the block and its arguments at places of the text.
+-- A block that was made and appended to its region: names and graph still agree with the state of the machine, with the block and its
+-- arguments at places of the text.
 use Rattle.std.proofs.Common.{◌≡◌, ◌<◌, ◌+◌, ◌∙◌, inl, inr, ℕ, zero, suc, List, [], ◌∷◌, ◌++◌, length, Option, IsSome, refl, sym, ap, subst, arith, slice_get}
 use Rattle.std.specs.Option.{option_map}
 use Rattle.irtext_graph.specs.declared.arena.Ptr.{Ptr}
@@ -57,7 +58,7 @@ module _ {O B T : Type 0} {g m k : GraphView (Option O) B T} (r : Ptr Region) (b
   block_none : (vs : List (Scope Value)) (ls : List (Scope (Ptr BasicBlock))) → MatchesGraph vs ls g → IsNoPlaceholder ls b
   block_none vs ls t = made_none OfBlock ls b t.label_ties (block_added b make)
 
-  -- names stay tied, and wait for what they waited
+  -- names still match the graph, and wait for the same definitions
   pub placed_ties : (vs : List (Scope Value)) (ls : List (Scope (Ptr BasicBlock))) → MatchesGraph vs ls g → MatchesGraph vs ls k
   placed_ties vs ls t = block_placed_ties r b a vs ls (block_none vs ls t) (added_ties (block_added b make) vs ls t)
 
@@ -71,7 +72,7 @@ module _ {O B T : Type 0} {g m k : GraphView (Option O) B T} (r : Ptr Region) (b
     λ n j e. ((placed_ties vs ls t).value_ties.held n j (Argument b i) e).blank,
   )
 
-  -- all stands where the machine stands
+  -- names and graph agree with the state of the machine
   pub placed_stands : (names : NameTracker Value (Ptr BasicBlock)) (known : Known) (p : Path) (held : List (User × Defined)) (st : State) → StandsAt names g known held st → StandsAt names k (with_block p b types known) held st
   placed_stands names known p held st s = block_placed r b a names (with_block p b types known) held st (block_none names.values names.labels s.tied)
       (block_made g m names known held st b x types (arguments_made p b 0 types) ((block_at p, b) ∷ []) make arguments blocks s)

@@ -38,7 +38,7 @@ use Rattle.irtext_parse_nested.proofs.Losing.{blanks_by}
 use Rattle.irtext_parse_nested.specs.Placing.{PlacesBlock}
 use Rattle.irtext_parse_nested.proofs.BlockPlaced.{placed_ties, placed_waits, arguments_ready}
 
--- what stands in a list is within it
+-- an index at which a list has an element is below its length
 pub within : {X : Type 0} (xs : List X) (i : ℕ) (x : X) → slice_get xs i ≡ Some x → i < length xs
 within [] i x e = absurd (cc)
 within (y ∷ xs) zero x e = omega arith
@@ -69,7 +69,7 @@ module _ {T A : Type 0} (old mid : ContextView T A) (r : Ptr Region) (b : Ptr Ba
   abbrev an_operation : ℕ × OperationContent (Option (OperationData A)) (Option T) → Content (Option (OperationData A)) (BlockData A) (Option T)
   an_operation d = AnOperation d.0 d.1
 
-  -- each operation is as it was
+  -- each operation is unchanged
   p_same : (q : Ptr Operation) → content mid.graph (TheOperation q) ≡ content old.graph (TheOperation q)
   p_same q = p.appends.objects.contents (TheOperation q) ∙ ap (λ s. option_map an_operation (content_of (get s q))) p.makes.graph.operations
 

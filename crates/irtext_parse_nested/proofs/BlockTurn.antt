@@ -1,4 +1,4 @@
--- The turn that begins a block: what was read and done, or what is refused.
+-- The turn that begins a block: what was parsed and done, or which error it is.
 use Rattle.std.proofs.Common.{◌≡◌, ◌∙◌, inl, inr, ℕ, true, false, List, [], ◌∷◌, ◌++◌, codes, map, length, Some, None, IsSome, Result, Ok, Err, sym, ap, subst}
 use Rattle.irtext_base.specs.Text.{Text, begins}
 use Rattle.irtext_base.specs.Reading.{the}
@@ -47,16 +47,16 @@ use Rattle.irtext_parse_nested.proofs.Ended.{within_honest, honest_mark}
 use Rattle.irtext_parse_nested.proofs.Faults.{must_demand}
 use Rattle.irtext_parse_nested.proofs.HeadActs.{key_fails, head_fails, head_acts}
 
--- ---- answers
+-- ---- results
 pub if_ok : {X E : Type 0} {P Q : X → Type 0} (r : Result X E) → ((x : X) → P x → Q x) → IfOk r P → IfOk r Q
 if_ok (Ok x) f p = f x p
 if_ok (Err e) f p = tt
 
--- a starved stream's fault is want of memory
+-- a starved stream's error is out of memory
 pub starves : {A : Type 0} {old new : StreamView} {f : ParseFault A} → StarvesHere itself replaced old f new → IsStarved f
 starves s = record { because = s.because; flag = s.committed }
 
--- ---- the reader of a header
+-- ---- the parser of a header
 honest_name_at : Honest name_at
 honest_name_at = record { of = λ text. of_mapped text (name_of (length text)) (identifier_at text) ((honest_name _).of text) }
 
@@ -81,7 +81,7 @@ module _ {A : Type 0} (attr : Text → Outcome (AttrView A)) (honest : Honest at
         (◌so◌ (honest_either (begins (the 91)) (seen Some honest_dictionary) (honest_nothing None)) (λ attributes. ◌then◌ honest_space
         (◌so◌ (honest_either (begins (the 33)) (seen Some honest_mark) (honest_nothing None)) (λ mark. ◌then◌ honest_space (seen (λ _. record { label = label; arguments = arguments; attributes = attributes; mark = mark }) (honest_word (codes ":")))))))))))
 
--- a header that can't be read
+-- a header that can't be parsed
 pub head_unread : {T A U : Type 0} (types_at : Text → Outcome T) (reading : Text → Outcome A) → Sincere types_at → Sincere reading → (before : Names) (names : List Text) (old : StateStream T A U) (v : StreamView) (fault : ParseFault A) → old.stream.failed ≡ false
     → MustHead {T = T} itself replaced names types_at (attr_at reading) old.stream (Err fault) v → UnlessMemory (RefusesBlock types_at (attr_at reading) before old) fault
 head_unread types_at reading sincere_types sincere before names old v fault fine h =
@@ -101,14 +101,14 @@ module _ {T A U : Type 0} (types_at : Text → Outcome T) (attr : Text → Outco
   same_text : whole v ≡ whole old.stream
   same_text = must_whole alone {A = A} h.read
 
-  -- it is the one that stands there
+  -- it is the header in the text
   pub is_head : IsHead names.names (whole old.stream) read head
   is_head = h.means
 
   pub same_head : (g : Head ℕ T A) (taken : Text) (new : StreamView) → new ≡ v → head_at types_at attr old.stream.rest ≡ Read g taken new.rest → head ≡ g
   same_head g taken new e r = let f = sym there.is ∙ r in cc f
 
-  -- a key of its dictionary is refused
+  -- a key of its dictionary is an error
   pub keys_refused : (fault : ParseFault A) → UnlessMemory (RefusesKeys (whole v) (entries_in read.attributes)) fault → UnlessMemory (RefusesBlock types_at attr before old) fault
   keys_refused fault u = elim u [
     | inl s ↦ inl s
@@ -127,7 +127,7 @@ module _ {T A U : Type 0} (types_at : Text → Outcome T) (attr : Text → Outco
     pub made : MakesHead names.names old.state.src (whole old.stream) read.label read.arguments (entries_in read.attributes) old.state.ctx.now m.ctx.now r b
     made = subst (λ t. MakesHead names.names old.state.src t read.label read.arguments (entries_in read.attributes) old.state.ctx.now m.ctx.now r b) same_text makes
 
-    -- a name of it is refused, or its mark
+    -- a name of it is an error, or its mark
     pub names_refused : (fault : ParseFault A) → UnlessMemory (RefusesHead b read.label (map (λ a. a.0) read.arguments) read.mark names m (whole v)) fault → UnlessMemory (RefusesBlock types_at attr before old) fault
     names_refused fault u = elim u [
       | inl s ↦ inl s
@@ -156,6 +156,6 @@ module _ {T A U : Type 0} (types_at : Text → Outcome T) (attr : Text → Outco
               (head_acts before names (whole old.stream) old.state.src old.state m read head reads distinct is_head r b made same after new.state named);
         }
 
-    -- its mark was noted
+    -- its mark was recorded
     pub block_noted : (z : code.State T A U) (after : Names) → NamesHead b read.label (map (λ a. a.0) read.arguments) read.mark names m after z → marks_of z ≡ marks_of old.state ++ noted_as head.mark (item.Block b)
     block_noted z after named = noted_is (whole old.stream) (item.Block b) read.mark head.mark (marks_of m) (marks_of z) is_head.mark named.notes ∙ ap (λ ms. ms ++ noted_as head.mark (item.Block b)) same

@@ -258,7 +258,7 @@ module _ {T A : Type 0} (old new : ContextView T A) (op : Ptr Operation) (change
       go None s = absurd (cc)
       go (Some e) s = mapped (view_of e.content.content.results e.content.children) e.content.content.data_of s
 
-  -- what is open lasts
+  -- the open objects are still live
   pub edited_lasts : KeepsLive old new
   edited_lasts = record {
     operations = still_seen;
@@ -285,7 +285,7 @@ module _ {T A : Type 0} (old new : ContextView T A) (op : Ptr Operation) (change
           blanks = subst (BlanksDefine m) (sym f) (blanks_on old new (edited_blanks old.graph new.graph op change edits.graph) m (subst (BlanksDefine m) e h.blanks));
         }
 
-    -- all stands where the machine stands
+    -- names, graph and marks agree with the state of the machine
     pub edited_stands : {path : ℕ → Path} {items : Made} {pledges : List Pledge} {o : Outcome} → marks_of z ≡ marks_of s → MatchesGraph names.values names.labels old.graph → StandsAs path items pledges names s o → StandsAs path items pledges names z o
     edited_stands same tied h = stands_edited names s z
         (λ d i. subst (λ c. IsDefined c.graph d) (sym f) (still_there old.graph new.graph op change edits.graph d (subst (λ c. IsDefined c.graph d) e i)))

@@ -1,4 +1,4 @@
--- An operation's end, read and done: its results and then its mark, or what is refused of them.
+-- An operation's end, parsed and done: its results and then its mark, or which error there is in them.
 use Rattle.std.proofs.Common.{◌≡◌, ◌∙◌, inl, inr, ℕ, true, false, List, [], ◌∷◌, ◌++◌, length, Option, Some, None, Ok, Err, sym, ap, subst}
 use Rattle.irtext_base.specs.Text.{Text, begins}
 use Rattle.irtext_base.specs.Reading.{the}
@@ -38,8 +38,8 @@ use Rattle.irtext_parse_nested.proofs.OperationClosed.{noted_is}
 use Rattle.irtext_parse_nested.proofs.Faults.{StaysWithin, must_demand}
 use Rattle.irtext_parse_nested.proofs.Marking.{acts_then, fails_then, note_acts, mark_fails}
 
--- ---- the reader of the end
--- white space, and a mark where one stands
+-- ---- the parser of the end
+-- white space, and a mark if there is one
 abbrev end_at : Text → Outcome (Option (Mark ℕ))
 end_at = space_at ▷ mark_if_at
 
@@ -53,7 +53,7 @@ honest_end = ◌then◌ honest_space (honest_either (begins (the 33)) (seen Some
 pub within_honest : {X : Type 0} {f : Text → Outcome X} → Honest f → StaysWithin f
 within_honest h = record { within = λ text cause upto e. (subst (Of text) e (h.of text)).says.1 }
 
--- what must stand there is refused with a committed fault
+-- the error of a required parser is committed
 pub must_commit : {X Y A : Type 0} {see : Y → X} {f : Text → Outcome X} {old new : StreamView} {fault : ParseFault A} → old.failed ≡ false → MustRead {Y = Y} itself replaced see f old (Err fault) new → fault.committed ≡ true
 must_commit {X} {f = f} {old = old} {new = new} {fault = fault} fine h = elim h.answers [
   | inl starved ↦ starved.committed
@@ -67,14 +67,14 @@ must_commit {X} {f = f} {old = old} {new = new} {fault = fault} fine h = elim h.
 
 module _ {T A U X : Type 0} (types_at : Text → Outcome T) (attr : Text → Outcome (AttrView A)) (o : OpenOperation T A) (b : BegunOperation) (before names : Names) (old : StateStream T A U) (mid : code.State T A U) (item : X) (marks : List (ℕ × X))
     (closes : Acts (closes_at o old.state) before old.state (pledge_of b o.place ∷ []) names mid []) (were : indices_of (marks_of mid) ≡ indices_of marks) (s v : StreamView) (same : s ≡ old.stream) where
-  -- the mark was read
+  -- the mark was parsed
   there : (read : Option ReadMark) (h : MustMean {A = A} itself replaced (IsMarkIf (whole s)) end_at s (Ok read) v) → Answered (end_at old.stream.rest) old.stream (h.meant read) v
   there read h = subst (λ w. Answered (end_at w.rest) w (h.meant read) v) same (answered {A = A} h.read)
 
   means : (read : Option ReadMark) (h : MustMean {A = A} itself replaced (IsMarkIf (whole s)) end_at s (Ok read) v) → IsMarkIf (whole old.stream) read (h.meant read)
   means read h = subst (λ w. IsMarkIf (whole w) read (h.meant read)) same h.means
 
-  -- it was noted
+  -- it was recorded
   pub end_read : (new : StateStream T A U) (read : Option ReadMark) (later : List (ℕ × X)) → new.stream ≡ v → MustMean {A = A} itself replaced (IsMarkIf (whole s)) end_at s (Ok read) v → NotesMark read item marks later
       → indices_of (marks_of new.state) ≡ indices_of later → new.state.ctx.now ≡ mid.ctx.now → EndsOperation types_at attr o b before old names new
   end_read new read later e h n are ctx =
@@ -87,7 +87,7 @@ module _ {T A U X : Type 0} (types_at : Text → Outcome T) (attr : Text → Out
         acts = acts_then closes (note_acts names (whole old.stream) mid new.state item read (h.meant read) marks later (means read h) n were are ctx);
       }
 
-  -- its index is noted already
+  -- its index is recorded already
   pub end_marked : (fault : ParseFault A) (read : Option ReadMark) → MustMean {A = A} itself replaced (IsMarkIf (whole s)) end_at s (Ok read) v → UnlessMemory (RefusesMark (whole v) read marks) fault
       → UnlessMemory (RefusesEnd types_at attr o b before old) fault
   end_marked fault read h u = elim u [
@@ -95,14 +95,14 @@ module _ {T A U X : Type 0} (types_at : Text → Outcome T) (attr : Text → Out
     | inr r ↦ let a = there read h in inr (same_mark (h.meant read) a.taken v.rest a.is (fails_then closes (mark_fails names (whole old.stream) mid mid fault read (h.meant read) marks (means read h) (subst (λ t. RefusesMark t read marks fault) (must_whole alone {A = A} h.read ∙ ap whole same) r) were)))
   ]
 
-  -- none can be read
+  -- none can be parsed
   pub end_unread : (fault : ParseFault A) (m : StateStream T A U) → m.state ≡ mid → s.failed ≡ false → MustMean {A = A} {Y = Option ReadMark} itself replaced (IsMarkIf (whole s)) end_at s (Err fault) v → UnlessMemory (RefusesEnd types_at attr o b before old) fault
   end_unread fault m e fine h = elim (must_demand alone end_at (within_honest honest_end) fine h.read) [
     | inl starved ↦ inl starved
     | inr d ↦ inr (no_mark names m (subst (λ z. Acts (closes_at o old.state) before old.state (pledge_of b o.place ∷ []) names z []) (sym e) closes) (rw (← same) d))
   ]
 
--- the mark that was noted is the one that stands there
+-- the mark that was recorded is the one in the text
 pub end_noted : {T A U X : Type 0} (old : StateStream T A U) (mid : code.State T A U) (item : X) (s v : StreamView) (same : s ≡ old.stream) {were later : List (ℕ × X)} {before : List (ℕ × X)} → were ≡ before → (new : StateStream T A U) (read : Option ReadMark) → new.stream ≡ v
     → MustMean {A = A} itself replaced (IsMarkIf (whole s)) end_at s (Ok read) v → NotesMark read item were later → (mark : Option (Mark ℕ)) (taken : Text) → end_at old.stream.rest ≡ Read mark taken new.stream.rest → later ≡ before ++ noted_as mark item
 end_noted {A = A} {X = X} old mid item s v same {were} {later} {before} marks new read e h n mark taken is =

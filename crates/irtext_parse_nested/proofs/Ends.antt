@@ -1,4 +1,4 @@
--- What the end of an operation comes to: its names and its results agree in number, its results are defined, and its mark is noted.
+-- The effect of an operation's end: its names and its results agree in number, its results are defined, and its mark is recorded.
 use Rattle.std.proofs.Common.{◌≡◌, ◌<◌, ◌==◌, ◌∙◌, inl, ℕ, suc, Bool, true, false, List, [], ◌∷◌, ◌++◌, length, map, Some, refl, sym, ap, subst, arith, append-nil, slice_get, eq-eqb, eqb-true}
 use Rattle.std.proofs.lemmas.List.{length-map}
 use Rattle.irtext_base.specs.Faults as causes
@@ -39,7 +39,7 @@ use Rattle.irtext_parse_nested.specs.Items.{Made, Names, Pledge, StandsAs, Acts,
 use Rattle.irtext_parse_nested.proofs.Faults.{stands_there, named_each, each_length, each_there, some_same, name_failure}
 
 -- ---- the machine
--- what says nothing leaves the machine where it stands
+-- an empty fact leaves the state of the machine unchanged
 pub after_nothing : (st : State) → after st nothing ≡ st
 after_nothing st = λ i. record {
   values = onto_nothing st.values i;
@@ -49,7 +49,7 @@ after_nothing st = λ i. record {
   bound = append-nil st.bound i;
 }
 
--- what came to one point came to no other
+-- a state that is reached is the only one
 pub same_going : {st next : State} → going st ≡ going next → st ≡ next
 same_going e = cc
 
@@ -87,7 +87,7 @@ pub ends_uncounted : (p : Path) (place types : ℕ) (ws : List (Name ℕ)) (st :
 ends_uncounted p place types ws st e = ap (λ b. run (going st) (act (claim b (count_failure place types ws)) ∷ map act (result_definitions p 0 ws ++ []))) e
     ∙ rest_fails (count_failure place types ws) (map act (result_definitions p 0 ws ++ []))
 
--- ---- what stands
+-- ---- pledges
 among_front : {X : Type 0} (x y : X) (xs : List X) → Among x (xs ++ []) → Among x (xs ++ y ∷ [])
 among_front x y xs a = among_left x xs (y ∷ []) (subst (λ ys. Among x ys) (append-nil xs) a)
 

@@ -1,4 +1,4 @@
--- A region that begins and ends: what it does with names, and how it is refused.
+-- A region that begins and ends: what it does with names, and which errors there are.
 use Rattle.std.proofs.Common.{◌≡◌, ◌∙◌, ◌⊎◌, inl, inr, Bool, true, false, [], codes, length, None, IsSome, Ok, Err, refl, sym, ap, subst}
 use Rattle.irtext_base.specs.Faults as fault
 use Rattle.irtext_base.specs.Faults.{fault_of}
@@ -35,7 +35,7 @@ use Rattle.irtext_parse_nested.proofs.Faults.{must_demand}
 use Rattle.irtext_parse_nested.proofs.RegionBegun.{region_stands, region_there}
 use Rattle.irtext_parse_nested.proofs.Standing.{stands_on, stands_fails}
 
--- the first brace, with white space behind it
+-- the first brace, with white space after it
 abbrev brace_at : Reader (Unit {0})
 brace_at = word (codes "{") ▷ space_at
 
@@ -43,7 +43,7 @@ marks_same : (iso : Bool) (st : State) → (history.entered iso st).marks ≡ st
 marks_same true st = refl
 marks_same false st = refl
 
--- what is known of a region that is refused as it is entered
+-- what holds of a region that is an error as it is entered
 abbrev pub IsUnentered : {A T U : Type 0} → Bool → Names → StateStream T A U → ParseFault A → Type 0
 IsUnentered iso names old f = IsStarved f ⊎ ((fault_of f.cause ≡ fault.NotIsolated) × (f.committed ≡ true) × IsAt f.pos.line f.pos.column []
     × FailsBy (enter iso) names old.state.ctx.now.graph (record { cause = NotIsolated; at = None }))
@@ -60,21 +60,21 @@ module _ {T A U : Type 0} (types_at : Reader T) (attr : Reader (AttrView A)) (is
   module _ (names : Names) (mid : StateStream T A U) (op : Ptr Operation) (r : Ptr Region) (takes : Takes (enter iso) (history.entered iso) before names old.state.ctx.now.graph)
       (adds : AddsRegion old.state.ctx.now mid.state.ctx.now op r) (has : IsSome (operation old.state.ctx.now op)) (tied : MatchesGraph names.values names.labels old.state.ctx.now.graph)
       (marks : marks_of mid.state ≡ marks_of old.state) (same : mid.stream ≡ old.stream) where
-    -- it is entered, and comes last into its operation
+    -- it is entered, and is appended to its operation
     pub acts_entered : Acts (enters_of types_at attr iso old) before old.state [] names mid.state []
     acts_entered = record {
       so = λ path items more o h. region_stands old.state.ctx.now mid.state.ctx.now op r adds has names old.state mid.state refl refl marks tied
           (stands_on before names old.state old.state (enter iso) (history.entered iso) takes (marks_same iso) refl refl h);
     }
 
-    -- no brace stands there
+    -- no brace follows
     pub unbraced : (f : ParseFault A) (v : StreamView) → old.stream.failed ≡ false → MustRead {Y = Unit {0}} itself replaced (λ u. u) brace_at mid.stream (Err f) v → UnlessMemory (RefusesRegion types_at attr iso before old) f
     unbraced f v fine h = elim (must_demand alone brace_at (within_honest (◌then◌ (honest_word (codes "{")) honest_space)) (ap (λ s. s.failed) same ∙ fine) h) [
       | inl s ↦ inl s
       | inr d ↦ inr (no_brace names mid acts_entered (subst (λ s. Demands (whole s) (brace_at s.rest) s.rest f) same d))
     ]
 
-    -- its brace was read
+    -- its brace was parsed
     pub braced : (b : BegunRegion) (new : StateStream T A U) → new.state ≡ mid.state → MustRead {A = A} itself replaced (λ u. u) brace_at mid.stream (Ok tt) new.stream → b.region ≡ r → b.isolated ≡ iso → Leaves (whole old.stream) b.at (length old.stream.rest)
         → BeginsRegion types_at attr iso b before old names new
     braced b new state h region isolated placed =

@@ -1,4 +1,4 @@
--- Faults at places of the text, and what the names that were read stand for.
+-- Faults at places of the text, and what the names that were parsed represent.
 use Rattle.std.proofs.Common.{◌≡◌, ◌∙◌, ◌-◌, inl, inr, ℕ, zero, suc, false, List, [], ◌∷◌, ◌++◌, length, map, take, Some, Err, refl, sym, ap, subst, arith, length-append, append_assoc, slice_get}
 use Rattle.std.proofs.Math.Seq.{take-append_seam}
 use Rattle.irtext_base.specs.Text.{Text}
@@ -24,7 +24,7 @@ use Rattle.irtext_parse_nested.specs.Items.{IsNameCause, IsFailure, IsTextFault}
 use Rattle.irtext_parse_nested.specs.Read.{Demands}
 
 -- ---- places
--- what stands in front of the place where a text stops
+-- what precedes the place where a text stops
 take_front : (front stop : Text) → take (length (front ++ stop) - length stop) (front ++ stop) ≡ front
 take_front front stop =
     let e : length (front ++ stop) - length stop ≡ length front = omega (arith, length-append front stop) in
@@ -36,8 +36,8 @@ stands_there {text} {place} {left} {at} l h =
     let e : take (length text - left) text ≡ l.passed = ap (λ n. take (length text - n) text) l.counts ∙ (ap (λ t. take (length t - length l.rest) t) (sym l.same) ∙ take_front l.passed l.rest) in
     subst (IsAt at.line at.column) (sym e) (h l.passed l.rest l.same l.stands)
 
--- ---- what must stand there
--- each fault of a reader stands in its text
+-- ---- required parsers
+-- each fault of a parser is in its text
 pub record StaysWithin {X : Type 0} (f : Text → Outcome X) : Type 0 where
   pub within : (text : Text) (cause : Fault) (upto : Text) → f text ≡ Bad cause upto → IsFront upto text
 
@@ -51,7 +51,7 @@ text_fault v cause upto stop fault e because at =
     record { because = because; placed = subst (IsAt fault.pos.line fault.pos.column) (sym t) at }
 
 module _ {X : Type 0} where
-  -- what a reader refuses that must stand there
+  -- the error of a required parser is out of memory, or what the text is bad for
   pub must_demand : {S Y A : Type 0} (l : Lens S) {see : Y → X} (f : Text → Outcome X) {old new : S} {fault : ParseFault A} → StaysWithin f → (l.view old).failed ≡ false → MustRead l.view l.at see f old (Err fault) new
       → UnlessMemory (Demands (whole (l.view old)) (f (l.view old).rest) (l.view old).rest) fault
   must_demand l f {old} {new} {fault} within fine h = elim h.answers [
@@ -68,21 +68,21 @@ module _ {X : Type 0} where
 pub some_same : {X : Type 0} {x y : X} → Some x ≡ Some y → x ≡ y
 some_same e = cc
 
--- names that stand for those of a text are named so
+-- names that represent those of a text have their names
 pub named_each : (names : List Text) (text : Text) (ns : List ReadName) (ws : List (Name ℕ)) → Each (StandsFor names text) ns ws → AreNamed names (map (λ n. n.name) ns) ws
 named_each names text [] [] e = tt
 named_each names text [] (w ∷ ws) e = absurd e
 named_each names text (n ∷ ns) [] e = absurd e
 named_each names text (n ∷ ns) (w ∷ ws) e = (e.0.named, named_each names text ns ws e.1)
 
--- what stands for others is as many
+-- lists whose elements represent each other are equally long
 pub each_length : {X Y : Type 0} (R : Y → X → Type 0) (ys : List Y) (xs : List X) → Each R ys xs → length ys ≡ length xs
 each_length R [] [] e = refl
 each_length R [] (x ∷ xs) e = absurd e
 each_length R (y ∷ ys) [] e = absurd e
 each_length R (y ∷ ys) (x ∷ xs) e = ap suc (each_length R ys xs e.1)
 
--- what stands at an index stands for something there
+-- the element at an index represents the one at this index
 pub each_there : {X Y : Type 0} (R : Y → X → Type 0) (ys : List Y) (xs : List X) (i : ℕ) (y : Y) → Each R ys xs → slice_get ys i ≡ Some y → (x : X) × (slice_get xs i ≡ Some x) × R y x
 each_there R [] [] i y e f = absurd (cc)
 each_there R [] (z ∷ xs) i y e f = absurd e

@@ -1,4 +1,4 @@
--- What the readers of an operation's front refuse stands within their texts.
+-- The faults of the parsers of an operation's front are in their texts.
 use Rattle.std.proofs.Common.{◌≡◌, ◌∙◌, ℕ, length, Bool, true, false, List, [], ◌∷◌, ◌++◌, codes, refl, ap, subst, append_assoc, cond, is_some, Some, None}
 use Rattle.irtext_base.specs.Text.{Text}
 use Rattle.irtext_base.specs.Own.{Sincere, IsFront}
@@ -78,7 +78,7 @@ module _ {T A : Type 0} (types_at : Text → Outcome T) (attr : Text → Outcome
 pub front_within : {T A : Type 0} (types_at : Text → Outcome T) (reading : Text → Outcome A) → Sincere types_at → Sincere reading → (ss : List Step) (found : List (Part ℕ T A)) → StaysWithin (front_at types_at (attr_at reading) true ss found)
 front_within types_at reading sincere_types sincere ss found = within_honest (front_honest types_at (attr_at reading) (record { of = of_sincere types_at sincere_types }) (honest_attr (record { of = of_sincere reading sincere })) ss found)
 
--- the same of one piece, behind white space
+-- the same for one piece, after white space
 pub spaced_within : {T A : Type 0} (types_at : Text → Outcome T) (reading : Text → Outcome A) → Sincere types_at → Sincere reading → (step : Step) → StaysWithin (space_at ▷ piece_at types_at (attr_at reading) true step)
 spaced_within types_at reading sincere_types sincere step = within_honest (◌then◌ honest_space (piece_honest types_at (attr_at reading) (record { of = of_sincere types_at sincere_types }) (honest_attr (record { of = of_sincere reading sincere })) step))
 
@@ -94,7 +94,7 @@ named_of (Bad cause upto) text h = of_read text [] [] text refl
 lead_honest : Honest lead_at
 lead_honest = ◌then◌ honest_space (◌kept◌ (record { of = λ text. named_of (results_at text) text (results_honest.of text) }) honest_space)
 
--- what is refused of an id behind a lead stands behind the lead, or ends it, or is where the lead begins
+-- a fault of an id after a lead is after the lead, or at its end, or where the lead begins
 module _ (dialects : List (Text × Table)) where
   registered_within : (text lead : Text) (o : Outcome Id) → IsFront lead text → ((c : Fault) (u : Text) → o ≡ Bad c u → IsFront u text) → (cause : Fault) (upto : Text) → registered_behind dialects lead o ≡ Bad cause upto → IsFront upto text
   registered_within text lead (Read id taken rest) f h cause upto e = go (is_some (dialect_of dialects id.dialect)) (is_some (registered dialects (op_id id))) e

@@ -1,4 +1,4 @@
--- The front of an operation was read, or why it was not.
+-- The front of an operation was parsed, or why it was not.
 use Rattle.std.proofs.Common.{◌≡◌, ◌∙◌, ◌||◌, inl, inr, ℕ, Bool, true, false, cond, List, [], ◌∷◌, ◌++◌, length, Some, None, Ok, Err, refl, sym, ap, subst, append-nil, true≢false}
 use Rattle.std.specs.Option.{option_map}
 use Rattle.irtext_base.specs.Text.{Text}
@@ -42,7 +42,7 @@ or_committed : (wanted : Bool) → (wanted || true) ≡ true
 or_committed true = refl
 or_committed false = refl
 
--- names stand for the same while more names come
+-- names represent the same when more names are added
 pub each_on : (names more : List Text) (text : Text) → KeepsNames names more → (ns : List ReadName) (ws : List (Name ℕ)) → Each (StandsFor names text) ns ws → Each (StandsFor more text) ns ws
 each_on names more text keeps [] [] e = tt
 each_on names more text keeps [] (w ∷ ws) e = absurd e
@@ -86,7 +86,7 @@ module _ {T A : Type 0} (types_at : Text → Outcome T) (reading : Text → Outc
             lacks_lead (record { cause = cause; upto = upto; bad = ap demanded is; fault_is = text_fault old cause upto front.0 last front.1 (ap fault_of same.cause ∙ r.because) (placed upto r.place) })
             (same.flag ∙ ap (λ b. wanted || b) (r.committed ∙ sym (ap is_committed is)))
 
-    -- where the fault is not committed, nothing was read
+    -- where the fault is not committed, nothing was parsed
     pub lead_unread : last.committed ≡ false → new ≡ old
     lead_unread flag = go wanted c
       where
@@ -105,7 +105,7 @@ module _ {T A : Type 0} (types_at : Text → Outcome T) (reading : Text → Outc
         go true d = absurd (true≢false (sym d.committed ∙ flag))
         go false d = d.1 ∙ still (sym (ap (λ f. f.committed) d.0) ∙ flag)
 
-  -- ---- behind a lead
+  -- ---- after a lead
   module _ {X : Type 0} {names : List Text} {mid : StreamView} (op : List ReadName × OpId × X) (info : OpInfo)
       (h : MayMean {A = A} itself replaced (IsLed names (whole old)) (led_at dialects) old (Ok op) mid) (known : IsKnown dialects op.1 info) where
     led_is : Answered (led_at dialects old.rest) old (h.meant op) mid
@@ -148,7 +148,7 @@ module _ {T A : Type 0} (types_at : Text → Outcome T) (reading : Text → Outc
     pub piece_commits : (more : List Text) {fault : ParseFault A} {new : StreamView} → MustFront {T = T} itself replaced more types_at (attr_at reading) true (steps_of (format_of info.format)) mid (Err fault) new → fault.committed ≡ true
     piece_commits more f = must_commit still_fine f.read
 
-    -- all of it stands there
+    -- all of it is in the text
     pub front_stands : (more : List Text) → KeepsNames names more → (pieces : List (ReadPiece T A)) (new : StreamView) → MustFront {A = A} itself replaced more types_at (attr_at reading) true (steps_of (format_of info.format)) mid (Ok pieces) new
         → length pieces ≡ length (front_steps (steps_of (format_of info.format))) → FrontStands types_at (attr_at reading) dialects true more old op.0 op.1 pieces new
     front_stands more keeps pieces new f count =

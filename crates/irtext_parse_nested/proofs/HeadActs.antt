@@ -1,4 +1,5 @@
--- A block that was begun: what its header did takes the machine to where it stands, or the machine fails where it was refused.
+-- A block that was begun: after the acts of its header names, graph and marks agree with the state of the machine, or the machine fails
+-- where the header is an error.
 use Rattle.std.proofs.Common.{◌≡◌, ◌∙◌, ◌⊎◌, inl, inr, ℕ, suc, true, List, [], ◌∷◌, ◌++◌, length, map, Option, Some, None, refl, sym, ap, subst, append-nil, slice_get}
 use Rattle.std.specs.Map.{lookup}
 use Rattle.std.proofs.lemmas.List.{length-map}
@@ -72,7 +73,7 @@ block_behind p b known q d a = elim (among_both (q, d) known ((block_at p, b) �
   | inr j ↦ elim j [ inl e ↦ inr (ap (λ z. z.0) e, ap (λ z. z.1) e) | inr k ↦ absurd k ]
 ]
 
--- a mark that was read stands for one of the text
+-- a mark that was parsed represents one of the text
 mark_there : (text : Text) (read : Option ReadMark) (m : Option (Mark ℕ)) (r : ReadMark) → IsMarkIf text read m → read ≡ Some r → (k : Mark ℕ) × (m ≡ Some k) × IsMarkIf text (Some r) (Some k)
 mark_there text None m r i e = absurd (cc)
 mark_there text (Some s) None r i e = absurd i
@@ -100,7 +101,7 @@ module _ {T A U : Type 0} (before names : Names) (text : Text) (source : Source)
     words_named : AreNamed names.names (numbers_of arguments) words
     words_named = named_each names.names text arguments words words_are
 
-    -- the acts behind the keys
+    -- the acts after the keys
     abbrev rest : Path → List Act
     rest p = argument_definitions p 0 head.arguments ++ (mark_acts head.mark ++ define_label (word_of head.label) (block_at p) ∷ [])
 
@@ -123,7 +124,7 @@ module _ {T A U : Type 0} (before names : Names) (text : Text) (source : Source)
       as_many : length (numbers_of arguments) ≡ length types
       as_many = length-map arguments (λ n. n.name) ∙ (length-map read.arguments (λ a. a.0) ∙ (sym (length-map read.arguments (λ a. a.1)) ∙ sym (length-map (map (λ a. a.1) read.arguments) (λ t. Some t))))
 
-      -- where the machine stands behind the keys, the block being made
+      -- the state of the machine after the keys, with the block made
       pub record Placed (path : ℕ → Path) (items : Made) (pledges : List Pledge) (o : Outcome) : Type 0 where
         pub was : StandsAs path items pledges before s o
         pub made : Known
@@ -144,7 +145,7 @@ module _ {T A U : Type 0} (before names : Names) (text : Text) (source : Source)
                 ∙ ap (λ z. run z (map act (rest p))) (keys_pass block_may_hold text (entries_in read.attributes) (entries_if head.attributes) (keys_each text read.attributes head.attributes is.attributes) makes.allowed h.state));
           }
 
-      -- and behind the arguments
+      -- and after the arguments
       pub record Defined (path : ℕ → Path) (items : Made) (pledges : List Pledge) (o : Outcome) (mid : Names) (g : GraphView (Option (OperationData A)) (BlockData A) (Option T)) : Type 0 where
         pub front : Placed path items pledges o
         pub state : State
@@ -170,12 +171,12 @@ module _ {T A U : Type 0} (before names : Names) (text : Text) (source : Source)
                   ∙ ap (λ z. run z (map act last)) (ap (λ acts. run (going h.state) (map act acts)) (arguments_are p 0 head.arguments) ∙ d.1));
             }
 
-        -- behind the mark
+        -- after the mark
         marked : (path : ℕ → Path) (items : Made) (pledges : List Pledge) (o : Outcome) {X : Type 0} (x : X) (old later : List (ℕ × X)) → NotesMark read.mark x old later → indices_of (marks_of m) ≡ indices_of old → (d : Defined path items pledges o mid g)
             → MarkOn mid g d.front.made text d.state head.mark (indices_of later)
         marked path items pledges o x old later notes are d = mark_on mid g d.front.made text x read.mark head.mark old later d.state is.mark notes (d.marks ∙ are) d.stands
 
-        -- the mark's index is noted already
+        -- the mark's index is recorded already
         pub mark_refused : (fault : ParseFault A) → RefusesMark text read.mark (marks_of m) fault → ActFails text heads before s [] fault
         mark_refused fault q =
             let k = mark_there text read.mark head.mark q.read is.mark q.is in

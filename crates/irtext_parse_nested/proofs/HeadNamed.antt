@@ -35,12 +35,12 @@ nothing_there None e h = cc
 nothing_there (Some x) e h = cc
 
 module _ {O B T : Type 0} where
-  -- a block that stands in a region is no placeholder
+  -- a block with a parent is no placeholder
   pub waits_for_none : (g : GraphView (Option O) B T) (b : Ptr BasicBlock) (vs : List (Scope Value)) (ls : List (Scope (Ptr BasicBlock))) → MatchesGraph vs ls g → IsSome (parent g (TheBlock b)) → IsNoPlaceholder ls b
   waits_for_none g b vs ls t h = λ k n e. nothing_there (parent g (TheBlock b)) (t.label_ties.held k n b e).free h
 
   module _ (g k : GraphView (Option O) B T) (l : LosesPlaceholders g k) (b : Ptr BasicBlock) where
-    -- it stands where it stood
+    -- it has the same parent
     pub parent_stays : IsSome (parent g (TheBlock b)) → parent k (TheBlock b) ≡ parent g (TheBlock b)
     parent_stays h = go (parent g (TheBlock b)) refl h
       where
@@ -75,7 +75,7 @@ kept_twice a b c d m same closed k f =
 -- ---- the header's names
 module _ {T A U : Type 0} (b : Ptr BasicBlock) (label : ReadName) (arguments : List ReadName) (mark : Option ReadMark) (old mid : Names) (s m n : code.State T A U) (text : Text)
     (defines : DefinesArguments b arguments old s mid m.ctx.now.graph) (first : marks_of m ≡ marks_of s) (same : n.ctx.now ≡ m.ctx.now) where
-  -- its mark's index is noted already
+  -- its mark's index is recorded already
   pub mark_stops : (read : Text) (fault : ParseFault A) → read ≡ text → UnlessMemory (RefusesMark read mark (marks_of m)) fault → UnlessMemory (RefusesHead b label arguments mark old s text) fault
   mark_stops read fault e u = elim u [
     | inl starved ↦ inl starved
@@ -93,7 +93,7 @@ module _ {T A U : Type 0} (b : Ptr BasicBlock) (label : ReadName) (arguments : L
       | inr r ↦ inr (same_label mid m.ctx.now.graph (marks_of n) defines noted (subst (λ c. RefusesLabel mid c.graph text label fault) same (subst (λ t. RefusesLabel mid n.ctx.now.graph t label fault) e r)))
     ]
 
-    -- all of them are defined, and the mark is noted
+    -- all of them are defined, and the mark is recorded
     pub names_head : (new : Names) (z : code.State T A U) → marks_of z ≡ marks_of n
         → ((w : Word) (p : Place) → slice_get mid.names label.name ≡ Some w.name → TakesDefinition (define_label w p) mid new n.ctx.now.graph z.ctx.now.graph p (OfBlock b)) → NamesHead b label arguments mark old s new z
     names_head new z last follows = record {

@@ -48,11 +48,11 @@ run_both o (x ∷ xs) ys = run_both (next o (act x)) xs ys
 
 -- ---- keys
 module _ {A : Type 0} (rule : Rule A) (text : Text) where
-  -- the rule says the same of the entry that was read
+  -- the rule says the same of the entry that was parsed
   same_rule : (r : Key × AttrObj A) (e : Name ℕ × Attribute A) → IsEntry text r e → rule e.0.text e.1 ≡ rule r.0.name (attribute_of r.1)
   same_rule r e i = ap₂ rule (sym i.0.named) (sym i.1)
 
-  -- keys that are allowed leave the machine where it stands
+  -- keys that are allowed leave the state of the machine unchanged
   pub keys_pass : (rs : List (Key × AttrObj A)) (es : List (Name ℕ × Attribute A)) → Each (IsEntry text) rs es → AreAllowed rule rs → (st : State) → run (going st) (map act (map (key_act rule) es)) ≡ going st
   keys_pass [] [] i a st = refl
   keys_pass [] (e ∷ es) i a st = absurd i
@@ -125,7 +125,7 @@ made_in p b xs ys made e = λ i l. among_right (argument p i, Argument b i) made
 
 -- ---- a mark
 module _ {O B T : Type 0} (names : Names) (g : GraphView (Option O) B T) (made : Known) (text : Text) where
-  -- where the machine stands behind a mark
+  -- the state of the machine after a mark
   pub record MarkOn (st : State) (m : Option (Mark ℕ)) (later : List ℕ) : Type 0 where
     pub state : State
     pub goes : run (going st) (map act (mark_acts m)) ≡ going state
@@ -147,7 +147,7 @@ module _ {O B T : Type 0} (names : Names) (g : GraphView (Option O) B T) (made :
         marks = ap (λ ms. ms ++ m.index ∷ []) e ∙ (sym (map-through (λ z. z.0) old (m.index, x) []) ∙ ap indices_of (sym k.1));
       }
 
--- a mark whose index is noted already fails
+-- a mark whose index is recorded already fails
 pub mark_taken : (m : Option (Mark ℕ)) (k : Mark ℕ) (st : State) → m ≡ Some k → is_among k.index st.marks ≡ true → run (going st) (map act (mark_acts m)) ≡ failed (record { cause = script.DuplicateIndex k.index; at = Some k.place })
 mark_taken m k st e there =
     let f : Failure = record { cause = script.DuplicateIndex k.index; at = Some k.place } in

@@ -1,4 +1,4 @@
--- What is open lasts where nothing but placeholders is lost.
+-- The open objects are still live if only placeholders are lost.
 use Rattle.std.proofs.Common.{◌≡◌, ◌<◌, ◌∙◌, ℕ, refl, sym, subst, arith, zero, suc, List, [], ◌∷◌, Option, Some, None, IsSome, length, slice_get}
 use Rattle.std.specs.Prelude.{option_and_then}
 use Rattle.std.specs.Option.{option_map}
@@ -57,7 +57,7 @@ module _ {T A : Type 0} where
       go None s = absurd (cc)
       go (Some e) s = data_in (view_of e.content.content.results e.content.children) e.content.content.data_of s
 
-  -- a block that is seen stands, and the other way
+  -- a block with a view is live, and conversely
   pub block_stands : (c : ContextView T A) (b : Ptr BasicBlock) → IsSome (block c b) → IsLive c.graph (TheBlock b)
   block_stands c b h = go (get c.graph.blocks b) h
     where
@@ -72,7 +72,7 @@ module _ {T A : Type 0} where
       go None s = absurd (cc)
       go (Some e) s = refl
 
-  -- what is open lasts
+  -- the open objects are still live
   pub loses_lasts : (old new : ContextView T A) → LosesPlaceholders old.graph new.graph → new.dialects ≡ old.dialects → KeepsLive old new
   loses_lasts old new l same = record {
     operations = λ p h. let x = data_there old p h in there_data new p x.0 (l.operations p x.0 x.1);

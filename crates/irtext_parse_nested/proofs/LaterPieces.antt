@@ -1,4 +1,4 @@
--- A piece behind a region of its operation: what it does with names and keys, and where its reader refuses.
+-- A piece after a region of its operation: what it does with names and keys, and where its parser fails.
 use Rattle.std.proofs.Common.{◌≡◌, ◌∙◌, ℕ, zero, suc, Bool, true, List, [], ◌∷◌, drop, slice_get, Option, Some, None, option_map, Result, IfOk, false, refl, sym, ap, subst}
 use Rattle.irtext_base.specs.Text.{Text}
 use Rattle.std.specs.Char.{is_whitespace}
@@ -60,7 +60,7 @@ pub flat_next : (o : Option Step) → IsFlatNext o → (step : Step) × (o ≡ S
 flat_next None h = absurd h
 flat_next (Some step) h = (step, refl)
 
--- the first of what is left has its place, and the others are left behind it
+-- the first of what is left has its place, and the others are left after it
 pub first_left : {X : Type 0} (xs : List X) (n : ℕ) (x : X) (ys : List X) → x ∷ ys ≡ drop n xs → (slice_get xs n ≡ Some x) × (ys ≡ drop (suc n) xs)
 first_left [] zero x ys e = absurd (cc e)
 first_left [] (suc n) x ys e = absurd (cc e)
@@ -71,9 +71,9 @@ first_left (z ∷ xs) (suc n) x ys e = first_left xs n x ys e
 pub registered_steps : (dialects : List (Text × Table)) (id : OpId) (info : OpInfo) → registered dialects id ≡ Some (known_of info) → steps_in dialects (id_of id) ≡ steps_of (format_of info.format)
 registered_steps dialects id info known = ap (λ o. elim o [ Some f ↦ steps_of f | None ↦ [] ]) (ap (λ o. option_map (λ k. k.format) o) known)
 
--- ---- what is read
+-- ---- what is parsed
 module _ {T A : Type 0} (types_at : Reader T) (attr : Reader (AttrView A)) where
-  -- a directive without names reads the same inside of some region and outside of each
+  -- a directive without names parses the same inside of some region and outside of each
   directive_late : (inside : Bool) (d : Directive) → (WritesNamesOrType d → ⊥) → directive_at types_at attr inside d ≡ directive_at types_at attr true d
   directive_late inside (format.word s) n = refl
   directive_late inside (format.operand i) n = absurd (n tt)
@@ -93,7 +93,7 @@ module _ {T A : Type 0} (types_at : Reader T) (attr : Reader (AttrView A)) where
   piece_late inside (one i) n = refl
   piece_late inside all n = refl
 
-  -- what a step reads behind white space is a piece of it
+  -- what a step parses after white space is a piece of this step
   pub spaced_of : (inside : Bool) (step : Step) (text : Text) (p : Piece ℕ T A) (taken rest : Text) → (space_at ▷ piece_at types_at attr inside step) text ≡ Read p taken rest → IsOfStep step p
   spaced_of inside step text p taken rest e =
       let q = followed_read (space_at text) (λ _. piece_at types_at attr inside step) p taken rest e in
@@ -106,14 +106,14 @@ part_of types p o = o
 part_of (one i) p o = o
 part_of all p o = o
 
--- it is refused within its text
+-- the place of its fault is in its text
 pub late_within : {T A : Type 0} (types_at : Text → Outcome T) (reading : Text → Outcome A) → Sincere types_at → Sincere reading → (inside : Bool) (step : Step) → ReadsNeither step
     → StaysWithin (space_at ▷ piece_at types_at (attr_at reading) inside step)
 late_within {T} {A} types_at reading sincere_types sincere inside step n =
     subst (λ (f : Reader (Piece ℕ T A)). StaysWithin (space_at ▷ f)) (sym (piece_late types_at (attr_at reading) inside step n)) (spaced_within types_at reading sincere_types sincere step)
 
 -- ---- what it does
--- what names values or labels, or gives a result its type, is no piece of a step that reads neither
+-- what names values or labels, or gives a result its type, is no piece of a step that parses neither
 never_late : {T A : Type 0} (step : Step) (d : Directive) (q : Piece ℕ T A) → directive_of_piece q ≡ Some d → WritesNamesOrType d → ReadsNeither step → IsOfStep step q → ⊥
 never_late (flat c) d q e w n o = let same : d ≡ c = let f = sym e ∙ o in cc f in n (subst WritesNamesOrType same w)
 never_late types d q e w n o = n
@@ -140,7 +140,7 @@ pub given_is : (T : Type 0) {A : Type 0} (key : Text) (a : Option (AttrObj A)) �
 given_is T key None = refl
 given_is T key (Some a) = refl
 
--- ---- how it is refused
+-- ---- which error it is
 module _ {T A : Type 0} where
   -- a key that is reserved is one of a dictionary
   reserved_in : (piece : ReadPiece T A) (key : Key) → RefusesStored piece (refusal.ReservedKey key) → (es : Vec (Key × AttrObj A) Global) × (piece ≡ read.Dictionary es) × IsFirstReserved es.items key
@@ -155,7 +155,7 @@ module _ {T A : Type 0} where
   reserved_in (read.Header s) key r = absurd (cc r)
   reserved_in (read.Types ts) key r = absurd (cc r)
 
-  -- no name is refused
+  -- no name is an error
   pub never_outside : (piece : ReadPiece T A) (n : ReadName) → RefusesStored piece (refusal.NoActiveScope n) → ⊥
   never_outside read.Word n r = cc r
   never_outside (read.Operand i m) n r = cc r
@@ -168,7 +168,7 @@ module _ {T A : Type 0} where
   never_outside (read.Header s) n r = cc r
   never_outside (read.Types ts) n r = cc r
 
-  -- so the refusal speaks of no name
+  -- so the error is about no name
   pub known_in : (count : ℕ) (piece : ReadPiece T A) (why : NotGathered) → RefusesStored piece why → IsKnownIn count why
   known_in count piece refusal.Memory r = tt
   known_in count piece (refusal.ReservedKey key) r = tt
@@ -184,8 +184,8 @@ module _ {T A O B : Type 0} (names : Names) (g : GraphView (Option O) B (Option 
       let f = entries_fail names g text d.0.items i.0 key i.2 d.2 in
       (f.0, f.1, λ p k l. subst (λ z. FailsUses (piece_acts p k l z) names g (record { cause = ReservedKey f.0.text; at = Some f.0.place })) (sym i.1) f.2)
 
--- ---- its reader
--- white space is passed in front of it
+-- ---- its parser
+-- white space is consumed before it
 pub piece_spaced : {T A : Type 0} (types_at : Reader T) (attr : Reader (AttrView A)) (inside : Bool) (step : Step) (names : List Text) {old mid new : StreamView} {result : Result (ReadPiece T A) (ParseFault A)} → old.failed ≡ false
     → Takes itself replaced (front is_whitespace old.rest) (after is_whitespace old.rest) old mid → MustPiece itself replaced names (piece_at types_at attr inside step) mid result new → MustPiece itself replaced names (space_at ▷ piece_at types_at attr inside step) old result new
 piece_spaced types_at attr inside step names {old} {mid} {new} {result} fine k h =

@@ -1,4 +1,4 @@
--- A piece behind a region of its operation was read and stored, and the operation goes on; or how that is refused.
+-- A piece after a region of its operation was parsed and stored, and the operation goes on; or why it is an error.
 use Rattle.std.proofs.Common.{◌≡◌, ◌∙◌, ◌+◌, inl, inr, ℕ, suc, false, true, List, [], ◌∷◌, ◌++◌, drop, length, map, slice_get, None, Some, IsSome, Result, Ok, Err, refl, sym, ap, subst, arith, append-nil, append_assoc}
 use Rattle.std.specs.List.{All}
 use Rattle.irtext_base.specs.Text.{Text}
@@ -70,11 +70,11 @@ use Rattle.irtext_parse_nested.proofs.Faults.{StaysWithin, must_demand, stands_t
 use Rattle.irtext_parse_nested.proofs.FrontRead.{each_on}
 use Rattle.irtext_parse_nested.proofs.LaterPieces.{part_of, flat_next, first_left, spaced_of, late_within, late_takes, late_fails, never_outside}
 
--- what the reading of a piece promises, by the step that is next
+-- what the parser of a piece promises, given the next step
 abbrev pub ReadsNext : {T A : Type 0} → Reader T → Reader (AttrView A) → List (Text × Table) → BegunOperation → List Text → StreamView → Result (ReadPiece T A) (ParseFault A) → StreamView → Type 0
 ReadsNext types_at attr dialects b names old result new = (step : Step) → slice_get (steps_in dialects (id_of b.id)) b.step ≡ Some step → MustPiece itself replaced names (space_at ▷ piece_at types_at attr b.inside step) old result new
 
--- the names stand where they stood, and what is tied is tied
+-- the names are unchanged, and still match the graph
 tied_on : {T A U : Type 0} (before middle : Names) (s : StateStream T A U) → NamesRead before middle → MatchesGraph before.values before.labels s.state.ctx.now.graph → MatchesGraph middle.values middle.labels s.state.ctx.now.graph
 tied_on before middle s read t = rw (read.values, read.labels) t
 
@@ -94,7 +94,7 @@ module _ {T A U : Type 0} (types_at : Reader T) (attr : Reader (AttrView A)) (ol
     neither : ReadNeither (step ∷ ss)
     neither = subst ReadNeither left is.late
 
-    -- ---- it was read
+    -- ---- it was parsed
     module _ (read : NamesRead before middle) (distinct : AreDistinct middle.names) (piece : ReadPiece T A) (mid : StreamView)
         (must : MustPiece {A = A} itself replaced middle.names (space_at ▷ piece_at types_at attr b.inside step) old.stream (Ok piece) mid) where
       there : Answered ((space_at ▷ piece_at types_at attr b.inside step) old.stream.rest) old.stream (must.meant piece) mid
@@ -187,8 +187,8 @@ module _ {T A U : Type 0} (types_at : Reader T) (attr : Reader (AttrView A)) (ol
         has_begun own h = subst (λ es. HasBegun (format_of dialects) (with_steps o ss (o.parts ++ tree.piece meant ∷ [])) (record own { entries = put_all own.entries es })) (append-nil (stored meant))
             (begun_step (format_of dialects) o own h step ss left (tree.piece meant) (part_of step meant of_step))
 
-    -- ---- it is refused
-    -- no such piece stands there
+    -- ---- it is an error
+    -- the text has no such piece there
     pub piece_missing : {names : List Text} {fault : ParseFault A} {mid : StreamView} → old.stream.failed ≡ false → Sincere types_at → (reading : Text → Outcome A) → attr ≡ attr_at reading → Sincere reading
         → MustPiece {T = T} {A = A} itself replaced names (space_at ▷ piece_at types_at attr b.inside step) old.stream (Err fault) mid → UnlessMemory (RefusesPiece types_at attr o step before old) fault
     piece_missing {fault = fault} fine sincere_types reading e sincere must =
@@ -225,7 +225,7 @@ module _ {T A U : Type 0} (types_at : Reader T) (attr : Reader (AttrView A)) (ol
           ))
 
   -- ---- the turn
-  -- no piece could be read
+  -- no piece could be parsed
   pub next_missing : {names : List Text} {fault : ParseFault A} {mid : StreamView} → old.stream.failed ≡ false → Sincere types_at → (reading : Text → Outcome A) → attr ≡ attr_at reading → Sincere reading
       → ReadsNext types_at attr dialects b names old.stream (Err fault) mid → (o : OpenOperation T A) (step : Step) (ss : List Step) → IsBegun before.names (whole old.stream) old.state.ctx.now b o → o.steps ≡ step ∷ ss
       → UnlessMemory (RefusesPiece types_at attr o step before old) fault
@@ -243,14 +243,14 @@ module _ {T A U : Type 0} (types_at : Reader T) (attr : Reader (AttrView A)) (ol
         let a = answered {A = A} m.read in
         record { taken = a.taken; takes = a.takes }
 
-    -- some of the text was read
+    -- some of the text was parsed
     pub next_moves : (new : StreamView) → new ≡ mid → IsFlatNext (slice_get (steps_in dialects (id_of b.id)) b.step) → Moves old.stream new
     next_moves new same flat = subst (Moves old.stream) (sym same) (next_answered flat)
 
     pub next_whole : IsFlatNext (slice_get (steps_in dialects (id_of b.id)) b.step) → whole mid ≡ whole old.stream
     next_whole flat = let m = next_answered flat in takes_whole alone old.stream mid m.taken mid.rest m.takes
 
-    -- the operation goes on behind the piece
+    -- the operation goes on after the piece
     pub next_goes_on : (new : StateStream T A U) (next : BegunOperation) → next ≡ record b { coming = None; step = b.step + 1 } → new.stream ≡ mid → marks_of new.state ≡ marks_of old.state → MatchesGraph before.values before.labels old.state.ctx.now.graph
         → StoresPiece piece old.state.ctx.now new.state.ctx.now b.op → GoesOn types_at attr before old b next middle new
     unfolding reads_piece

@@ -1,4 +1,4 @@
--- A region that ends: what it does with names, and how it is refused.
+-- A region that ends: what it does with names, and which errors there are.
 use Rattle.std.proofs.Common.{◌≡◌, inl, inr, ℕ, Bool, true, false, codes, Some, Ok, Err, refl, sym, ap, subst}
 use Rattle.irtext_base.specs.Faults.{Unresolved}
 use Rattle.irtext_base.specs.Locations.{AttrView}

@@ -1,4 +1,4 @@
--- Lemmas on the reading of nested text: what stands through acts and edits, pieces that are gathered, and the turns of the loop.
+-- Lemmas on the parsing of nested text: what is unchanged by acts and edits, pieces that are gathered, and the turns of the loop.
 pub mod Standing
 pub mod RegionAdded
 pub mod Losing

@@ -30,7 +30,7 @@ use Rattle.irtext_names.proofs.SameBut.{SameBut, same_age, same_self, same_then,
 use Rattle.irtext_names.proofs.Settled.{replaced_same, erased_same}
 use Rattle.irtext_parse_nested.specs.Definitions.{BlanksHaveResults, IsPlaced, HasAsMany, StaysAlike, LosesPlaceholders}
 
--- ---- what stands
+-- ---- live objects
 some_mapped : {X Y : Type 0} (f : X → Y) (o : Option X) → IsSome o → IsSome (option_map f o)
 some_mapped f None h = absurd (cc)
 some_mapped f (Some x) h = refl
@@ -63,7 +63,7 @@ module _ {O B T : Type 0} (g k : GraphView (Option O) B T) where
   abbrev pub HasResult : Ptr Operation → Type 0
   HasResult p = option_map (λ c. c.data_of) (operation_at k p) ≡ Some None → (i : ℕ) × IsDefined k (OfValue (Result p i))
 
-  -- where each operation is as it was, but for what it uses, or has a result if it has no data, those without data have results if they had
+  -- if each operation is unchanged, except for what it uses, or has a result if it has no data, those without data have results if they had
   pub blanks_by : ((p : Ptr Operation) → (option_map without_uses (content k (TheOperation p)) ≡ option_map without_uses (content g (TheOperation p))) ⊎ HasResult p)
       → (m : ℕ) → BlanksHaveResults m g → BlanksHaveResults m k
   blanks_by same m h p e n = elim (same p) [
@@ -113,7 +113,7 @@ module _ {O B T : Type 0} where
         go None i o = cc
         go (Some y) i o = blank y (p y i) (some_eq o)
 
-    -- what stands somewhere is none
+    -- a block with a parent is not the placeholder
     stands_in : (b : Ptr BasicBlock) (o : Object) → parent g (TheBlock b) ≡ Some o → option_map owner d ≡ Some (TheBlock b) → ⊥
     stands_in b o e f = go d refl f
       where
@@ -148,7 +148,7 @@ module _ {O B T : Type 0} where
     many_placed (TheBlock b) n = tt
     many_placed (TheRegion r) n = tt
 
-    -- what is there was there
+    -- an object that is no placeholder now was none before
     was_placed : (q : Object) → IsPlaced k q → IsPlaced g q
     was_placed q p = go d refl
       where
@@ -169,7 +169,7 @@ module _ {O B T : Type 0} where
           | inr ne ↦ same_placed q (λ e. ne (some_eq (ap (option_map owner) (sym i) ∙ e))) p
         ]
 
-    -- no operation without data came
+    -- each operation has the same contents as before, or, if it has no data, a result
     as_blank : (p : Ptr Operation) → (option_map without_uses (content k (TheOperation p)) ≡ option_map without_uses (content g (TheOperation p))) ⊎ HasResult g k p
     as_blank p = go d refl
       where
@@ -180,7 +180,7 @@ module _ {O B T : Type 0} where
           | inr ne ↦ inl (s.contents (TheOperation p) (λ e. ne (some_eq (ap (option_map owner) (sym i) ∙ e))))
         ]
 
-    -- what is gone was made at no time
+    -- an object that was new is still new, even if it was removed
     still_new : (m : ℕ) (q : Object) → IsNew m g q → IsNew m k q
     still_new m q n = go d refl
       where

@@ -1,4 +1,4 @@
--- What a mark comes to that was read, and acts one after another.
+-- The effect of a mark that was parsed, and acts one after another.
 use Rattle.std.proofs.Common.{◌≡◌, ◌==◌, ◌∙◌, ℕ, Bool, true, false, cond, List, [], ◌∷◌, ◌++◌, map, Option, Some, None, is_some, Result, Ok, Err, OnOk, OnErr, IfErr, refl, sym, ap, subst, append-nil, nat_eq, eqb-true, eq-eqb}
 use Rattle.std.specs.Map.{lookup}
 use Rattle.irtext_base.specs.Text.{Text}
@@ -30,8 +30,8 @@ use Rattle.irtext_parse_nested.specs.Ends.{NotesMark, GainsMarks, RefusesMark}
 use Rattle.irtext_parse_nested.specs.Items.{Made, Names, Pledge, StandsAs, Acts, ActFails}
 use Rattle.irtext_parse_nested.proofs.Faults.{stands_there}
 
--- ---- answers
--- what holds where an answer is a value, and so on
+-- ---- results
+-- what holds if a result is a value, and so on
 pub on_ok : {X E P Q : Type 0} (r : Result X E) → (P → Q) → OnOk r P → OnOk r Q
 on_ok (Ok x) f p = f p
 on_ok (Err e) f p = p
@@ -68,7 +68,7 @@ module _ {T A U : Type 0} {f h : (ℕ → Path) → Outcome → Outcome} {old mi
   fails_then a b = record { failure = b.failure; is = b.is; so = λ path items more o k. b.so path items more (f path o) (a.so path items more o k) }
 
 -- ---- marks
--- the same test, the other way round
+-- the same test, with the arguments exchanged
 turned : (i j : ℕ) → nat_eq j i ≡ (i == j)
 turned i j = go (nat_eq j i) (i == j) refl refl
   where
@@ -97,17 +97,17 @@ noted_before {X} i ms ne = noted_among i ms ∙ go (lookup (same_index i) ms) re
     go None e = absurd (ne e)
     go (Some x) e = refl
 
--- none came
+-- no mark was added
 pub gains_nothing : {X : Type 0} {old new : List (ℕ × X)} → new ≡ old → GainsMarks old new
 gains_nothing {old = old} e = ([], e ∙ sym (append-nil old))
 
--- one came, where one was read
+-- a mark was added if one was parsed
 pub gains_mark : {X : Type 0} (read : Option ReadMark) (x : X) {old b c new : List (ℕ × X)} → b ≡ old → NotesMark read x b c → new ≡ c → GainsMarks old new
 gains_mark None x e n f = gains_nothing (f ∙ (n ∙ e))
 gains_mark (Some r) x e n f = ((r.index, x) ∷ [], f ∙ (n.1 ∙ ap (λ ms. ms ++ (r.index, x) ∷ []) e))
 
 module _ {O B T : Type 0} where
-  -- a mark leaves the scopes as they stand
+  -- a mark leaves the scopes unchanged
   pub mark_stands : (names : NameTracker Value (Ptr BasicBlock)) (g : GraphView (Option O) B T) (known : Known) (held : List (User × Defined)) (st : State) (i p : ℕ) → StandsAt names g known held st → StandsAt names g known held (after st (fact_of (mark i p)))
   mark_stands names g known held st i p s = record {
     distinct = s.distinct;
@@ -139,7 +139,7 @@ module _ {T A U : Type 0} (names : Names) (text : Text) (s z : code.State T A U)
         results = h.results;
       }
 
-  -- the mark was noted, where one was read
+  -- the mark was recorded, where one was parsed
   pub note_acts : {X : Type 0} (item : X) (read : Option ReadMark) (m : Option (Mark ℕ)) (old new : List (ℕ × X)) → IsMarkIf text read m → NotesMark read item old new → indices_of (marks_of s) ≡ indices_of old → indices_of (marks_of z) ≡ indices_of new
       → z.ctx.now ≡ s.ctx.now → Acts (marking m) names s [] names z []
   note_acts item None None old new i n was are same = record {
@@ -159,7 +159,7 @@ module _ {T A U : Type 0} (names : Names) (text : Text) (s z : code.State T A U)
       let k : (lookup (same_index m.index) old ≡ None) × (new ≡ old ++ (m.index, item) ∷ []) = subst (λ j. (lookup (same_index j) old ≡ None) × (new ≡ old ++ (j, item) ∷ [])) i.indexed n in
       record { so = λ path items more o h. one_mark m.index m.place item old new k.0 k.1 was are (ap (λ c. c.graph) same) path items (more ++ []) o h }
 
-  -- its index is noted already
+  -- its index is recorded already
   pub mark_fails : {X : Type 0} (fault : ParseFault A) (read : Option ReadMark) (m : Option (Mark ℕ)) (old : List (ℕ × X)) → IsMarkIf text read m → RefusesMark text read old fault → indices_of (marks_of s) ≡ indices_of old
       → ActFails text (marking m) names s [] fault
   mark_fails fault read m old i r was = go m (subst (λ q. IsMarkIf text q m) r.is i)

@@ -19,13 +19,13 @@ one_more (m ∷ ns) (suc i) n e = ap (λ xs. m ∷ xs) (one_more ns i n e)
 pub number_more : (ns : List ℕ) (i n : ℕ) → slice_get ns i ≡ Some n → take (i + 1) ns ≡ take i ns ++ n ∷ []
 number_more ns i n e = let same : suc i ≡ i + 1 = omega arith in subst (λ k. take k ns ≡ take i ns ++ n ∷ []) same (one_more ns i n e)
 
--- the numbers before one, that one, and those behind it
+-- the numbers before one, that one, and those after it
 pub number_here : (ns : List ℕ) (i n : ℕ) → slice_get ns i ≡ Some n → take i ns ++ n ∷ drop (suc i) ns ≡ ns
 number_here [] i n e = absurd (cc)
 number_here (m ∷ ns) zero n e = let same : m ≡ n = cc in ap (λ x. x ∷ ns) (sym same)
 number_here (m ∷ ns) (suc i) n e = ap (λ xs. m ∷ xs) (number_here ns i n e)
 
--- so many numbers stand in front
+-- as many numbers precede it as its index says
 pub numbers_before : (ns : List ℕ) (i n : ℕ) → slice_get ns i ≡ Some n → length (take i ns) ≡ i
 numbers_before [] i n e = absurd (cc)
 numbers_before (m ∷ ns) zero n e = refl

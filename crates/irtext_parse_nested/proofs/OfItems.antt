@@ -72,7 +72,8 @@ module _ (path : ℕ → Path) (items : List (ℕ × Object)) (n : ℕ) (b : Ptr
   abbrev with_block_of : List (ℕ × Object)
   with_block_of = (n, TheBlock b) ∷ items
 
-  -- what is made where a block is made is of the items with it: whatever values came at places of its arguments, and blocks at its place
+  -- what is made with a block is of the items that include the block: whatever values were added at places of its arguments, and blocks at
+  -- its place
   pub of_block : (known more : Known) → AreOf path items known
       → ((q : Place) (v : Value) → Among (q, v) more.values → Among (q, v) known.values ⊎ ((i : ℕ) × (q ≡ argument (path n) i) × (v ≡ Argument b i)))
       → ((q : Place) (d : Ptr BasicBlock) → Among (q, d) more.blocks → Among (q, d) known.blocks ⊎ ((q ≡ block_at (path n)) × (d ≡ b))) → more.sites ≡ known.sites → AreOf path with_block_of more

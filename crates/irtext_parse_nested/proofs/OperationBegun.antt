@@ -1,4 +1,4 @@
--- An operation that begins: its front was read, its names were used, and it was made; or how it is refused.
+-- An operation that begins: its front was parsed, its names were used, and it was made; or which error it is.
 use Rattle.std.proofs.Common.{◌≡◌, ◌<◌, ◌+◌, ◌-◌, ◌∙◌, inl, inr, ℕ, zero, suc, Bool, true, List, [], ◌∷◌, ◌++◌, length, map, flat_map, drop, take, Option, Some, None, IsSome, refl, sym, ap, subst, arith, length-append, slice_get}
 use Rattle.std.specs.Prelude.{IfSome}
 use Rattle.std.specs.List.{All}
@@ -77,7 +77,7 @@ use Rattle.irtext_parse_nested.proofs.OperationMade.{begun_lasts, made_is, begun
 use Rattle.irtext_parse_nested.proofs.StepParts.{AreOfSteps, FrontParts, front_parts}
 use Rattle.irtext_parse_nested.proofs.Steady.{length_names}
 
--- the location of where a stream stands
+-- the location of a stream's position
 pub located_here : {A : Type 0} (v : StreamView) (src : _) (loc : Location A) → LocatesAt src v.passed loc → IsLocated src (whole v) (length v.rest) loc
 located_here v src loc h =
     let n : length (v.passed ++ v.rest) - length v.rest ≡ length v.passed = omega (arith, length-append v.passed v.rest) in
@@ -96,7 +96,7 @@ count_known : {T : Type 0} (ts : List T) → length (known ts) ≡ length ts
 count_known [] = refl
 count_known (t ∷ ts) = ap (λ k. suc k) (count_known ts)
 
--- one more is in front, or behind
+-- one more is before, or after
 last_pledge : (w v : Pledge) (more : List Pledge) → Among w (more ++ v ∷ []) → (P : Pledge → Type 0) → ((u : Pledge) → Among u (more ++ []) → P u) → P v → P w
 last_pledge w v [] (inl e) P f h = subst P (sym e) h
 last_pledge w v [] (inr a) P f h = absurd a
@@ -125,7 +125,7 @@ module _ {T A U : Type 0} (types_at : Text → Outcome T) (attr : Text → Outco
     pub front_can : (names : Names) → names.names ≡ table → CanGather names [] [] pieces
     front_can names same = can_gather names (whole old.stream) true pieces parts.pieces (subst (λ ns. Each (IsPiece ns (whole old.stream)) pieces parts.pieces) (sym same) each) f.format f.accepted are_of
 
-    -- they stand at the text
+    -- they are what the text parses as
     pub front_reads : (rest : Text) → mid.rest ≡ rest → ReadsFront types_at attr true old rest
     front_reads rest e = record {
       names = f.results;
@@ -138,7 +138,7 @@ module _ {T A U : Type 0} (types_at : Text → Outcome T) (attr : Text → Outco
       front = subst (λ r. front_at types_at attr true (front_steps (steps_in dialects (id_of id))) [] f.middle ≡ Read f.parts f.taken r) e f.front;
     }
 
-    -- whatever stands there is this
+    -- any parse of this text has this result
     same_read : (rest : Text) (read : ReadsFront types_at attr true old rest) → (read.id ≡ id_of id) × (read.parts ≡ f.parts)
     same_read rest read =
         let led = sym read.led ∙ f.led in
@@ -180,7 +180,7 @@ module _ {T A U : Type 0} (types_at : Text → Outcome T) (attr : Text → Outco
     neither : ReadNeither (region_steps (steps_in dialects (id_of id)))
     neither = subst (λ ss. ReadNeither (region_steps ss)) (sym steps_are) (behind_neither f.format f.accepted)
 
-    -- whatever is behind, so many are named
+    -- whatever parts follow, the body names this many
     operands_so : (names : List (Name ℕ)) (later : List (Part ℕ T A)) → ArePartsOf (region_steps (steps_in dialects (id_of id))) later
         → length (operand_names (unmarked (length old.stream.rest) names (id_of id) (body_of (format_of dialects (id_of id)) (f.parts ++ later)))) ≡ length (flat_map operand_place pieces) + length (flat_map operand_list pieces)
     operands_so names later a = ap (λ o. length (operand_names (unmarked (length old.stream.rest) names (id_of id) (body_of o (f.parts ++ later))))) f.known
@@ -204,7 +204,7 @@ module _ {T A U : Type 0} (types_at : Text → Outcome T) (attr : Text → Outco
       stores = stores_so;
     }
 
-    -- it is that of whatever stands there
+    -- it is that of any parse of this text
     pub front_begun : (rest : Text) (read : ReadsFront types_at attr true old rest) → HasBegun (format_of dialects) (begun_by types_at attr true old rest read) front_own
     front_begun rest read =
         let same = same_read rest read in
@@ -265,7 +265,7 @@ module _ {T A U : Type 0} (types_at : Text → Outcome T) (attr : Text → Outco
         let l = m.gathers.successor_count ∙ ap (λ z. length z + length (flat_map successor_list front.pieces)) m.is_none.successors.1 in
         omega (arith, e, o, n, l)
 
-    -- it came with the own that was read
+    -- it was created with the data that was parsed
     pub front_came : IsLocated old.state.src (whole old.stream) (length old.stream.rest) loc → ComesInto (IsLocated old.state.src (whole old.stream)) old_ctx new_ctx b.op (front_own f) block
     front_came located = begun_came block front at loc middle old_ctx names new_ctx b m all_older (IsLocated old.state.src (whole old.stream)) (front_own f)
         (made_own (IsLocated old.state.src (whole old.stream)) (record { id = front.id; attributes = m.gathered.attributes; loc = loc }) (types_made m.gathered.types.items m.gathered.listed) (front_own f) refl types_same entries_same located)
@@ -274,7 +274,7 @@ module _ {T A U : Type 0} (types_at : Text → Outcome T) (attr : Text → Outco
     same_dialects : new_ctx.dialects ≡ old_ctx.dialects
     same_dialects = (begun_lasts block front at loc middle old_ctx names new_ctx b m all_older).dialects
 
-    -- what was begun is what was read
+    -- what was begun is what was parsed
     pub front_is_begun : front.steps ≡ length (steps_in dialects (id_of front.id)) → IsStep front.coming (slice_get (steps_in dialects (id_of front.id)) (length front.pieces)) → front.isolated ≡ isolated dialects (id_of front.id) → (rest : Text) (e : mid.rest ≡ rest) → Leaves (whole old.stream) at (length old.stream.rest) → IsBegun names.names (whole old.stream) new_ctx b (begun_by types_at attr true old rest (front_reads f rest e))
     unfolding front_reads
     front_is_begun counted comes iso rest e left = record {
@@ -357,8 +357,8 @@ module _ {T A U : Type 0} (types_at : Text → Outcome T) (attr : Text → Outco
             acts = front_acts new.stream.rest k;
           }
 
-  -- ---- it is refused
-  -- what was not gathered is refused with a committed fault
+  -- ---- it is an error
+  -- if the pieces could not be gathered, the error is committed
   pub ungathered_commits : (pieces : List (ReadPiece T A)) (names : Names) (text : Text) (fault : ParseFault A) → NotGatheredAs pieces names old.state.ctx.now.graph text fault → fault.committed ≡ true
   ungathered_commits pieces names text fault (starved s) = s.flag
   ungathered_commits pieces names text fault (refused refusal.Memory r s) = s.flag
@@ -366,13 +366,13 @@ module _ {T A U : Type 0} (types_at : Text → Outcome T) (attr : Text → Outco
   ungathered_commits pieces names text fault (refused (refusal.NoActiveScope name) r (inl s)) = s.flag
   ungathered_commits pieces names text fault (refused (refusal.NoActiveScope name) r (inr s)) = s.flag
 
-  -- nothing was read
+  -- nothing was parsed
   pub front_lacks : (before : Names) (wanted : Bool) (fault : ParseFault A) → UnlessMemory (LacksFront types_at attr old.state.ctx.now.dialects true wanted old.stream) fault → UnlessMemory (RefusesOperation types_at attr true wanted before old) fault
   front_lacks before wanted fault (inl s) = inl s
   front_lacks before wanted fault (inr (lacks_lead d c)) = inr (no_lead d c)
   front_lacks before wanted fault (inr (lacks_piece names id lead middle e d c)) = inr (no_front names id lead middle e d c)
 
-  -- what was read fails
+  -- what was parsed fails
   module _ {before middle : Names} {rs : List ReadName} {id : OpId} {pieces : List (ReadPiece T A)} {mid : StreamView} (f : FrontStands types_at attr old.state.ctx.now.dialects true middle.names old.stream rs id pieces mid)
       (read : NamesRead before middle) (distinct : AreDistinct middle.names) where
     module _ {Is : Text → Name ℕ → Type 0} {cause : Text → script.Cause Text} (fails : FailsAt pieces middle old.state.ctx.now.graph Is cause) where

@@ -33,7 +33,7 @@ use Rattle.irtext_parse_nested.proofs.Edited.{edited_lasts, edited_sound, edited
 use Rattle.irtext_parse_nested.proofs.Faults.{named_each}
 
 module _ {T A : Type 0} where
-  -- what is open lasts, twice
+  -- the open objects are still live, after two steps
   pub lasts_more : {a b c : ContextView T A} → KeepsLive a b → KeepsLive b c → KeepsLive a c
   lasts_more {a} {b} {c} l m = record {
     operations = λ p h. m.operations p (l.operations p h);
@@ -46,7 +46,7 @@ module _ {T A : Type 0} where
   }
 
   module _ (old mid new : ContextView T A) (op : Ptr Operation) (spares : ModifiesOnly [] old mid) where
-    -- all else is spared
+    -- all else is unchanged
     pub close_spares : WritesAttributes mid new op → ModifiesOnly (TheOperation op ∷ []) old new
     close_spares w = spares_then old mid new (TheOperation op ∷ []) (spares_fewer old mid (TheOperation op ∷ []) spares) (attributes_written_spares (λ n l. Unit {0}) mid new op w.left w.edits)
 
@@ -75,7 +75,8 @@ module _ {T A : Type 0} where
               regions = λ was e. became.regions was (stays was e);
             }
 
--- where the results were defined, and the attributes written, the machine stands behind the operation's end
+-- after the results are defined and the attributes written, names, graph and marks agree with the state of the machine after the
+-- operation's end
 pub close_acts : {T A U : Type 0} (names new : Names) (s m z : code.State T A U) (b : BegunOperation) (o : OpenOperation T A) → Acts (closes_at o s) names s (pledge_of b o.place ∷ []) new m []
     → WritesAttributes m.ctx.now z.ctx.now b.op → marks_of z ≡ marks_of m → MatchesGraph new.values new.labels m.ctx.now.graph → Acts (closes_at o s) names s (pledge_of b o.place ∷ []) new z []
 close_acts names new s m z b o acts w same tied = record {
@@ -88,7 +89,7 @@ close_sound names m z op w n h = edited_sound m.ctx.now z.ctx.now op (with_attri
 pub close_lasts : {T A : Type 0} (old mid new : ContextView T A) (op : Ptr Operation) → KeepsLive old mid → WritesAttributes mid new op → KeepsLive old new
 close_lasts old mid new op l w = lasts_more l (edited_lasts mid new op (with_attributes w.left) w.edits)
 
--- the mark that was noted is that of the text
+-- the mark that was recorded is that of the text
 pub noted_is : {X : Type 0} (text : Text) (x : X) (read : Option ReadMark) (m : Option (Mark ℕ)) (old new : List (ℕ × X)) → IsMarkIf text read m → NotesMark read x old new → new ≡ old ++ noted_as m x
 noted_is text x None None old new i n = n ∙ sym (append-nil old)
 noted_is text x None (Some m) old new i n = absurd i

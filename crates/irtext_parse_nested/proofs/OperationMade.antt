@@ -1,5 +1,5 @@
--- An operation that begins, as a context has it: it came, last into its block where one is given, and all else is spared and lasts; names
--- stay tied, and wait for what they waited.
+-- An operation that begins, as a context has it: it was created, as the last of its block if one is given, and all else is unchanged and
+-- live; names still match the graph, and wait for the same definitions.
 use Rattle.std.proofs.Common.{◌≡◌, ◌≤◌, ◌+◌, ◌∙◌, inl, inr, ℕ, suc, List, [], ◌∷◌, ◌++◌, length, Option, Some, None, IsSome, refl, sym, ap, subst, arith}
 use Rattle.std.specs.Prelude.{IfSome}
 use Rattle.std.specs.Option.{option_map}
@@ -73,7 +73,7 @@ module _ {T A : Type 0} (blk : Option (Ptr BasicBlock)) (front : ReadFront T A) 
   placed_on None p = subst (KeepsLive m.made) (sym p) (lasts_itself m.made)
   placed_on (Some k) p = placed_lasts m.made new k b.op p.0 p.2
 
-  -- what is open lasts
+  -- the open objects are still live
   pub begun_lasts : KeepsLive old new
   begun_lasts = lasts_then old m.made new lasts_made (placed_on blk m.placed)
 
@@ -104,7 +104,7 @@ module _ {T A : Type 0} (blk : Option (Ptr BasicBlock)) (front : ReadFront T A) 
     ties_made : MatchesGraph names.values names.labels m.made.graph
     ties_made = added_ties (operation_added b.op m.makes.graph) names.values names.labels m.steady.tied
 
-    -- the block stands where it stood
+    -- the block still has a parent
     pub inside_made : (k : Ptr BasicBlock) → IsThere old (TheBlock k) → IsSome (parent m.made.graph (TheBlock k))
     inside_made k there = subst IsSome (sym (lasts_made.blocks k there.0 there.1).1) there.1
 
@@ -141,7 +141,7 @@ module _ {T A : Type 0} (blk : Option (Ptr BasicBlock)) (front : ReadFront T A) 
   pub begun_blanks : (n : ℕ) → BlanksDefine n old → BlanksDefine n new
   begun_blanks = blanks_on old new (λ n h. blanks_placed n blk m.placed (blanks_made n (m.steady.blanks n h)))
 
-  -- ---- what came
+  -- ---- what was created
   module _ (IsLocation : ℕ → Location A → Type 0) (own : OwnSoFar T A) (has : HasOwn IsLocation (made_view held types) own)
       (operands_are : length (in_order m.gathered.operands.single.items ++ m.gathered.operands.list.items) ≡ own.operands)
       (successors_are : length (in_order m.gathered.successors.single.items ++ m.gathered.successors.list.items) ≡ own.successors) where
@@ -170,6 +170,6 @@ module _ {T A : Type 0} (blk : Option (Ptr BasicBlock)) (front : ReadFront T A) 
           spares_then old m.used new (TheOperation b.op ∷ TheBlock k ∷ []) (wider_used (TheOperation b.op ∷ TheBlock k ∷ [])) (operation_came_spares IsLocation m.used m.made new k b.op held types m.makes p.0),
         )
 
-    -- it came, and all else is spared
+    -- it was created, and all else is unchanged
     pub begun_came : IfSome blk (λ k. IsThere old (TheBlock k)) → ComesInto IsLocation old new b.op own blk
     begun_came there = came_on blk there m.placed

@@ -4,12 +4,12 @@ use Rattle.std.specs.Map.{lookup, remove_entry}
 use Rattle.irtext_graph.specs.Chained.{Among}
 use Rattle.irtext_grammar.specs.Grammar.Tree.{at_place, in_order_from, in_order}
 
--- what stands at a place is looked up by it
+-- the element at a place is found by this place
 pub place_looked_up : {X : Type 0} (k : ℕ) (es : List (ℕ × X)) → at_place k es ≡ lookup (λ i. i == k) es
 place_looked_up k [] = refl
 place_looked_up k (e ∷ es) = ap (cond (e.0 == k) (Some e.1)) (place_looked_up k es)
 
--- what stands at another place stands there where one was taken out
+-- the elements at other places stay if one is removed
 pub others_stay : {X : Type 0} (k j : ℕ) (es : List (ℕ × X)) → (j ≡ k → ⊥) → at_place j (remove_entry (λ i. i == k) es) ≡ at_place j es
 others_stay k j [] n = refl
 others_stay k j (e ∷ es) n = go (e.0 == k) refl (others_stay k j es n)
@@ -22,7 +22,7 @@ others_stay k j (e ∷ es) n = go (e.0 == k) refl (others_stay k j es n)
     go true f h = let c = not_here (eqb-true e.0 k f) (e.0 == j) refl in sym (ap (λ b. cond b (Some e.1) (at_place j es)) c)
     go false f h = ap (cond (e.0 == j) (Some e.1)) h
 
--- what stands at places from k on is the same where each of them has the same
+-- the elements at places from k on are the same if each of these places has the same
 from_same : {X : Type 0} (n k : ℕ) (es fs : List (ℕ × X)) → ((j : ℕ) → k ≤ j → at_place j fs ≡ at_place j es) → in_order_from n k fs ≡ in_order_from n k es
 from_same zero k es fs h = refl
 from_same (suc n) k es fs h = ap₂ (λ o xs. option_to_list o ++ xs) (h k (omega arith)) (from_same n (suc k) es fs (λ j l. h j (omega (arith, l))))

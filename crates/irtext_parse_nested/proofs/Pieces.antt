@@ -48,7 +48,7 @@ use Rattle.irtext_parse_nested.proofs.Steady.{length_names}
 use Rattle.irtext_parse_nested.proofs.Gathers.{grows_itself, map_both, takes_none, takes_both, fails_then, fails_first, fails_at_first}
 
 -- ---- names
--- names that were read have their texts under their numbers
+-- names that were parsed have their texts under their numbers
 pub named_row : (table : List Text) (text : Text) (ns : List ReadName) (ms : List (Name ℕ)) → Each (StandsFor table text) ns ms → AreNamed table (map (λ n. n.name) ns) ms
 named_row table text [] [] e = tt
 named_row table text [] (m ∷ ms) e = absurd e
@@ -63,7 +63,7 @@ label_uses_are : (p : Path) (k : ℕ) (ms : List (Name ℕ)) → uses_from use_l
 label_uses_are p k [] = refl
 label_uses_are p k (m ∷ ms) = ap (λ acts. use_label (word_of m) (successor p k) ∷ acts) (label_uses_are p (suc k) ms)
 
--- what is in hand in a row stands at its place in the list
+-- what is in hand for a list is at its place in the list
 row_hand : {X : Type 0} (of : X → Defined) (user : ℕ → User) (k : ℕ) (xs : List X) (u : User) (d : Defined) → Among {U = User × Defined} (u, d) (in_hand_from of user k xs)
     → (j : ℕ) × (x : X) × (u ≡ user (k + j)) × (d ≡ of x) × (slice_get xs j ≡ Some x)
 row_hand of user k [] u d a = absurd a
@@ -72,7 +72,7 @@ row_hand of user k (x ∷ xs) u d (inr a) = let r = row_hand of user (suc k) xs 
 
 -- ---- one piece
 module _ {T A : Type 0} where
-  -- what is so of the acts of the piece is so of those of the only part
+  -- what holds of the acts of the piece holds of those of the only part
   one_part : (piece : ReadPiece T A) (table : List Text) (P : Path → ℕ → ℕ → List Act → Type 0)
       → ((text : Text) (q : Piece ℕ T A) → IsPiece table text piece q → (p : Path) (k l : ℕ) → P p k l (piece_acts p k l q))
       → (text : Text) (parts : List (Part ℕ T A)) → Each (IsPart table text) (piece ∷ []) parts → (p : Path) (k l : ℕ) → P p k l (views (piece_acts p k l) parts)
@@ -170,7 +170,7 @@ module _ {O B T A : Type 0} {old new : Names} {g h : GraphView (Option O) B (Opt
         held = record { so = λ u d a. inr (hand p l u d a) };
       })
 
-  -- a list of operands, of which none came before
+  -- a list of operands, if none was parsed before
   pub operands_one : (ns : List ReadName) (more : List Value) → x.operands.list.items ≡ [] → UsesRow OfValue use_value (map (λ n. n.name) ns) old new g h more
       → y.operands.list.items ≡ x.operands.list.items ++ more → y.operands.single.items ≡ x.operands.single.items → y.successors ≡ x.successors → y.types ≡ x.types → y.listed ≡ x.listed → y.attributes ≡ x.attributes
       → Gathers (read.Operands ns ∷ []) old g x new h y
@@ -214,7 +214,7 @@ module _ {O B T A : Type 0} {old new : Names} {g h : GraphView (Option O) B (Opt
         held = record { so = λ u d a. let r = row_hand OfValue (operand p) k more u d a in inl (inr (r.0, r.1, r.2, r.3, ap (λ z. slice_get z r.0) all ∙ r.4)) };
       })
 
-  -- a list of successors, of which none came before
+  -- a list of successors, if none was parsed before
   pub successors_one : (ns : List ReadName) (more : List (Ptr BasicBlock)) → x.successors.list.items ≡ [] → UsesRow OfBlock use_label (map (λ n. n.name) ns) old new g h more
       → y.successors.list.items ≡ x.successors.list.items ++ more → y.successors.single.items ≡ x.successors.single.items → y.operands ≡ x.operands → y.types ≡ x.types → y.listed ≡ x.listed → y.attributes ≡ x.attributes
       → Gathers (read.Successors ns ∷ []) old g x new h y
@@ -291,7 +291,7 @@ module _ {O B T A : Type 0} (names : Names) (g : GraphView (Option O) B (Option 
     };
   }
 
-  -- a marker stands in the place of the attribute
+  -- a marker in place of the attribute
   pub marker_one : (k : Text) → y ≡ x → Gathers {O = O} {B = B} (read.Attr k None ∷ []) names g x names g y
   marker_one k e = alone (read.Attr k None) (λ text q is p a b. silent names g q (tree.attribute k None) is p a b refl) refl refl refl refl
       (ap (λ z. z.operands) e) (ap (λ z. z.successors) e) (ap (λ z. z.types.items) e ∙ sym (append-nil x.types.items)) (ap (λ z. z.listed) e) (ap (λ z. entries_of z.attributes) e)
@@ -366,7 +366,7 @@ module _ {O B T : Type 0} (names : Names) (g : GraphView (Option O) B T) where
   fails_not b f e = record { so = λ known held st s. ap (λ z. outcome (cond z [] (f ∷ [])) (after st nothing)) e }
 
   module _ {A : Type 0} (text : Text) where
-    -- whether the attribute may stand under the key
+    -- whether the attribute is allowed under the key
     same_holds : (e : Key × AttrObj A) (d : Name ℕ × Attribute A) → IsEntry text e d → may_hold d.0.text d.1 ≡ may_hold e.0.name (attribute_of e.1)
     same_holds e d is = ap₂ may_hold (sym is.0.named) (sym is.1)
 
@@ -384,7 +384,7 @@ module _ {O B T : Type 0} (names : Names) (g : GraphView (Option O) B T) where
     entries_fail (e ∷ es) (d ∷ ds) key each (inr later) = let r = entries_fail es ds key each.1 later.1 in (r.0, r.1, fails_then (holds_passes _ _ (same_holds e d each.0 ∙ later.0)) r.2)
 
 module _ {O B T A : Type 0} (names : Names) (g : GraphView (Option O) B (Option T)) {x y : Gathered T A} where
-  -- a dictionary whose entries may all stand there
+  -- a dictionary whose entries are all allowed
   pub dictionary_one : (es : Vec (Key × AttrObj A) Global) → MayAllHold es.items → y.operands ≡ x.operands → y.successors ≡ x.successors → y.types ≡ x.types → y.listed ≡ x.listed
       → entries_of y.attributes ≡ put_all (entries_of x.attributes) (map entry_read es.items) → Gathers {O = O} {B = B} (read.Dictionary es ∷ []) names g x names g y
   dictionary_one es h operands successors types listed attributes = alone names g (read.Dictionary es)
@@ -410,7 +410,7 @@ module _ {O B T A : Type 0} (names : Names) (g : GraphView (Option O) B (Option 
                 (subst (λ acts. FailsUses acts names g (record { cause = ReservedKey f.0.text; at = Some f.0.place })) (sym (append-nil (map (key_act may_hold) q.0))) f.2),
           )
 
--- ---- names that stand where no scope is open
+-- ---- names that are used where no scope is open
 module _ {O B T : Type 0} (names : Names) (g : GraphView (Option O) B (Option T)) where
   -- one act fails
   act_fails : (a : Act) (f : Failure) → FailsBy (act a) names g f → FailsUses (a ∷ []) names g f
@@ -485,7 +485,7 @@ pub none_of_length : (ns : List ReadName) → length ns ≡ 0 → ns ≡ []
 none_of_length [] e = refl
 none_of_length (n ∷ ns) e = absurd (omega (arith, e))
 
--- ---- pieces that may have been refused
+-- ---- pieces that may have been an error
 module _ {T A : Type 0} (x y : Gathered T A) where
   pub marker_if : (k : Text) (o : Option (AttrObj A)) → o ≡ None → y ≡ x → GathersAlone (read.Attr k o ∷ []) x y
   marker_if k None e f = λ names g. marker_one names g k f
@@ -514,15 +514,15 @@ module _ (T : Type 0) {A : Type 0} where
   dictionary_refused (Err (refusal.ReservedKey key)) es h = λ names g. dictionary_fails names g es key h
   dictionary_refused (Err (refusal.NoActiveScope n)) es h = absurd h
 
--- ---- refusals
+-- ---- errors
 module _ {O B T A : Type 0} where
-  -- the first piece is refused
+  -- the first piece is an error
   pub gather_refused_first : (piece : ReadPiece T A) (ps : List (ReadPiece T A)) (names : Names) (g : GraphView (Option O) B (Option T)) (r : NotGathered) → RefusesGathering (piece ∷ []) names g r → RefusesGathering (piece ∷ ps) names g r
   gather_refused_first piece ps names g refusal.Memory h = tt
   gather_refused_first piece ps names g (refusal.ReservedKey key) h = fails_at_first piece ps h
   gather_refused_first piece ps names g (refusal.NoActiveScope n) h = fails_at_first piece ps h
 
-  -- what is refused later is refused from the beginning
+  -- an error in the pieces that are left is an error from the beginning
   pub gather_refused_from : (ps qs : List (ReadPiece T A)) (names mid : Names) (g h : GraphView (Option O) B (Option T)) → mid.names ≡ names.names
       → ((Is : Text → Name ℕ → Type 0) (cause : Text → Cause Text) → FailsAt ps mid h Is cause → FailsAt qs names g Is cause)
       → (r : NotGathered) → RefusesGathering ps mid h r → RefusesGathering qs names g r

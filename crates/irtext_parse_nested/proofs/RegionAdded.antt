@@ -1,4 +1,4 @@
--- A region that comes last into an operation with data: what is defined, what is in place and what waits stays so.
+-- A region that is appended to an operation with data: what is defined, what is in place and what waits is unchanged.
 use Rattle.std.proofs.Common.{◌≡◌, ◌∙◌, inl, inr, ℕ, List, [], Option, Some, None, IsSome, map, slice_get, refl, sym, ap, subst}
 use Rattle.std.specs.Option.{option_map}
 use Rattle.irtext_graph.specs.declared.arena.Ptr.{Ptr}

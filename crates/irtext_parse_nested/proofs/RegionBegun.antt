@@ -1,4 +1,4 @@
--- A region that is entered and comes last into its operation: what lasts, what waits, and where the machine stands.
+-- A region that is entered and appended to its operation: what stays live, what waits, and the state of the machine.
 use Rattle.std.proofs.Common.{◌≡◌, ◌∙◌, ◌⊎◌, inl, inr, ◌≤◌, ℕ, Bool, true, false, List, [], ◌∷◌, Some, IsSome, length, nat_lt, arith, refl, sym, ap, subst}
 use Rattle.std.proofs.lemmas.Bool.Decides.{nat_tests}
 use Rattle.std.specs.Option.{option_map}
@@ -54,7 +54,7 @@ module _ {T A : Type 0} (old new : ContextView T A) (op : Ptr Operation) (r : Pt
     | inr (e, f) ↦ ap (is_older m) f ∙ young m le
   ]
 
-  -- what is open lasts
+  -- the open objects are still live
   pub region_lasts : KeepsLive old new
   region_lasts = record {
     operations = λ p h. let x = data_there old p h in there_data new p x.0 (ap (option_map (λ c. c.data_of)) (operation_same old.graph new.graph op r adds.graph p) ∙ x.1);
@@ -101,7 +101,7 @@ module _ {T A : Type 0} (old new : ContextView T A) (op : Ptr Operation) (r : Pt
           (λ u d i. subst (λ c. IsInPlace c.graph d u) (sym f) (in_place_still old.graph new.graph op r adds.graph u d (subst (λ c. IsInPlace c.graph d u) e i)))
           (subst (λ c. MatchesGraph names.values names.labels c.graph) (sym f) (region_ties old.graph new.graph op r adds.graph x.0 x.1 names.values names.labels tied)) same h
 
--- a scope of values is open behind a region's beginning that is not refused
+-- a scope of values is open after a region's beginning that is no error
 pub opens : {V : Type 0} (iso : Bool) (old new : List (Scope V)) → new ≡ entered iso old → ((iso ≡ false) × (is_open old ≡ false) → ⊥) → is_open new ≡ true
 opens true old new e n = ap is_open e
 opens false [] new e n = absurd (n (refl, refl))

@@ -1,4 +1,4 @@
--- One name more is defined behind those of a row.
+-- One more name is defined after those of a list.
 use Rattle.std.proofs.Common.{◌≡◌, ◌+◌, ◌∙◌, inl, inr, ℕ, suc, List, [], ◌∷◌, ◌++◌, length, map, Option, Some, refl, sym, ap, subst, arith, true, slice_get}
 use Rattle.std.specs.Option.{option_map}
 use Rattle.irtext_graph.specs.declared.arena.Ptr.{Ptr}
@@ -28,7 +28,7 @@ use Rattle.irtext_names.specs.Rows.{AreNamed}
 use Rattle.irtext_names.proofs.Rows.{run_through, map-through, split, none_behind, rest_fails}
 use Rattle.irtext_parse_nested.specs.Definitions.{definitions_from, AreMadeAs, DefinesRow, FailsRow}
 
--- the definitions of a row's names, of one of them, and of those behind it
+-- the definitions of a list's names, of one of them, and of those after it
 definitions_through : (place : ℕ → Place) (i : ℕ) (ws : List (Name ℕ)) (w : Name ℕ) (xs : List (Name ℕ))
     → definitions_from place i (ws ++ w ∷ xs) ≡ definitions_from place i ws ++ define_value (word_of w) (place (i + length ws)) ∷ definitions_from place (suc (i + length ws)) xs
 definitions_through place i [] w xs = ap (λ j. define_value (word_of w) (place j) ∷ definitions_from place (suc j) xs) (omega arith)
@@ -39,14 +39,14 @@ definitions_first : (place : ℕ → Place) (ws : List (Name ℕ)) (w : Name ℕ
     → definitions_from place 0 (ws ++ w ∷ xs) ≡ definitions_from place 0 ws ++ define_value (word_of w) (place (length ws)) ∷ definitions_from place (suc (length ws)) xs
 definitions_first place ws w xs = definitions_through place 0 ws w xs ∙ ap (λ j. definitions_from place 0 ws ++ define_value (word_of w) (place j) ∷ definitions_from place (suc j) xs) (omega arith)
 
--- what the machine comes to over them
+-- the outcome of the machine over them
 run_definitions : (place : ℕ → Place) (st : State) (ws : List (Name ℕ)) (w : Name ℕ) (xs : List (Name ℕ)) → run (going st) (map act (definitions_from place 0 (ws ++ w ∷ xs)))
     ≡ run (next (run (going st) (map act (definitions_from place 0 ws))) (act (define_value (word_of w) (place (length ws))))) (map act (definitions_from place (suc (length ws)) xs))
 run_definitions place st ws w xs = ap (λ acts. run (going st) (map act acts)) (definitions_first place ws w xs)
     ∙ (ap (run (going st)) (map-through act (definitions_from place 0 ws) (define_value (word_of w) (place (length ws))) (definitions_from place (suc (length ws)) xs))
     ∙ run_through (going st) (map act (definitions_from place 0 ws)) (act (define_value (word_of w) (place (length ws)))) (map act (definitions_from place (suc (length ws)) xs)))
 
--- how many there are with one behind others
+-- how many elements there are with one after others
 length_through : {X : Type 0} (xs : List X) (x : X) (ys : List X) → length (xs ++ x ∷ ys) ≡ suc (length xs + length ys)
 length_through [] x ys = omega arith
 length_through (y ∷ xs) x ys = let e = length_through xs x ys in omega (arith, e)
@@ -58,13 +58,13 @@ made_front place value ns n ms known a = λ i l. a i (let e = length_through ns 
 made_here : (place : ℕ → Place) (value : ℕ → Value) (ns : List ℕ) (n : ℕ) (ms : List ℕ) (known : Known) → AreMadeAs place value (ns ++ n ∷ ms) known → Among (place (length ns), value (length ns)) known.values
 made_here place value ns n ms known a = a (length ns) (let e = length_through ns n ms in omega (arith, e))
 
--- as many scopes stand
+-- as many scopes are open
 as_many : {V : Type 0} (f : Scope V → Scope V) (ss : List (Scope V)) → length (in_innermost f ss) ≡ length ss
 as_many f [] = refl
 as_many f (s ∷ ss) = refl
 
 module _ {O B T : Type 0} (value : ℕ → Value) where
-  -- a definition takes no other value away, and no name comes to wait with one
+  -- a definition removes no other value, and no name begins to wait with one
   pub still_ready : (n : ℕ) (v x : Value) (vs vs' : List (Scope Value)) (ls : List (Scope (Ptr BasicBlock))) (g k : GraphView (Option O) B T) → MatchesGraph vs ls g → Defines OfValue vs vs' g k n v
       → IsDefined g (OfValue x) × IsNoPlaceholder vs x → IsDefined k (OfValue x) × IsNoPlaceholder vs' x
   still_ready n v x vs vs' ls g k t d ready =

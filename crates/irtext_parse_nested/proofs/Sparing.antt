@@ -1,4 +1,4 @@
--- Where nothing but placeholders is lost, whatever is there is as it was.
+-- If only placeholders are lost, every object that is present is unchanged.
 use Rattle.std.proofs.Common.{[], ℕ, Option, Some, None, IsSome, option_map, refl, inl}
 use Rattle.irtext_context.specs.Context.{ContextView, region, region_of}
 use Rattle.irtext_context.specs.declared.base.block.BlockData.{BlockData}
@@ -24,7 +24,7 @@ module _ {T A : Type 0} where
   abbrev a_region : ℕ × RegionContent → Content (Option (OperationData A)) (BlockData A) (Option T)
   a_region d = ARegion d.0 d.1
 
-  -- a region that stands is seen, and the other way
+  -- a live region has a view, and conversely
   pub stands_region : (c : ContextView T A) (r : Ptr Region) → IsLive c.graph (TheRegion r) → IsSome (region c r)
   stands_region c r h = go (get c.graph.regions r) h
     where
@@ -39,7 +39,7 @@ module _ {T A : Type 0} where
       go None s = absurd (cc)
       go (Some e) s = refl
 
-  -- what is there is no placeholder, and what is none is there
+  -- an object that is present is no placeholder, and one that is no placeholder is present
   there_placed : (c : ContextView T A) (q : Object) → IsThere c q → IsPlaced c.graph q
   there_placed c (TheOperation p) h = data_there c p h
   there_placed c (TheBlock b) h = (block_stands c b h.0, h.1)

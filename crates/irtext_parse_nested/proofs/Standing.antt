@@ -1,4 +1,4 @@
--- Names, graph and marks that stand where the machine stands, through acts and edits.
+-- Names, graph and marks that agree with the state of the machine, after acts and edits.
 use Rattle.std.proofs.Common.{◌≡◌, ◌∙◌, ℕ, List, [], sym, ap, subst}
 use Rattle.irtext_graph.specs.declared.object.Defined.{Defined}
 use Rattle.irtext_graph.specs.declared.object.Site.{Site}
@@ -29,7 +29,7 @@ module _ {T A U : Type 0} {path : ℕ → Path} {items : Made} {pledges : List P
     results = h.results;
   }
 
-  -- an event that takes the machine on, and no mark is noted
+  -- an event that takes the machine on, and no mark is recorded
   pub stands_on : (old new : Names) (s z : code.State T A U) (event : Event) (then : State → State) → Takes event then old new s.ctx.now.graph → ((st : State) → (then st).marks ≡ st.marks)
       → z.ctx.now.graph ≡ s.ctx.now.graph → marks_of z ≡ marks_of s → StandsAs path items pledges old s o → StandsAs path items pledges new z (next o event)
   stands_on old new s z event then takes same graph marks h =

@@ -1,4 +1,4 @@
--- As many scopes stay open, and all stays tied, from call to call.
+-- As many scopes stay open, and names still match the graph, from call to call.
 use Rattle.std.proofs.Common.{◌≡◌, ◌<◌, ◌≤◌, ◌+◌, ◌∙◌, ℕ, zero, suc, List, [], ◌∷◌, ◌++◌, length, map, take, get_or, slice_get, Option, Some, None, Result, Ok, Err, IfOk, OnErr, IsSome, inl, inr, refl, sym, ap, subst, arith}
 use Rattle.irtext_graph.specs.declared.arena.Ptr.{Ptr}
 use Rattle.irtext_graph.specs.declared.object.BasicBlock.{BasicBlock}

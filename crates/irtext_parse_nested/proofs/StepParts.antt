@@ -1,4 +1,4 @@
--- The parts in front of an operation's first region are those of its steps.
+-- The parts before an operation's first region are those of its steps.
 use Rattle.std.proofs.Common.{◌≡◌, ◌∙◌, ℕ, suc, Bool, true, false, cond, not, ◌&&◌, List, [], ◌∷◌, ◌++◌, length, map, flat_map, if◌then◌else◌, Some, refl, sym, ap, ap₂, subst, append_assoc, append-nil, true≢false}
 use Rattle.std.specs.Prelude.{⊤}
 use Rattle.std.specs.List.{list_all}
@@ -19,7 +19,7 @@ use Rattle.irtext_parse_spec.specs.Heads.{Step, flat, types, one, all, step_of, 
 use Rattle.irtext_parse_spec.specs.Resume.{front_at}
 use Rattle.irtext_parse_spec.proofs.Exact.Outside.{used_never, target_never}
 
--- each piece is one that its step reads, and uses no name outside of each region
+-- each piece is one that its step parses, and uses no name outside of each region
 abbrev pub AreOfSteps : {T A : Type 0} → Bool → List Step → List (Piece ℕ T A) → Type 0
 AreOfSteps inside [] [] = ⊤
 AreOfSteps inside [] (p ∷ ps) = ⊥
@@ -27,7 +27,7 @@ AreOfSteps inside (s ∷ ss) [] = ⊥
 AreOfSteps inside (s ∷ ss) (p ∷ ps) = IsOfStep s p × (inside ≡ false → UsesNone p) × AreOfSteps inside ss ps
 
 module _ {T A : Type 0} (types_at : Text → Outcome T) (attr : Text → Outcome (AttrView A)) where
-  -- what a step reads is a piece of it
+  -- what a step parses is a piece of it
   pub piece_of : (inside : Bool) (step : Step) (text : Text) (p : Piece ℕ T A) (taken rest : Text) → piece_at types_at attr inside step text ≡ Read p taken rest → IsOfStep step p
   piece_of inside (flat (format.word s)) text p taken rest e = subst (IsOfStep (flat (format.word s))) (mapped_read (λ _. tree.word s) (word s text) p taken rest e).2 refl
   piece_of inside (flat (format.operand i)) text p taken rest e = subst (IsOfStep (flat (format.operand i))) (mapped_read (tree.operand i) (used_at inside text) p taken rest e).2 refl
@@ -44,7 +44,7 @@ module _ {T A : Type 0} (types_at : Text → Outcome T) (attr : Text → Outcome
   piece_of inside (one i) text p taken rest e = absurd (cc e)
   piece_of inside all text p taken rest e = absurd (cc e)
 
-  -- an empty list alone is read of what is never read
+  -- if an item is never parsed, only the empty list is
   never_listed : (item : Reader (Name ℕ)) → ((text : Text) (n : Name ℕ) (taken rest : Text) → item text ≡ Read n taken rest → ⊥) → (text : Text) (ns : List (Name ℕ)) (taken rest : Text)
       → separated_at 44 item text ≡ Read ns taken rest → ns ≡ []
   never_listed item never text ns taken rest e = go (item text) refl e
@@ -79,7 +79,7 @@ module _ {T A : Type 0} (types_at : Text → Outcome T) (attr : Text → Outcome
   unused_if true step text p taken rest e f = absurd (true≢false f)
   unused_if false step text p taken rest e f = unused_of step text p taken rest e
 
-  -- The parts that a front reads are those of its steps.
+  -- The parts that a front parses are those of its steps.
   pub record FrontParts (inside : Bool) (ss : List Step) (found parts : List (Part ℕ T A)) : Type 0 where
     pub pieces : List (Piece ℕ T A)
     pub parts_are : parts ≡ found ++ map (λ p. tree.piece p) pieces
@@ -199,8 +199,8 @@ module _ {T A : Type 0} where
   pub types_agree : (s : Step) (p : Piece ℕ T A) → IsOfStep s p → types_shown p ≡ types_step s
   types_agree = agree_flat types_shown types_step (by_piece types_shown types_step (λ s. refl) (λ i n. refl) (λ ns. refl) (λ i n. refl) (λ ns. refl) (λ k a. refl) (λ es. refl) (λ i t. refl) (λ n. refl)) (λ ts. refl)
 
--- ---- the steps in front of the first region show what the format does
--- the directive reads a name or a type
+-- ---- the steps before the first region show what the format does
+-- the directive parses a name or a type
 abbrev pub is_early : Directive → Bool
 is_early d = elim d [ format.operand i ↦ true | format.operands ↦ true | format.successor i ↦ true | format.successors ↦ true | format.result_type i ↦ true | _ ↦ false ]
 

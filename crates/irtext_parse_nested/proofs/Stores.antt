@@ -54,7 +54,7 @@ given_alike (GivenNames ns) = refl
 given_alike (Ident n) = refl
 given_alike (Own a) = refl
 
--- whether the attribute may stand under the key is whether the dictionary takes it
+-- the attribute is allowed under the key exactly if the dictionary accepts it
 pub holds_or_reserved : {A : Type 0} (k : Text) (a : AttrObj A) → may_hold k (attribute_of a) ≡ not (is_reserved_for k a)
 holds_or_reserved k a = ap (λ b. not b || is_given (attribute_of a)) (same_text_sym k given_names_key ∙ same_text-bytes_eq given_names_key k)
     ∙ (ap (λ b. not (bytes_eq given_names_key k) || b) (given_alike a) ∙ either (bytes_eq given_names_key k) (are_given_names a))
@@ -64,7 +64,7 @@ holds_or_reserved k a = ap (λ b. not b || is_given (attribute_of a)) (same_text
     either true false = refl
     either false c = refl
 
--- an attribute that was inserted is stored, and may stand under its key
+-- an attribute that was inserted is stored, and is allowed under its key
 pub stored_ok : {A X E : Type 0} (r : Result X E) (old new : List (Text × AttrObj A)) (k : Text) (a : AttrObj A) → OnOk r (new ≡ insert_entry bytes_eq old k a) → OnOk r (entries_of new ≡ put_all (entries_of old) ((k, attribute_of a) ∷ []))
 stored_ok (Ok x) old new k a e = ap entries_of e ∙ put_stored old k a
 stored_ok (Err x) old new k a e = tt
@@ -75,16 +75,16 @@ holds_ok (Err x) k a e = tt
 
 -- ---- entries of a dictionary
 module _ {A : Type 0} where
-  -- a refusal by the dictionary is one of the entry
+  -- an error of the dictionary is one of the entry
   pub entry_refused : (key : Text) (at : Place) (a : AttrObj A) (e : Refusal) → RefusesEntry key a e → RefusesEntries ((record { name = key; at = at }, a) ∷ []) (refused_at e at)
   entry_refused key at a entry.Memory r = tt
   entry_refused key at a (entry.ReservedKey name) r = inl (holds_or_reserved key a ∙ ap not r.1, ap (λ n. record { name = n; at = at }) r.0)
 
-  -- the first entry holds, and so do the others
+  -- the first entry is allowed, and so are the others
   pub all_hold : (e : Key × AttrObj A) (es : List (Key × AttrObj A)) → MayAllHold (e ∷ []) → MayAllHold es → MayAllHold (e ∷ es)
   all_hold e es h k = (h.0, k)
 
-  -- the first entry is refused
+  -- the first entry is an error
   pub first_refused : (e : Key × AttrObj A) (es : List (Key × AttrObj A)) (r : NotGathered) → RefusesEntries (e ∷ []) r → RefusesEntries (e ∷ es) r
   first_refused e es refusal.Memory h = tt
   first_refused e es (refusal.ReservedKey key) (inl h) = inl h
@@ -97,6 +97,6 @@ module _ {A : Type 0} where
   later_refused e es (refusal.ReservedKey key) k h = inr (k.0, h)
   later_refused e es (refusal.NoActiveScope n) k h = absurd h
 
--- what is so of a refusal that is handed on is so of the answer
+-- what holds of an error that is returned by `?` holds of the result
 pub exit_from : {X E : Type 0} {e : E} (r : Result X E) → IsErrAnd r (λ y. y ≡ e) → (P Q : E → Type 0) → ((x : E) → P x → Q x) → P e → IfErr r Q
 exit_from {e} r h P Q f p = subst (λ z. IfErr z Q) (sym (handed_on r h)) (f e p)

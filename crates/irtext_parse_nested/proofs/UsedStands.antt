@@ -1,4 +1,4 @@
--- What an operation that begins leaves of a context, step by step: where names were used, where it was made, and where it came last into a
+-- What an operation that begins leaves of a context, step by step: where names were used, where it was made, and where it was appended to a
 -- block.
 use Rattle.std.proofs.Common.{◌≡◌, ◌≤◌, ◌∙◌, inl, inr, ℕ, Bool, true, false, List, [], length, Option, Some, None, IsSome, nat_lt, if◌then◌else◌, refl, sym, ap, subst, arith, ltb-true}
 use Rattle.std.specs.Prelude.{option_and_then}
@@ -37,7 +37,7 @@ use Rattle.irtext_parse_nested.specs.Items.{KeepsLive}
 use Rattle.irtext_parse_nested.proofs.Steady.{seen_region}
 use Rattle.irtext_parse_nested.proofs.Lasting.{data_there, there_data, block_stands, stands_block}
 
--- ---- one behind another
+-- ---- one after another
 pub lasts_then : {T A : Type 0} (a b c : ContextView T A) → KeepsLive a b → KeepsLive b c → KeepsLive a c
 lasts_then a b c s t = record {
   operations = λ p h. t.operations p (s.operations p h);
@@ -116,7 +116,7 @@ module _ {T A : Type 0} (old used : ContextView T A) (all_older : AllOlder old.g
       go None h = absurd (cc)
       go (Some e) h = refl
 
-  -- whatever was there is as it was, and nothing came
+  -- every object that was present is unchanged, and none was created
   pub used_spares : ModifiesOnly [] old used
   used_spares = record { spared = go; brought = λ q there. inl (was q there) }
     where
@@ -166,7 +166,7 @@ module _ {T A : Type 0} (old used : ContextView T A) (all_older : AllOlder old.g
       go None f = refl
       go (Some e) f = young m e f
 
-  -- what is open lasts
+  -- the open objects are still live
   pub used_lasts : KeepsLive old used
   used_lasts = record {
     operations = λ p h. subst (λ e. IsSome (option_and_then operation_of e)) (sym (operation_stays p h)) h;
@@ -214,7 +214,7 @@ abbrev results_seen : {O B T : Type 0} → Option (Content O B T) → List (Type
 results_seen (Some (AnOperation n c)) = c.results
 results_seen _ = []
 
--- ---- it came last into a block
+-- ---- it was appended to a block
 module _ {T A : Type 0} (old new : ContextView T A) (b : Ptr BasicBlock) (op : Ptr Operation) (a : Appends old.graph new.graph (TheBlock b) (TheOperation op)) (same : new.dialects ≡ old.dialects) where
   pub placed_lasts : KeepsLive old new
   placed_lasts = record {
@@ -223,7 +223,7 @@ module _ {T A : Type 0} (old new : ContextView T A) (b : Ptr BasicBlock) (op : P
     blocks = λ k h x. (stands_block new k (subst IsSome (sym (a.objects.contents (TheBlock k))) (block_stands old k h)), a.parents (TheBlock k) (λ e. cc));
     regions = λ r h. subst IsSome (sym (a.objects.contents (TheRegion r))) h;
     newer = λ m q le n. ap (is_older m) (a.objects.contents q) ∙ n;
-    made = let e = a.objects.made in omega (arith, e);
+    made = let e = a.objects.rest.made in omega (arith, e);
     dialects = same;
   }
     where

@@ -15,7 +15,7 @@ use Rattle.irtext_parse_nested.proofs.Gathers.{gathers_none, gathers_then, fails
 use Rattle.irtext_parse_nested.proofs.Pieces.{word_one, gather_refused_from}
 
 module _ {T A : Type 0} (names : Names) (vs : List Value) (bs : List (Ptr BasicBlock)) (ps : List (ReadPiece T A)) where
-  -- what stands behind words can be gathered
+  -- the pieces after words can be gathered
   pub can_behind_words : (n : ℕ) → CanGather names vs bs (only_words n ++ ps) → CanGather names vs bs ps
   can_behind_words zero c = c
   can_behind_words (suc n) c = can_behind_words n (record { names_are = c.names_are.1; operands_once = c.operands_once; successors_once = c.successors_once })
@@ -26,7 +26,7 @@ module _ {O B T A : Type 0} (names : Names) (g : GraphView (Option O) B (Option 
   gathers_words zero ps k = k
   gathers_words (suc n) ps k = gathers_then read.Word (only_words n ++ ps) refl (word_one names g {x = x} {y = x} refl) (gathers_words n ps k)
 
-  -- where it was refused, all was
+  -- an error of the pieces after words is an error of all
   pub words_refused : (n : ℕ) (ps : List (ReadPiece T A)) (r : NotGathered) → RefusesGathering ps names g r → RefusesGathering (only_words n ++ ps) names g r
   words_refused zero ps r k = k
   words_refused (suc n) ps r k =

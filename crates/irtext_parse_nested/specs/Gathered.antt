@@ -182,7 +182,7 @@ module _ {X : Type 0} where
     pub single : (e : ℕ × X) → Among e old.single.items → Among e new.single.items
     pub list : (j : ℕ) (x : X) → slice_get old.list.items j ≡ Some x → slice_get new.list.items j ≡ Some x
 
--- What is in hand is in the hands of the operation at this path; its lists of operands and successors begin at these places.
+-- What is in hand is for the operation at this path; its lists of operands and successors begin at these places.
 pub record AreInHand (p : Path) (k l : ℕ) (operands : Placed Value) (successors : Placed (Ptr BasicBlock)) (held : List (User × Defined)) : Type 0 where
   pub so : (u : User) (d : Defined) → Among (u, d) held → IsInHand OfValue (operand p) k operands.single.items operands.list.items u d
       ⊎ IsInHand OfBlock (successor p) l successors.single.items successors.list.items u d
@@ -217,8 +217,7 @@ module _ {O B T : Type 0} where
   pub record FailsUses (acts : List Act) (names : Names) (g : GraphView (Option O) B T) (failure : Failure) : Type 0 where
     pub so : (known : Known) (held : List (User × Defined)) (st : State) → StandsAt names g known held st → run (going st) (map act acts) ≡ failed failure
 
-  -- the acts take the machine to a state that the new names and graph agree with, and what they use is in the hands of the operation at a
-  -- path
+  -- the acts take the machine to a state that the new names and graph agree with, and what they use is in hand for the operation at a path
   pub record TakesParts (p : Path) (k l : ℕ) (acts : List Act) (old : Names) (g : GraphView (Option O) B T) (new : Names) (h : GraphView (Option O) B T)
       (operands : Placed Value) (successors : Placed (Ptr BasicBlock)) : Type 0 where
     pub more : List (User × Defined)

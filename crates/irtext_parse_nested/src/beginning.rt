@@ -45,6 +45,7 @@ use irtext_base::text::{AttrText, IrText};
 use irtext_context::base::context::making::Making;
 use irtext_context::base::{BasicBlock, Context, Operation, Ptr};
 use irtext_context::dialect::OpInfo;
+use irtext_dict::base::AttributeDict;
 use irtext_few::Few;
 use irtext_graph::held::HasGraph;
 use irtext_parse_pieces::found::Pieces;
@@ -214,6 +215,32 @@ fn made_here<T: IrText<A>, A: AttrText<A>, U>(
     }
 }
 
+/// Creates a detached operation with this id and these attributes, without results, operands and successors. Every error is committed.
+fn bare_made<T: IrText<A>, A: AttrText<A>, U>(
+    s: &mut StateStream<'_, T, A, U>,
+    id: &OpId,
+    loc: Location<A>,
+    attributes: AttributeDict<A>,
+) -> ParseResult<Ptr<Operation>, A>
+    ensures lent { s.new.state.ctx.ghost_name ≡ s.old.state.ctx.ghost_name }
+    ensures rest { KeepsRest s.old.state s.new.state }
+    ensures marks { marks_of s.new.state ≡ marks_of s.old.state }
+    ensures stream { OnOk result (s.new.stream ≡ s.old.stream) }
+    ensures makes { IfOk result (λ op. MakesOperation s.old.state.ctx.now s.new.state.ctx.now op
+        (record { id = id.now; attributes = attributes; loc = loc }) [] [] []) }
+    ensures starved { IfErr result (λ f. StarvesHere itself replaced s.old.stream f s.new.stream) }
+    ensures kept { (m : ℕ) → m ≤ s.old.state.ctx.now.graph.made → KeepsOlder m s.old.state.ctx.now s.new.state.ctx.now }
+{
+    let ctx = &mut *s.state.ctx;
+    let Ok(id) = copied(id) else {
+        return Err(out_of_memory(&mut s.stream));
+    };
+    match ctx.make_operation(id, attributes, loc) {
+        Ok(op) => Ok(op),
+        Err(AllocError) => Err(out_of_memory(&mut s.stream)),
+    }
+}
+
 /// Appends a detached and empty operation to a block. If an allocation fails, nothing changes.
 fn put_last<T: IrText<A>, A: AttrText<A>>(
     ctx: &mut Context<T, A>,
@@ -264,7 +291,7 @@ fn placed_here<T: IrText<A>, A: AttrText<A>, U>(
 }
 
 /// Uses the names of the parsed front, creates the operation, and appends it to the block, if one is given. Every error is committed.
-fn begin_read<T: IrText<A>, A: AttrText<A>, U>(
+fn begin_gathered<T: IrText<A>, A: AttrText<A>, U>(
     s: &mut StateStream<'_, T, A, U>,
     names: &mut Names,
     block: Option<Ptr<BasicBlock>>,
@@ -316,6 +343,87 @@ fn begin_read<T: IrText<A>, A: AttrText<A>, U>(
         step,
         steps,
     })
+}
+
+/// Creates the operation of a parsed front without pieces, and appends it to the block, if one is given. Every error is committed.
+fn begin_bare<T: IrText<A>, A: AttrText<A>, U>(
+    s: &mut StateStream<'_, T, A, U>,
+    names: &Names,
+    block: Option<Ptr<BasicBlock>>,
+    at: Place,
+    loc: Location<A>,
+    front: ReadFront<T, A>,
+) -> ParseResult<BegunOperation, A>
+    requires bare { front.pieces ≡ [] }
+    requires tied { MatchesGraph names.now.values names.now.labels s.old.state.ctx.now.graph }
+    requires block { IfSome block (λ b. IsSome (contexts.block s.old.state.ctx.now b) × IsSome (parent s.old.state.ctx.now.graph (TheBlock b))) }
+    ensures lent { s.new.state.ctx.ghost_name ≡ s.old.state.ctx.ghost_name }
+    ensures rest { KeepsRest s.old.state s.new.state }
+    ensures marks { marks_of s.new.state ≡ marks_of s.old.state }
+    ensures stream { OnOk result (s.new.stream ≡ s.old.stream) }
+    ensures makes { IfOk result (MakesOf block front at loc names.now s.old.state.ctx.now names.now s.new.state.ctx.now) }
+    ensures starved { IfErr result IsStarved }
+    ensures kept { (m : ℕ) → m ≤ s.old.state.ctx.now.graph.made → IfSome block (λ b. IsNew m s.old.state.ctx.now.graph (TheBlock b))
+        → KeepsOlder m s.old.state.ctx.now s.new.state.ctx.now }
+{
+    let ReadFront {
+        names: results,
+        id,
+        key: _,
+        steps,
+        isolated,
+        coming,
+        pieces: _,
+    } = front;
+    let none: Gathered<T, A> = nothing(s.stream.allocator());
+    let ctx = &mut *s.state.ctx;
+    ctx.made();
+    let op = bare_made(s, &id, loc, none.attributes)?;
+    placed_here(s, block, op)?;
+    Ok(BegunOperation {
+        op,
+        id,
+        results: 0,
+        names: results,
+        at,
+        inside: true,
+        isolated,
+        coming: Some(coming),
+        step: 0,
+        steps,
+    })
+}
+
+/// Uses the names of the parsed front, creates the operation, and appends it to the block, if one is given. Every error is committed.
+fn begin_read<T: IrText<A>, A: AttrText<A>, U>(
+    s: &mut StateStream<'_, T, A, U>,
+    names: &mut Names,
+    block: Option<Ptr<BasicBlock>>,
+    at: Place,
+    loc: Location<A>,
+    front: ReadFront<T, A>,
+) -> ParseResult<BegunOperation, A>
+    requires can { CanGather names.old [] [] front.pieces }
+    requires are { (text : Text) × (parts : List (Part ℕ T A)) × Each (IsPart names.old.names text) front.pieces parts }
+    requires tied { MatchesGraph names.old.values names.old.labels s.old.state.ctx.now.graph }
+    requires key { IfSome front.key (λ key. key ≡ sym_name_key) }
+    requires block { IfSome block (λ b. IsSome (contexts.block s.old.state.ctx.now b) × IsSome (parent s.old.state.ctx.now.graph (TheBlock b))) }
+    ensures lent { s.new.state.ctx.ghost_name ≡ s.old.state.ctx.ghost_name }
+    ensures rest { KeepsRest s.old.state s.new.state }
+    ensures marks { marks_of s.new.state ≡ marks_of s.old.state }
+    ensures stream { OnOk result (s.new.stream ≡ s.old.stream) }
+    ensures makes { IfOk result (MakesOf block front at loc names.old s.old.state.ctx.now names.new s.new.state.ctx.now) }
+    ensures refused { IfErr result (NotGatheredAs front.pieces names.old s.old.state.ctx.now.graph (whole s.old.stream)) }
+    ensures names { names.new.names ≡ names.old.names }
+    ensures values { length names.new.values ≡ length names.old.values }
+    ensures labels { length names.new.labels ≡ length names.old.labels }
+    ensures kept { (m : ℕ) → m ≤ s.old.state.ctx.now.graph.made → IfSome block (λ b. IsNew m s.old.state.ctx.now.graph (TheBlock b))
+        → KeepsOlder m s.old.state.ctx.now s.new.state.ctx.now }
+{
+    if front.pieces.len() == 0 {
+        return begin_bare(s, names, block, at, loc, front);
+    }
+    begin_gathered(s, names, block, at, loc, front)
 }
 
 /// Begins an operation: parses the names of its results, its id and the pieces before its first region, uses their names, creates the

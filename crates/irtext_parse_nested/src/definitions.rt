@@ -56,6 +56,7 @@ pub(crate) fn number_at(defined: &Few<ReadName>, index: usize) -> usize
 
 /// Defines the names as the values of the row, from the first on, while a scope of values is open. Fails at the first name that its scope
 /// already defines, or if an allocation fails; the names before it are defined then.
+#[inline(always)]
 pub(crate) fn define_values<O: Drop, B: Drop, T: Drop>(
     names: &mut Names,
     graph: &mut Graph<Option<O>, B, Option<T>>,

@@ -21,6 +21,7 @@ use irtext_parse_pieces::names::ReadName;
 use std::alloc::{AllocError, Global};
 
 /// Returns the names with these numbers.
+#[inline(never)]
 fn given_names(
     alloc: Global,
     names: &Names,
@@ -64,6 +65,7 @@ fn last_key<A: Drop>(attributes: &AttributeDict<A>) -> Option<Identifier>
 
 /// Returns the key of the given names of an operation's neighbour: of the operation before the last one of its block, if that has given
 /// names. Shares its text, so that a key is allocated once for a row of operations.
+#[inline(never)]
 fn neighbour_key<T: IrText<A>, A: AttrText<A>>(
     ctx: &Context<T, A>,
     op: Ptr<Operation>,
@@ -107,6 +109,7 @@ fn key_of(alloc: Global, shared: Option<Identifier>) -> Result<Identifier, Alloc
 }
 
 /// Stores the names as given names, if there are any, under this key or a new one.
+#[inline(always)]
 pub(crate) fn names_shared<A: Drop>(
     alloc: Global,
     names: &Names,
@@ -131,6 +134,7 @@ pub(crate) fn names_shared<A: Drop>(
 }
 
 /// Stores the names as given names, if there are any.
+#[inline(always)]
 pub(crate) fn names_stored<A: Drop>(
     alloc: Global,
     names: &Names,

@@ -235,6 +235,7 @@ fn end_parse<A>(stream: &mut TextStream) -> ParseResult<Option<ReadMark>, A>
 
 /// Records the mark of an operation or a block, if it has one. If its index is already recorded, fails at the mark. Every error is
 /// committed.
+#[inline(always)]
 pub(crate) fn note_mark<T: IrText<A>, A: AttrText<A>, U>(
     s: &mut StateStream<'_, T, A, U>,
     mark: Option<ReadMark>,

@@ -16,7 +16,7 @@ use Rattle.irtext_parse_pieces.specs.declared.lists.NameKind.TheVariants as kind
 use Rattle.irtext_parse_pieces.specs.Kinds.{beginning, named_at}
 use Rattle.irtext_parse_pieces.specs.Named.{MustMean}
 
--- the thing is missing, and nothing was read of it
+-- the value is missing, and nothing was taken
 abbrev pub IsMissing : {X : Type 0} → Outcome X → Type 0
 IsMissing o = (cause : Fault) × (o ≡ Missing cause)
 
@@ -27,7 +27,7 @@ missing_followed k m = (m.0, ap (λ z. followed z k) m.1)
 missing_outside : {o : Outcome (Name ℕ)} → IsMissing o → IsMissing (outside o)
 missing_outside m = (m.0, ap outside m.1)
 
--- a name is missing where no letter and no `_` stands
+-- a name is missing if the text begins with neither a letter nor `_`
 pub no_name_begins : (text : Text) → begins begins_word text ≡ false → IsMissing (name_at text)
 unfolding word_at
 no_name_begins text b = (Unexpected (first_of text) AnIdentifier, rw b refl)
@@ -52,7 +52,7 @@ module _ {S X : Type 0} (l : Lens S) (item : Text → Outcome X) where
   pub list_absent : {A W : Type 0} {MeansAll : W → List X → Type 0} {old : S} (w : W) → (l.view old).failed ≡ false → IsMissing (item (l.view old).rest) → MeansAll w [] → MustMean {A = A} l.view l.at MeansAll (separated_at 44 item) old (Ok w) old
   list_absent {old = old} w f m h = record { meant = λ _. []; means = h; read = record { answers = rw (f, m.1) (refl, takes_none l.view l.at l.view_at l.at_at l.at_view old) } }
 
-  -- so it is where no name of a kind begins and each item begins with one
+  -- the same if no name of a kind begins and each item begins with one
   pub list_unbegun : {A W : Type 0} {MeansAll : W → List X → Type 0} {old : S} (kind : NameKind) {b : Bool} → ((text : Text) → begins (beginning kind) text ≡ false → IsMissing (item text)) → b ≡ (not (l.view old).failed && not (begins (beginning kind) (l.view old).rest)) → b ≡ true
       → (w : W) → MeansAll w [] → MustMean {A = A} l.view l.at MeansAll (separated_at 44 item) old (Ok w) old
   list_unbegun {old = old} kind missing e t w h =

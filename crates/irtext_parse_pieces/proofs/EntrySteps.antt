@@ -1,4 +1,4 @@
--- Steps of the reader of dictionaries.
+-- Steps of the parser of dictionaries.
 use Rattle.std.proofs.Common.{◌≡◌, ℕ, true, false, Result, Ok, Err, Option, Some, None, List, [], ◌∷◌, ◌++◌, length, refl, sym, subst, ◌∙◌, codes}
 use Rattle.std.specs.Char.{is_whitespace}
 use Rattle.std.specs.Prelude.{Vec}
@@ -28,7 +28,7 @@ use Rattle.irtext_parse_pieces.specs.Named.{whole, Optional, MayMean, MustMean}
 use Rattle.irtext_parse_pieces.proofs.Listings.{list_some}
 use Rattle.irtext_parse_pieces.proofs.Meanings.{takes_whole, may_whole}
 
--- an attribute that was read, as trees hold it
+-- an attribute that was parsed, as trees hold it
 tree_of_view : {A : Type 0} (a : AttrObj A) → attr_tree (attr_view a) ≡ attribute_of a
 tree_of_view (GivenNames names) = refl
 tree_of_view (Ident name) = refl
@@ -38,13 +38,13 @@ chars_brackets : chars (codes "[]") ≡ codes "[]"
 unfolding chars
 chars_brackets = refl
 
--- no entries stand between brackets
+-- no entries are between the brackets
 no_entry : {A : Type 0} (attr : Text → Outcome (AttrView A)) (rest : Text) → dictionary_at attr (codes "[]" ++ rest) ≡ Read [] (codes "[]") rest
 unfolding dictionary_at word_at
 no_entry attr rest = refl
 
 module _ {S A : Type 0} (l : Lens S) where
-  -- an attribute that was read, as trees hold it
+  -- an attribute that was parsed, as trees hold it
   pub as_tree : {f : Text → Outcome (AttrView A)} {old new : S} (r : Result (AttrObj A) (ParseFault A)) → MustRead l.view l.at attr_view f old r new → MustRead l.view l.at attribute_of (λ t. mapped attr_tree (f t)) old r new
   as_tree (Ok a) h = seen_alone l attribute_of attr_tree a (sym (tree_of_view a)) h
   as_tree {f = f} {old = old} {new = new} (Err fault) h = record { answers = refuses_mapped_demanded l.view l.at l.view_at l.at_at attr_tree (l.view old).failed (f (l.view old).rest) old new fault h.answers }
@@ -69,23 +69,23 @@ module _ {S A : Type 0} (l : Lens S) where
       (subst (λ o. Gives l.view l.at (demanded (unless_failed false o)) old [] new) (sym (no_entry attr k.0)) (refl, record { is = k.2; same = sym k.1 })) in
       record { meant = λ _. []; means = rw e tt; read = record { answers = rw fine g } }
 
-  -- there is a first entry, and what stands behind it
+  -- there is a first entry, and what follows it
   pub list_entries : (item : Text → Outcome (Name ℕ × Attribute A)) {old mid new last : S} {first : Key × AttrObj A} {r : Result (Vec (Key × AttrObj A) Global) (ParseFault A)} → MayMean {A = A} l.view l.at (IsEntry (whole (l.view old))) item old (Ok first) mid → Takes l.view l.at (front is_whitespace (l.view mid).rest) (after is_whitespace (l.view mid).rest) mid new
       → EntriesBehind l.view l.at item first new r last → MustEntries l.view l.at (separated_at 44 item) old r last
   list_entries item {old = old} {mid = mid} {new = new} {last = last} {first = n} {r = r} h k rest =
       let e : whole (l.view new) ≡ whole (l.view old) = takes_whole l mid new (front is_whitespace (l.view mid).rest) (after is_whitespace (l.view mid).rest) k ∙ may_whole l h.read in
       list_some l item h.read k (λ fine. subst (λ t. MustMean l.view l.at (AreEntries t) (λ t. items_after 44 item (length t) (h.meant n ∷ []) t) new r last) e (rest (h.meant n) (subst (λ t. IsEntry t n (h.meant n)) (sym e) h.means) fine))
 
-  -- the first thing, which must stand there, is refused
+  -- the first part is required, and is an error
   pub first_refused : {X Y V W : Type 0} {see : Y → X} {sees : W → V} {f : Text → Outcome X} {old new : S} {fault : ParseFault A} (k : X → Text → Outcome V) → MustRead {Y = Y} l.view l.at see f old (Err fault) new → MustRead {Y = W} l.view l.at sees (λ t. followed (f t) k) old (Err fault) new
   first_refused {see = see} {sees = sees} {f = f} {old = old} {new = new} {fault = fault} k h = record { answers = refuses_first_demanded l.view l.at l.view_at l.at_at see sees (l.view old).failed (f (l.view old).rest) k old new fault h.answers }
 
   module _ (attr : Text → Outcome (AttrView A)) where
-    -- no dictionary stands there
+    -- no dictionary follows
     pub no_dictionary : {Means : Option (Vec (Key × AttrObj A) Global) → Option (List (Name ℕ × Attribute A)) → Type 0} {old : S} → (l.view old).failed ≡ false → begins (the 91) (l.view old).rest ≡ false → Means None None → MustMean {A = A} l.view l.at Means (dictionary_if attr) old (Ok None) old
     no_dictionary {old = old} f b h = record { meant = λ _. None; means = h; read = record { answers = rw (f, b) (refl, takes_none l.view l.at l.view_at l.at_at l.at_view old) } }
 
-    -- one was read
+    -- one was parsed
     pub dictionary_there : {text : Text} {old new : S} {entries : Vec (Key × AttrObj A) Global} → begins (the 91) (l.view old).rest ≡ true → MustMean {A = A} l.view l.at (AreEntries text) (dictionary_at attr) old (Ok entries) new
         → MustMean {A = A} l.view l.at (Optional (AreEntries text)) (dictionary_if attr) old (Ok (Some entries)) new
     dictionary_there {old = old} {new = new} {entries = es} b h = record {
@@ -94,7 +94,7 @@ module _ {S A : Type 0} (l : Lens S) where
       read = record { answers = rw b (seen_alone l {A = A} (λ (d : Option (Vec (Key × AttrObj A) Global)). Some (h.meant es)) Some (Some es) refl h.read).answers };
     }
 
-    -- it is refused
+    -- it is an error
     pub dictionary_refused : {Means : Vec (Key × AttrObj A) Global → List (Name ℕ × Attribute A) → Type 0} {Other : Option (Vec (Key × AttrObj A) Global) → Option (List (Name ℕ × Attribute A)) → Type 0} {old new : S} {fault : ParseFault A} → begins (the 91) (l.view old).rest ≡ true → MustMean l.view l.at Means (dictionary_at attr) old (Err fault) new → MustMean l.view l.at Other (dictionary_if attr) old (Err fault) new
     dictionary_refused {old = old} {new = new} {fault = fault} b h =
         record { meant = λ _. None; means = tt; read = record { answers = rw b (refuses_mapped_demanded l.view l.at l.view_at l.at_at Some (l.view old).failed (dictionary_at attr (l.view old).rest) old new fault h.read.answers) } }

@@ -1,4 +1,4 @@
--- The steps of formats: those that the code answers, those that are left, and how many of the front were passed.
+-- The steps of formats: those that the code returns, those that are left, and how many of the front were passed.
 use Rattle.std.proofs.Common.{◌≡◌, ℕ, zero, suc, ◌+◌, ◌<◌, ◌≤◌, Bool, true, false, Some, None, option_map, List, [], ◌∷◌, ◌++◌, map, drop, get_or, slice_get, length, length-append, refl, sym, ◌∙◌, ap, arith}
 use Rattle.std.proofs.lemmas.Option.{slice_get_read, slice_get_past}
 use Rattle.irtext_base.specs.Text.{Text}
@@ -25,7 +25,7 @@ custom_there ds cs i d same l e = sym (custom_step ds i ∙ ap (option_map (λ d
 pub custom_none : (ds cs : List code.Directive) (i : ℕ) → cs ≡ ds → length cs ≤ i → None ≡ slice_get (map step_of (directives_of ds)) i
 custom_none ds cs i same l = sym (custom_step ds i ∙ ap (option_map (λ d. step_of (directive_of d))) (ap (λ xs. slice_get xs i) (sym same) ∙ slice_get_past cs i l))
 
--- what the step of a directive reads is what the directive reads
+-- what the step of a directive parses is what the directive parses
 pub step_reads : {T A : Type 0} (types_at : Text → Outcome T) (attr : Text → Outcome (AttrView A)) (inside : Bool) (d : Directive) → piece_at types_at attr inside (step_of d) ≡ directive_at types_at attr inside d
 step_reads types_at attr inside (format.word s) = refl
 step_reads types_at attr inside (format.operand i) = refl
@@ -45,7 +45,7 @@ next_left [] n step e = absurd (cc)
 next_left (s ∷ steps) zero step e = let same : s ≡ step = cc in ap (λ z. z ∷ steps) same
 next_left (s ∷ steps) (suc n) step e = next_left steps n step e
 
--- where there is none, none is left
+-- at a place past the end, none is left
 pub none_left : {X : Type 0} (steps : List X) (n : ℕ) → slice_get steps n ≡ None → drop n steps ≡ []
 none_left [] zero e = refl
 none_left [] (suc n) e = refl
@@ -68,7 +68,7 @@ count_all steps left n e h = let none : length (front_steps left) ≡ 0 = ap len
 pub front_over : (left : List Step) → left ≡ [] → front_steps left ≡ []
 front_over left e = ap front_steps e
 
--- nor where a step comes that reads regions
+-- nor where a step comes that parses regions
 pub front_ended : (left rest : List Step) (step : Step) → left ≡ step ∷ rest → is_flat step ≡ false → front_steps left ≡ []
 front_ended left rest step e b = ap front_steps e ∙ (behind_front step rest b).0
 
@@ -76,12 +76,12 @@ module _ {X : Type 0} (steps : List Step) (found : List X) (x : X) where
   one_more : suc (length found) ≡ length (found ++ (x ∷ []))
   one_more = omega (arith, length-append found (x ∷ []))
 
-  -- behind one piece more, the steps from the next place on are left
+  -- after one more piece, the steps from the next place on are left
   pub left_more : drop (suc (length found)) steps ≡ drop (length (found ++ (x ∷ []))) steps
   left_more = ap (λ n. drop n steps) one_more
 
   module _ (step : Step) (there : slice_get steps (length found) ≡ Some step) where
-    -- a step that reads a piece was passed
+    -- a step that parses a piece was passed
     pub count_more : is_flat step ≡ true → Counts (length found) steps (drop (length found) steps) → Counts (length (found ++ (x ∷ []))) steps (drop (length (found ++ (x ∷ []))) steps)
     count_more b h =
         let front : length (front_steps (drop (length found) steps)) ≡ suc (length (front_steps (drop (suc (length found)) steps))) =
@@ -89,7 +89,7 @@ module _ {X : Type 0} (steps : List Step) (found : List X) (x : X) where
         let same : length (front_steps (drop (suc (length found)) steps)) ≡ length (front_steps (drop (length (found ++ (x ∷ []))) steps)) = ap (λ ss. length (front_steps ss)) left_more in
         omega (arith, h, front, same, one_more)
 
-    -- fewer are left behind it
+    -- fewer are left after it
     pub fewer_left : (more : List X) → more ≡ found ++ (x ∷ []) → length (drop (length more) steps) < length (drop (length found) steps)
     fewer_left more e =
         let front : length (drop (length found) steps) ≡ suc (length (drop (suc (length found)) steps)) = ap length (next_left steps (length found) step there) in

@@ -5,7 +5,7 @@ use Rattle.irtext_parse_pieces.specs.declared.pieces.ReadPiece.{ReadPiece}
 use Rattle.irtext_parse_pieces.specs.declared.pieces.ReadPiece.TheVariants as read
 use Rattle.irtext_parse_pieces.specs.Found.{only_words, with_words}
 
--- the number behind another
+-- the number after another
 pub next_number : (n : ℕ) → n + 1 ≡ suc n
 next_number n = omega (arith)
 
@@ -18,17 +18,17 @@ module _ {T A : Type 0} where
   word_behind zero = refl
   word_behind (suc n) = ap (λ l. read.Word ∷ l) (word_behind n)
 
-  -- a word more is one more of those behind the last piece
+  -- one more word is one more of those after the last piece
   pub word_more : (found : List (ℕ × ReadPiece T A)) (n : ℕ) → with_words found (suc n) ≡ with_words found n ++ (read.Word ∷ [])
   word_more [] n = word_behind n
   word_more (f ∷ found) n = ap (λ l. only_words f.0 ++ f.1 ∷ l) (word_more found n) ∙ sym (append_assoc (only_words f.0) (f.1 ∷ with_words found n) (read.Word ∷ []))
 
-  -- any other piece stands behind these words
+  -- any other piece is after these words
   pub piece_more : (found : List (ℕ × ReadPiece T A)) (n : ℕ) (p : ReadPiece T A) → with_words (found ++ ((n, p) ∷ [])) 0 ≡ with_words found n ++ (p ∷ [])
   piece_more [] n p = refl
   piece_more (f ∷ found) n p = ap (λ l. only_words f.0 ++ f.1 ∷ l) (piece_more found n p) ∙ sym (append_assoc (only_words f.0) (f.1 ∷ with_words found n) (p ∷ []))
 
-  -- the words behind the last piece are among all
+  -- the words after the last piece are among all
   pub words_within : (found : List (ℕ × ReadPiece T A)) (n : ℕ) → n ≤ length (with_words found n)
   words_within [] n = omega (arith, count_words T A n)
   words_within (f ∷ found) n = let h = words_within found n in omega (arith, h, length-append (only_words f.0) (f.1 ∷ with_words found n))

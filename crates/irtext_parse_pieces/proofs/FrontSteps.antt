@@ -1,4 +1,4 @@
--- How far the reader of what stands in front of an operation's regions has come.
+-- How far the parser of what precedes an operation's regions has come.
 use Rattle.std.proofs.Common.{◌≡◌, ℕ, Bool, true, false, Ok, Err, List, [], ◌∷◌, ◌++◌, refl, sym, ◌∙◌, ap, subst, inl}
 use Rattle.std.specs.Char.{is_whitespace}
 use Rattle.irtext_base.specs.Text.{Text, front, after}
@@ -32,14 +32,14 @@ followed_prefixed t (Read x taken rest) k = sym (prefixed-prefixed t taken (k x 
 followed_prefixed t (Missing cause) k = refl
 followed_prefixed t (Bad cause upto) k = refl
 
--- one thing, a second and a third
+-- one parser, a second and a third
 pub followed_followed : {X Y V : Type 0} (o : Outcome X) (k : X → Text → Outcome Y) (n : Y → Text → Outcome V) → followed (followed o k) n ≡ followed o (λ x t. followed (k x t) n)
 followed_followed (Read x taken rest) k n = followed_prefixed taken (k x rest) n
 followed_followed (Missing cause) k n = refl
 followed_followed (Bad cause upto) k n = refl
 
 module _ {T A : Type 0} where
-  -- a piece stands for the same while more names come
+  -- a piece represents the same when more names are added
   pub piece_on : (names more : List Text) (text : Text) → KeepsNames names more → (r : ReadPiece T A) (p : Piece ℕ T A) → IsPiece names text r p → IsPiece more text r p
   piece_on names more text k read.Word p h = h
   piece_on names more text k (read.Operand i n) p h = (h.0, h.1, stands_on names more n h.0 k refl h.2)
@@ -53,7 +53,7 @@ module _ {T A : Type 0} where
   piece_on names more text k (read.Types ts) p h = h
 
 module _ {S T A : Type 0} (l : Lens S) (found more : List (ReadPiece T A)) where
-  -- a word was read, and put behind the others
+  -- a word was parsed, and put after the others
   pub word_found : (w : Text) {names : List Text} {old new : S} → more ≡ found ++ (read.Word ∷ []) → MustRead {A = A} l.view l.at (λ (u : Unit {0}). u) (text_at w) old (Ok tt) new
       → MustFind l.view l.at names (text_at w ⇒ λ _. tree.word w) found more old (Ok tt) new
   word_found w e h = plain_there l (λ _. tree.word w) tt h (read.Word, e, (w, refl))
@@ -66,28 +66,28 @@ module _ {S T A : Type 0} (l : Lens S) (found more : List (ReadPiece T A)) where
       let k : Answers l.view l.at {A = A} (λ (u : Unit {0}). u) outcome old (Ok tt) new = rw fine (whole_gives l.view l.at l.view_at l.at_view l.at_at w h.0 old new h.1 h.2) in
       record { answers = answers_demanded l.view l.at l.view_at l.at_at {A = A} (λ u. u) outcome old new new (Ok tt) (Ok tt) k (refl, refl) }
 
-  -- it is refused
+  -- it is an error
   pub word_missed : (w : Text) {names : List Text} {old new : S} {fault : ParseFault A} → MustRead {A = A} l.view l.at (λ (u : Unit {0}). u) (text_at w) old (Err fault) new
       → MustFind l.view l.at names (text_at w ⇒ λ _. tree.word w) found more old (Err fault) new
   word_missed w h = piece_refused l (λ _. tree.word w) no_tree h
 
   module _ {outcome : Reader (Piece ℕ T A)} {names : List Text} {old : S} where
-    -- a piece was read, and put behind the others
+    -- a piece was parsed, and put after the others
     pub piece_found : {new : S} (y : ReadPiece T A) → more ≡ found ++ (y ∷ []) → MustPiece l.view l.at names outcome old (Ok y) new → MustFind l.view l.at names outcome found more old (Ok tt) new
     piece_found y e h = record { meant = λ _. h.meant y; means = (y, e, h.means); read = record { answers = h.read.answers } }
 
-    -- it is refused
+    -- it is an error
     pub piece_missed : {new : S} {fault : ParseFault A} → MustPiece l.view l.at names outcome old (Err fault) new → MustFind l.view l.at names outcome found more old (Err fault) new
     piece_missed h = record { meant = λ _. no_tree; means = tt; read = record { answers = h.read.answers } }
 
-    -- memory is refused behind it
+    -- out of memory after it
     pub found_starved : {mid new : S} {y : ReadPiece T A} {fault : ParseFault A} → MustPiece l.view l.at names outcome old (Ok y) mid → StarvesHere l.view l.at mid fault new → MustFind l.view l.at names outcome found more old (Err fault) new
     found_starved {mid = mid} {new = new} {fault = fault} h s =
         let p = first l (λ x t. Read x [] t) h.read in
         record { meant = λ _. no_tree; means = tt; read = record { answers = inl (starves_behind l.view l.at l.view_at l.at_at old mid new p.taken (l.view mid).rest fault p.fine p.takes s) } }
 
 module _ {S T A : Type 0} (l : Lens S) (types : Text → Outcome T) (attr : Text → Outcome (AttrView A)) (inside : Bool) where
-  -- what stands behind a piece, where these parts stand in front of it
+  -- what follows a piece, with these parts before it
   abbrev pub behind_piece : List Step → List (Part ℕ T A) → Piece ℕ T A → Text → Outcome (List (Part ℕ T A))
   behind_piece rest parts p = front_of types attr inside rest (parts ++ (tree.piece p ∷ []))
 
@@ -97,7 +97,7 @@ module _ {S T A : Type 0} (l : Lens S) (types : Text → Outcome T) (attr : Text
     pub each : Each (IsPart names (whole (l.view old))) found parts
     pub passed : Passed l (front_of types attr inside all []) (front_of types attr inside left parts) old now
 
-  -- nothing was read so far
+  -- nothing was parsed so far
   pub front_begins : (names : List Text) (all : List Step) (old : S) → (l.view old).failed ≡ false → Fronting names all all old old []
   front_begins names all old fine = record { parts = []; each = tt; passed = starts l (front_of types attr inside all []) (front_of types attr inside all []) old fine refl }
 
@@ -109,13 +109,13 @@ module _ {S T A : Type 0} (l : Lens S) (types : Text → Outcome T) (attr : Text
       ∙ followed_followed (space_at text) (λ _ u. piece_at types attr inside step u) (behind_piece rest parts)
 
   module _ {names : List Text} {all left : List Step} {old now : S} {found : List (ReadPiece T A)} where
-    -- a piece is to be read behind white space
+    -- a piece is to be parsed after white space
     pub front_next : {mid : S} (rest : List Step) (step : Step) → left ≡ step ∷ rest → is_flat step ≡ true → (p : Fronting names all left old now found) → Takes l.view l.at (front is_whitespace (l.view now).rest) (after is_whitespace (l.view now).rest) now mid
         → Passed l (front_of types attr inside all []) (λ t. followed (piece_at types attr inside step t) (behind_piece rest p.parts)) old mid
     front_next rest step e b p k =
         spaced l (λ _ u. followed (piece_at types attr inside step u) (behind_piece rest p.parts)) (turned l (λ t. followed (space_at t) (λ _ u. followed (piece_at types attr inside step u) (behind_piece rest p.parts))) (next_is left rest step p.parts (l.view now).rest e b) p.passed) k
 
-    -- it was read
+    -- it was parsed
     pub front_more : {mid new : S} {more_found : List (ReadPiece T A)} (rest : List Step) (step : Step) (more_names : List Text) → left ≡ step ∷ rest → is_flat step ≡ true → (p : Fronting names all left old now found) → Takes l.view l.at (front is_whitespace (l.view now).rest) (after is_whitespace (l.view now).rest) now mid
         → KeepsNames names more_names → MustFind {A = A} l.view l.at more_names (piece_at types attr inside step) found more_found mid (Ok tt) new → Fronting more_names all rest old new more_found
     front_more {mid = mid} {more_found = more_found} rest step more_names e b p k keeps h =
@@ -130,7 +130,7 @@ module _ {S T A : Type 0} (l : Lens S) (types : Text → Outcome T) (attr : Text
           passed = more l (behind_piece rest p.parts) q h.read;
         }
 
-    -- it is refused
+    -- it is an error
     pub front_refused : {mid new : S} {fault : ParseFault A} {more_found : List (ReadPiece T A)} {others more_names : List Text} (rest : List Step) (step : Step) → left ≡ step ∷ rest → is_flat step ≡ true → Fronting names all left old now found → Takes l.view l.at (front is_whitespace (l.view now).rest) (after is_whitespace (l.view now).rest) now mid
         → MustFind {A = A} l.view l.at others (piece_at types attr inside step) found more_found mid (Err fault) new → MustFront l.view l.at more_names types attr inside all old (Err fault) new
     front_refused rest step e b p k h = must_refuse l (refuses l {sees = λ _. []} (behind_piece rest p.parts) (front_next rest step e b p k) h.read)

@@ -1,4 +1,4 @@
--- The id of an operation behind a lead, found by its text or read and looked up.
+-- The id of an operation after a lead, found by its text or parsed and looked up.
 use Rattle.std.proofs.Common.{◌≡◌, ℕ, Bool, true, false, List, Option, None, Some, is_some, IfOk, Result, Ok, Err, [], ◌∷◌, ◌++◌, refl, sym, ◌∙◌, ap, subst, cond, append_assoc, append-nil, ◌⊎◌, inl, inr, option_and_then}
 use Rattle.std.specs.Prelude.{OnOk, IfErr, IfSome}
 use Rattle.std.specs.Map.{lookup}
@@ -41,7 +41,7 @@ unfolding id_at word_at
 id_there text name b e c = rw (b, e, c) refl
 
 module _ {S : Type 0} (l : Lens S) where
-  -- a word was taken, and `.` behind it
+  -- a word was taken, and `.` after it
   pub record Dotted (old mid : S) : Type 0 where
     pub begun : begins begins_word (l.view old).rest ≡ true
     pub between : after in_word (l.view old).rest ≡ 46 ∷ (l.view mid).rest
@@ -60,12 +60,12 @@ module _ {S : Type 0} (l : Lens S) where
         takes = subst (λ z. Takes l.view l.at (front in_word text ++ (46 ∷ [])) z old mid) (sym r) (takes_more l.view l.at l.view_at l.at_at old word mid (front in_word text) (after in_word text) (46 ∷ []) f.0 t k);
       }
 
-  -- behind them the stream stands in the same text
+  -- after them the stream is over the same text
   pub dotted_stands : {old mid new : S} → Dotted old mid → new ≡ mid → SameStream l.view l.at (l.view old).failed old new
   dotted_stands {old = old} {mid = mid} d e =
       subst (λ s. SameStream l.view l.at (l.view old).failed old s) (sym e) (takes_stands l.view l.at l.view_at l.at_at old mid (front in_word (l.view old).rest ++ (46 ∷ [])) (l.view mid).rest d.takes)
 
-  -- and behind one word more
+  -- and after one more word
   pub word_stands : {old mid new : S} → Dotted old mid → Takes l.view l.at (front in_word (l.view mid).rest) (after in_word (l.view mid).rest) mid new → SameStream l.view l.at (l.view old).failed old new
   word_stands {old = old} {mid = mid} {new = new} d t =
       let first = front in_word (l.view old).rest ++ (46 ∷ []) in
@@ -148,7 +148,7 @@ module _ {S A : Type 0} (dialects : List (Text × Table)) (l : Lens S) where
   unregistered lead (Missing cause) old new fault (inr h) = inr h
   unregistered lead (Bad cause upto) old new fault (inr h) = inr h
 
-  -- an id that is found is read, unless memory is refused
+  -- an id that is found is parsed, unless out of memory
   pub found_behind : {X : Type 0} {mid now new : S} {i : OpId} (start : Place) (led : Bool) (r : Result (OpId × X) (ParseFault A)) → TakesId l.view l.at mid i now → is_some (registered dialects i) ≡ true → IfOk r (λ op. op.0 ≡ i) → OnOk r (new ≡ now) → IfErr r (λ fault. StarvesHere l.view l.at now fault new)
       → AnswersLed {A = A} l.view l.at dialects start led mid (id_in r) new
   found_behind {mid = mid} {now = now} {new = new} {i = i} start led (Ok op) h known e n s = record {
@@ -160,7 +160,7 @@ module _ {S A : Type 0} (dialects : List (Text × Table)) (l : Lens S) where
         inl (starves_behind l.view l.at l.view_at l.at_at old now new (lead ++ h.taken) (l.view now).rest fault fine (takes_more l.view l.at l.view_at l.at_at old mid now lead (l.view mid).rest h.taken (l.view now).rest takes h.takes) s);
   }
 
-  -- the id is refused
+  -- the id is an error
   pub refused_behind : {mid new : S} (next : S) (a : Result OpId (ParseFault A)) {fault : ParseFault A} (start : Place) (led : Bool) → Answers l.view l.at id_of (unless_failed (l.view mid).failed (id_at (l.view mid).rest)) mid a next → cond led (DemandsOf l.view l.at a next (Err fault) new) ((Err fault ≡ a) × (new ≡ next))
       → AnswersLed {A = A} l.view l.at dialects start led mid (Err fault) new
   refused_behind {mid = mid} {new = new} next a {fault = fault} start led h d = record {
@@ -168,7 +168,7 @@ module _ {S A : Type 0} (dialects : List (Text × Table)) (l : Lens S) where
         unregistered lead (behind lead (id_at (l.view mid).rest)) old new fault (led_answered lead (l.view mid).rest old mid next new a (Err fault) fine takes h (subst (λ b. cond b (DemandsOf l.view l.at a next (Err fault) new) ((Err fault ≡ a) × (new ≡ next))) same d));
   }
 
-  -- the id is read, and looked up
+  -- the id is parsed, and looked up
   pub registered_led : {mid new : S} (next now : S) (a : Result OpId (ParseFault A)) (i : OpId) (start place : Place) (led : Bool) (r : Result OpId (ParseFault A)) → Answers l.view l.at id_of (unless_failed (l.view mid).failed (id_at (l.view mid).rest)) mid a next → cond led (DemandsOf l.view l.at a next (Ok i) now) ((Ok i ≡ a) × (now ≡ next))
       → StandsBehind place (l.view mid).passed → Registers l.view l.at dialects start place i now r new → AnswersLed {A = A} l.view l.at dialects start led mid r new
   registered_led {mid = mid} {new = new} next now a i start place led r h d q k = record {
@@ -188,7 +188,7 @@ led_refused l dialects false t (Read x u r) old new fault (inr h) = absurd h
 led_refused l dialects false t (Missing cause) old new fault (inr h) = inr h
 led_refused l dialects false t (Bad cause upto) old new fault (inr h) = inr h
 
--- what was taken of a text that was read
+-- what was taken of a text that was parsed
 pub record TookOf {S X : Type 0} (l : Lens S) (outcome : Text → Outcome X) (old : S) (x : X) (new : S) : Type 0 where
   pub fine : (l.view old).failed ≡ false
   pub taken : Text
@@ -209,7 +209,7 @@ module _ {S A : Type 0} (l : Lens S) where
   pub lead_taken : {names : List Text} {old mid : S} {ns : List ReadName} → (h : MustNames {A = A} l.view l.at names lead_at old (Ok ns) mid) → TookOf l lead_at old (h.meant ns) mid
   lead_taken {old = old} {mid = mid} {ns = ns} h = took_of l lead_at (l.view old).failed (lead_at (l.view old).rest) old mid (h.meant ns) refl refl h.read.answers
 
-  -- the lead is refused
+  -- the lead is an error
   pub lead_refused : {Y : Type 0} {Means : Y → List (Name ℕ) × Id → Type 0} {MeansLead : List ReadName → List (Name ℕ) → Type 0} {old new : S} {fault : ParseFault A} (dialects : List (Text × Table)) → MustMean l.view l.at MeansLead lead_at old (Err fault) new → MayMean l.view l.at Means (led_at dialects) old (Err fault) new
   lead_refused {old = old} {new = new} {fault = fault} dialects h =
       record {
@@ -218,7 +218,7 @@ module _ {S A : Type 0} (l : Lens S) where
         read = record { answers = led_refused l dialects (l.view old).failed (front is_whitespace (l.view old).rest) (followed (results_if_at (after is_whitespace (l.view old).rest)) (λ x v. mapped (λ _. x) (space_at v))) old new fault h.read.answers };
       }
 
-  -- a lead, and the id behind it
+  -- a lead, and the id after it
   pub led_read : {X : Type 0} {names : List Text} {old mid new : S} {ns : List ReadName} {id : OpId} (info : X) (dialects : List (Text × Table)) (start : Place) (led : Bool) (h : MustNames {A = A} l.view l.at names lead_at old (Ok ns) mid) → led ≡ is_led (lead_taken h).taken → StandsBehind start (l.view old).passed → AnswersLed {A = A} l.view l.at dialects start led mid (Ok id) new
       → MayMean {A = A} l.view l.at (IsLed names (whole (l.view old))) (led_at dialects) old (Ok (ns, id, info)) new
   led_read {old = old} {mid = mid} {new = new} {ns = ns} {id = id} info dialects start led h e at k =
@@ -230,7 +230,7 @@ module _ {S A : Type 0} (l : Lens S) where
         read = record { answers = rw (t.fine, t.is) (gives_mapped l.view l.at l.view_at l.at_at (λ i. (h.meant ns, i)) false (registered_behind dialects t.taken (behind t.taken (id_at (l.view mid).rest))) old new (id_of id) (h.meant ns, id_of id) refl a) };
       }
 
-  -- a lead, and the refusal of the id behind it
+  -- a lead, and an error of the id after it
   pub led_missed : {Y : Type 0} {Means : Y → List (Name ℕ) × Id → Type 0} {names : List Text} {old mid new : S} {ns : List ReadName} {fault : ParseFault A} (dialects : List (Text × Table)) (start : Place) (led : Bool) (h : MustNames {A = A} l.view l.at names lead_at old (Ok ns) mid) → led ≡ is_led (lead_taken h).taken → StandsBehind start (l.view old).passed → AnswersLed {A = A} l.view l.at dialects start led mid (Err fault) new
       → MayMean l.view l.at Means (led_at dialects) old (Err fault) new
   led_missed {old = old} {mid = mid} {new = new} {ns = ns} {fault = fault} dialects start led h e at k =

@@ -1,4 +1,4 @@
--- Steps of the readers of names.
+-- Steps of the parsers of names.
 pub mod CanonicalSteps
 pub mod EntrySteps
 pub mod FormatSteps

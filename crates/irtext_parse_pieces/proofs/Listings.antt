@@ -1,4 +1,4 @@
--- How far the reader of a list has come whose items stand for others.
+-- How far the parser of a list has come, whose items represent those of the text.
 use Rattle.std.proofs.Common.{◌≡◌, ℕ, suc, Bool, true, false, Result, Ok, Err, List, [], ◌∷◌, ◌++◌, length, refl, sym, ◌∙◌, subst, ◌⊎◌, inl, inr, true≢false, arith, ◌<◌}
 use Rattle.std.specs.Char.{is_whitespace}
 use Rattle.irtext_base.specs.Text.{Text, begins, front, after}
@@ -18,21 +18,21 @@ use Rattle.irtext_parse_pieces.specs.Arguments.{IsArgument, MustArguments, Argum
 use Rattle.irtext_parse_pieces.specs.Named.{whole, StandsFor, Each, MayMean, MustMean, MayName, MustNames, NamesBehind}
 use Rattle.irtext_parse_pieces.proofs.Meanings.{passed_whole, takes_whole, may_whole}
 
--- one more of each, behind the others
+-- one more of each, after the others
 pub each_more : {X Y : Type 0} (Means : Y → X → Type 0) (ys : List Y) (xs : List X) (y : Y) (x : X) → Each Means ys xs → Means y x → Each Means (ys ++ (y ∷ [])) (xs ++ (x ∷ []))
 each_more Means [] [] y x h k = (k, tt)
 each_more Means [] (z ∷ zs) y x h k = absurd h
 each_more Means (w ∷ ws) [] y x h k = absurd h
 each_more Means (w ∷ ws) (z ∷ zs) y x h k = (h.0, each_more Means ws zs y x h.1 k)
 
--- what each stands for, in another way
+-- what each represents, stated in another way
 pub each_on : {X Y : Type 0} (Means Other : Y → X → Type 0) → ((y : Y) (x : X) → Means y x → Other y x) → (ys : List Y) (xs : List X) → Each Means ys xs → Each Other ys xs
 each_on Means Other on [] [] h = tt
 each_on Means Other on [] (x ∷ xs) h = absurd h
 each_on Means Other on (y ∷ ys) [] h = absurd h
 each_on Means Other on (y ∷ ys) (x ∷ xs) h = (on y x h.0, each_on Means Other on ys xs h.1)
 
--- what stands behind the first item
+-- what follows the first item
 abbrev pub behind_first : {X : Type 0} → (Text → Outcome X) → List X → Text → Outcome (List X)
 behind_first item found t = items_after 44 item (length t) found t
 
@@ -47,24 +47,24 @@ module _ {S X : Type 0} (l : Lens S) (item : Text → Outcome X) where
 
 module _ {S X Y : Type 0} (l : Lens S) (item : Text → Outcome X) where
   module _ {A : Type 0} {see : Y → X} {old mid new : S} {y : Y} where
-    -- an item that must stand there was read, with the white space behind it
+    -- a required item was parsed, with the white space after it
     pub item_read : (found : List X) → MustRead {A = A} l.view l.at see item old (Ok y) mid → Takes l.view l.at (front is_whitespace (l.view mid).rest) (after is_whitespace (l.view mid).rest) mid new
         → MustRead {A = A} {Y = Y} l.view l.at (λ _. found ++ (see y ∷ [])) (item_after 44 item found) old (Ok y) new
     item_read found h k = last_spaced l {A = A} (λ _. found ++ (see y ∷ [])) (λ _. found ++ (see y ∷ [])) y refl (first l (λ x t. mapped (λ _. found ++ (x ∷ [])) (space_at t)) h) k
 
-    -- the first item was read, with the white space behind it
+    -- the first item was parsed, with the white space after it
     pub first_read : MayRead {A = A} l.view l.at see item old (Ok y) mid → Takes l.view l.at (front is_whitespace (l.view mid).rest) (after is_whitespace (l.view mid).rest) mid new
         → MayRead {A = A} {Y = Y} l.view l.at (λ _. see y ∷ []) (item_after 44 item []) old (Ok y) new
     first_read h k =
         let next : X → Text → Outcome (List X) = λ x t. mapped (λ _. x ∷ []) (space_at t) in
         begun_by l next h (last_spaced l {A = A} (λ _. see y ∷ []) (λ _. see y ∷ []) y refl (begins_with l next h) k)
 
-  -- less is left behind a separator, an item and white space
+  -- a separator, an item and white space consume at least one character
   pub item_falls : {A : Type 0} {see : Y → X} {now mid later next new : S} {y : Y} → begins (the 44) (l.view now).rest ≡ true → mid ≡ l.at now (advanced (l.view now)) → Takes l.view l.at (front is_whitespace (l.view mid).rest) (after is_whitespace (l.view mid).rest) mid later
       → MustRead {A = A} l.view l.at see item later (Ok y) next → Takes l.view l.at (front is_whitespace (l.view next).rest) (after is_whitespace (l.view next).rest) next new → length (l.view new).rest < length (l.view now).rest
   item_falls b t k h behind = falls_behind l 44 b t k (item_read [] h behind)
 
-  -- the items found so far behind the first one, and what each stands for
+  -- the items found so far after the first one, and what each represents
   pub record Listing (Means : Y → X → Type 0) (begun : List X) (old now : S) (found : List Y) : Type 0 where
     pub items : List X
     pub each : Each Means found items
@@ -81,7 +81,7 @@ module _ {S X Y : Type 0} (l : Lens S) (item : Text → Outcome X) where
           → MustMean {A = A} l.view l.at MeansAll (λ t. items_after 44 item (length t) begun t) old (Ok w) now
       listing_all MeansAll w stop p h = record { meant = λ _. p.items; means = h; read = found_all 44 item l (λ _. p.items) w refl stop p.so_far }
 
-      -- an item is to be read behind a separator and white space
+      -- an item is to be parsed after a separator and white space
       pub listing_next : {mid later : S} → begins (the 44) (l.view now).rest ≡ true → mid ≡ l.at now (advanced (l.view now)) → Takes l.view l.at (front is_whitespace (l.view mid).rest) (after is_whitespace (l.view mid).rest) mid later → (p : Listing Means begun old now found)
           → (n : ℕ) × (p.so_far.room ≡ suc n) × Passed l (λ t. items_after 44 item (length t) begun t) (behind_space 44 item n p.items tt) old later
       listing_next b t k p =
@@ -93,7 +93,7 @@ module _ {S X Y : Type 0} (l : Lens S) (item : Text → Outcome X) where
       listing_whole b t k p = passed_whole l (listing_next b t k p).2
 
       module _ {A : Type 0} {mid later : S} (b : begins (the 44) (l.view now).rest ≡ true) (t : mid ≡ l.at now (advanced (l.view now))) (k : Takes l.view l.at (front is_whitespace (l.view mid).rest) (after is_whitespace (l.view mid).rest) mid later) (p : Listing Means begun old now found) where
-        -- the item there is refused
+        -- the item there is an error
         pub listing_refused : {W : Type 0} {see : Y → X} (sees : W → List X) {fault : ParseFault A} {new : S} → MustRead l.view l.at see item later (Err fault) new → MustRead l.view l.at sees (λ t. items_after 44 item (length t) begun t) old (Err fault) new
         listing_refused {see = see} sees {fault = fault} {new = new} h =
             let w = listing_next b t k p in
@@ -101,7 +101,7 @@ module _ {S X Y : Type 0} (l : Lens S) (item : Text → Outcome X) where
             record { answers = refuses_first_demanded l.view l.at l.view_at l.at_at see (λ (z : Y). p.items) (l.view later).failed (item (l.view later).rest) (λ x t. mapped (λ _. p.items ++ (x ∷ [])) (space_at t)) later new fault h.answers } in
             refuses l (λ more v. items_after 44 item w.0 more v) w.2 q
 
-        -- the item there was read, with the white space behind it
+        -- the item there was parsed, with the white space after it
         pub listing_more : {Other : Y → X → Type 0} {next new : S} {y : Y} → ((y : Y) (x : X) → Means y x → Other y x) → (h : MustMean {A = A} l.view l.at Other item later (Ok y) next) → Takes l.view l.at (front is_whitespace (l.view next).rest) (after is_whitespace (l.view next).rest) next new
             → Listing Other begun old new (found ++ (y ∷ []))
         listing_more {Other = Other} {next = next} {new = new} {y = y} on h behind =
@@ -117,7 +117,7 @@ module _ {S X Y : Type 0} (l : Lens S) (item : Text → Outcome X) where
               };
             }
 
-      -- memory is refused there
+      -- out of memory there
       pub listing_starved : {A W : Type 0} (sees : W → List X) {fault : ParseFault A} {new : S} → Listing Means begun old now found → StarvesHere l.view l.at now fault new → MustRead l.view l.at sees (λ t. items_after 44 item (length t) begun t) old (Err fault) new
       listing_starved sees p h = starved l {sees = sees} p.so_far.passed h
 
@@ -144,14 +144,14 @@ module _ {S X Y : Type 0} (l : Lens S) (item : Text → Outcome X) where
         let m = rest (fine_there l (begins_with l (behind_first item) i)) in
         record { meant = m.meant; means = m.means; read = never_missing l (separated_at 44 item) (separated_stands 44 item) (list_begun l (behind_first item) i (λ _. m.read)) }
 
--- there is a first name, and what stands behind it
+-- there is a first name, and what follows it
 pub list_names : {S A : Type 0} (l : Lens S) (item : Text → Outcome (Name ℕ)) (before names : List Text) {old mid new last : S} {first : ReadName} {r : Result (List ReadName) (ParseFault A)} → MayName {A = A} l.view l.at before item old (Ok first) mid → Takes l.view l.at (front is_whitespace (l.view mid).rest) (after is_whitespace (l.view mid).rest) mid new
     → NamesBehind l.view l.at before names item first new r last → MustNames l.view l.at names (separated_at 44 item) old r last
 list_names {A = A} l item before names {old = old} {mid = mid} {new = new} {last = last} {first = n} {r = r} h k rest =
     let e : whole (l.view new) ≡ whole (l.view old) = takes_whole l mid new (front is_whitespace (l.view mid).rest) (after is_whitespace (l.view mid).rest) k ∙ may_whole l h.read in
     list_some l item h.read k (λ fine. subst (λ t. MustMean l.view l.at (Each (StandsFor names t)) (λ t. items_after 44 item (length t) (h.meant n ∷ []) t) new r last) e (rest (h.meant n) (subst (λ t. StandsFor before t n (h.meant n)) (sym e) h.means) fine))
 
--- there is a first argument, and what stands behind it
+-- there is a first argument, and what follows it
 pub list_arguments : {S T A : Type 0} (l : Lens S) (item : Text → Outcome (Name ℕ × T)) (before names : List Text) {old mid new last : S} {first : ReadName × T} {r : Result (List (ReadName × T)) (ParseFault A)} → MayMean {A = A} l.view l.at (IsArgument before (whole (l.view old))) item old (Ok first) mid → Takes l.view l.at (front is_whitespace (l.view mid).rest) (after is_whitespace (l.view mid).rest) mid new
     → ArgumentsBehind l.view l.at before names item first new r last → MustArguments l.view l.at names (separated_at 44 item) old r last
 list_arguments {A = A} l item before names {old = old} {mid = mid} {new = new} {last = last} {first = n} {r = r} h k rest =

@@ -1,4 +1,4 @@
--- What a look for names tells of a text, where nothing is read.
+-- What a search for names implies about a text from which nothing is parsed.
 use Rattle.std.proofs.Common.{◌≡◌, ℕ, Bool, true, false, Result, Ok, Err, Option, Some, None, List, [], ◌∷◌, ◌++◌, refl, sym, ◌∙◌, ap, subst, ◌⊎◌, inl, inr, true≢false}
 use Rattle.std.specs.Char.{is_whitespace}
 use Rattle.irtext_base.specs.Text.{Text, begins, front, after, begins_word, in_word}
@@ -31,24 +31,24 @@ read_prefixed t (Read x u r) = refl
 read_prefixed t (Missing cause) = refl
 read_prefixed t (Bad cause upto) = refl
 
--- where the first thing is not read, nothing is
+-- if the first part is not parsed, nothing is
 unread_followed : {X Y : Type 0} (o : Outcome X) (k : X → Text → Outcome Y) → is_read o ≡ false → is_read (followed o k) ≡ false
 unread_followed (Read x t r) k e = absurd (true≢false e)
 unread_followed (Missing cause) k e = refl
 unread_followed (Bad cause upto) k e = refl
 
--- where no names and `=` stand, there are no results
+-- without names and `=`, there are no results
 pub no_results : (o : Outcome (List (Name ℕ))) (text : Text) → is_read o ≡ false → named o text ≡ Read [] [] text
 no_results (Read x t r) text e = absurd (true≢false e)
 no_results (Missing cause) text e = refl
 no_results (Bad cause upto) text e = refl
 
--- a word with `.` behind it is no list of results
+-- a word with `.` after it is no list of results
 pub dotted_unread : (text rest : Text) → begins begins_word text ≡ true → after in_word text ≡ 46 ∷ rest → is_read (results_at text) ≡ false
 unfolding word_at
 dotted_unread text rest b e = rw (b, e) refl
 
--- no item stands behind the separator
+-- no item follows the separator
 pub next_unread : (n : ℕ) (found : List (Name ℕ)) (text : Text) → is_read (name_at text) ≡ false → is_read (behind_space 44 name_at n found tt text) ≡ false
 next_unread n found text e =
     unread_followed (item_after 44 name_at found text) (λ more v. items_after 44 name_at n more v) (unread_followed (name_at text) (λ x t. mapped (λ _. found ++ (x ∷ [])) (space_at t)) e)
@@ -59,11 +59,11 @@ begun_read t text (Missing cause) e = refl
 begun_read t text (Bad cause upto) e = refl
 
 module _ {S : Type 0} (l : Lens S) where
-  -- what is to be read is not there
+  -- what is to be parsed is not there
   pub passed_unread : {V : Type 0} {outcome next : Text → Outcome V} {old mid : S} → Passed l outcome next old mid → is_read (next (l.view mid).rest) ≡ false → is_read (outcome (l.view old).rest) ≡ false
   passed_unread {outcome = outcome} {next = next} {old = old} {mid = mid} p e = sym (read_demanded (outcome (l.view old).rest)) ∙ (ap is_read p.so_far ∙ (read_prefixed p.taken (next (l.view mid).rest) ∙ e))
 
-  -- the stream stands in its text
+  -- the stream is over the same text
   pub passed_stands : {V : Type 0} {outcome next : Text → Outcome V} {old mid : S} → Passed l outcome next old mid → SameStream l.view l.at false old mid
   passed_stands {old = old} {mid = mid} p = subst (λ b. SameStream l.view l.at b old mid) p.fine (takes_stands l.view l.at l.view_at l.at_at old mid p.taken (l.view mid).rest p.takes)
 
@@ -88,7 +88,7 @@ module _ {S A : Type 0} (l : Lens S) where
   unread false (Missing cause) see old new fault c (inr h) = (refl, h.left)
   unread false (Bad cause upto) see old new fault c (inr h) = absurd (true≢false (sym h.committed ∙ c))
 
-  -- what is missing is not read, and the stream stays
+  -- what is missing is not parsed, and the stream stays
   pub missing_unread : {X Y : Type 0} {see : Y → X} {f : Text → Outcome X} {old new : S} {fault : ParseFault A} → MayRead l.view l.at see f old (Err fault) new → fault.committed ≡ false → (is_read (f (l.view old).rest) ≡ false) × (new ≡ old)
   missing_unread {see = see} {f = f} {old = old} {new = new} {fault = fault} h c = unread (l.view old).failed (f (l.view old).rest) see old new fault c h.answers
 
@@ -98,7 +98,7 @@ module _ {S A : Type 0} (l : Lens S) where
   bad_name true text old new fault e c (inr h) = absurd (rw e at h)
   bad_name false text old new fault e c (inr h) = let m = rw e at h in absurd (true≢false (sym c ∙ m.committed))
 
-  -- a name is never bad: its committed fault is want of memory
+  -- a name is never bad: its committed error is out of memory
   pub name_starves : {Y : Type 0} {see : Y → Name ℕ} {old new : S} {fault : ParseFault A} → (l.view old).failed ≡ false → MayRead l.view l.at see name_at old (Err fault) new → fault.committed ≡ true → Starves l.view l.at old fault new
   name_starves {old = old} {new = new} {fault = fault} fine h c = bad_name (begins begins_word (l.view old).rest) (l.view old).rest old new fault refl c (rw fine at h.answers)
 
@@ -113,20 +113,20 @@ module _ {S A : Type 0} (l : Lens S) where
     read = record { answers = rw (fine, no_results (results_at (l.view old).rest) (l.view old).rest e, n) (refl, takes_none l.view l.at l.view_at l.at_at l.at_view old) };
   }
 
-  -- a stream that had failed is refused
+  -- a stream that had failed is an error
   pub results_fail : {names : List Text} {old new : S} {fault : ParseFault A} → (l.view old).failed ≡ true → Commits l.view l.at Failed [] old fault new → MustNames {A = A} l.view l.at names results_if_at old (Err fault) new
   results_fail e h = record { meant = λ _. []; means = tt; read = record { answers = rw e (inr h) } }
 
-  -- memory was refused
+  -- out of memory
   pub results_starve : {names : List Text} {old start new : S} {fault : ParseFault A} → start ≡ old → Starves l.view l.at start fault new → MustNames {A = A} l.view l.at names results_if_at old (Err fault) new
   results_starve {names = names} {new = new} {fault = fault} still h =
       subst (λ s. MustNames {A = A} l.view l.at names results_if_at s (Err fault) new) still (record { meant = λ _. []; means = tt; read = record { answers = inl h } })
 
-  -- memory was refused where the stream stands
+  -- out of memory at the stream's position
   pub passed_here : {V : Type 0} {outcome next : Text → Outcome V} {old mid new : S} {fault : ParseFault A} → Passed l outcome next old mid → StarvesHere l.view l.at mid fault new → Starves l.view l.at old fault new
   passed_here {old = old} {mid = mid} {new = new} {fault = fault} p h = starves_behind l.view l.at l.view_at l.at_at old mid new p.taken (l.view mid).rest fault p.fine p.takes h
 
-  -- there is a first name, and a look behind it
+  -- there is a first name, and more are looked for after it
   pub list_looks : (before names : List Text) {old mid new : S} (last : S) {n : ReadName} (r : Result (Option (List ReadName)) (ParseFault A)) → MayName {A = A} l.view l.at before name_at old (Ok n) mid → Takes l.view l.at (front is_whitespace (l.view mid).rest) (after is_whitespace (l.view mid).rest) mid new
       → LooksBehind l.view l.at before names n new r last → Looks l.view l.at names (separated_at 44 name_at) old r last
   list_looks before names {old = old} {mid = mid} {new = new} last {n = n} r h k rest = go r rest

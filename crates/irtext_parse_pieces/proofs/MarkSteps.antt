@@ -1,4 +1,4 @@
--- Steps of the reader of marks.
+-- Steps of the parser of marks.
 use Rattle.std.proofs.Common.{◌≡◌, ℕ, true, false, Ok, Err, Option, Some, None, length, refl}
 use Rattle.irtext_base.specs.Text.{Text, begins}
 use Rattle.irtext_base.specs.Reading.{the}
@@ -23,16 +23,16 @@ mark_of place i = record { place = place; index = i }
 abbrev marked : ℕ → ℕ → Option (Mark ℕ)
 marked place i = Some (mark_of place i)
 
--- where `!` stands, a mark is an index
+-- if the text begins with `!`, a mark is an index
 mark_is : (text : Text) → begins (the 33) text ≡ true → mark_if_at text ≡ mapped (marked (length text)) (index_at text)
 mark_is text b = rw b (mapped_mapped Some (mark_of (length text)) (marked (length text)) (index_at text) (λ x. refl))
 
 module _ {S A : Type 0} (l : Lens S) where
-  -- no mark stands there
+  -- no mark follows
   pub no_mark : {old : S} → (l.view old).failed ≡ false → begins (the 33) (l.view old).rest ≡ false → MustMean {A = A} l.view l.at (IsMarkIf (whole (l.view old))) mark_if_at old (Ok None) old
   no_mark {old = old} f b = record { meant = λ _. None; means = tt; read = record { answers = rw (f, b) (refl, takes_none l.view l.at l.view_at l.at_at l.at_view old) } }
 
-  -- an index was read behind `!`
+  -- an index was parsed after `!`
   pub mark_there : {old new : S} (mark : ReadMark) → begins (the 33) (l.view old).rest ≡ true → MustRead {A = A} l.view l.at (λ n. n) index_at old (Ok mark.index) new → StandsBehind mark.at (l.view old).passed
       → MustMean {A = A} l.view l.at (IsMarkIf (whole (l.view old))) mark_if_at old (Ok (Some mark)) new
   mark_there {old = old} mark b h p =
@@ -43,7 +43,7 @@ module _ {S A : Type 0} (l : Lens S) where
         read = record { answers = rw (mark_is (l.view old).rest b) (seen_alone l {A = A} (λ (m : Option ReadMark). marked place mark.index) (marked place) (Some mark) refl h).answers };
       }
 
-  -- no index stands behind it
+  -- no index follows it
   pub mark_refused : {Means : Option ReadMark → Option (Mark ℕ) → Type 0} {old new : S} {fault : ParseFault A} → begins (the 33) (l.view old).rest ≡ true → MustRead {Y = ℕ} l.view l.at (λ n. n) index_at old (Err fault) new → MustMean l.view l.at Means mark_if_at old (Err fault) new
   mark_refused {old = old} {new = new} {fault = fault} b h =
       record { meant = λ _. None; means = tt; read = record { answers = rw (mark_is (l.view old).rest b) (refuses_mapped_demanded l.view l.at l.view_at l.at_at (marked (length (l.view old).rest)) (l.view old).failed (index_at (l.view old).rest) old new fault h.answers) } }

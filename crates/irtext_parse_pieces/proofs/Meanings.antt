@@ -1,4 +1,4 @@
--- What names that were read stand for, while more is read behind them.
+-- What parsed names represent, while more text is parsed after them.
 use Rattle.std.proofs.Common.{◌≡◌, ℕ, true, Result, Ok, Err, List, [], ◌++◌, refl, ◌∙◌, ap, subst, append_assoc, inr}
 use Rattle.std.specs.Prelude.{IfOk}
 use Rattle.irtext_base.specs.Text.{Text}
@@ -14,11 +14,11 @@ use Rattle.irtext_grammar.specs.Grammar.Tree.{Name}
 use Rattle.irtext_parse_pieces.specs.declared.names.ReadName.{ReadName}
 use Rattle.irtext_parse_pieces.specs.Named.{whole, Leaves, StandsFor, NamesRead, MayMean, MustMean, Misses}
 
--- a name stands for the same while more names come and more is read
+-- a name represents the same when more names are added and more text is parsed
 pub stands_on : (names more : List Text) {text other : Text} (n : ReadName) (x : Name ℕ) → KeepsNames names more → text ≡ other → StandsFor names text n x → StandsFor more other n x
 stands_on names more n x keeps e h = record { named = keeps n.name x.text h.named; place = subst (λ t. Leaves t n.at x.place) e h.place }
 
--- what a value stands for is said in another way
+-- what a value represents, stated in another way
 pub means_on : {X Y A : Type 0} (Means Other : Y → X → Type 0) → ((y : Y) (x : X) → Means y x → Other y x) → (meant : Y → X) (r : Result Y (ParseFault A)) → IfOk r (λ y. Means y (meant y)) → IfOk r (λ y. Other y (meant y))
 means_on Means Other on meant (Ok y) h = on y (meant y) h
 means_on Means Other on meant (Err fault) h = tt
@@ -36,7 +36,7 @@ module _ {S : Type 0} (l : Lens S) where
   pub takes_whole : (old mid : S) (t r : Text) → Takes l.view l.at t r old mid → whole (l.view mid) ≡ whole (l.view old)
   takes_whole old mid t r k = ap whole (seen_after l.view l.at l.view_at l.at_at old mid t r k) ∙ (append_assoc (l.view old).passed t r ∙ ap (λ z. (l.view old).passed ++ z) k.same)
 
-  -- what is read leaves the whole text
+  -- what is parsed leaves the whole text
   pub passed_whole : {V : Type 0} {outcome next : Text → Outcome V} {old mid : S} → Passed l outcome next old mid → whole (l.view mid) ≡ whole (l.view old)
   passed_whole {old = old} {mid = mid} p = takes_whole old mid p.taken (l.view mid).rest p.takes
 
@@ -52,16 +52,16 @@ module _ {S : Type 0} (l : Lens S) where
   may_whole {see = see} {f = f} {old = old} {new = new} {y = y} h = gives_whole (unless_failed (l.view old).failed (f (l.view old).rest)) old new (see y) h.answers
 
   module _ {X Y A : Type 0} {Means : Y → X → Type 0} {f : Text → Outcome X} where
-    -- what may stand there is insisted on
+    -- an optional value is required
     pub insisted_mean : {old mid new : S} (a r : Result Y (ParseFault A)) → MayMean l.view l.at Means f old a mid → DemandsOf l.view l.at a mid r new → MustMean l.view l.at Means f old r new
     insisted_mean (Ok y) r h d = record { meant = h.meant; means = rw d.0 h.means; read = insisted l h.read d }
     insisted_mean (Err fault) r h d = record { meant = h.meant; means = rw d.1 tt; read = insisted l h.read d }
 
-    -- what was read may be demanded
+    -- what was parsed may be required
     pub read_mean : {old new : S} {y : Y} → MayMean {A = A} l.view l.at Means f old (Ok y) new → MustMean {A = A} l.view l.at Means f old (Ok y) new
     read_mean {y = y} h = insisted_mean (Ok y) (Ok y) h (refl, refl)
 
-    -- a refusal stands for nothing
+    -- an error represents nothing
     pub may_refuse : {see : Y → X} {old new : S} {fault : ParseFault A} → MayRead l.view l.at see f old (Err fault) new → MayMean l.view l.at Means f old (Err fault) new
     may_refuse {see = see} h = record { meant = see; means = tt; read = h }
 
@@ -72,21 +72,21 @@ module _ {S : Type 0} (l : Lens S) where
     pub may_miss : {old new : S} {fault : ParseFault A} → X → Misses l.view l.at f old fault new → MayMean l.view l.at Means f old (Err fault) new
     may_miss x h = record { meant = λ _. x; means = tt; read = record { answers = h } }
 
-    -- a stream that had failed is refused
+    -- a stream that had failed is an error
     pub may_fail : {old new : S} {fault : ParseFault A} → X → (l.view old).failed ≡ true → Commits l.view l.at Failed [] old fault new → MayMean l.view l.at Means f old (Err fault) new
     may_fail x e h = record { meant = λ _. x; means = tt; read = record { answers = rw e (inr h) } }
 
     pub must_fail : {old new : S} {fault : ParseFault A} → X → (l.view old).failed ≡ true → Commits l.view l.at Failed [] old fault new → MustMean l.view l.at Means f old (Err fault) new
     must_fail x e h = record { meant = λ _. x; means = tt; read = record { answers = rw e (inr h) } }
 
-    -- what must stand behind a first thing answers for both
+    -- the result of a required parser after a first one is the result of both
     pub behind_may : {V U : Type 0} {see : V → U} {first : Text → Outcome U} {old mid new : S} {v : V} {r : Result Y (ParseFault A)} (Other : Y → X → Type 0) → ((y : Y) (x : X) → Means y x → Other y x)
         → MayRead {A = A} l.view l.at see first old (Ok v) mid → MustMean l.view l.at Means f mid r new → MayMean l.view l.at Other (λ t. followed (first t) (λ _ u. f u)) old r new
     behind_may {r = r} Other on h m =
         let next : _ → Text → Outcome X = λ _ u. f u in
         record { meant = m.meant; means = means_on Means Other on m.meant r m.means; read = begun_by l next h (last l (begins_with l next h) m.read) }
 
-  -- a fault behind a first thing stands for nothing
+  -- an error after a first value represents nothing
   pub may_unread : {X U V Y A : Type 0} {Means : Y → V → Type 0} {first : Text → Outcome U} {see : X → U} {sees : Y → V} {old mid new : S} {x : X} {fault : ParseFault A} (k : U → Text → Outcome V) → MayRead {A = A} l.view l.at see first old (Ok x) mid → MustRead l.view l.at sees (λ t. followed (first t) k) old (Err fault) new
       → MayMean l.view l.at Means (λ t. followed (first t) k) old (Err fault) new
   may_unread {sees = sees} k h m = record { meant = sees; means = tt; read = begun_by l k h m }

@@ -1,4 +1,4 @@
--- Steps of the readers of names.
+-- Steps of the parsers of names.
 use Rattle.std.proofs.Common.{◌≡◌, ℕ, Bool, true, false, Result, Ok, Err, IsErrAnd, List, [], Some, length, codes, refl, sym, ◌∙◌, inl, inr}
 use Rattle.std.specs.List.{slice_get}
 use Rattle.irtext_base.specs.Text.{Text, begins, front, after, begins_word, in_word}
@@ -20,7 +20,7 @@ use Rattle.irtext_parse_pieces.specs.declared.names.ReadName.{ReadName}
 use Rattle.irtext_parse_pieces.specs.declared.names.Symbol.{Symbol}
 use Rattle.irtext_parse_pieces.specs.Named.{whole, StandsFor, IsSymbol, MayMean, MustMean, MayName, MustName}
 
--- a name without letters, where none was read
+-- a name without letters, for when none was parsed
 pub nobody : Name ℕ
 nobody = record { place = 0; text = [] }
 
@@ -28,7 +28,7 @@ nobody = record { place = 0; text = [] }
 abbrev moved_to : ℕ → Name ℕ → Name ℕ
 moved_to place n = name_of place n.text
 
--- a name behind a fixed text that stands where that text does
+-- a name after a fixed text, with the place of that text
 moved_is : (place : ℕ) (w text : Text) → followed (text_at w text) (λ _ u. mapped (moved_to place) (name_at u)) ≡ mapped (name_of place) (followed (text_at w text) (λ _ u. identifier_at u))
 moved_is place w text =
     (λ i. followed (text_at w text) (λ _ u. mapped_mapped (moved_to place) (name_of (length u)) (name_of place) (identifier_at u) (λ x. refl) i))
@@ -41,7 +41,7 @@ module _ {S A : Type 0} (l : Lens S) where
   unfolding word_at
   no_name f b h = record { meant = λ _. nobody; means = tt; read = record { answers = rw (f, b) (inr h) } }
 
-  -- memory was refused behind it
+  -- out of memory after it
   pub name_starved : {Y : Type 0} {Means : Y → Name ℕ → Type 0} {old mid new : S} {fault : ParseFault A} → (l.view old).failed ≡ false → Takes l.view l.at (front in_word (l.view old).rest) (after in_word (l.view old).rest) old mid → StarvesHere l.view l.at mid fault new
       → MayMean l.view l.at Means name_at old (Err fault) new
   name_starved {old = old} {mid = mid} {new = new} {fault = fault} f t h =
@@ -63,7 +63,7 @@ module _ {S A : Type 0} (l : Lens S) where
     read = record { answers = rw (f, b) (refl, t) };
   }
 
-  -- behind a fixed text, a name was read that stands where that text does
+  -- after a fixed text a name was parsed, with the place of that text
   pub behind_mark : {old mid new : S} {n : ReadName} (w : Text) (names : List Text) (at : Place) → MustRead {A = A} l.view l.at (λ (u : Unit {0}). u) (text_at w) old (Ok tt) mid → MustName {A = A} l.view l.at names name_at mid (Ok n) new → StandsBehind at (l.view old).passed
       → MustName {A = A} l.view l.at names (λ t. mapped (name_of (length t)) (followed (text_at w t) (λ _ u. identifier_at u))) old (Ok (record { name = n.name; at = at })) new
   behind_mark {old = old} {new = new} {n = n} w names at h m p =
@@ -76,7 +76,7 @@ module _ {S A : Type 0} (l : Lens S) where
         read = record { answers = rw (← moved_is place w (l.view old).rest) q.answers };
       }
 
-  -- the fixed text is refused
+  -- the fixed text is an error
   pub mark_refused : {Means : ReadName → Name ℕ → Type 0} {old new : S} {fault : ParseFault A} (w : Text) → MustRead {Y = Unit {0}} l.view l.at (λ u. u) (text_at w) old (Err fault) new
       → MustMean l.view l.at Means (λ t. mapped (name_of (length t)) (followed (text_at w t) (λ _ u. identifier_at u))) old (Err fault) new
   mark_refused {old = old} {new = new} {fault = fault} w h =
@@ -84,7 +84,7 @@ module _ {S A : Type 0} (l : Lens S) where
       let q = refuses_first_demanded l.view l.at l.view_at l.at_at (λ u. u) (λ (n : ReadName). nobody) (l.view old).failed (text_at w (l.view old).rest) (λ _ u. mapped (moved_to place) (name_at u)) old new fault h.answers in
       record { meant = λ _. nobody; means = tt; read = record { answers = rw (← moved_is place w (l.view old).rest) q } }
 
-  -- the name behind it is refused
+  -- the name after it is an error
   pub marked_refused : {Means Other : ReadName → Name ℕ → Type 0} {old mid new : S} {fault : ParseFault A} (w : Text) → MustRead {A = A} l.view l.at (λ (u : Unit {0}). u) (text_at w) old (Ok tt) mid → MustMean l.view l.at Means name_at mid (Err fault) new
       → MustMean l.view l.at Other (λ t. mapped (name_of (length t)) (followed (text_at w t) (λ _ u. identifier_at u))) old (Err fault) new
   marked_refused {old = old} w h m =
@@ -97,14 +97,14 @@ module _ {S A : Type 0} (l : Lens S) where
       → MayMean l.view l.at Means (target_at inside) old (Err fault) new
   target_refused inside h = record { meant = λ _. nobody; means = tt; read = begins_refused l {see = λ (u : Unit {0}). u} (λ _. nobody) (λ _ u. used_at inside u) (record { answers = h }) }
 
-  -- a label that is used is read behind its `^`
+  -- a label that is used is parsed after its `^`
   pub target_behind : {old mid new : S} {r : Result ReadName (ParseFault A)} (inside : Bool) (names : List Text) → Answers l.view l.at {A = A} (λ (u : Unit {0}). u) (unless_failed (l.view old).failed (text_at (codes "^") (l.view old).rest)) old (Ok tt) mid
       → MustName l.view l.at names (used_at inside) mid r new → MayName l.view l.at names (target_at inside) old r new
   target_behind {old = old} {mid = mid} inside names h m =
       let first : MayRead {A = A} l.view l.at (λ (u : Unit {0}). u) (text_at (codes "^")) old (Ok tt) mid = record { answers = h } in
       behind_may l (StandsFor names (whole (l.view old))) (λ n x k. stands_on names names n x (λ i text e. e) (may_whole l first) k) first m
 
-  -- a symbol was read
+  -- a symbol was parsed
   pub symbol_read : {old new : S} (symbol : Symbol) → MustRead {A = A} l.view l.at (λ name. name) mark_and_name old (Ok symbol.name) new → StandsBehind symbol.at (l.view old).passed → MustMean {A = A} l.view l.at (IsSymbol (whole (l.view old))) symbol_at old (Ok symbol) new
   symbol_read {old = old} symbol h p =
       let place = length (l.view old).rest in
@@ -114,7 +114,7 @@ module _ {S A : Type 0} (l : Lens S) where
         read = record { answers = (seen_alone l {A = A} (λ (s : Symbol). name_of place symbol.name) (name_of place) symbol refl h).answers };
       }
 
-  -- it is refused
+  -- it is an error
   pub symbol_refused : {Means : Symbol → Name ℕ → Type 0} {old new : S} {fault : ParseFault A} → MustRead {Y = Text} l.view l.at (λ name. name) mark_and_name old (Err fault) new → MustMean l.view l.at Means symbol_at old (Err fault) new
   symbol_refused {old = old} {new = new} {fault = fault} h =
       let place = length (l.view old).rest in

@@ -1,6 +1,5 @@
--- Steps of the readers of pieces.
-use Rattle.std.proofs.Common.{◌≡◌, ℕ, Bool, true, false, cond, Result, Ok, Err, Some, None, IfOk, List, [], ◌∷◌, ◌++◌, length, refl, ap, subst, ◌∙◌, arith, inr}
-use Rattle.std.proofs.lemmas.Bool.Decides.{nat_tests}
+-- Steps of the parsers of pieces.
+use Rattle.std.proofs.Common.{◌≡◌, ℕ, Bool, true, false, cond, Result, Ok, Err, Some, None, IfOk, List, [], ◌∷◌, ◌++◌, length, refl, ap, subst, ◌∙◌, inr}
 use Rattle.std.specs.Char.{is_whitespace}
 use Rattle.irtext_base.specs.Text.{Text, front, after}
 use Rattle.irtext_base.specs.Reading.{the}
@@ -23,34 +22,10 @@ use Rattle.irtext_grammar.specs.Grammar.Tree.{Piece}
 use Rattle.irtext_parse_spec.specs.Readers.Directives.{attribute_at}
 use Rattle.irtext_parse_spec.specs.Readers.Marker.{marker, starts_with}
 use Rattle.irtext_parse_spec.specs.Heads.{outlined_or_at}
+use Rattle.irtext_parse_spec.proofs.Readers.MarkerSteps.{starts_whole, starts_not}
 use Rattle.irtext_parse_pieces.specs.Pieces.{MustTypes, TypesBehind, seen_attribute}
 use Rattle.irtext_parse_pieces.specs.Named.{Each, MayMean, MustMean}
 use Rattle.irtext_parse_pieces.proofs.Listings.{list_some}
-
-same_the : (c d : ℕ) → the c d ≡ true → d ≡ c
-same_the c d e = grind (arith, nat_tests)
-
-the-same : (c : ℕ) → the c c ≡ true
-the-same c = grind (arith, nat_tests)
-
--- a text in front of which the word stands begins with it
-starts_whole : (w rest : Text) → starts_with w (w ++ rest) ≡ true
-starts_whole [] rest = refl
-starts_whole (c ∷ w) rest = rw (the-same c) (starts_whole w rest)
-
--- where a text begins with the word, the rest stands behind it
-starts_rest : (w text : Text) → starts_with w text ≡ true → (rest : Text) × (text ≡ w ++ rest)
-starts_rest [] text e = (text, refl)
-starts_rest (c ∷ w) [] e = absurd (cc)
-starts_rest (c ∷ w) (d ∷ text) e = go (the c d) refl e (starts_rest w text)
-  where
-    go : (b : Bool) → the c d ≡ b → cond b (starts_with w text) false ≡ true → (starts_with w text ≡ true → (rest : Text) × (text ≡ w ++ rest)) → (rest : Text) × (d ∷ text ≡ c ∷ (w ++ rest))
-    go true b q h = let r = h q in (r.0, ap (λ z. z ∷ text) (same_the c d b) ∙ ap (λ z. c ∷ z) r.1)
-    go false b q h = absurd (cc)
-
-starts_not : (w text : Text) → BeginsOtherwise w text → starts_with w text ≡ false
-starts_not w text h =
-    elim (starts_with w text) as (λ b. starts_with w text ≡ b → b ≡ false) [ true ↦ (λ e. let r = starts_rest w text e in absurd (h r.0 r.1)) | false ↦ (λ e. refl) ] refl
 
 gives_demanded : {S X : Type 0} (l : Lens S) (f : Text → Outcome X) (old new : S) (x : X) → (l.view old).failed ≡ false → Gives l.view l.at (f (l.view old).rest) old x new → Gives l.view l.at (demanded (unless_failed (l.view old).failed (f (l.view old).rest))) old x new
 gives_demanded l f old new x e h = rw e (there (f (l.view old).rest) h)
@@ -72,45 +47,45 @@ itself (Ok x) = refl
 itself (Err e) = tt
 
 module _ {S A : Type 0} (l : Lens S) where
-  -- what was read stands for itself
+  -- what was parsed represents itself
   pub may_itself : {X : Type 0} {f : Text → Outcome X} {old new : S} (r : Result X (ParseFault A)) → MayRead l.view l.at (λ x. x) f old r new → MayMean l.view l.at ◌≡◌ f old r new
   may_itself r h = record { meant = λ x. x; means = itself r; read = h }
 
-  -- there is a first type, and what stands behind it
+  -- there is a first type, and what follows it
   pub list_types : {T : Type 0} (item : Text → Outcome T) {old mid new last : S} {first : T} {r : Result (List T) (ParseFault A)} → MayMean {A = A} l.view l.at ◌≡◌ item old (Ok first) mid → Takes l.view l.at (front is_whitespace (l.view mid).rest) (after is_whitespace (l.view mid).rest) mid new
       → TypesBehind l.view l.at item first new r last → MustTypes l.view l.at (separated_at 44 item) old r last
   list_types item {new = new} {last = last} {first = n} {r = r} h k rest =
       list_some l item h.read k (λ fine. subst (λ x. MustMean l.view l.at (Each ◌≡◌) (λ t. items_after 44 item (length t) (x ∷ []) t) new r last) h.means (rest fine))
 
   module _ {X Y V W : Type 0} {Means : Y → X → Type 0} {Other : W → V → Type 0} {f : Text → Outcome X} (k : X → V) where
-    -- what was read is a piece
+    -- what was parsed is a piece
     pub piece_there : (w : W) {old new : S} {y : Y} → (h : MustMean {A = A} l.view l.at Means f old (Ok y) new) → Other w (k (h.meant y)) → MustMean {A = A} l.view l.at Other (λ t. mapped k (f t)) old (Ok w) new
     piece_there w {y = y} h m = record { meant = λ _. k (h.meant y); means = m; read = seen_alone l {A = A} (λ _. k (h.meant y)) k w refl h.read }
 
-  -- what would be a piece is refused
+  -- what would be a piece is an error
   pub piece_refused : {X Y V W : Type 0} {Other : W → V → Type 0} {see : Y → X} {f : Text → Outcome X} (k : X → V) → V → {old new : S} {fault : ParseFault A} → MustRead l.view l.at see f old (Err fault) new → MustMean l.view l.at Other (λ t. mapped k (f t)) old (Err fault) new
   piece_refused {f = f} k v {old = old} {new = new} {fault = fault} h = record { meant = λ _. v; means = tt; read = record { answers = refuses_mapped_demanded l.view l.at l.view_at l.at_at k (l.view old).failed (f (l.view old).rest) old new fault h.answers } }
 
--- a piece without meaning, where none was read
+-- a piece without meaning, for when none was parsed
 pub no_tree : {T A : Type 0} → Piece ℕ T A
 no_tree = tree.word []
 
 module _ {S A : Type 0} (l : Lens S) where
-  -- what was read as it is is a piece
+  -- what was parsed, unchanged, is a piece
   pub plain_there : {X Y V W : Type 0} {Other : W → V → Type 0} {see : Y → X} {f : Text → Outcome X} (k : X → V) (w : W) {old new : S} {y : Y} → MustRead {A = A} l.view l.at see f old (Ok y) new → Other w (k (see y)) → MustMean {A = A} l.view l.at Other (λ t. mapped k (f t)) old (Ok w) new
   plain_there {see = see} k w {y = y} h m = record { meant = λ _. k (see y); means = m; read = seen_alone l {A = A} (λ _. k (see y)) k w refl h }
 
-  -- memory is refused behind what was read
+  -- out of memory after what was parsed
   pub piece_starved : {X Y V W : Type 0} {Other : W → V → Type 0} {see : Y → X} {f : Text → Outcome X} (k : X → V) → V → {old mid new : S} {y : Y} {fault : ParseFault A} → MustRead {A = A} l.view l.at see f old (Ok y) mid → StarvesHere l.view l.at mid fault new → MustMean l.view l.at Other (λ t. mapped k (f t)) old (Err fault) new
   piece_starved {W = W} {f = f} k v {old = old} h s =
       let q = starved l {W = W} {sees = λ _. v} (first l (λ x t. Read (k x) [] t) h) s in
       record { meant = λ _. v; means = tt; read = record { answers = rw (mapped_is_followed k (f (l.view old).rest)) q.answers } }
 
-  -- nothing can be read there
+  -- nothing can be parsed there
   pub must_miss : {V W : Type 0} {Other : W → V → Type 0} {cause : Text → Fault} → V → {old new : S} {fault : ParseFault A} → (l.view old).failed ≡ false → Commits l.view l.at (cause (l.view old).rest) [] old fault new → MustMean l.view l.at Other (λ t. Missing (cause t)) old (Err fault) new
   must_miss v f h = record { meant = λ _. v; means = tt; read = record { answers = rw f (inr h) } }
 
-  -- a stream that had failed is refused
+  -- a stream that had failed is an error
   pub read_failed : {V W : Type 0} {see : W → V} {f : Text → Outcome V} {old new : S} {fault : ParseFault A} → (l.view old).failed ≡ true → Commits l.view l.at Failed [] old fault new → MustRead l.view l.at see f old (Err fault) new
   read_failed e h = record { answers = rw e (inr h) }
 
@@ -122,7 +97,7 @@ module _ {S A : Type 0} (l : Lens S) where
         let g : MustRead {A = A} l.view l.at (λ (u : Unit {0}). u) (text_at marker) old (Ok tt) new = record { answers = gives_demanded l (text_at marker) old new tt f (whole_gives l.view l.at l.view_at l.at_view l.at_at marker h.0 old new h.1 h.2) } in
         record { answers = rw b (seen_alone l {A = A} seen_attribute (λ _. None) None refl g).answers }
 
-    -- it doesn't stand there, and an attribute was read
+    -- the marker does not follow, and an attribute was parsed
     pub not_outlined : {old mid new : S} {a : AttrObj A} → BeginsOtherwise marker (l.view old).rest × (mid ≡ old) → MustRead {A = A} l.view l.at attribute_of (attribute_at attr) mid (Ok a) new → MustRead {A = A} l.view l.at seen_attribute (outlined_or_at attr) old (Ok (Some a)) new
     not_outlined {old = old} {mid = mid} {new = new} {a = a} h m =
         let here : MustRead {A = A} l.view l.at attribute_of (attribute_at attr) old (Ok a) new = subst (λ s. MustRead {A = A} l.view l.at attribute_of (attribute_at attr) s (Ok a) new) h.1 m in

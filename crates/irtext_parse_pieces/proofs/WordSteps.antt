@@ -1,4 +1,4 @@
--- Steps of the reader of keys: a word that is accepted at once, or in two parts.
+-- Steps of the parser of keys: a word that is accepted at once, or in two parts.
 use Rattle.std.proofs.Common.{◌≡◌, ◌∙◌, ℕ, Bool, true, false, cond, List, [], ◌∷◌, ◌++◌, Option, Some, None, refl, sym, ap, subst}
 use Rattle.std.proofs.lemmas.Str.{chars_from_encodes}
 use Rattle.std.specs.List.{list_all}

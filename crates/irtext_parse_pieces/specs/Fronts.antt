@@ -31,7 +31,7 @@ front_of types_at attr inside steps = front_at types_at attr inside (front_steps
 abbrev pub IsBehind : {T A : Type 0} → List Text → Text → List (ReadPiece T A) → List (ReadPiece T A) → Piece ℕ T A → Type 0
 IsBehind {T = T} {A = A} names text found more p = (read : ReadPiece T A) × (more ≡ found ++ read ∷ []) × IsPiece names text read p
 
--- these texts come next, one after another with white space before each, and this is the view behind them
+-- these texts follow, one after another with white space before each, and this is the view after them
 abbrev pub ComeSpaced : List Text → StreamView → StreamView → Type 0
 ComeSpaced [] v w = w ≡ v
 ComeSpaced (t ∷ ts) v w = Comes t (behind_space v) (λ u. ComeSpaced ts u w)

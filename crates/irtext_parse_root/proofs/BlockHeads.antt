@@ -1,4 +1,4 @@
--- What a block's header is refused for where no region is open, and what its reader says of a text.
+-- Why a block's header is an error if no region is open, and what its parser returns for a text.
 use Rattle.std.proofs.Common.{◌≡◌, ◌<◌, ◌≤◌, ◌+◌, ◌∙◌, ◌⊎◌, inl, inr, ℕ, zero, suc, Bool, true, false, cond, List, [], ◌∷◌, ◌++◌, length, map, drop, Option, Some, None, is_some, Result, Ok, Err, codes, refl, sym, ap, ap₂, subst, arith, append-nil, slice_get}
 use Rattle.std.specs.Map.{lookup}
 use Rattle.irtext_base.specs.Text.{Text, begins, is_identifier}
@@ -54,7 +54,7 @@ use Rattle.irtext_parse_nested.proofs.Marking.{not_noted, noted_before}
 use Rattle.irtext_parse_root.proofs.Failing.{head_honest}
 use Rattle.irtext_parse_root.specs.Block.{outside_with, FailsOutside, MissesBlock, no_header, by_header, first_reserved, noted_twice}
 
--- ---- where no `^` stands, and where one does
+-- ---- where the text does not begin with `^`, and where it does
 stays_prefixed : {X : Type 0} (t : Text) (o : Outcome X) → demanded (prefixed t o) ≡ prefixed t o
 stays_prefixed t (Read x taken rest) = refl
 stays_prefixed t (Missing cause) = refl
@@ -78,7 +78,7 @@ no_caret : (text : Text) → begins (the 94) text ≡ false → word (codes "^")
 no_caret [] e = refl
 no_caret (c ∷ t) e = ap (λ b. cond b (prefixed (c ∷ []) (spelled_at (codes "^") [] t)) (Missing (Unexpected (Some c) (Word (codes "^"))))) e
 
--- a header without a part, where none was read
+-- an empty header, for when none was parsed
 nothing_read : {T A : Type 0} → Head ℕ T A
 nothing_read = record { label = record { place = 0; text = [] }; arguments = []; attributes = None; mark = None }
 
@@ -93,7 +93,7 @@ module _ {T A : Type 0} (types_at : Text → Outcome T) (attr : Text → Outcome
   head_missing text e = misses_first (label_at text) _ _ (ap (mapped (name_of (length text))) (misses_first (word (codes "^") text) _ _ (no_caret text e)))
 
   module _ {Y : Type 0} {Means : Y → Head ℕ T A → Type 0} (old new : StreamView) (fine : old.failed ≡ false) where
-    -- what must be a header where a `^` stands may be one
+    -- if the text begins with `^`, the parser that requires a header returns what the optional one does
     pub begun_mean : (r : Result Y (ParseFault A)) → begins (the 94) old.rest ≡ true → MustMean itself replaced Means (head_at types_at attr) old r new → MayMean itself replaced Means (head_at types_at attr) old r new
     begun_mean r e h =
         let o = head_at types_at attr old.rest in
@@ -107,7 +107,7 @@ module _ {T A : Type 0} (types_at : Text → Outcome T) (attr : Text → Outcome
       read = record { answers = subst (λ b. Answers itself replaced (λ (y : Y). nothing_read) (unless_failed b (head_at types_at attr old.rest)) old (Err fault) new) (sym fine) h };
     }
 
-    -- no `^` stands there
+    -- the text does not begin with `^`
     pub none_begins : (fault : ParseFault A) → begins (the 94) old.rest ≡ false → Passes itself replaced (Unexpected (first_of old.rest) (Word (codes "^"))) old fault new → MayMean {Y = Y} itself replaced Means (head_at types_at attr) old (Err fault) new
     none_begins fault e h = unread fault (inr (subst (λ o. Refuses itself replaced o old fault new) (sym (head_missing old.rest e)) h))
 
@@ -117,11 +117,11 @@ module _ {T A : Type 0} (types_at : Text → Outcome T) (attr : Text → Outcome
 
 -- ---- what is wrong with a header
 module _ {A : Type 0} (text : Text) (fault : ParseFault A) where
-  -- what is first behind these indices
+  -- the first failure after these indices
   abbrev First : List ℕ → List (Act Text ℕ) → Type 0
   First marks acts = IsFirst text (failures same_text (outside_with marks) (does_all acts done)) fault
 
-  -- an entry of this key, whose test answers so
+  -- an entry with this key, and this result of its test
   abbrev KeyWith : Name ℕ → List (Act Text ℕ) → Bool → List ℕ → Type 0
   KeyWith n later b marks = IsFirst text (cond b [] (record { cause = script.ReservedKey n.text; at = Some n.place } ∷ []) ++ failures same_text (outside_with marks) (does_all later done)) fault
 
@@ -133,7 +133,7 @@ module _ {A : Type 0} (text : Text) (fault : ParseFault A) where
       let k = bad refl in
       subst (λ b. KeyWith e.0 later b (marks ++ [])) (sym (ap₂ block_may_hold (sym i.0.named) (sym i.1) ∙ is)) (k.because ∙ ap causes.ReservedKey i.0.named, stands_there i.0.place k.place)
 
-  -- a key that is reserved, or what stands behind the keys
+  -- a key that is reserved, or the first failure after the keys
   keys_first : (marks : List ℕ) (more : List (Act Text ℕ)) (rs : List (Key × AttrObj A)) (es : List (Name ℕ × Attribute A)) → Each (IsEntry text) rs es → ((key : Key) → first_reserved rs ≡ Some key → IsKeyFault text key fault)
       → (first_reserved rs ≡ None → First marks more) → First marks (map (key_act block_may_hold) es ++ more)
   keys_first marks more [] [] i some none = none refl
@@ -144,15 +144,15 @@ module _ {A : Type 0} (text : Text) (fault : ParseFault A) where
       (λ bad. some r.0 (ap (λ b. cond b (first_reserved rs) (Some r.0)) bad))
       (λ good. let shown : first_reserved (r ∷ rs) ≡ first_reserved rs = ap (λ b. cond b (first_reserved rs) (Some r.0)) good in keys_first marks more rs es i.1 (λ key f. some key (shown ∙ f)) (λ f. none (shown ∙ f)))
 
-  -- a name that stands outside of each scope
+  -- a name outside of every scope
   outside_is : (names : List Text) (read : ReadName) (w : Name ℕ) → StandsFor names text read w → IsFaultOf names text causes.NoActiveScope read fault → IsOf text (record { cause = script.NoActiveScope w.text; at = Some w.place }) fault
   outside_is names read w s f = (f.because ∙ ap causes.NoActiveScope (some_same (sym f.named ∙ s.named)), stands_there s.place f.place)
 
-  -- the fault says that the mark's index is noted already
+  -- the fault says that the mark's index is recorded already
   abbrev SaysTwice : ReadMark → Type 0
   SaysTwice k = (fault_of fault.cause ≡ causes.DuplicateIndex k.index) × AtOffset k.at.offset text (λ passed rest. IsAt fault.pos.line fault.pos.column passed)
 
-  -- a mark, whose index is noted already or not
+  -- a mark, whose index is recorded already or not
   abbrev MarkWith : Mark ℕ → List (Act Text ℕ) → List ℕ → Bool → Type 0
   MarkWith m more marks b = IsFirst text (cond b (record { cause = script.DuplicateIndex m.index; at = Some m.place } ∷ []) [] ++ failures same_text (outside_with (marks ++ m.index ∷ [])) (does_all more done)) fault
 
@@ -165,7 +165,7 @@ module _ {A : Type 0} (text : Text) (fault : ParseFault A) where
       let there : lookup (same_index m.index) noted ≡ Some y = subst (λ j. lookup (same_index j) noted ≡ Some y) i.indexed e in
       subst (MarkWith m more (indices_of noted)) (sym (noted_before m.index noted (λ f. cc (f, there)))) (k.0 ∙ ap causes.DuplicateIndex i.indexed, stands_there i.place k.1)
 
-  -- a mark whose index is noted already, or what stands behind it
+  -- a mark whose index is already recorded, or the first failure after it
   mark_first : {X : Type 0} (noted : List (ℕ × X)) (more : List (Act Text ℕ)) (read : Option ReadMark) (m : Option (Mark ℕ)) → IsMarkIf text read m → ((k : ReadMark) → noted_twice read noted ≡ Some k → SaysTwice k)
       → (noted_twice read noted ≡ None → (marks : List ℕ) → First marks more) → First (indices_of noted) (mark_acts m ++ more)
   mark_first noted more None None i some none = none refl (indices_of noted)
@@ -175,7 +175,7 @@ module _ {A : Type 0} (text : Text) (fault : ParseFault A) where
       one_mark noted more r m i (lookup (same_index r.index) noted) refl (λ f. some r (ap (λ b. cond b (Some r) None) f)) (λ f. none (ap (λ b. cond b (Some r) None) f))
 
   module _ {T : Type 0} (names : List Text) (read : BlockHead T A) (head : Head ℕ T A) (is : IsHead names text read head) where
-    -- the acts behind the keys, and behind the arguments
+    -- the acts after the keys, and after the arguments
     abbrev late : List (Act Text ℕ)
     late = mark_acts head.mark ++ define_label (word_of head.label) (block_at []) ∷ []
 
@@ -209,7 +209,7 @@ module _ {A : Type 0} (text : Text) (fault : ParseFault A) where
     bare marks (r ∷ rs) hs i e h = absurd (omega (arith, e))
 
     module _ {X : Type 0} (noted : List (ℕ × X)) (none : None ≡ first_reserved (entries_in read.attributes)) (no_arguments : length read.arguments ≡ 0) where
-      -- the mark's index is noted already
+      -- the mark's index is recorded already
       pub mark_outside : (k : ReadMark) → Some k ≡ noted_twice read.mark noted → SaysTwice k → keyed (indices_of noted)
       mark_outside k e says =
           allowed (indices_of noted) none (bare (indices_of noted) read.arguments head.arguments is.arguments no_arguments
@@ -230,7 +230,7 @@ module _ {A : Type 0} where
   entry_passes (x ∷ es) zero e g h = ap (λ b. cond b (first_reserved es) (Some x.0)) (subst (λ (z : Key × AttrObj A). block_may_hold z.0.name (attribute_of z.1) ≡ true) (sym (some_same g)) h)
   entry_passes (x ∷ es) (suc i) e g h = entry_passes es i e g h
 
-  -- an entry that may stand there is passed
+  -- an entry that is allowed is passed
   pub passes_entry : (es : List (Key × AttrObj A)) (i : ℕ) (e : Key × AttrObj A) → slice_get es i ≡ Some e → block_may_hold e.0.name (attribute_of e.1) ≡ true → first_reserved (drop (i + 1) es) ≡ first_reserved (drop i es)
   passes_entry es i e g h = let same : suc i ≡ i + 1 = omega arith in subst (λ k. first_reserved (drop k es) ≡ first_reserved (drop i es)) same (sym (entry_passes es i e g h))
 
@@ -241,14 +241,14 @@ module _ {A : Type 0} where
       ap (λ b. cond b (first_reserved es) (Some x.0)) (subst (λ (z : Key × AttrObj A). block_may_hold z.0.name (attribute_of z.1) ≡ false) (sym (some_same g)) h) ∙ ap (λ (z : Key × AttrObj A). Some z.0) (some_same g)
   stops_entry (x ∷ es) (suc i) e g h = stops_entry es i e g h
 
-  -- behind the last one none is left
+  -- after the last one none is left
   pub none_left : (es : List (Key × AttrObj A)) (i : ℕ) → length es ≤ i → first_reserved (drop i es) ≡ None
   none_left [] zero l = refl
   none_left [] (suc i) l = refl
   none_left (x ∷ es) zero l = absurd (omega (arith, l))
   none_left (x ∷ es) (suc i) l = none_left es i (omega (arith, l))
 
--- ---- what is read
+-- ---- what is parsed
 -- a name that has a text is one of these
 pub named_within : (names : List Text) (i : ℕ) (t : Text) → slice_get names i ≡ Some t → i < length names
 named_within [] i t e = absurd (cc)
@@ -261,12 +261,12 @@ argument_within names text [] hs first i e = absurd (cc)
 argument_within names text (r ∷ rs) [] first i e = absurd i
 argument_within names text (r ∷ rs) (h ∷ hs) first i e = subst (λ z. z.0.name < length names) (some_same e) (named_within names r.0.name h.0.text i.0.0.named)
 
--- names are words where there is none
+-- where there are no names, all names are identifiers
 pub no_words : {names : List Text} → names ≡ [] → (i : ℕ) (t : Text) → slice_get names i ≡ Some t → is_identifier t ≡ true
 no_words e i t f = let g = subst (λ ns. slice_get ns i ≡ Some t) e f in absurd (cc)
 
 module _ {T A : Type 0} (types_at : Text → Outcome T) (attr : Text → Outcome (AttrView A)) (names : List Text) (old : StreamView) (fine : old.failed ≡ false) where
-  -- a header was read: it stands in the text, and the stream behind it
+  -- a header was parsed: the text begins with it, and the stream is after it
   pub record HeadRead (read : BlockHead T A) (new : StreamView) : Type 0 where
     pub head : Head ℕ T A
     pub taken : Text
@@ -295,7 +295,7 @@ module _ {T A : Type 0} (types_at : Text → Outcome T) (attr : Text → Outcome
       go (Missing cause) e g = absurd g
       go (Bad cause upto) e g = absurd g
 
--- ---- what a refusal says
+-- ---- what an error says
 -- no failure says that the stream had failed
 no_cause : (c : Cause Text) (cause : Fault) → IsCause c cause → cause ≡ Failed → ⊥
 no_cause (script.ResultCount types names) cause h e = cc (h, e)
@@ -318,14 +318,14 @@ first_missing (Missing cause) h = record { says = h.says }
 first_missing (Bad cause upto) h = record { says = tt }
 
 module _ {T A : Type 0} (types_at : Text → Outcome T) (attr : Text → Outcome (AttrView A)) (old new : StreamView) (fault : ParseFault A) where
-  -- the header is not read
+  -- the header is not parsed
   pub unread_missed : {Y : Type 0} {Means : Y → Head ℕ T A → Type 0} (marks : List ℕ) → old.failed ≡ false → MayMean {Y = Y} itself replaced Means (head_at types_at attr) old (Err fault) new → UnlessMemory (MissesBlock types_at attr marks old new) fault
   unread_missed marks fine m = elim (subst (λ b. Starves itself replaced old fault new ⊎ Refuses itself replaced (unless_failed b (head_at types_at attr old.rest)) old fault new) fine m.read.answers) [
     | inl s ↦ inl (record { because = s.because; flag = s.committed })
     | inr r ↦ inr (no_header r)
   ]
 
-  -- it is, and its names are refused
+  -- it is parsed, and its names are an error
   module _ (names : List Text) (fine : old.failed ≡ false) (read : BlockHead T A) (mid : StreamView) (h : HeadRead types_at attr names old fine read mid) (fails : new ≡ after_failure mid) (marks : List ℕ)
       (said : UnlessMemory (FailsOutside marks (whole mid) h.head) fault) where
     pub read_missed : UnlessMemory (MissesBlock types_at attr marks old new) fault
@@ -345,7 +345,7 @@ module _ {T A : Type 0} (types_at : Text → Outcome T) (attr : Text → Outcome
       failed = λ e. absurd (elim said [ inl starved ↦ cc (starved.because, e) | inr f ↦ first_fine (whole mid) (failures same_text (outside_with marks) (does_all (header_acts [] h.head) done)) fault f.first e ]);
     }
 
-  -- where no mark was noted, that is what is promised of a fresh reading
+  -- if no mark was recorded, that is what is promised on a fresh state
   pub misses_fresh : (marks : List ℕ) → marks ≡ [] → UnlessMemory (MissesBlock types_at attr marks old new) fault → UnlessMemory (RefusesBlock types_at attr old) fault
   misses_fresh marks none (inl starved) = inl starved
   misses_fresh marks none (inr (no_header r)) = inr (record { first = λ head taken rest e. absurd (subst (λ o. Refuses itself replaced o old fault new) e r) })
@@ -357,7 +357,7 @@ module _ {T A : Type 0} (types_at : Text → Outcome T) (attr : Text → Outcome
             (subst (λ ms. IsFirst (whole old) (failures same_text (outside_with ms) (does_all (header_acts [] h) done)) fault) none f.first);
       })
 
--- the fault of a header that is not read, where types and attributes say of a text what is of it
+-- the fault of a header that is not parsed, where types and attributes say of a text what is of it
 pub unread_refusal : {T A Y : Type 0} {Means : Y → Head ℕ T A → Type 0} (types_at : Text → Outcome T) (reading : Text → Outcome A) → Sincere types_at → Sincere reading → {old new : StreamView} {fault : ParseFault A}
     → MayMean {Y = Y} itself replaced Means (head_at types_at (attr_at reading)) old (Err fault) new → Refusal old fault new
 unread_refusal types_at reading sincere_types sincere m =

@@ -1,4 +1,4 @@
--- What the context holds behind each turn, where the turn brings its object or changes what is innermost.
+-- What the context contains after each turn, if the turn creates its object or changes the innermost open one.
 use Rattle.std.proofs.Common.{◌≡◌, ◌∙◌, ℕ, Bool, List, [], ◌∷◌, ◌++◌, Option, Some, None, refl, sym, ap, subst, append-nil, inl, inr}
 use Rattle.irtext_base.specs.Format.{Format, Id}
 use Rattle.irtext_base.specs.declared.location.Location.{Location}
@@ -64,7 +64,7 @@ module _ {T A : Type 0} (formats : Id → Option Format) (L : ℕ → Location A
       → IsHeld formats L base start old items marks (operation_under p own ∷ ats) None ds → IsHeld formats L base start new items (marks ++ []) (region_under r None ∷ operation_under p own ∷ ats) None (did_enter iso ∷ ds)
   region_enters iso r p own ats ds came gains spares h = record { whole = h.whole; holds = enters_operation L start old new items h.whole None formats iso p own ats r (built_of ds) h.holds came gains spares; carried = carried_still items (marks_so_far (built_of ds)) (marks_so_far ((building formats).enters iso (built_of ds))) marks (enters_carry formats (noted items L) old h.whole iso (built_of ds)) h.carried }
 
-  -- a piece behind a region
+  -- a piece after a region
   pub piece_comes : (place : ℕ) (id : Id) (piece : Piece ℕ T A) (p : Ptr Operation) (own next : OwnSoFar T A) (ats : List (OpenAt T A)) (ds : List (Did T A)) → next.place ≡ own.place → next.id ≡ own.id
       → ((view : OperationView T A) → operation old p ≡ Some view → HasOwn L view own → HasUses old p own → OwnBecame old new L p next) → ModifiesOnly (TheOperation p ∷ []) old new
       → IsHeld formats L base start old items marks (operation_under p own ∷ ats) None ds → IsHeld formats L base start new items (marks ++ []) (operation_under p next ∷ ats) None (did_late place id piece ∷ ds)
@@ -88,7 +88,7 @@ module _ {T A : Type 0} (formats : Id → Option Format) (L : ℕ → Location A
   module _ (place : ℕ) (names : List (Name ℕ)) (id : Id) (parts : List (Part ℕ T A)) (mark : Option (Mark ℕ)) (p : Ptr Operation) (own next : OwnSoFar T A) (ds : List (Did T A)) (at : next.place ≡ own.place) (as_id : next.id ≡ own.id)
       (here : next.place ≡ place) (with_id : next.id ≡ id) (is : own_of (unmarked place names id (body_of (formats id) parts)) ≡ next)
       (became : (view : OperationView T A) → operation old p ≡ Some view → HasOwn L view own → HasUses old p own → OwnBecame old new L p next) (spares : ModifiesOnly (TheOperation p ∷ []) old new) where
-    -- an operation ends that stands outside of each region
+    -- an operation ends that is outside of every region
     pub root_ends : IsHeld formats L base start old items marks (operation_under p own ∷ []) None ds → IsHeld formats L base start new items (marks ++ noted_as mark (item.Operation p)) [] (Some p) (did_mark mark ∷ did_close place names id parts ∷ ds)
     root_ends h =
         let then = (building formats).closes place names id parts (built_of ds) in
@@ -122,7 +122,7 @@ module _ {T A : Type 0} (formats : Id → Option Format) (L : ℕ → Location A
   head_carried r k head last ats ds h = carried_new items (marks_so_far (built_of ds)) (marks_so_far ((building formats).heads head (built_of ds))) marks head.mark head.label.place (item.Block k)
       (heads_carry formats (noted items L) old h.whole head r last ats (built_of ds) h.holds.so_far.are_open) h.carried
 
-  -- a block begins, the first of its region or behind another
+  -- a block begins, the first of its region or after another
   pub block_comes : (r : Ptr Region) (k : Ptr BasicBlock) (head : Head ℕ T A) (last : Option (Ptr BasicBlock)) (ats : List (OpenAt T A)) (ds : List (Did T A)) → BlockCame old new L k head → RegionGains old new r k
       → ModifiesOnly (TheBlock k ∷ TheRegion r ∷ []) old new
       → IsHeld formats L base start old items marks (region_under r last ∷ ats) None ds → IsHeld formats L base start new ((head.label.place, TheBlock k) ∷ items) (marks ++ noted_as head.mark (item.Block k)) (region_under r (Some k) ∷ ats) None (did_head head ∷ ds)
@@ -146,7 +146,7 @@ module _ {T A : Type 0} (formats : Id → Option Format) (L : ℕ → Location A
   region_leaves iso place r (Some k) p own ats ds h =
       record { whole = TheRegion r ∷ TheBlock k ∷ h.whole; holds = leaves_with_block L start items h.whole None formats c iso place r k p own ats (built formats L base start c items ds) h.holds; carried = leave_carried iso place r (Some k) p own ats ds h }
 
--- ---- the region that is read
+-- ---- the region that is parsed
 module _ {T A : Type 0} (L : Object → ℕ → Location A → Type 0) (c : ContextView T A) where
   same_still : (o : Object) → IsAsItWas c c o
   same_still (TheOperation p) = (refl, record { as_many_operands = refl; as_many_successors = refl })
@@ -183,7 +183,7 @@ module _ {T A : Type 0} (L : Object → ℕ → Location A → Type 0) (c : Cont
   first_region : (bs cs : Blocks (Op ℕ T A) (Head ℕ T A) (Brace ℕ)) (us : List (Unfinished T A)) → us ≡ region_so_far cs None ∷ [] → region_so_far bs None ∷ [] ≡ us → cs ≡ bs
   first_region bs cs us e f = let g : region_so_far bs None ∷ [] ≡ region_so_far cs None ∷ [] = f ∙ e in cc
 
--- where it was open alone, what is whole with it is all that came
+-- if the region is the only open frame, the objects that are complete, with the region, are all that were created
 module _ {T A : Type 0} (start c : ContextView T A) (items : Made) (w : List Object) (r : Ptr Region) where
   held_whole : (o : Object) → tracks.IsHeld {T = T} {A = A} w (region_under r None ∷ []) o → Among o (TheRegion r ∷ w)
   held_whole o (inl i) = inr i
@@ -218,7 +218,7 @@ module _ {T A : Type 0} (formats : Id → Option Format) (L : ℕ → Location A
   alone_carried last ds bs l e h = carried_still items (marks_so_far (built formats L (within r) start c items ds)) (marks_in_blocks (whole_blocks bs l)) marks
       (alone_carry formats (noted items L) c h.whole bs l (built formats L (within r) start c items ds) e h.holds.so_far.tree) h.carried
 
-  -- the region that is read is left
+  -- the region that is parsed is left
   pub region_alone : (iso : Bool) (place : ℕ) (last : Option (Ptr BasicBlock)) (ds : List (Did T A)) → IsHeld formats L (within r) start c items marks (region_under r last ∷ []) None ds
       → HoldsRegion formats L (within r) start c items (marks ++ []) r (did_leave iso place ∷ ds)
   region_alone iso place None ds h =

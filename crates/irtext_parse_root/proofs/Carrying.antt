@@ -1,4 +1,4 @@
--- The marks of what was read behind each item that is done, the items that carry them, and that one object stands at each place.
+-- The marks of what was parsed after each completed item, the items that carry them, and that there is one object at each place.
 use Rattle.std.proofs.Common.{◌≡◌, ◌∙◌, ◌≤◌, ◌<◌, ℕ, Bool, List, [], ◌∷◌, ◌++◌, map, Option, Some, None, refl, sym, ap, subst, append-nil, append_assoc, arith, inl, inr}
 use Rattle.irtext_base.specs.Format.{Format, Id}
 use Rattle.irtext_base.specs.declared.location.Location.{Location}
@@ -24,7 +24,7 @@ use Rattle.irtext_parse_spec.specs.Tracks.{Made}
 use Rattle.irtext_parse_nested.specs.Ends.{noted_as}
 use Rattle.irtext_parse_root.specs.Carried.{marks_in_regions, marks_in_blocks, marks_in_operations, marks_in, marks_open, marks_whole, marks_so_far, object_of, AreCarried, Falls}
 
--- ---- the marks of what stands one behind the other
+-- ---- the marks of parts that follow one another
 module _ {T A : Type 0} where
   regions_behind : (rs more : Regions (Op ℕ T A) (Head ℕ T A) (Brace ℕ)) → marks_in_regions (append_regions rs more) ≡ marks_in_regions rs ++ marks_in_regions more
   regions_behind no_regions more = refl
@@ -57,7 +57,7 @@ module _ {T A : Type 0} where
   region_marks place at id rs bs last us =
       ap (λ z. marks_open us ++ z) (regions_behind rs (region (shown place) (whole_blocks bs last) no_regions)) ∙ simp (append_assoc, append-nil)
 
-  -- an operation ends that stands outside of each region
+  -- an operation ends that is outside of every region
   pub root_marks : (mark : Option (Mark ℕ)) (o : Op ℕ T A) (rs : Regions (Op ℕ T A) (Head ℕ T A) (Brace ℕ)) → marks_so_far (operation_marked mark (but_its_mark o rs ∷ []) None) ≡ marks_open (but_its_mark o rs ∷ []) ++ noted_as mark o.place
   root_marks mark o rs = append-nil (marks_in_regions rs ++ noted_as mark o.place)
 
@@ -77,7 +77,7 @@ module _ {T A : Type 0} where
       ap (λ z. marks_whole t ++ ((marks_open us ++ z) ++ marks_in_regions rs)) c in
       first ∙ ((simp (append_assoc, append-nil)) ∙ ap (λ z. z ++ noted_as mark o.place) (sym then))
 
--- ---- what is open
+-- ---- the open frames
 module _ {T A : Type 0} (I : Object → ℕ → Location A → Type 0) (c : ContextView T A) (w : List Object) where
   -- a region is open
   pub region_is_open : (r : Ptr Region) (last : Option (Ptr BasicBlock)) (u : Unfinished T A) (inner : Option Object) → IsOpenAt I c w (region_under r last) u inner
@@ -110,7 +110,7 @@ module _ {T A : Type 0} (I : Object → ℕ → Location A → Type 0) (c : Cont
   ended_is_open p (operation_so_far at id rs) inner h = absurd h
   ended_is_open p (region_so_far bs last) inner h = absurd h
 
-  -- something is open, and others round it
+  -- a frame is open, and others around it
   pub first_open : (at : OpenAt T A) (ats : List (OpenAt T A)) (us : List (Unfinished T A)) (inner : Option Object) → AreOpenAt I c w (at ∷ ats) us inner
       → (u : Unfinished T A) × (more : List (Unfinished T A)) × (us ≡ u ∷ more) × IsOpenAt I c w at u inner × AreOpenAt I c w ats more (as_inner at)
   first_open at ats [] inner h = absurd h
@@ -220,19 +220,19 @@ carried_one items None place x i = tt
 carried_one items (Some m) place x i = (refl, i, tt)
 
 module _ (items : Made) (ms more : List (ℕ × ℕ)) (ns : List (ℕ × Item)) where
-  -- no mark came
+  -- no mark was added
   pub carried_still : more ≡ ms → AreCarried items ms ns → AreCarried items more (ns ++ [])
   carried_still e h = subst (λ z. AreCarried items z (ns ++ [])) (sym e) (subst (AreCarried items ms) (sym (append-nil ns)) h)
 
-  -- no mark came, and an item
+  -- no mark was added, but an item
   pub carried_more : (one : ℕ × Object) → more ≡ ms → AreCarried items ms ns → AreCarried (one ∷ items) more (ns ++ [])
   carried_more one e h = carried_wider items one more (ns ++ []) (carried_still e h)
 
-  -- one came, where one stands
+  -- a mark was added, if there is one
   pub carried_last : (mark : Option (Mark ℕ)) (place : ℕ) (x : Item) → more ≡ ms ++ noted_as mark place → Among (place, object_of x) items → AreCarried items ms ns → AreCarried items more (ns ++ noted_as mark x)
   carried_last mark place x e i h = subst (λ z. AreCarried items z (ns ++ noted_as mark x)) (sym e) (carried_both items ms (noted_as mark place) ns (noted_as mark x) h (carried_one items mark place x i))
 
-  -- one came with its item, where one stands
+  -- a mark was added with its item, if there is one
   pub carried_new : (mark : Option (Mark ℕ)) (place : ℕ) (x : Item) → more ≡ ms ++ noted_as mark place → AreCarried items ms ns → AreCarried ((place, object_of x) ∷ items) more (ns ++ noted_as mark x)
   carried_new mark place x e h = subst (λ z. AreCarried ((place, object_of x) ∷ items) z (ns ++ noted_as mark x)) (sym e)
       (carried_both ((place, object_of x) ∷ items) ms (noted_as mark place) ns (noted_as mark x) (carried_wider items (place, object_of x) ms ns h) (carried_one ((place, object_of x) ∷ items) mark place x (inl refl)))
@@ -243,18 +243,18 @@ pub falls_less : (above : ℕ) (items : Made) (low below : ℕ) → below ≤ lo
 falls_less above [] low below le h = omega (arith, le, h)
 falls_less above (one ∷ items) low below le h = let l = h.0 in (omega (arith, le, l), h.1)
 
--- what was made later stands behind
+-- items that were made later have lower places
 pub falls_both : (above : ℕ) (items more : Made) (middle below : ℕ) → Falls above items middle → Falls middle more below → Falls above (more ++ items) below
 falls_both above items [] middle below h k = falls_less above items middle below k h
 falls_both above items (one ∷ more) middle below h k = (k.0, falls_both above items more middle one.0 h k.1)
 
--- less stands behind the last than behind any
+-- the place of the last item is below the bound of all places
 lowest : (above : ℕ) (items : Made) (below n : ℕ) (o : Object) → Falls above items below → Among (n, o) items → below < n
 lowest above [] below n o h i = absurd i
 lowest above (one ∷ items) below n o h (inl e) = let l = h.0 in let f = ap (λ z. z.0) e in omega (arith, l, f)
 lowest above (one ∷ items) below n o h (inr i) = let l = h.0 in let k = lowest above items one.0 n o h.1 i in omega (arith, l, k)
 
--- one object stands at a place
+-- at most one object is at a place
 pub one_object : (above : ℕ) (items : Made) (below n : ℕ) (o p : Object) → Falls above items below → Among (n, o) items → Among (n, p) items → o ≡ p
 one_object above [] below n o p h i j = absurd i
 one_object above (one ∷ items) below n o p h (inl e) (inl f) = ap (λ z. z.1) e ∙ sym (ap (λ z. z.1) f)

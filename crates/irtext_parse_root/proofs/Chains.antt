@@ -1,4 +1,4 @@
--- Turns one behind the other, and a fault behind them.
+-- Turns one after another, and a fault after them.
 use Rattle.std.proofs.Common.{◌≡◌, ◌∙◌, ℕ, Bool, true, false, List, [], ◌∷◌, ◌++◌, length, IsSome, refl, sym, ap, subst, append-nil, append_assoc, inl, inr, arith, le_refl}
 use Rattle.irtext_base.specs.Text.{Text}
 use Rattle.irtext_base.specs.Locations.{AttrView}
@@ -50,7 +50,7 @@ module _ {T A U : Type 0} where
           (a.so path items (more ++ others) o (subst (λ ps. StandsAs path items ps before s o) (sym (append_assoc more others held)) h));
     }
 
-    -- where none is opened
+    -- if no operation is opened
     pub acts_within : (others : List Pledge) → ActsWith made act before s [] names z [] → ActsWith made act before s others names z others
     acts_within others a =
         let b = acts_besides others [] [] a in
@@ -77,7 +77,7 @@ module _ {T A U : Type 0} where
   fails_besides {before = before} {s = s} {held = held} others h path items more o k = h.so path items (more ++ others) o (subst (λ ps. StandsAs path items ps before s o) (sym (append_assoc more others held)) k)
 
 -- ---- streams
--- what is read leaves the whole text
+-- what is parsed leaves the whole text
 pub moved_whole : (old new : StreamView) → Moves old new → whole new ≡ whole old
 moved_whole old new m = takes_whole alone old new m.taken new.rest m.takes
 
@@ -86,7 +86,7 @@ pub never_open : {X : Type 0} (b : Bool) → b ≡ true → b ≡ false → X
 never_open b c e = let z : true ≡ false = sym c ∙ e in absurd (cc z)
 
 -- ---- what is carried
--- marks that came behind others
+-- marks that were added after others
 pub gains_both : {X : Type 0} (a b c : List (ℕ × X)) → GainsMarks a b → GainsMarks b c → GainsMarks a c
 gains_both a b c h k = (h.0 ++ k.0, k.1 ∙ (ap (λ z. z ++ k.0) h.1 ∙ append_assoc a h.0 k.0))
 
@@ -134,18 +134,18 @@ module _ {T A U : Type 0} where
     gains = gains_both (marks_of s0.state) (marks_of s1.state) (marks_of s2.state) h.gains k.gains;
   }
 
-  -- the same behind what was passed of the text alone
+  -- the same after the stream alone advanced over some text
   pub carries_passed : {n0 n1 : Names} {s0 s1 : StateStream T A U} (v : StreamView) → Moves s0.stream v → Carries n0 (record { stream = v; state = s0.state }) n1 s1 → Carries n0 s0 n1 s1
   carries_passed v m h = record { rest = record { src = h.rest.src; aux_data = h.rest.aux_data }; moves = moves_more m h.moves; keeps = h.keeps; lasts = h.lasts; sound = λ m le z. h.sound m le z; gains = (h.gains.0, h.gains.1) }
 
   pub carries_pass : (names : Names) (s : StateStream T A U) (v : StreamView) → Moves s.stream v → Carries names s names (record { stream = v; state = s.state })
   carries_pass names s v m = record { rest = record { src = refl; aux_data = refl }; moves = m; keeps = λ i text e. e; lasts = lasts_still s.state.ctx.now; sound = λ m le h. h; gains = gains_nothing refl }
 
-  -- what is left where a turn is refused behind others
+  -- what remains if a turn fails after others
   pub remains_on : {n0 n1 : Names} {s0 s1 : StateStream T A U} {z : code.State T A U} → Carries n0 s0 n1 s1 → Remains s1.state z → Remains s0.state z
   remains_on {s0 = s0} {s1 = s1} {z = z} h k = record { rest = record { src = k.rest.src ∙ h.rest.src; aux_data = k.rest.aux_data ∙ h.rest.aux_data }; gains = gains_both (marks_of s0.state) (marks_of s1.state) (marks_of z) h.gains k.gains }
 
-  -- or where memory is refused behind it
+  -- or if it is out of memory after them
   pub remains_so : {n0 n1 : Names} {s0 s1 : StateStream T A U} → Carries n0 s0 n1 s1 → Remains s0.state s1.state
   remains_so h = record { rest = h.rest; gains = h.gains }
 
@@ -193,7 +193,7 @@ turned_over {types_at = types_at} {attr = attr} {base = base} {ls = ls} {ks = ks
 
 -- ---- faults
 module _ {T A U : Type 0} {types_at : Reader T} {attr : Reader (AttrView A)} {dialects : List (Text × Table)} {source : Source} {text : Text} {base : Base} where
-  -- a fault behind a turn
+  -- a fault after a turn
   pub faulted_behind : {ls ms : List (Level T A)} {n0 n1 : Names} {s0 s1 : StateStream T A U} {fault : ParseFault A} → Turned types_at attr dialects source text base ls n0 s0 ms n1 s1 → whole s1.stream ≡ whole s0.stream
       → UnlessMemory (Faulted types_at attr dialects ms n1 s1) fault → UnlessMemory (Faulted types_at attr dialects ls n0 s0) fault
   faulted_behind h e (inl starved) = inl starved

@@ -1,5 +1,5 @@
--- What was read with no name known: what the text is, by the grammar; no scope is open behind it, and so no placeholder is left; what it builds
--- stands under the pointer, and only that is new.
+-- What was parsed while no name was known: what the text is, by the grammar; after it no scope is open, so no placeholder is left; what it
+-- builds is under the pointer, and only that is new.
 use Rattle.std.proofs.Common.{◌≡◌, ◌∙◌, ℕ, List, [], ◌++◌, Option, Some, None, sym, ap, subst, append-nil, le_refl}
 use Rattle.std.specs.Prelude.{IfSome}
 use Rattle.irtext_base.specs.Text.{Text}
@@ -78,7 +78,7 @@ accepts : (o : Option Format) (f : Format) → IfSome o Accepted → o ≡ Some 
 accepts None f h e = absurd (cc)
 accepts (Some g) f h e = let same : g ≡ f = cc in subst Accepted same h
 
--- where the machine stands, it stands with other marks too
+-- names and graph that agree with a state of the machine agree with the state that has other marks, too
 other_marks : {O B T : Type 0} (names : Names) (g : GraphView (Option O) B T) (known : Known) (st : history.State) (marks : List ℕ) → StandsAt names g known [] (record st { marks = marks }) → StandsAt names g known [] st
 other_marks names g known st marks s = record {
   distinct = s.distinct;
@@ -123,7 +123,7 @@ module _ {T A U : Type 0} (types_at : Text → Outcome T) (types_written : T →
   whole_tree : WholeOperations (operation r.tree.own r.tree.regions no_operations)
   whole_tree = trees.whole (knot.L types_at types_written reading written dialects) (λ p q h. h) r.tree old.stream.rest new.stream.rest reads
 
-  -- ---- where the machine stands behind it
+  -- ---- the state of the machine after it
   ended : (z : history.Outcome) × StandsAs named.0 (r.made ++ []) [] names new.state z × (run (going (start_with earlier)) (events of_tree) ≡ z)
   ended =
       let z = at_end types_at (attr_at reading) before old no_names no_values no_labels op names new r named.0 in
@@ -175,7 +175,7 @@ module _ {T A U : Type 0} (types_at : Text → Outcome T) (types_written : T →
     abbrev first : ℕ → Written A
     first = location_of new.state.ctx.now.paths old.state.src (whole old.stream)
 
-    -- what it builds stands under the pointer
+    -- what it builds is under the pointer
     built : held_root new.state.ctx.now op ≡ Some (build (isolated dialects) first [] r.tree)
     built = builds.builds L old.state.ctx.now new.state.ctx.now r.made r.objects op r.tree r.holds nest named.0 named.1 first (isolated dialects) formed names ended.1.known are alone.0 stands alone.1
         (λ n l e. place_told new.state.ctx.now.paths old.state.src (whole old.stream) n l e)

@@ -1,4 +1,4 @@
--- A region that is entered and stands nowhere: what it does with names, and how its brace is refused.
+-- A region without a parent is entered: what that does with names, and which error a missing brace is.
 use Rattle.std.proofs.Common.{◌≡◌, ◌∙◌, inl, inr, Bool, true, false, [], codes, length, Ok, Err, refl, sym, ap, subst}
 use Rattle.irtext_base.specs.Faults as fault
 use Rattle.irtext_base.specs.Locations.{AttrView}
@@ -32,7 +32,7 @@ use Rattle.irtext_parse_nested.proofs.Faults.{must_demand}
 use Rattle.irtext_parse_root.proofs.Unplaced.{alone_stands, alone_there}
 use Rattle.irtext_parse_nested.proofs.Standing.{stands_on}
 
--- the first brace, with white space behind it
+-- the first brace, with white space after it
 abbrev brace_at : Reader (Unit {0})
 brace_at = word (codes "{") ▷ space_at
 
@@ -51,14 +51,14 @@ module _ {T A U : Type 0} (types_at : Reader T) (attr : Reader (AttrView A)) (is
           (stands_on before names old.state old.state (enter iso) (history.entered iso) takes (marks_same iso) refl refl h);
     }
 
-    -- no brace stands there
+    -- no brace follows
     pub alone_unbraced : (f : ParseFault A) (v : StreamView) → old.stream.failed ≡ false → MustRead {Y = Unit {0}} itself replaced (λ u. u) brace_at mid.stream (Err f) v → UnlessMemory (RefusesRegion types_at attr iso before old) f
     alone_unbraced f v fine h = elim (must_demand alone brace_at (within_honest (◌then◌ (honest_word (codes "{")) honest_space)) (ap (λ s. s.failed) same ∙ fine) h) [
       | inl s ↦ inl s
       | inr d ↦ inr (no_brace names mid acts_entered (subst (λ s. Demands (whole s) (brace_at s.rest) s.rest f) same d))
     ]
 
-    -- its brace was read
+    -- its brace was parsed
     pub alone_braced : (b : BegunRegion) (new : StateStream T A U) → new.state ≡ mid.state → MustRead {A = A} itself replaced (λ u. u) brace_at mid.stream (Ok tt) new.stream → b.region ≡ r → b.isolated ≡ iso → Leaves (whole old.stream) b.at (length old.stream.rest)
         → BeginsRegion types_at attr iso b before old names new
     alone_braced b new state h region isolated placed =

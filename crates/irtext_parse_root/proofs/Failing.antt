@@ -1,4 +1,4 @@
--- No fault of a nested text says that the stream had failed, and one of which nothing was read has a cause of a text.
+-- No fault of a nested text says that the stream had failed, and one of which nothing was parsed has a cause of a text.
 use Rattle.std.proofs.Common.{◌≡◌, ℕ, zero, suc, Bool, true, false, cond, List, [], ◌∷◌, ◌++◌, length, Some, None, codes, is_some, append_assoc, refl, ap, subst}
 use Rattle.irtext_base.specs.Text.{Text, begins, after_space}
 use Rattle.irtext_base.specs.Reading.{the}
@@ -34,7 +34,7 @@ abbrev StuckFine : {X S : Type 0} → Reached X S → Type 0
 StuckFine (Advanced x s rest) = Unit {0}
 StuckFine (Stopped s cause place) = NotFailed cause
 
--- it is stuck at no such cause
+-- it is not stuck at such a cause
 record Never {X S : Type 0} (o : Reached X S) : Type 0 where
   pub says : StuckFine o
 
@@ -70,7 +70,7 @@ module _ {S : Type 0} where
   never_blocks item h zero text s = there tt s text
   never_blocks item h (suc n) text s = never_if (begins_block text) _ _ (never_came (item text s) _ (h text s) (λ _ t rest. never_blocks item h n (after_space rest) t)) (there tt s text)
 
--- ---- the readers of heads
+-- ---- the parsers of heads
 name_honest : Honest name_at
 name_honest = record { of = λ text. of_mapped text (name_of (length text)) (identifier_at text) ((honest_name _).of text) }
 
@@ -201,7 +201,7 @@ module _ {T A : Type 0} (types_at : Text → Outcome T) (reading : Text → Outc
       (◌so◌ (honest_either (begins (the 91)) (seen Some dictionary_honest) (honest_nothing None)) (λ attributes. ◌then◌ honest_space
       (◌so◌ mark_if_honest (λ mark. ◌then◌ honest_space (seen (λ _. record { label = label; arguments = arguments; attributes = attributes; mark = mark }) (honest_word (codes ":")))))))))))
 
-  -- ---- the readers of what nests
+  -- ---- the parsers of what nests
   module _ {S : Type 0} (dialects : List (Text × Table)) (does : Actions T A S) where
     never_front : (ss : List Step) (found : List (Part ℕ T A)) (text : Text) (s : S) → Never (front_by dialects types_at attr does true ss found text s)
     never_front [] found text s = there found s text
@@ -243,7 +243,7 @@ module _ {T A : Type 0} (types_at : Text → Outcome T) (reading : Text → Outc
     never_within (suc n) iso text s = never_region _ (λ rest t.
         never_blocks _ (never_block _ (never_operations _ (never_operation (region_within dialects types_at attr does n) (never_within n)))) (length rest) rest t) iso text s
 
-    -- a region's reader is stuck at no such cause
+    -- a region's parser is not stuck at such a cause
     pub region_never_failed : (iso : Bool) (text : Text) (s t : S) (cause : Fault) (place : ℕ) → region_at dialects types_at attr does iso text s ≡ Stopped t cause place → cause ≡ Failed → ⊥
     region_never_failed iso text s t cause place e = (subst Never e (never_within (suc (length text)) iso text s)).says
 

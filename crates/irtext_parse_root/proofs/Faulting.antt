@@ -1,4 +1,4 @@
--- Where there is no turn, the text is at fault, or what is done fails: by what the turn of each thing that is open refuses.
+-- Where there is no turn, the text is at fault, or an action fails: from the errors of the turns of each open frame.
 use Rattle.std.proofs.Common.{◌≡◌, ◌∙◌, ◌-◌, ℕ, Bool, true, false, List, [], ◌∷◌, ◌++◌, map, length, codes, Option, Some, sym, ap, subst, append-nil, inl, inr}
 use Rattle.irtext_base.specs.Text.{Text, after_space}
 use Rattle.irtext_base.specs.Stream.{StreamView}
@@ -151,7 +151,7 @@ module _ {T A U : Type 0} (types_at : Reader T) (attr : Reader (AttrView A)) (be
           (acts_within [] (λ path. (does path).enters iso) before names old.state mid.state (pledges_of at_it) (record { so = λ path items others z st. acts.so path items others z st })))
           (subst (λ t. IsTextFault t d.cause (length v.rest - length d.upto) fault) same d.fault_is))
 
-      -- a brace stands there
+      -- a brace follows
       brace_read : (u : Text) → begins_region u ≡ true → (cause : Fault) (upto : Text) → demanded ((word (codes "{") ▷ space_at) u) ≡ Bad cause upto → ⊥
       brace_read u b cause upto e =
           let s = begins_the 123 u b in

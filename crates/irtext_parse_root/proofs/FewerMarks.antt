@@ -32,7 +32,7 @@ quiet_events (does (claim b x) k) h = (tt, quiet_events k h)
 quiet_events (within iso p body k) h =
     (tt, quiet_both (events body ++ leave iso p ∷ []) (events k) (quiet_both (events body) (leave iso p ∷ []) (quiet_events body h.0) (tt, tt)) (quiet_events k h.1))
 
--- ---- what comes to the same but for marks
+-- ---- what has the same outcome but for marks
 among_more : (i : ℕ) (ms ns : List ℕ) → is_among i ns ≡ true → is_among i (ms ++ ns) ≡ true
 among_more i [] ns h = h
 among_more i (m ∷ ms) ns h = go (nat_eq m i) (among_more i ms ns h)
@@ -46,7 +46,7 @@ module _ (ms : List ℕ) where
   abbrev with_marks : State → State
   with_marks st = record st { marks = ms ++ st.marks }
 
-  -- where the one goes on, so does the other, and the one has these marks besides
+  -- if the one goes on, so does the other, and the one has these marks in addition
   abbrev Alike : Outcome → Outcome → Type 0
   Alike (failed f) o = ⊤
   Alike (going z) (going st) = z ≡ with_marks st

@@ -1,4 +1,4 @@
--- Where a reading begins no name is known: names, graph and marks stand where the machine starts.
+-- Where a parse begins no name is known: names, graph and marks agree with the initial state of the machine.
 use Rattle.std.proofs.Common.{◌≡◌, ◌∙◌, ℕ, [], Option, Some, None, IsSome, refl, sym, ap, le_refl}
 use Rattle.irtext_context.specs.Context.{ContextView}
 use Rattle.irtext_graph.specs.Back.{AllOlder}
@@ -17,11 +17,11 @@ use Rattle.irtext_parse_nested.specs.Items.{Names, StandsAs, BlanksDefine, IsSou
 use Rattle.irtext_parse_nested.proofs.OfItems.{nothing_of}
 use Rattle.irtext_parse_root.specs.Turned.{IsSoundOnce}
 
--- no name stands under two numbers
+-- no name has two numbers
 pub none_twice : AreDistinct []
 none_twice i j text e f = absurd (cc)
 
--- nothing is newer than all that stands
+-- nothing is newer than all live objects
 no_blanks : {T A : Type 0} (c : ContextView T A) → AllOlder c.graph.made c.graph → BlanksDefine c.graph.made c
 no_blanks c older p here none new = absurd (none_there (get c.graph.operations p) (sym (older.operations p) ∙ new_operation c.graph.made c.graph p new) here)
   where
@@ -30,7 +30,7 @@ no_blanks c older p here none new = absurd (none_there (get c.graph.operations p
     none_there (Some x) e h = cc
 
 module _ {T A U : Type 0} (names : Names) (s : code.State T A U) (no_names : names.names ≡ []) (no_values : names.values ≡ []) (no_labels : names.labels ≡ []) where
-  -- the machine stands at its start
+  -- names, graph and marks agree with the initial state of the machine
   pub fresh_stands : marks_of s ≡ [] → (path : ℕ → Path) → StandsAs path [] [] names s (going start)
   fresh_stands none path = record {
     known = nothing_made;
@@ -43,7 +43,7 @@ module _ {T A U : Type 0} (names : Names) (s : code.State T A U) (no_names : nam
     results = λ w i. absurd i;
   }
 
-  -- nothing waits for a name, since all that stands is older
+  -- no placeholder waits for a name, since all live objects are older
   pub fresh_sound : AllOlder s.ctx.now.graph.made s.ctx.now.graph → IsSound s.ctx.now.graph.made names s
   fresh_sound older = record {
     tied = rw (no_values, no_labels) (no_ties s.ctx.now.graph);

@@ -161,7 +161,7 @@ module _ {T A U : Type 0} (types_at : Reader T) (attr : Reader (AttrView A)) (be
     goes_given b next (Err f) keeps values labels same moves goes spares lasts sound = tt
 
   module _ {X E : Type 0} where
-    -- where it was refused, no mark was noted, or some were
+    -- after an error, no mark was recorded, or some were
     pub remains_same : (r : Result X E) → marks_of new.state ≡ marks_of old.state → OnErr r (Remains old.state new.state)
     remains_same (Ok x) same = tt
     remains_same (Err f) same = record { rest = rest; gains = gains_nothing same }

@@ -1,4 +1,4 @@
--- A block's label stands where its header does.
+-- The place of a block's label is the place of its header.
 use Rattle.std.proofs.Common.{◌≡◌, ◌∙◌, ℕ, List, Option, codes, length, refl, sym, ap, subst}
 use Rattle.irtext_base.specs.Text.{Text}
 use Rattle.irtext_base.specs.Answers.{Read}
@@ -11,19 +11,19 @@ use Rattle.irtext_grammar.specs.Grammar.Tree.{Name, Mark, Attribute, Head}
 use Rattle.irtext_parse_spec.proofs.Joins.Answers.{followed_read, mapped_read}
 use Rattle.irtext_parse_spec.specs.Heads.{name_of, label_at, argument_at, dictionary_if_at, mark_if_at, head_at}
 
--- whatever the reader reads is so
+-- each value that the parser parses has the property
 record Gives {X : Type 0} (P : X → Type 0) (f : Reader X) : Type 0 where
   pub by : (text : Text) (x : X) (taken rest : Text) → f text ≡ Read x taken rest → P x
 
 module _ {X Y : Type 0} (P : Y → Type 0) where
-  -- of one thing and another behind it, the other
+  -- of one parser and another after it, the value of the other
   gives_so : (f : Reader X) (k : X → Reader Y) → ((x : X) → Gives P (k x)) → Gives P (f ▶ k)
   gives_so f k g = record { by = λ text y taken rest e. let q = followed_read (f text) k y taken rest e in (g q.value).by q.middle y q.more rest q.second }
 
   gives_next : (f : Reader X) (g : Reader Y) → Gives P g → Gives P (f ▷ g)
   gives_next f g h = record { by = λ text y taken rest e. let q = followed_read (f text) (λ _ t. g t) y taken rest e in h.by q.middle y q.more rest q.second }
 
-  -- what is made of a thing
+  -- a parsed value seen by a function
   gives_seen : (see : X → Y) (f : Reader X) → ((x : X) → P (see x)) → Gives P (f ⇒ see)
   gives_seen see f h = record { by = λ text y taken rest e. let q = mapped_read see (f text) y taken rest e in subst P q.2 (h q.0) }
 
@@ -31,7 +31,7 @@ module _ {T A : Type 0} (types_at : Reader T) (attr : Reader (AttrView A)) (labe
   abbrev head_with : List (Name ℕ × T) → Option (List (Name ℕ × Attribute A)) → Option (Mark ℕ) → Head ℕ T A
   head_with arguments attributes mark = record { label = label; arguments = arguments; attributes = attributes; mark = mark }
 
-  -- what stands behind the label, from its end
+  -- what follows the label, from its end
   abbrev behind_mark : List (Name ℕ × T) → Option (List (Name ℕ × Attribute A)) → Option (Mark ℕ) → Reader (Head ℕ T A)
   behind_mark arguments attributes mark = space_at ▷ word (codes ":") ⇒ λ _. head_with arguments attributes mark
 

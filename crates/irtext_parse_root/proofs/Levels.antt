@@ -1,4 +1,5 @@
--- What is open in code and in theory: it lasts, it is pushed and popped, and as much is left to do of the one as of the other.
+-- The open frames in code and in theory: their objects stay live, they are pushed and popped, and as much is left to do of the one as of
+-- the other.
 use Rattle.std.proofs.Common.{◌≡◌, ◌∙◌, ◌+◌, ◌*◌, ◌≤◌, ℕ, suc, List, [], ◌∷◌, ◌++◌, map, drop, length, length-append, Option, Some, None, IsSome, refl, sym, ap, subst, arith, slice_get}
 use Rattle.std.proofs.lemmas.List.{map_push}
 use Rattle.std.specs.Prelude.{IfSome}
@@ -28,7 +29,7 @@ use Rattle.irtext_parse_root.specs.Here.{IsLevel, AreLevels}
 use Rattle.irtext_parse_root.specs.Turned.{TakesLast}
 use Rattle.irtext_parse_root.specs.Levels.{Level, at_operation, at_region, at_block, outward, frame_of, open_of, first_frame, WaitIn, next_of, waiting, task_of, next_task, left_to_do, IsNewFrame, AreNewFrames, AreAllNew}
 
--- ---- what is open lasts
+-- ---- the objects of open frames are still live
 each_on : (names more : List Text) (text : Text) (ns : List ReadName) (xs : List (Name ℕ)) → KeepsNames names more → Each (StandsFor names text) ns xs → Each (StandsFor more text) ns xs
 each_on names more text [] [] k h = tt
 each_on names more text [] (x ∷ xs) k h = absurd h
@@ -84,7 +85,7 @@ module _ {T A : Type 0} where
   theory_pops [] = refl
   theory_pops (l ∷ ls) = refl
 
-  -- and so it is in the code
+  -- and the same holds in the code
   pub popped : (ls : List (Level T A)) (old new : List Frame) (f : Frame) → old ≡ outward (map frame_of ls) → old ≡ new ++ f ∷ [] → (Some f ≡ first_frame ls) × WaitIn new ls
   popped [] old new f e g = absurd (ends_not new f (sym e ∙ g))
   popped (l ∷ ls) old new f e g = let h = same_ends new (outward (map frame_of ls)) f (frame_of l) (sym g ∙ e) in (ap (λ z. Some z) h.1, h.0)

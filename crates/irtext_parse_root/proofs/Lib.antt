@@ -1,5 +1,5 @@
--- Lemmas on the outermost readers: what fresh names are, what the nested reader leaves where they were fresh, whatever marks are noted, which
--- faults it answers, the items that carry marks, and the promise of a root with its section.
+-- Lemmas on the outermost parsers: what fresh names are, what the nested parser leaves if they were fresh, whatever marks are recorded,
+-- which faults it returns, the items that carry marks, and the promise of a root with its section.
 pub mod BlockHeads
 pub mod Builds
 pub mod Carrying

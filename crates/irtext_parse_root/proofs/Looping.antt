@@ -1,4 +1,4 @@
--- The loop: turns are put one behind the other, till nothing is open; or a fault stands behind them.
+-- The loop: turns are put one after another, until no frame is open; or a fault follows them.
 use Rattle.std.proofs.Common.{◌≡◌, ◌<◌, ℕ, List, [], ◌∷◌, length, Option, Some, None, refl, sym, subst, arith, le_refl}
 use Rattle.irtext_base.specs.Locations.{AttrView}
 use Rattle.irtext_base.specs.declared.parsable.fault.ParseFault.{ParseFault}
@@ -37,7 +37,7 @@ module _ {T A U : Type 0} (types_at : Reader T) (attr : Reader (AttrView A)) (n0
     same = moved_whole s0.stream s1.stream carries.moves
 
     module _ (base : Base) (v k : ℕ) (ls : List (Level T A)) (next : Option Frame) (waits : List Frame) (a : Arrives types_at attr base v k ls n0 s0 n1 s1 next waits) where
-      -- the frames are what is open now
+      -- the frames are those that are open now
       here_now : IsHere base v k a.later n1 (whole s1.stream) s1.state.ctx.now next waits
       here_now = subst (λ t. IsHere base v k a.later n1 t s1.state.ctx.now next waits) (sym same) a.here
 
@@ -78,7 +78,7 @@ module _ {T A U : Type 0} (types_at : Reader T) (attr : Reader (AttrView A)) (n0
         let labels = there.labels in
         (omega (arith, values), omega (arith, labels), subst (λ z. Turned types_at attr s0.state.ctx.now.dialects s0.state.src (whole s0.stream) base ls n0 s0 z n1 s1) e a.turned)
 
--- where nothing was done, what is older stands
+-- where no action was performed, older objects are unchanged
 pub keeps_itself : {T A : Type 0} (m : ℕ) (c : ContextView T A) → KeepsOlder m c c
 keeps_itself m c = record {
   graph = record { operations = λ p. refl; blocks = λ p. refl; regions = λ p. refl; made = le_refl c.graph.made; values = le_refl c.graph.values; first_place = refl };
@@ -92,7 +92,7 @@ none_wait m g frames e = subst (AreNewFrames m g) (sym e) tt
 
 -- the frame that is taken is the next
 module _ {T A U : Type 0} (types_at : Reader T) (attr : Reader (AttrView A)) (n0 : Names) (s0 : StateStream T A U) (n1 : Names) (s1 : StateStream T A U) (next : Option Frame) (waits : List Frame) where
-  -- wherever the first was open, these frames are what is open now
+  -- wherever the first was open, these frames are those that are open now
   abbrev pub ComeTo : Frame → Option Frame → Type 0
   ComeTo first other = (base : Base) (v k : ℕ) (ls : List (Level T A)) → IsHere base v k ls n0 (whole s0.stream) s0.state.ctx.now (Some first) [] → Arrives types_at attr base v k ls n0 s0 n1 s1 other waits
 

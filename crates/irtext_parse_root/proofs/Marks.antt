@@ -1,4 +1,5 @@
--- Each item of a tree that was read carries its own mark, and no other: the marks that are noted are those of the tree, one item a place.
+-- Each item of a tree that was parsed carries its own mark, and no other: the marks that are recorded are those of the tree, one item a
+-- place.
 use Rattle.std.proofs.Common.{◌≡◌, ◌∙◌, ◌<◌, ◌==◌, ◌||◌, ◌&&◌, ℕ, suc, Bool, true, false, not, cond, List, [], ◌∷◌, ◌++◌, map, Option, Some, None, refl, sym, ap, subst, arith, inl, inr}
 use Rattle.std.specs.Map.{lookup}
 use Rattle.std.proofs.lemmas.Bool.Decides.{nat_tests}
@@ -29,7 +30,7 @@ CarriesOnly marks x (Some m) = (lookup (same_index m.index) marks ≡ Some x) ×
 -- ---- each item with its mark
 module _ {T A : Type 0} where
   abbrev mutual
-    -- the items in regions, each with its place and its mark, in the order of reading
+    -- the items in regions, each with its place and its mark, in the order of the text
     pub marked_regions : Regions (Op ℕ T A) (Head ℕ T A) (Brace ℕ) → List (ℕ × Option (Mark ℕ))
     marked_regions no_regions = []
     marked_regions (region brace bs rs) = marked_blocks bs ++ marked_regions rs
@@ -86,7 +87,7 @@ below_all high n x [] f i = absurd i
 below_all high n x (e ∷ es) f (inl s) = let k = f.0 in let l = ap (λ z. z.0) s in omega (arith, k, l)
 below_all high n x (e ∷ es) f (inr i) = let k = below_all e.0 n x es f.1 i in let l = f.0 in omega (arith, k, l)
 
--- one thing stands at a number
+-- at most one element has a number
 one_there : {X : Type 0} (high n : ℕ) (x y : X) (es : List (ℕ × X)) → Fall high (map (λ e. e.0) es) → Among (n, x) es → Among (n, y) es → x ≡ y
 one_there high n x y [] f i j = absurd i
 one_there high n x y (e ∷ es) f (inl s) (inl t) = ap (λ z. z.1) s ∙ sym (ap (λ z. z.1) t)
@@ -220,7 +221,7 @@ not_true : (a : Bool) → not a ≡ true → a ≡ true → ⊥
 not_true true e f = cc
 not_true false e f = cc
 
--- where no index stands twice, each is looked up
+-- if no index occurs twice, each is looked up
 pub found_there : {X : Type 0} (i : ℕ) (x : X) (ns : List (ℕ × X)) → distinct ◌==◌ (map (λ n. n.0) ns) ≡ true → Among (i, x) ns → lookup (same_index i) ns ≡ Some x
 found_there i x [] d a = absurd a
 found_there i x (n ∷ ns) d (inl e) =
@@ -242,7 +243,7 @@ carried_back items (m ∷ ms) (n ∷ ns) i x (e, made, h) (inl s) =
     (m.1, inl (ap (λ z. (z, m.1)) (ap (λ z. z.0) s ∙ e)), subst (λ z. Among (m.1, object_of z) items) (sym (ap (λ z. z.1) s)) made)
 carried_back items (m ∷ ms) (n ∷ ns) i x (e, made, h) (inr a) = let r = carried_back items ms ns i x h a in (r.0, inr r.1, r.2)
 
--- the indices that are noted are those of the marks
+-- the indices that are recorded are those of the marks
 pub indices_carried : (items : Made) (ms : List (ℕ × ℕ)) (ns : List (ℕ × Item)) → AreCarried items ms ns → map (λ n. n.0) ns ≡ map (λ m. m.0) ms
 indices_carried items [] [] h = refl
 indices_carried items [] (n ∷ ns) h = absurd h

@@ -1,4 +1,4 @@
--- How much of a text is left behind what stands in front of an operation's regions, a block's header and a brace.
+-- How much of a text is left after what precedes an operation's regions, a block's header and a brace.
 use Rattle.std.proofs.Common.{◌≡◌, ◌∙◌, ◌<◌, ◌≤◌, ◌+◌, ℕ, suc, Bool, true, false, cond, List, [], ◌∷◌, ◌++◌, length, length-append, codes, refl, ap, sym, arith, le_refl}
 use Rattle.irtext_base.specs.Text.{Text, begins, after_space}
 use Rattle.irtext_base.specs.Format.{Id}
@@ -26,7 +26,7 @@ use Rattle.irtext_parse_spec.proofs.Knot.Leaving.{brace_leaves, piece_within, he
 pub moves_fewer : (old new : StreamView) → Moves old new → length new.rest ≤ length old.rest
 moves_fewer old new m = let e = ap length m.takes.same in let n = length-append m.taken new.rest in omega (arith, e, n)
 
--- where something stands, less is left of it
+-- if the text is not empty, less of it is left
 less_left : {X : Type 0} (o : Outcome X) (text : Text) → ((b : ℕ) → length text ≤ suc b → Leaves b o) → begins (λ z. true) text ≡ true → (x : X) (taken rest : Text) → o ≡ Read x taken rest → length rest < length text
 less_left o [] h b x taken rest e = absurd (cc b)
 less_left o (d ∷ text) h b x taken rest e = let k = (h (length text) (le_refl (suc (length text)))).by x taken rest e in omega (arith, k)
@@ -42,7 +42,7 @@ module _ {T A : Type 0} {types_at : Reader T} {attr : Reader (AttrView A)} (no_m
   front_within b inside (step ∷ ss) found =
       ◌so◌ (◌then◌ (within_honest honest_space) (piece_within no_more none_more inside step)) (λ p. front_within b inside ss (found ++ tree.piece p ∷ []))
 
-  -- pieces in front of regions
+  -- pieces before regions
   pub front_fewer : (inside : Bool) (ss : List Step) (text : Text) (parts : List (Part ℕ T A)) (taken rest : Text) → front_at types_at attr inside ss [] text ≡ Read parts taken rest → length rest ≤ length text
   front_fewer inside ss text parts taken rest e = ((front_within (length text) inside ss []).leaves text (le_refl (length text))).by parts taken rest e
 
@@ -54,13 +54,13 @@ module _ {T A : Type 0} {types_at : Reader T} {attr : Reader (AttrView A)} (no_m
 pub led_fewer : (dialects : List (Text × Table)) (text : Text) (lead : List (Name ℕ) × Id) (taken rest : Text) → begins (λ z. true) text ≡ true → led_at dialects text ≡ Read lead taken rest → length rest < length text
 led_fewer dialects text lead taken rest b e = less_left (led_at dialects text) text (λ n l. led_leaves n dialects text l) b lead taken rest e
 
--- whether something was read
+-- whether something was parsed
 abbrev is_read : {X : Type 0} → Outcome X → Bool
 is_read (Read x taken rest) = true
 is_read (Missing cause) = false
 is_read (Bad cause upto) = false
 
--- none stands where nothing does
+-- an empty text has no lead
 pub led_some : (dialects : List (Text × Table)) (text : Text) (lead : List (Name ℕ) × Id) (taken rest : Text) → led_at dialects text ≡ Read lead taken rest → begins (λ z. true) text ≡ true
 unfolding tokens.word_at tokens.id_at
 led_some dialects [] lead taken rest e =
@@ -75,7 +75,7 @@ pub brace_fewer : (text : Text) (x : Unit {0}) (taken rest : Text) → (word (co
 brace_fewer [] x taken rest e = absurd (cc e)
 brace_fewer (c ∷ text) x taken rest e = less_left ((word (codes "{") ▷ space_at) (c ∷ text)) (c ∷ text) (λ n l. brace_leaves n (c ∷ text) l) refl x taken rest e
 
--- what stands behind `;`
+-- what follows `;`
 pub semicolon_fewer : (text rest : Text) → one_stands false text ≡ true → rest ≡ text_there false text → length rest < length text
 semicolon_fewer text rest one_is at =
     let s = begins_the 59 (after_space text) one_is in

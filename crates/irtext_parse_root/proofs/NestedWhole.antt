@@ -1,5 +1,5 @@
--- What the nested reader leaves where no name was known, and which faults it answers: the machine of names begins with the marks that are
--- noted.
+-- What the nested parser leaves if no name was known, and which faults it returns: the machine of names begins with the marks that are
+-- recorded.
 use Rattle.std.proofs.Common.{◌≡◌, ◌∙◌, ℕ, true, List, [], ◌++◌, ap, subst, append-nil, inl, inr}
 use Rattle.irtext_base.specs.Text.{Text}
 use Rattle.irtext_base.specs.Faults.{Fault, fault_of}
@@ -47,9 +47,9 @@ module _ {T A U : Type 0} (types_at : Reader T) (attr : Reader (AttrView A)) (be
   abbrev earlier : List ℕ
   earlier = indices_of (marks_of old.state)
 
-  -- ---- it was read
+  -- ---- it was parsed
   module _ (op : Ptr Operation) (names : Names) (new : StateStream T A U) (r : ReadsNested types_at attr before old op names new) where
-    -- where the machine stands behind it
+    -- the state of the machine after it
     pub at_end : (path : ℕ → Path) → (z : Outcome) × StandsAs path (r.made ++ []) [] names new.state z
         × (operation_at dialects types_at attr (doing dialects path) true old.stream.rest (going (start_with earlier)) ≡ Advanced tt z new.stream.rest)
     at_end path = r.runs path [] (going (start_with earlier)) (begun_stands before old.state no_names no_values no_labels path)
@@ -72,7 +72,7 @@ module _ {T A U : Type 0} (types_at : Reader T) (attr : Reader (AttrView A)) (be
       };
     }
 
-  -- ---- it was refused
+  -- ---- it was an error
   pub has_fault : (fault : ParseFault A) → UnlessMemory (RefusesNested types_at attr before old) fault → UnlessMemory (HasFaultFrom types_at attr dialects earlier (whole old.stream) old.stream.rest) fault
   has_fault fault (inl starved) = inl starved
   has_fault fault (inr (nested.at_text cause place f flag so)) =

@@ -108,7 +108,7 @@ module _ {T A U : Type 0} (types_at : Reader T) (reading : Reader A) (h : Splits
     pub root_is_here : AreHere T A (whole s1.stream) s1.state.ctx.now n1 (Some (framed.Operation b)) []
     root_is_here = record { base = outermost b.op; v = length before.values; l = length before.labels; ls = alone; here = root_here }
 
-    -- what was read of it so far
+    -- what was parsed of it so far
     begun_goes : {S : Type 0} (d : Actions T A S) (s : S) → Goes dialects types_at attr d (Some (to_come true)) [] s old.stream.rest (Some (an_operation begun_here)) [] (d.uses begun_here.place begun_here.id begun_here.parts s) s1.stream.rest
     begun_goes d s =
         let q = bg.begins.read in
@@ -128,7 +128,7 @@ module _ {T A U : Type 0} (types_at : Reader T) (reading : Reader A) (h : Splits
       carried = tt;
     }
 
-    -- less stands behind it
+    -- the rest after it is shorter
     begun_falls : Falls (length old.stream.rest) (item ∷ []) (length s1.stream.rest)
     begun_falls =
         let q = bg.begins.read in
@@ -136,7 +136,7 @@ module _ {T A U : Type 0} (types_at : Reader T) (reading : Reader A) (h : Splits
         let front = front_fewer (leaves_no_more types_at h) (leaves_no_more attr (splits_attr reading k)) true (front_steps (steps_in dialects q.id)) q.middle q.parts q.taken s1.stream.rest q.front in
         (omega (arith, lead, front), le_refl (length old.stream.rest))
 
-    -- ---- all of it was read
+    -- ---- all of it was parsed
     module _ (n2 : Names) (s2 : StateStream T A U) (f : Finishes types_at attr (framed.Operation b) n1 s1 n2 s2) where
       abbrev turned_raw : Turned types_at attr s1.state.ctx.now.dialects s1.state.src (whole s1.stream) (outermost b.op) alone n1 s1 [] n2 s2
       turned_raw = (f.arrives (outermost b.op) (length before.values) (length before.labels) alone root_here).2

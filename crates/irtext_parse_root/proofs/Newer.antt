@@ -1,4 +1,4 @@
--- The items that carry marks were made by the reading: they are newer than all that stood before it.
+-- The items that carry marks were created by the parse: they are newer than all objects that were live before it.
 use Rattle.std.proofs.Common.{◌≡◌, ◌∙◌, ℕ, Bool, true, false, cond, List, [], ◌∷◌, Option, Some, None, IsSome, option_map, refl, sym, subst, inl, inr}
 use Rattle.std.specs.Prelude.{nat_lt, option_and_then}
 use Rattle.irtext_base.specs.declared.location.Location.{Location}

@@ -1,4 +1,4 @@
--- Where no mark is noted earlier, what is promised on any state is what is promised of a root that is read alone.
+-- Where no mark is recorded earlier, what is promised on any state is what is promised of a root that is parsed alone.
 use Rattle.std.proofs.Common.{◌≡◌, ◌∙◌, ℕ, true, List, [], ◌++◌, sym, ap, subst, inl, inr}
 use Rattle.irtext_base.specs.Text.{Text}
 use Rattle.irtext_base.specs.Answers.{Outcome}
@@ -53,7 +53,7 @@ module _ {T A : Type 0} (types_at : Text → Outcome T) (attr : Text → Outcome
   fault_alone text rest fault (inr (any.by_names f is flag so)) =
       inr (alone.by_names f is (λ path. subst (λ ms. EndsIn (failed f) (operation_at dialects types_at attr (naming (format_of dialects) path) true rest (going (start_with ms)))) none (so path)))
 
--- an operation that was read where no mark was noted
+-- an operation that was parsed where no mark was recorded
 pub marked_alone : {T A U : Type 0} (types_at : Text → Outcome T) (attr : Text → Outcome (AttrView A)) (op : Ptr Operation) (old new : StateStream T A U) → marks_of old.state ≡ [] → ReadsTree types_at attr op old new → LeavesMarked types_at attr op old new
 marked_alone types_at attr op old new none t = record {
   leaves = tree_alone types_at attr old.state.ctx.now.dialects (indices_of (marks_of old.state)) (ap indices_of none) _ op (indices_of (marks_of new.state)) old.state.ctx.now new.state.ctx.now old.stream.rest new.stream.rest t.leaves;

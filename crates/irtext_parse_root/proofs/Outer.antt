@@ -1,4 +1,4 @@
--- The outermost reader's promise, with the section where it is looked for.
+-- The outermost parser's promise, with the section where it is looked for.
 use Rattle.std.proofs.Common.{◌≡◌, ◌∙◌, ◌⊎◌, ◌↔◌, ℕ, Bool, true, false, true≢false, cond, ◌&&◌, List, [], ◌∷◌, refl, sym, inl, inr}
 use Rattle.std.specs.Prelude.{IsTrue}
 use Rattle.irtext_base.specs.Text.{Text}
@@ -38,18 +38,18 @@ pub first_is_not : (a b : Bool) → a ≡ false → (a && b) ≡ false
 first_is_not true b e = absurd (true≢false e)
 first_is_not false b e = refl
 
--- a mark is noted where the marks are not none
+-- a mark is recorded where the marks are not none
 pub noted_there : {X : Type 0} (marks : List X) (b : Bool) → (IsTrue b ↔ (marks ≡ [] → ⊥)) → b ≡ true → is_noted marks ≡ true
 noted_there [] b h e = absurd (h.0 (rw e refl) refl)
 noted_there (m ∷ ms) b h e = refl
 
--- no mark is noted, whatever else is asked
+-- no mark is recorded, whatever the other condition is
 pub none_noted : {X : Type 0} (a : Bool) (marks : List X) (b : Bool) → (IsTrue b ↔ (marks ≡ [] → ⊥)) → b ≡ false → (a && is_noted marks) ≡ false
 none_noted true [] b h e = refl
 none_noted false [] b h e = refl
 none_noted a (m ∷ ms) b h e = absurd (true≢false (sym (h.1 (λ e. absurd (cc e))) ∙ e))
 
--- what is said under a test that holds, and under one that fails
+-- what holds under a test that holds, and under one that fails
 pub held_under : {P : Type 0} (Q : Type 0) (b : Bool) → b ≡ true → P → cond b P Q
 held_under Q true e p = p
 held_under Q false e p = absurd (true≢false (sym e))
@@ -58,9 +58,9 @@ pub held_beside : {Q : Type 0} (P : Type 0) (b : Bool) → b ≡ false → Q →
 held_beside P true e q = absurd (true≢false e)
 held_beside P false e q = q
 
--- ---- what was read
+-- ---- what was parsed
 module _ {T A U : Type 0} (types : Texts T) (owns : Texts A) (attr : Text → Outcome (AttrView A)) (op : Ptr Operation) (old new : StateStream T A U) where
-  -- where no section is looked for, or no mark is noted
+  -- where no section is looked for, or no mark is recorded
   pub built_alone : (look : Bool) {N : Type 0} → (look ≡ false) ⊎ N → BuildsTree types owns attr op old new → (N → BuildsRoot types owns attr op old new) → BuildsWith types owns attr look op old new
   built_alone true (inl e) tree root = absurd (true≢false e)
   built_alone true (inr n) tree root = root n

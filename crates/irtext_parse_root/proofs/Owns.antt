@@ -1,4 +1,4 @@
--- What is known of an operation that is open, by the parts that were read of it.
+-- What is known of an open operation, from its parts that were parsed.
 use Rattle.std.proofs.Common.{◌≡◌, ◌∙◌, ◌+◌, ℕ, suc, zero, true, List, [], ◌∷◌, ◌++◌, map, drop, length, slice_get, Option, Some, None, refl, sym, ap, subst, append-nil, append_assoc, arith}
 use Rattle.std.proofs.lemmas.List.Elements.{All-cons}
 use Rattle.irtext_base.specs.Text.{Text}
@@ -35,7 +35,7 @@ own_same x y a b c d e f =
     ∙ ap (λ z. record { place = y.place; id = y.id; operands = y.operands; successors = y.successors; types = y.types; entries = z }) f))))
 
 module _ {T A : Type 0} (formats : Id → Option Format) (o : OpenOperation T A) (own : OwnSoFar T A) where
-  -- all of it was read: its own, with the names of its results
+  -- all of it was parsed: its own, with the names of its results
   pub own_whole : o.steps ≡ [] → HasBegun formats o own
       → own_of (unmarked o.place o.names o.id (body_of (formats o.id) o.parts)) ≡ record own { entries = put_all own.entries (read_names (map (λ n. n.text) o.names)) }
   own_whole e h =
@@ -52,7 +52,7 @@ module _ {T A : Type 0} (formats : Id → Option Format) (o : OpenOperation T A)
       ap (λ ps. length (successor_labels (unmarked o.place o.names o.id (body_of (formats o.id) ps)))) (sym (append-nil o.parts)) ∙ h.successors [] none in
       own_same (own_of (unmarked o.place o.names o.id (body_of (formats o.id) o.parts))) (record own { entries = put_all own.entries (read_names (map (λ n. n.text) o.names)) }) (sym h.place) (sym h.id) operands successors types entries
 
-  -- a region was read, which stores nothing
+  -- a region was parsed, which stores nothing
   pub own_region : (step : Step) (ss : List Step) (part : Part ℕ T A) → o.steps ≡ step ∷ ss → IsPartOf step part → views stored (part ∷ []) ≡ [] → HasBegun formats o own
       → HasBegun formats (with_steps o ss (o.parts ++ part ∷ [])) own
   own_region step ss part e is none h = record {
@@ -93,7 +93,7 @@ step_none (y ∷ xs) zero e = absurd (cc e)
 step_none (y ∷ xs) (suc n) e = step_none xs n e
 
 module _ {T A : Type 0} (names : List Text) (text : Text) (ctx : ContextView T A) (b next : BegunOperation) (o : OpenOperation T A) where
-  -- a region was read: the operation goes on behind it
+  -- a region was parsed: the operation goes on after it
   pub begun_region : (step : Step) (ss : List Step) (part : Part ℕ T A) → o.steps ≡ step ∷ ss → next ≡ record b { coming = None; step = b.step + 1 } → HasNoType part → IsBegun names text ctx b o
       → IsBegun names text ctx next (with_steps o ss (o.parts ++ part ∷ []))
   begun_region step ss part e is none h = subst (λ z. IsBegun names text ctx z (with_steps o ss (o.parts ++ part ∷ []))) (sym is) (record {

@@ -1,4 +1,4 @@
--- A turn was made: what is open is in code what it is in theory, and less is left to do.
+-- A turn was made: the open frames in code are those in theory, and less is left to do.
 use Rattle.std.proofs.Common.{◌≡◌, ◌∙◌, ◌+◌, ◌<◌, ◌≤◌, ℕ, suc, Bool, true, false, List, [], ◌∷◌, ◌++◌, map, drop, length, slice_get, Option, Some, None, refl, sym, ap, subst, arith}
 use Rattle.irtext_base.specs.Text.{Text, begins, after_space}
 use Rattle.irtext_base.specs.Reading.{the}
@@ -55,7 +55,7 @@ use Rattle.irtext_base.specs.Faults.{id_of}
 use Rattle.irtext_parse_root.proofs.Chains.{moved_whole, carries_passed, carries_pass}
 use Rattle.irtext_parse_root.proofs.Levels.{begun_lasts, level_lasts, levels_last, taken_last, left_is, new_ends, new_taken, frame_new, frames_new, theory_pops}
 
--- ---- which level is innermost
+-- ---- which level is the innermost
 module _ {T A : Type 0} where
   pub operation_first : (b : BegunOperation) (ls : List (Level T A)) → Some (framed.Operation b) ≡ first_frame ls → (o : OpenOperation T A) × (own : OwnSoFar T A) × (more : List (Level T A)) × (ls ≡ at_operation b o own ∷ more)
   operation_first b [] e = absurd (cc e)
@@ -70,7 +70,7 @@ module _ {T A : Type 0} where
   region_first r (at_region s iso place last ∷ more) e = let f : s ≡ r = cc e in (iso, place, last, more, ap (λ z. at_region z iso place last ∷ more) f)
   region_first r (at_block kb ∷ more) e = absurd (cc e)
 
-  -- a block stands in its region
+  -- a block's parent is the region of the frame that waits outside of it
   pub block_first : (base : Base) (dialects : List (Text × Table)) (v : ℕ) (kb : BegunBlock) (ls : List (Level T A)) → Some (framed.Block kb) ≡ first_frame ls → Nest base dialects v ls
       → (r : BegunRegion) × (iso : Bool) × (place : ℕ) × (last : Option (Ptr BasicBlock)) × (more : List (Level T A)) × (ls ≡ at_block kb ∷ at_region r iso place last ∷ more)
   block_first base dialects v kb [] e n = absurd (cc e)
@@ -120,7 +120,7 @@ module _ {T A : Type 0} (old new : ContextView T A) (same : new.dialects ≡ old
       let b = subst (λ d. left_to_do T A d f1 w1 r1 ≡ work (by_character d) (next_of later) (waiting later) r1) same (left_is n1.names t1 new later f1 w1 r1 k.next_is k.others k.levels) in
       omega (arith, a, b, less)
 
-  -- what waits stands as it did
+  -- the frames that wait are unchanged
   nest_lasts : (base : Base) (v : ℕ) (ls : List (Level T A)) → Nest base old.dialects v ls → Nest base new.dialects v ls
   nest_lasts base v ls h = subst (λ d. Nest base d v ls) (sym same) h
 
@@ -207,7 +207,7 @@ module _ {T A U : Type 0} (types_at : Reader T) (reading : Reader A) (h : Splits
           lessens names new c.carries somewhere.base somewhere.v somewhere.l somewhere.ls (framed.Operation b) frames (Some (framed.Operation next)) frames somewhere.here a.0 a.1;
     }
 
-  -- what nests is passed in front of what stands there
+  -- the white space before what follows is consumed
   module _ (v : StreamView) (passes : PassesTo (after_space old.stream.rest) old.stream v) where
     same_text : whole v ≡ text
     same_text = moved_whole old.stream v passes.moves
@@ -622,7 +622,7 @@ module _ {T A U : Type 0} (types_at : Reader T) (reading : Reader A) (h : Splits
       here_text : whole v ≡ text
       here_text = moved_whole old.stream v passes.moves
 
-      -- what stands in front of its regions takes some of the text
+      -- what precedes an operation's regions takes some of the text
       front_less : length new.stream.rest < length v.rest
       front_less =
           let lead = led_fewer ctx.dialects v.rest (bg.begins.read.names, bg.begins.read.id) bg.begins.read.lead bg.begins.read.middle

@@ -1,4 +1,4 @@
--- What a refusal of the nested reader says of its cause, and what it leaves of the stream once a committed fault has failed it.
+-- What an error of the nested parser says of its cause, and what it leaves of the stream once a committed fault has failed it.
 use Rattle.std.proofs.Common.{◌≡◌, ◌∙◌, ℕ, true, false, cond, [], refl, sym, ap, subst, inl, inr}
 use Rattle.irtext_base.specs.Text.{Text}
 use Rattle.irtext_base.specs.Faults.{Fault, Failed, fault_of}
@@ -39,7 +39,7 @@ no_failure (script.UnknownIndex i) cause h e = cc (h, e)
 no_failure (script.UnknownPrintOnce i) cause h e = cc (h, e)
 no_failure (script.ReservedKey k) cause h e = cc (h, e)
 
--- The cause does not say that the stream had failed, and where nothing was read it is one of a text.
+-- The cause does not say that the stream had failed, and where nothing was parsed it is one of a text.
 pub record SaysText {A : Type 0} (fault : ParseFault A) : Type 0 where
   pub not_failed : fault_of fault.cause ≡ Failed → ⊥
   pub first : fault.committed ≡ false → is_first_fault (fault_of fault.cause) ≡ true
@@ -54,7 +54,7 @@ refusal_by old mid fault says unread = record {
 }
 
 module _ {T A U : Type 0} (names : Names) (s : code.State T A U) (no_names : names.names ≡ []) (no_values : names.values ≡ []) (no_labels : names.labels ≡ []) where
-  -- the machine stands behind no name, where these marks are noted
+  -- the state of the machine before any name, with these marks recorded
   abbrev begun : State
   begun = start_with (indices_of (marks_of s))
 

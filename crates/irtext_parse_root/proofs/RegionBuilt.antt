@@ -1,4 +1,5 @@
--- A region that was read alone keeps its promise: what stands in it is what its blocks build, and only it and what stands in it is new.
+-- A region that was parsed alone satisfies its promise: its contents are what its blocks build, and only the region and what is nested in
+-- it are new.
 use Rattle.std.proofs.Common.{◌≡◌, ◌⊎◌, ℕ, Bool, true, List, [], ◌∷◌, Option, Some, None, IsSome, option_map, refl, sym, subst, inl, inr}
 use Rattle.std.specs.Prelude.{IfSome, ⊤}
 use Rattle.irtext_base.specs.Text.{Text}
@@ -53,7 +54,7 @@ accepts : (o : Option Format) (f : Format) → IfSome o Accepted → o ≡ Some 
 accepts None f h e = absurd (cc)
 accepts (Some g) f h e = let same : g ≡ f = cc in subst Accepted same h
 
--- each operation that a text reads as has a body of an accepted format
+-- each operation that a text parses as has a body of an accepted format
 module _ {T A : Type 0} (dialects : List (Text × Table)) (accepted : (id : Id) → IsAccepted dialects id) where
   mutual
     regions_formed : (rs : Regions (Op ℕ T A) (Head ℕ T A) (Brace ℕ)) → WholeRegions (format_of dialects) rs → FormedRegions rs
@@ -90,7 +91,7 @@ module _ {T A : Type 0} (L : ℕ → Location A → Type 0) (start mid now : Con
   inside_now : (o : Object) → Among o whole → (o ≡ TheRegion r) ⊎ ((k : Object) × Among k whole × HasChild now k o)
   inside_now o i = elim (tracks.inside o i) [ inl e ↦ inl e | inr (k, at, child) ↦ inr (k, at, moved.child_moved (noted items L) mid now op r a whole not_whole k o at child) ]
 
-  -- what stands in the region is what the blocks build
+  -- the contents of the region are what the blocks build
   pub builds_now : held_region now r ≡ built_regions isolated first [] [] [] 0 true rs
   builds_now = builds.region_builds L now items whole r place bs hold_now tracks.known tracks.once inside_now nest path said first isolated id id_closed formed names_at mid.graph known are st stands
       (moved.used_same (noted items L) mid now op r a whole not_whole) ran tells
@@ -98,7 +99,7 @@ module _ {T A : Type 0} (L : ℕ → Location A → Type 0) (start mid now : Con
   linked_now : AllRegions OpLinked (λ b. ⊤) (λ q. ⊤) (held_region now r)
   linked_now = subst (λ z. AllRegions OpLinked (λ b. ⊤) (λ q. ⊤) z) (sym builds_now) (builds.region_linked first isolated id id_closed place bs formed st ran)
 
-  -- and only it and what stands in it is new
+  -- and only the region and what is nested in it are new
   pub only_now : GainsRegion op r start now → OnlyNewIn op r start now
   only_now gains = record {
     live = news.region_live L start mid now items whole op r a there tracks.came tracks.all tracks.known hold.0 inside_now nest m older kept none blanks holders;

@@ -1,5 +1,5 @@
--- Where a region comes to stand last in an operation that stood, each object that stood stands as it stood, but the operation, which has
--- one region more.
+-- If a region is appended to an operation that was live, each object that was live is unchanged, except the operation, which has one more
+-- region.
 use Rattle.std.proofs.Common.{◌≡◌, ◌∙◌, ℕ, [], ◌∷◌, ◌++◌, map, Option, Some, None, IsSome, refl, sym, ap, subst}
 use Rattle.std.specs.Prelude.{option_and_then}
 use Rattle.std.specs.Option.{option_map}
@@ -56,7 +56,7 @@ module _ {O B T : Type 0} (g h : GraphView O B T) (op : Ptr Operation) (r : Ptr 
       (option_same TheBlock block_same (parent_of (get h.operations op)) (parent_of (get g.operations op)) (a.parents (TheOperation op) (λ e. cc)))
       a.here (operation_content_same g h op (a.objects.contents (TheOperation op)))
 
--- an operation that is seen stands
+-- an operation that has a view is live
 pub there_in : {T A : Type 0} (c : ContextView T A) (p : Ptr Operation) → IsSome (operation c p) → IsSome (get c.graph.operations p)
 there_in {T} {A} c p h = go (get c.graph.operations p) h
   where

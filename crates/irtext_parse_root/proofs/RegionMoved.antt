@@ -1,5 +1,5 @@
--- What a context holds of a region that stands in no operation yet it holds of it once it came last into one: only that operation and the
--- region itself changed, and of the region where it stands.
+-- What a context contains of a region without a parent it contains of it after the region was appended to an operation: only that operation
+-- and the region changed, and of the region only its parent.
 use Rattle.std.proofs.Common.{◌≡◌, ◌∙◌, ℕ, List, [], ◌∷◌, length, Option, Some, None, option_map, slice_get, refl, sym, ap, subst}
 use Rattle.std.specs.Prelude.{option_and_then}
 use Rattle.irtext_base.specs.declared.location.Location.{Location}
@@ -101,7 +101,7 @@ module _ {T A : Type 0} (I : Object → ℕ → Location A → Type 0) (mid c : 
     operations_moved (p ∷ ps) (forest.operation o rs more) (i, (view, is, has, uses, hold), k) =
         (i, (view, same_operation p i ∙ is, has, uses_moved p o i uses, regions_moved view.regions rs hold), operations_moved ps more k)
 
-  -- and what stands in what is whole stands there
+  -- and what was a child of a complete object still is
   pub child_moved : (k o : Object) → Among k whole → HasChild mid k o → HasChild c k o
   child_moved (TheOperation p) (TheRegion q) i h = subst (λ z. Among q (regions_in z)) (sym (same_operation p i)) h
   child_moved (TheOperation p) (TheOperation q) i h = absurd h

@@ -1,5 +1,5 @@
--- The places of a region's items fall along the text that reads as its blocks, so each item has a place of its own, and a function from
--- places to paths says where each stands.
+-- The places of a region's items decrease along the text that is parsed as its blocks, so each item has a place of its own, and a function
+-- from places to paths gives each item's path.
 use Rattle.std.proofs.Common.{◌≡◌, ℕ, suc, length, Option}
 use Rattle.irtext_base.specs.Text.{Text}
 use Rattle.irtext_base.specs.Format.{Format, Id}
@@ -17,7 +17,8 @@ module _ {T A : Type 0} (types : Texts T) (owns : Texts A) (formats : Id → Opt
   abbrev L : Language ℕ T A
   L = language types owns formats
 
-  -- the places of the items of blocks that a text reads as in braces fall along the text, so there is a function that says the path of each
+  -- the places of the items of blocks that a text parses as in braces fall along the text, so there is a function that says the path of
+  -- each
   pub paths_exist : (p : Path) (brace : Brace ℕ) (bs : Blocks (Op ℕ T A) (Head ℕ T A) (Brace ℕ)) (text rest : Text) → reads.region_read L brace (reads.block_readings L bs) text rest
       → (path : ℕ → Path) × Each (λ item. path item.0 ≡ item.1) (paths_in_blocks p 0 bs)
   paths_exist p brace bs text rest h =

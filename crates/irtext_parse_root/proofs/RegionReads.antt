@@ -1,4 +1,4 @@
--- A region that was read alone: its text reads as blocks in braces, they resolve, and its marks are noted.
+-- A region that was parsed alone: its text parses as blocks in braces, they resolve, and its marks are recorded.
 use Rattle.std.proofs.Common.{◌≡◌, ◌∙◌, ℕ, Bool, true, false, List, [], ◌∷◌, ◌++◌, map, length, Option, Some, None, IsSome, append-nil, refl, sym, ap, subst}
 use Rattle.irtext_base.specs.Text.{Text, after_space}
 use Rattle.irtext_base.specs.Reading.{the}
@@ -74,12 +74,12 @@ use Rattle.irtext_parse_root.proofs.RegionRuns.{region_runs}
 came_same : {X S : Type 0} (x y : X) (s t : S) (a b : Text) → Advanced x s a ≡ Advanced y t b → s ≡ t
 came_same x y s t a b e = cc
 
--- ---- what is known of blocks that a text reads as
+-- ---- what is known of blocks that a text parses as
 module _ {T A : Type 0} (types : Texts T) (owns : Texts A) (formats : Id → Option Format) where
   abbrev L : Language ℕ T A
   L = language types owns formats
 
-  -- blocks that a text reads as in braces are whole
+  -- blocks that a text parses as in braces are whole
   blocks_whole : (place : ℕ) (bs : Blocks (Op ℕ T A) (Head ℕ T A) (Brace ℕ)) (text rest : Text) → grammar.region_read L (shown place) (grammar.block_readings L bs) text rest → WholeBlocks formats bs
   blocks_whole place bs text rest (at, (m, a, (w, b, c))) = blocks_read types owns formats bs (repeated_used (the 94) (grammar.block_readings L bs) (after_space m) w b)
 
@@ -112,7 +112,7 @@ carried_indices items [] (n ∷ ns) h = absurd h
 carried_indices items (m ∷ ms) [] h = absurd h
 carried_indices items (m ∷ ms) (n ∷ ns) (e, there, h) = λ i. e i ∷ carried_indices items ms ns h i
 
--- ---- what was told
+-- ---- what was recorded
 left_last : {T A : Type 0} (iso is : Bool) (place at : ℕ) (ds es : List (Did T A)) → ◌≡◌ {A = List (Did T A)} (did_leave iso place ∷ ds) (did_leave is at ∷ es) → ds ≡ es
 left_last iso is place at ds es e = cc
 
@@ -120,7 +120,7 @@ so_far_same : {T A : Type 0} (bs cs : Blocks (Op ℕ T A) (Head ℕ T A) (Brace 
 so_far_same bs cs l m e = let f : bs ≡ cs = cc in let g : l ≡ m = cc in λ i. whole_blocks (f i) (g i)
 
 module _ {T A : Type 0} (formats : Id → Option Format) (isolated : Id → Bool) where
-  -- where what was told is what blocks do in their braces, what is built of it is these blocks
+  -- if the recorded actions are those of blocks in their braces, what is built of them is these blocks
   told_builds : (iso is : Bool) (place at : ℕ) (before : List (Did T A)) (bs : Blocks (Op ℕ T A) (Head ℕ T A) (Brace ℕ)) → WholeBlocks formats bs
       → ◌≡◌ {A = List (Did T A)} ((did_leave is at ∷ before) ++ did_enter iso ∷ []) (did_leave iso place ∷ do_blocks isolated told bs (did_enter iso ∷ []))
       → all_done (building formats) before (in_region {T = T} {A = A} no_blocks None [] None) ≡ in_region (blocks_after no_blocks None bs) (last_after None bs) [] None
@@ -168,18 +168,18 @@ module _ {T A U : Type 0} (types_at : Reader T) (types_written : T → Text) (re
         same = so_far_same u.holds.blocks (blocks_after no_blocks None x.0) u.holds.last (last_after None x.0) f ∙ whole_after no_blocks None x.0;
       }
 
-  -- its text reads as these
+  -- its text parses as these
   pub region_reads : grammar.region_read (knot.L types_at types_written reading written ds) (shown place) (grammar.block_readings (knot.L types_at types_written reading written ds) blocks) old.stream.rest new.stream.rest
   region_reads = subst (λ bs. grammar.region_read (knot.L types_at types_written reading written ds) (shown place) (grammar.block_readings (knot.L types_at types_written reading written ds) bs) old.stream.rest new.stream.rest) (sym text_is.same) text_is.is_read
 
-  -- paths of their items, and where the machine stands behind them
+  -- paths of their items, and the state of the machine after them
   pub named : (path : ℕ → Path) × Each (λ item. path item.0 ≡ item.1) (paths_in_blocks (0 ∷ []) 0 blocks)
   named = paths_exist types owns (format_of ds) short_types short_owns (0 ∷ []) (shown place) blocks old.stream.rest new.stream.rest region_reads
 
   abbrev at_end : (z : history.Outcome) × StandsAs named.0 (u.made ++ []) [] names u.mid.state z × (region_at ds types_at (attr_at reading) (doing ds named.0) u.iso old.stream.rest (going start) ≡ Advanced tt z new.stream.rest)
   at_end = u.runs named.0 [] (going start) (fresh_stands before old.state no_names no_values no_labels fresh.marks named.0)
 
-  -- the machine came through their script
+  -- the machine ran their script without failure
   pub ran : run (going start) (events (region_alone ds place blocks)) ≡ going at_end.1.state
   ran =
       let found = knot.region_found types_at types_written reading written ds types_split splits (naming (format_of ds) named.0) words true blocks old.stream.rest new.stream.rest (going start) region_reads in
@@ -191,7 +191,7 @@ module _ {T A U : Type 0} (types_at : Reader T) (types_written : T → Text) (re
   pub region_resolves : failures no_scope (region_alone ds place blocks) ≡ []
   region_resolves = (ran_through (region_alone ds place blocks) at_end.1.state ran).0
 
-  -- the machine stands behind all that they say
+  -- the state of the machine after all facts of the script
   pub region_says : at_end.1.state ≡ after start (facts (region_alone ds place blocks))
   region_says = (ran_through (region_alone ds place blocks) at_end.1.state ran).1
 
@@ -200,7 +200,7 @@ module _ {T A U : Type 0} (types_at : Reader T) (types_written : T → Text) (re
   abbrev round : Tree ℕ T A
   round = record { own = record { place = 0; names = []; id = record { dialect = []; name = [] }; body = custom (tree.region 0 ∷ []); mark = None }; regions = region (shown place) blocks no_regions }
 
-  -- the indices that are noted are those that the blocks say
+  -- the indices that are recorded are those that the blocks say
   pub region_marks : indices_of (marks_of new.state) ≡ (facts (region_alone ds place blocks)).marks
   region_marks =
       let whole = blocks_enough (format_of ds) blocks (blocks_whole types owns (format_of ds) place blocks old.stream.rest new.stream.rest region_reads) in

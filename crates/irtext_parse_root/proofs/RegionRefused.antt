@@ -1,5 +1,5 @@
--- What a refusal of a region that is read alone says: of its cause, that it is the first fault of the text, and that it is the first failure
--- of whatever blocks the text reads as.
+-- What an error of a region that is parsed alone says: of its cause, that it is the first fault of the text, and that it is the first
+-- failure of whatever blocks the text parses as.
 use Rattle.std.proofs.Common.{◌≡◌, ◌∙◌, ℕ, Bool, true, false, cond, List, [], ◌∷◌, length, Option, Some, None, IsSome, option_map, codes, ◌++◌, refl, sym, ap, subst, inl, inr}
 use Rattle.irtext_base.specs.Text.{Text}
 use Rattle.irtext_base.specs.Format.{Id}
@@ -84,7 +84,7 @@ no_failure (script.UnknownPrintOnce i) cause h e = cc (h, e)
 no_failure (script.ReservedKey k) cause h e = cc (h, e)
 
 -- ---- the operation
--- where no location is told of it, an operation that is there is isolated
+-- if no location is reported for it, a live operation is isolated
 is_closed : {X : Type 0} (b : Bool) (x : X) → cond b None (Some x) ≡ None → b ≡ true
 is_closed true x e = refl
 is_closed false x e = absurd (cc)
@@ -104,18 +104,18 @@ closed_id {T} {A} c op here none = go (operation c op) here none
     go None h n = absurd (cc)
     go (Some view) h n = (id_of view.id, is_closed (isolated c.dialects (id_of view.id)) view.loc n)
 
--- where a position is answered, the operation stands there, and is not isolated
+-- if a position is reported, the operation has a location, and is not isolated
 pub reported : {A : Type 0} (loc : Option (Location A)) (pos : SourcePosition) → IsReportedAt loc (Some pos) → (l : Location A) × (loc ≡ Some l) × alone.IsOutermost l pos
 reported None pos h = absurd h
 reported (Some l) pos h = (l, refl, h)
 
--- where none is, it is isolated
+-- if none is reported, it is isolated
 pub unreported : {A : Type 0} (loc : Option (Location A)) → IsReportedAt loc None → loc ≡ None
 unreported None h = refl
 unreported (Some l) h = absurd h
 
 module _ {T A : Type 0} (c : ContextView T A) (op : Ptr Operation) (id : OpId) (is : option_map (λ (view : OperationView T A). view.id) (operation c op) ≡ Some id) where
-  -- so nothing is answered of an operation that is isolated
+  -- so no position is reported for an operation that is isolated
   pub none_reported : isolated c.dialects (id_of id) ≡ true → IsReportedAt (unisolated c op) None
   none_reported closed = go (operation c op) is
     where
@@ -139,7 +139,7 @@ module _ {T A : Type 0} (c : ContextView T A) (op : Ptr Operation) (id : OpId) (
           let b : isolated c.dialects (id_of view.id) ≡ false = subst (λ z. isolated c.dialects (id_of z) ≡ false) same shared in
           subst (λ z. IsReportedAt (cond z None (Some view.loc)) (Some pos)) (sym b) (subst (λ l. alone.IsOutermost l pos) there h)
 
--- the refusal of an operation that is not isolated
+-- the error of an operation that is not isolated
 pub refused_unisolated : {A : Type 0} (old new : StreamView) (fault : ParseFault A) → fault_of fault.cause ≡ NotIsolated → fault.committed ≡ true → new.failed ≡ true → Refusal old fault new
 refused_unisolated old new fault because flag fails = record {
   committed = λ e. fails;
@@ -156,7 +156,7 @@ pub unisolated_refused : {T A : Type 0} {types : Texts T} {owns : Texts A} {dial
     → UnlessMemory (RefusesRegion types owns dialects iso old) fault
 unisolated_refused loc is fault because at = inr (alone.not_isolated loc is because at)
 
--- ---- what a refusal says of its cause
+-- ---- what an error says of its cause
 module _ {T A U : Type 0} (types_at : Reader T) (reading : Reader A) (sincere_types : Sincere types_at) (sincere : Sincere reading) (before : Names) (old : StateStream T A U)
     (no_names : before.names ≡ []) (no_values : before.values ≡ []) (no_labels : before.labels ≡ []) (op : Ptr Operation) where
   pub says_region : (fault : ParseFault A) → UnlessMemory (RefusesUnder types_at (attr_at reading) op before old) fault → SaysText fault
@@ -201,7 +201,7 @@ module _ {T A U : Type 0} (types_at : Reader T) (attr : Reader (AttrView A)) (be
   fault_missed iso is fault (under.by_names begins failure f so) = region.by_names begins failure (same_cause failure.cause (fault_of fault.cause) f.cause, f.place) f.committed
       (λ path. subst (λ b. EndsIn (failed failure) (reached b path)) is (so path [] begun (begun_there path)))
 
-  -- what is read under an operation that is isolated has no fault
+  -- what is parsed under an operation that is isolated has no fault
   pub region_read : (r : Ptr Region) (names : Names) (new : StateStream T A U) → ReadsUnder types_at attr op before old r names new → ReadsRegion types_at attr op old new
   region_read r names new u = record {
     isolated = none;
@@ -211,7 +211,7 @@ module _ {T A U : Type 0} (types_at : Reader T) (attr : Reader (AttrView A)) (be
         (z.1.state, subst (λ b. reached b path ≡ Advanced tt (going z.1.state) new.stream.rest) (closed_as old.state.ctx.now op here none u.iso u.isolation) (z.2 ∙ ap (λ o. Advanced tt o new.stream.rest) z.1.going));
   }
 
-  -- and where it is refused, the fault is that of the text
+  -- and if it is an error, the fault is that of the text
   pub misses_region : (fault : ParseFault A) → UnlessMemory (RefusesUnder types_at attr op before old) fault → UnlessMemory (MissesRegion types_at attr op old) fault
   misses_region fault (inl starved) = inl starved
   misses_region fault (inr (under.not_isolated of_it shared because flag at)) = let e = closed_as old.state.ctx.now op here none false of_it in absurd (cc)
@@ -233,12 +233,12 @@ module _ {T A : Type 0} (types_at : Text → Outcome T) (types_written : T → T
   begins_there : (bs : Blocks (Op ℕ T A) (Head ℕ T A) (Brace ℕ)) (text rest : Text) → IsRead bs text rest → begins_region text ≡ true
   begins_there bs text rest (at, (m, opened, more)) = begins_so text m opened
 
-  -- where the text is at fault, it reads as no blocks in braces
+  -- where the text is at fault, it parses as no blocks in braces
   stuck_unread : (text : Text) (s t : history.Outcome) (cause : Fault) (place : ℕ) (path : ℕ → Path) → region_at dialects types_at (attr_at reading) (doing dialects path) true text s ≡ Stopped t cause place → (bs : Blocks (Op ℕ T A) (Head ℕ T A) (Brace ℕ)) (rest : Text) → IsRead bs text rest → ⊥
   stuck_unread text s t cause place path e bs rest r =
       let f = knot.region_found types_at types_written reading written dialects types_split splits (naming (format_of dialects) path) words true bs text rest s r in cc (e, f)
 
-  -- where a name fails so, that is the first failure of whatever blocks the text reads as
+  -- where a name fails so, that is the first failure of whatever blocks the text parses as
   region_first : (text rest : Text) (f : Failure Text ℕ) (fault : ParseFault A) → IsOf text f fault → ((path : ℕ → Path) → EndsIn (failed f) (region_at dialects types_at (attr_at reading) (doing dialects path) true rest (going start)))
       → (bs : Blocks (Op ℕ T A) (Head ℕ T A) (Brace ℕ)) (left : Text) → IsRead bs rest left → IsFirst text (failures no_scope (region_alone dialects (length rest) bs)) fault
   region_first text rest f fault is ends bs left r =
@@ -265,7 +265,7 @@ module _ {T A U : Type 0} (types_at : Reader T) (types_written : T → Text) (re
   isolated_there : (iso : Bool) → IsolatedAs old.state.ctx.now op iso → iso ≡ true
   isolated_there iso of_it = closed_as old.state.ctx.now op here none iso of_it
 
-  -- so the promise of a refusal is kept, where the operation is isolated
+  -- so the promise of an error is kept, if the operation is isolated
   pub refuses_region : (fault : ParseFault A) → UnlessMemory (RefusesUnder types_at (attr_at reading) op before old) fault → UnlessMemory Refused fault
   refuses_region fault (inl starved) = inl starved
   refuses_region fault (inr (under.not_isolated of_it shared because flag at)) = let e = isolated_there false of_it in absurd (cc)

@@ -1,4 +1,4 @@
--- What the items of a region come to as they are read is what the machine comes to that reads the script of its blocks, event by event.
+-- The outcome of the items of a region as they are parsed is that of the state machine that runs the script of its blocks, event by event.
 use Rattle.std.proofs.Common.{◌≡◌, ℕ, Bool, Option}
 use Rattle.irtext_base.specs.Text.{Text, after_space}
 use Rattle.irtext_base.specs.Reading.{the}
@@ -22,8 +22,8 @@ module _ {T A : Type 0} (types : Texts T) (owns : Texts A) (formats : Id → Opt
   abbrev L : Language ℕ T A
   L = language types owns formats
 
-  -- What the blocks of a region do that a text reads as, between its braces, is what the machine comes to that reads its script: where its
-  -- operation is isolated, and its blocks are at this path.
+  -- The actions of the blocks of a region that a text parses as, between its braces, have the outcome of the machine that runs its script,
+  -- given whether its operation is isolated, and with its blocks at this path.
   pub region_runs : (path : ℕ → Path) (isolated : Id → Bool) (iso : Bool) (p : Path) (place : ℕ) (bs : Blocks (Op ℕ T A) (Head ℕ T A) (Brace ℕ)) (text rest : Text) → reads.region_read L (shown place) (reads.block_readings L bs) text rest
       → Each (λ item. path item.0 ≡ item.1) (paths_in_blocks p 0 bs) → (o : Outcome)
       → run o (events (script.within iso place (blocks_script isolated p 0 bs) done)) ≡ do_region isolated (naming {T = T} {A = A} formats path) iso (shown place) (do_blocks isolated (naming formats path) bs) o

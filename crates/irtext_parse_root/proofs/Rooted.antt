@@ -1,4 +1,4 @@
--- The forest of pointers of an operation that was read, behind its section: each item has what its tree and the entry of its mark give it.
+-- The forest of pointers of an operation that was parsed, after its section: each item has what its tree and the entry of its mark give it.
 use Rattle.std.proofs.Common.{ℕ, List, Option, refl, inl, inr}
 use Rattle.irtext_base.specs.Paths.{Written}
 use Rattle.irtext_base.specs.declared.location.Location.{Location}
@@ -23,7 +23,7 @@ use Rattle.irtext_parse_root.specs.Carried.{object_of}
 use Rattle.irtext_parse_root.proofs.Marks.{CarriesOnly, marked_regions, marked_blocks, marked_operations, marked_items}
 
 module _ {T A : Type 0} (L : ℕ → Location A → Type 0) (c : ContextView T A) (items : Made) (marks : List (ℕ × Item)) (d : ContextView T A) (first : ℕ → Written A) (es : List (Entry ℕ A (Written A))) where
-  -- What each item came to have: what its tree gives it, and what the entry of its mark does, which it carries alone.
+  -- What each item has: what its tree gives it, and what the entry of its mark does; it is the only item with this mark.
   pub record GivesEach : Type 0 where
     pub operations : (p : Ptr Operation) (o : Op ℕ T A) (rs : List (Ptr Region)) → OperationAt L c items p o rs → CarriesOnly marks (item.Operation p) o.mark → OperationHas d first es p o
     pub blocks : (b : Ptr BasicBlock) (h : Head ℕ T A) (ps : List (Ptr Operation)) → BlockAt L c items b h ps → CarriesOnly marks (item.Block b) h.mark → BlockHas d first es b h

@@ -1,4 +1,4 @@
--- What may stand in an entry by the items that carry marks is what may stand there by the tree.
+-- What is allowed in an entry by the items that carry marks is what is allowed by the tree.
 use Rattle.std.proofs.Common.{◌≡◌, ◌∙◌, ◌==◌, ◌⊎◌, ℕ, Bool, true, false, cond, List, [], ◌∷◌, ◌++◌, map, Option, Some, None, refl, sym, ap, subst, inl, inr, arith}
 use Rattle.std.specs.Prelude.{nat_eq}
 use Rattle.std.specs.Map.{lookup}
@@ -75,7 +75,7 @@ place_noted i n place (Some m) (inl e) = sym (ap (λ z. z.1) e)
 place_noted i n place (Some m) (inr a) = absurd a
 
 module _ {T A : Type 0} (L : ℕ → Location A → Type 0) (c : ContextView T A) (items : Made) where
-  -- a mark that is noted is a block's, or an operation was made for its place
+  -- a mark that is recorded is a block's, or an operation was made for its place
   abbrev IsKind : ℕ → ℕ → List (ℕ × ℕ) → Type 0
   IsKind i n blocks = Among (i, n) blocks ⊎ ((p : Ptr Operation) × Among (n, TheOperation p) items)
 

@@ -1,4 +1,4 @@
--- A fault of the section behind an operation is the first thing that is wrong with whatever section the text reads as.
+-- A fault of the section after an operation is the first failure of every section that the text parses as.
 use Rattle.std.proofs.Common.{◌≡◌, ◌∙◌, ◌-◌, ◌+◌, ℕ, List, ◌++◌, length, take, refl, sym, ap, subst, append_assoc, length-append, arith, inl, inr}
 use Rattle.std.proofs.Math.Seq.{take-append_seam}
 use Rattle.irtext_base.specs.Text.{Text}
@@ -27,7 +27,7 @@ is_own (script.UnknownIndex i) = refl
 is_own (script.UnknownPrintOnce i) = refl
 is_own (script.ReservedKey k) = refl
 
--- the characters in front of what is left
+-- the characters before the rest
 pub front_is : (a b : Text) → take (length (a ++ b) - length b) (a ++ b) ≡ a
 front_is a b = let n : length (a ++ b) - length b ≡ length a = omega (arith, length-append a b) in ap (λ z. take z (a ++ b)) n ∙ take-append_seam a b
 
@@ -41,7 +41,7 @@ module _ {A X : Type 0} (all passed rest : Text) (whole : passed ++ rest ≡ all
       subst (λ z. IsFirst all z fault) (sym s.is)
       (subst (IsCause s.first.cause) (k.0 ∙ sym because) (is_own s.first.cause), subst (λ z. IsPlace all z fault.pos) (sym s.at) place)
 
-  -- whatever is read there, the fault is the first of what is wrong with it
+  -- whatever is parsed there, the fault is the first of what is wrong with it
   pub first_wrong : (o : Outcome X) (x : X) (left : Text) (fs : List (Failure Text ℕ)) → ReadOrStops rest o x left fs → RefusedAs o cause upto → IsFirst all fs fault
   first_wrong o x left fs (inl (none, (taken, e))) h = absurd (subst (λ z. RefusedAs z cause upto) e h)
   first_wrong o x left fs (inr s) h = is_first o fs s h

@@ -1,4 +1,4 @@
--- The promise of a root, from what the reading of its operation leaves, with the section behind it or without one.
+-- The promise of a root, from the result of parsing its operation, with a section after it or without one.
 use Rattle.std.proofs.Common.{◌≡◌, ◌∙◌, ◌==◌, ℕ, suc, true, false, List, [], ◌∷◌, ◌++◌, map, length, Option, Some, refl, sym, ap, subst, inl, inr}
 use Rattle.irtext_base.specs.Text.{Text}
 use Rattle.irtext_base.specs.Format.{distinct, Id}
@@ -104,7 +104,7 @@ module _ {T A U : Type 0} (types_at : Text → Outcome T) (types_written : T →
   first_of c = location_of c.paths old.state.src (whole old.stream)
 
   -- ---- no section
-  -- an operation that was read with no section keeps its promise
+  -- an operation that was parsed with no section keeps its promise
   pub tree_built : BuildsTree (texts_of types_at types_written) (texts_of reading written) (attr_at reading) op old mid
   tree_built = kept.builds_tree types_at types_written reading written types_split splits words short_types short_owns L op old mid accepted m.leaves m.closed
       (λ n l e. place_told mid.state.ctx.now.paths old.state.src (whole old.stream) n l e) moves
@@ -150,7 +150,7 @@ module _ {T A U : Type 0} (types_at : Text → Outcome T) (types_written : T →
   whole_without = root_whole mid.state.ctx.now (first_of mid.state.ctx.now) [] op t
       (root_has L mid.state.ctx.now m.leaves.items (first_of mid.state.ctx.now) tells_first (pointers mid.state.ctx.now.graph op) t (is_tree (first_of mid.state.ctx.now)))
 
-  -- so does a root without a mark, behind which none is looked for
+  -- so does a root without a mark, after which no section is looked for
   pub root_unmarked : marks_of mid.state ≡ [] → BuildsRoot (texts_of types_at types_written) (texts_of reading written) (attr_at reading) op old mid
   root_unmarked none =
       let bare : marked t ≡ false = sym is_marked ∙ ap (λ (ms : List (ℕ × Item)). is_noted (indices_of ms)) none in
@@ -178,11 +178,11 @@ module _ {T A U : Type 0} (types_at : Text → Outcome T) (types_written : T →
     resolves_it : resolves.Resolves (isolated dialects) {X = Written A} t []
     resolves_it = resolved.resolves (isolated dialects) t [] (trees.whole (knot.L types_at types_written reading written dialects) (λ p q h. h) t old.stream.rest mid.stream.rest reads_it) tree_resolves
 
-    -- no mark stands twice
+    -- no mark occurs twice
     apart : distinct ◌==◌ (map (λ n. n.0) (marks_in t)) ≡ true
     apart = ap (distinct ◌==◌) (marks_are (isolated dialects) t) ∙ resolves_it.marks
 
-    -- what may stand in the entry of an item by its mark is what may stand there by the tree
+    -- what is allowed in the entry of an item by its mark is what is allowed by the tree
     same_rules : rules_of marks ≡ rule_of t
     same_rules = rules_are L mid.state.ctx.now m.leaves.items (pointers mid.state.ctx.now.graph op) t (is_tree (first_of mid.state.ctx.now)) marks m.carried (length old.stream.rest) (length mid.stream.rest) m.falls apart
 
@@ -190,7 +190,7 @@ module _ {T A U : Type 0} (types_at : Text → Outcome T) (types_written : T →
     carries = carries_only t (suc (length old.stream.rest)) (suc (length mid.stream.rest)) (places_fall (texts_of types_at types_written) (texts_of reading written) (format_of dialects) short_types short_owns t old.stream.rest mid.stream.rest reads_it)
         m.leaves.items marks m.carried (length old.stream.rest) (length mid.stream.rest) m.falls m.leaves.held.tracks.once apart
 
-    -- ---- it was read
+    -- ---- it was parsed
     -- what the text is then, whatever the items have
     module _ (entries : List (Entry ℕ A (Written A))) (taken rest : Text) (reads : section_at (attr_at reading) noted (rules_of marks) mid.stream.rest ≡ Read entries taken rest) where
       read : section (knot.L types_at types_written reading written dialects) (location_standing (attr_at reading)) entries mid.stream.rest rest
@@ -256,7 +256,7 @@ module _ {T A U : Type 0} (types_at : Text → Outcome T) (types_written : T →
         only = only;
       }
 
-    -- ---- it was refused
+    -- ---- it was an error
     pub section_refused : (fault : ParseFault A) → Faults true (RefusedAs (section_at (attr_at reading) noted (rules_of marks) mid.stream.rest)) mid.stream fault
         → UnlessMemory (RefusesRoot (texts_of types_at types_written) (texts_of reading written) types_at (attr_at reading) dialects old.stream) fault
     section_refused fault (inl starved) = inl starved

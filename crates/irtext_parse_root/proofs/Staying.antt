@@ -1,4 +1,4 @@
--- Each region that is there stands where it stood, behind each turn.
+-- Each live region has the same parent after each turn.
 use Rattle.std.proofs.Common.{◌≡◌, ◌∙◌, List, [], ◌∷◌, Some, IsSome, refl, sym, ap, subst, inl, inr}
 use Rattle.std.specs.Option.{option_map}
 use Rattle.irtext_context.specs.Context.{ContextView, RegionView, region}
@@ -31,14 +31,14 @@ module _ {T A : Type 0} (old new : ContextView T A) where
   pub stay_spared : (but : List Object) → ModifiesOnly but old new → ((r : Ptr Region) → Among (TheRegion r) but → ⊥) → RegionsStay old new
   stay_spared but s none = record { stay = λ r view e. spared_stays but s r view e (none r) }
 
-  -- an operation changed, or came, or one and its block
+  -- an operation changed, or was created, or one and its block
   pub stay_operation : (p : Ptr Operation) → ModifiesOnly (TheOperation p ∷ []) old new → RegionsStay old new
   stay_operation p s = stay_spared (TheOperation p ∷ []) s (λ r i. elim i [ inl e ↦ absurd (cc e) | inr j ↦ absurd j ])
 
   pub stay_placed : (p : Ptr Operation) (b : Ptr BasicBlock) → ModifiesOnly (TheOperation p ∷ TheBlock b ∷ []) old new → RegionsStay old new
   stay_placed p b s = stay_spared (TheOperation p ∷ TheBlock b ∷ []) s (λ r i. elim i [ inl e ↦ absurd (cc e) | inr (inl e) ↦ absurd (cc e) | inr (inr j) ↦ absurd j ])
 
-  -- a region came, the last of an operation
+  -- a region was created, the last of an operation
   pub stay_entered : (q : Ptr Region) (p : Ptr Operation) → RegionCame old new q → ModifiesOnly (TheRegion q ∷ TheOperation p ∷ []) old new → RegionsStay old new
   stay_entered q p came s = record {
     stay = λ r view e. spared_stays (TheRegion q ∷ TheOperation p ∷ []) s r view e (λ i. elim i [
@@ -48,7 +48,7 @@ module _ {T A : Type 0} (old new : ContextView T A) where
     ]);
   }
 
-  -- a region has one more block, which came
+  -- a region has one more block, which was created
   pub stay_gained : (q : Ptr Region) (b : Ptr BasicBlock) → RegionGains old new q b → ModifiesOnly (TheBlock b ∷ TheRegion q ∷ []) old new → RegionsStay old new
   stay_gained q b gains s = record { stay = λ r view e. elim (told ptr_tells r q) [ inl f ↦ same r view e f | inr n ↦ other r view e n ] }
     where

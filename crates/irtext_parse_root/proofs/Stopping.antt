@@ -1,4 +1,4 @@
--- A turn was refused: wherever the frames are open, the text is at fault or what is done fails.
+-- A turn was an error: whatever frames are open, the text is at fault or an action fails.
 use Rattle.std.proofs.Common.{◌≡◌, ◌∙◌, ◌+◌, ◌<◌, ℕ, zero, suc, Bool, true, false, List, [], ◌∷◌, drop, length, slice_get, Some, refl, sym, ap, subst, arith, inl, inr}
 use Rattle.irtext_base.specs.Text.{Text, after_space}
 use Rattle.irtext_base.specs.Faults.{id_of}
@@ -45,7 +45,7 @@ use Rattle.irtext_parse_root.proofs.Owns.{piece_comes, region_comes, regions_com
 use Rattle.irtext_parse_root.proofs.Proceeding.{loops, operation_first, region_first, block_first}
 use Rattle.irtext_parse_root.proofs.Turning.{with_stream}
 
--- ---- names that were read are known
+-- ---- names that were parsed are known
 number_within : (names : List Text) (n : ℕ) (x : Text) → slice_get names n ≡ Some x → n < length names
 number_within [] zero x e = absurd (cc e)
 number_within [] (suc n) x e = absurd (cc e)
@@ -155,7 +155,7 @@ module _ {T A U : Type 0} (types_at : Reader T) (reading : Reader A) (h : Splits
         ]);
   }
 
--- ---- what is asked of the turns of what is open
+-- ---- what is required of the turns of the open frames
 module _ {T A : Type 0} (text : Text) (ctx : ContextView T A) (names : Names) (frames : List Frame) where
   pub operation_there : (b : BegunOperation) → AreHere T A text ctx names (Some (framed.Operation b)) frames → (o : OpenOperation T A) × IsBegun names.names text ctx b o
   operation_there b s =

@@ -1,4 +1,5 @@
--- What is told of items is what they do, in each way of doing; and what was told before stays behind what is told.
+-- Each function of the state performs the recorded actions of items as the items themselves do; and what was recorded before remains after
+-- what is recorded.
 use Rattle.std.proofs.Common.{◌≡◌, ◌∙◌, ℕ, List, [], ◌∷◌, ◌++◌, Option, refl, sym, ap}
 use Rattle.irtext_base.specs.Text.{Text}
 use Rattle.irtext_base.specs.Faults.{Fault}
@@ -12,7 +13,7 @@ use Rattle.irtext_parse_spec.proofs.Seen.{Shows, seen_whole}
 use Rattle.irtext_parse_root.specs.Told.{Did, told, one_done, all_done}
 
 module _ {T A S : Type 0} (does : Actions T A S) where
-  -- what is told is done
+  -- recorded actions are performed
   pub tells_does : (s : S) → Shows (λ ds. all_done does ds s) told does
   tells_does s = record {
     uses = λ place id parts ds. refl;
@@ -24,12 +25,12 @@ module _ {T A S : Type 0} (does : Actions T A S) where
     heads = λ head ds. refl;
   }
 
-  -- one thing after another
+  -- one list of actions after another
   pub done_both : (ds es : List (Did T A)) (s : S) → all_done does (ds ++ es) s ≡ all_done does ds (all_done does es s)
   done_both [] es s = refl
   done_both (d ∷ ds) es s = ap (one_done does d) (done_both ds es s)
 
--- what was told stays behind
+-- what was recorded before remains
 pub tells_behind : {T A : Type 0} (es : List (Did T A)) → Shows {T = T} {A = A} (λ ds. ds ++ es) told told
 tells_behind es = record {
   uses = λ place id parts ds. refl;
@@ -42,7 +43,7 @@ tells_behind es = record {
 }
 
 module _ {T A : Type 0} {dialects : List (Text × Table)} {types_at : Text → Outcome T} {attr : Text → Outcome (AttrView A)} {next : Option (Open T A)} {frames : List (Open T A)} {text : Text} where
-  -- where what is told leads, each way of doing leads
+  -- where the recording parse goes, the parse with other actions goes too
   pub goes_told : {S : Type 0} (does : Actions T A S) {next' : Option (Open T A)} {frames' : List (Open T A)} {text' : Text} {did : List (Did T A)}
       → Goes dialects types_at attr told next frames [] text next' frames' did text' → (s : S) → Goes dialects types_at attr does next frames s text next' frames' (all_done does did s) text'
   goes_told does {next'} {frames'} {text'} {did} g s = record {
@@ -56,7 +57,7 @@ module _ {T A : Type 0} {dialects : List (Text × Table)} {types_at : Text → O
     so = sym (seen_whole dialects types_at attr (λ ds. all_done does ds s) told does (tells_does does s) next frames [] text) ∙ ap (seen_as (λ ds. all_done does ds s)) g.so;
   }
 
-  -- the same with what was told before
+  -- the same with what was recorded before
   pub goes_behind : {next' : Option (Open T A)} {frames' : List (Open T A)} {text' : Text} {did : List (Did T A)}
       → Goes dialects types_at attr told next frames [] text next' frames' did text' → (es : List (Did T A)) → Goes dialects types_at attr told next frames es text next' frames' (did ++ es) text'
   goes_behind {next'} {frames'} {text'} {did} g es = record {

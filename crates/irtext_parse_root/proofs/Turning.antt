@@ -1,4 +1,4 @@
--- Each turn takes what is open to what is open behind it: by the text, by what names come to, and by what the context holds.
+-- Each turn takes the open frames to those after it: for the text, for the names, and for what the context contains.
 use Rattle.std.proofs.Common.{◌≡◌, ◌∙◌, ◌+◌, ◌<◌, ◌≤◌, ℕ, Bool, true, false, cond, List, [], ◌∷◌, ◌++◌, map, length, codes, Option, Some, None, refl, sym, ap, subst, append-nil}
 use Rattle.irtext_base.specs.Text.{Text, begins, after_space}
 use Rattle.irtext_base.specs.Stream.{StreamView}
@@ -69,7 +69,7 @@ module _ {T A U : Type 0} (types_at : Reader T) (attr : Reader (AttrView A)) (ba
   abbrev Makes : List (Level T A) → List (Level T A) → Names → StateStream T A U → Type 0
   Makes ls later names new = Turned types_at attr dialects old.state.src text base ls before old later names new
 
-  -- no mark was noted
+  -- no mark was recorded
   same_marks : (new : StateStream T A U) → marks_of new.state ≡ marks_of old.state → marks_of new.state ≡ marks_of old.state ++ []
   same_marks new e = e ∙ sym (append-nil (marks_of old.state))
 
@@ -78,7 +78,7 @@ module _ {T A U : Type 0} (types_at : Reader T) (attr : Reader (AttrView A)) (ba
       → Goes dialects types_at attr told f fs [] old.stream.rest n ns did t → Goes dialects types_at attr told f fs [] old.stream.rest n ns did u
   goes_to f fs n ns did t u e g = subst (λ z. Goes dialects types_at attr told f fs [] old.stream.rest n ns did z) (sym e) g
 
-  -- ---- a block: no operation stands in it any more
+  -- ---- a block: no operation follows in it
   module _ (k : Unbounded dialects types_at attr told) (kb : BegunBlock) (r : BegunRegion) (iso : Bool) (place : ℕ) (last : Option (Ptr BasicBlock)) (more : List (Level T A)) (v : StreamView) where
     abbrev in_region : List (Level T A)
     in_region = at_region r iso place last ∷ more
@@ -104,7 +104,7 @@ module _ {T A U : Type 0} (types_at : Reader T) (attr : Reader (AttrView A)) (ba
             (e ∙ ap (λ z. cond z (after_space (without_first (after_space old.stream.rest))) (after_space old.stream.rest)) b)
             (no_more_operations dialects types_at attr told k (outward (map open_of in_region)) [] old.stream.rest (next_of in_region) (waiting in_region) b (theory_pops in_region))
 
-    -- one stands there, and its text
+    -- one follows, and its text
     pub one_comes : (first : Bool) → one_stands first old.stream.rest ≡ true → v.rest ≡ text_there first old.stream.rest
         → Goes dialects types_at attr told (Some (a_block first)) (outward (map open_of in_region)) [] old.stream.rest (Some (to_come true)) (outward (map open_of in_region) ++ a_block false ∷ []) [] v.rest
     one_comes true b e = goes_to (Some (a_block true)) (outward (map open_of in_region)) (Some (to_come true)) (outward (map open_of in_region) ++ a_block false ∷ []) [] (after_space old.stream.rest) v.rest e
@@ -142,7 +142,7 @@ module _ {T A U : Type 0} (types_at : Reader T) (attr : Reader (AttrView A)) (ba
         came : ComesInto (IsLocated old.state.src text) old.state.ctx.now new.state.ctx.now b.op h.own (Some kb.block)
         came = subst (λ t. ComesInto (IsLocated old.state.src t) old.state.ctx.now new.state.ctx.now b.op h.own (Some kb.block)) same h.comes
 
-  -- ---- an operation: a piece behind a region
+  -- ---- an operation: a piece after a region
   module _ (b : BegunOperation) (o : OpenOperation T A) (own : OwnSoFar T A) (more : List (Level T A)) where
     pub piece_read : (next : BegunOperation) (step : Step) (ss : List Step) (names : Names) (new : StateStream T A U) → o.steps ≡ step ∷ ss → is_flat step ≡ true → next.op ≡ b.op → next.results ≡ b.results → (r : ReadsPiece types_at attr o step b before old names new)
         → ((view : OperationView T A) → operation old.state.ctx.now b.op ≡ Some view → HasOwn (IsLocated old.state.src text) view own → HasUses old.state.ctx.now b.op own
@@ -244,7 +244,7 @@ module _ {T A U : Type 0} (types_at : Reader T) (attr : Reader (AttrView A)) (ba
       end_acts : Acts (λ path z. (doing {T = T} {A = A} dialects path).marks h.mark ((doing {T = T} {A = A} dialects path).closes o.place o.names o.id o.parts z)) before old.state (pledges_of more ++ pledge_of b o.place ∷ []) names new.state (pledges_of more)
       end_acts = acts_close [] (λ path z. (doing {T = T} {A = A} dialects path).marks h.mark ((doing {T = T} {A = A} dialects path).closes o.place o.names o.id o.parts z)) before names old.state new.state (pledges_of more) (pledge_of b o.place) h.acts
 
-      -- of what is read itself
+      -- of what is parsed itself
       pub root_over : more ≡ [] → base ≡ outermost b.op → Makes (at_operation b o own ∷ []) [] names new
       root_over alone is = record {
         did = at_end;
@@ -322,7 +322,7 @@ module _ {T A U : Type 0} (types_at : Reader T) (attr : Reader (AttrView A)) (ba
             (region_leaves (format_of dialects) (IsLocated old.state.src text) base start old.state.ctx.now items marks iso place r.region last b.op own (ats_of outside) ds (record { whole = held.whole; holds = held.holds; carried = held.carried }));
       }
 
-      -- or it is what is read
+      -- or it is what is parsed
       pub base_over : more ≡ [] → base ≡ within r.region → Makes (at_region r iso place last ∷ []) [] names new
       base_over alone is = record {
         did = did_leave iso place ∷ [];

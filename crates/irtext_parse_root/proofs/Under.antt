@@ -1,4 +1,4 @@
--- One region under an operation that stands, from its brace to its end, and how it comes to stand there.
+-- One region under a live operation, from its brace to its end, and how it is appended to the operation.
 use Rattle.std.proofs.Common.{◌≡◌, ◌∙◌, ◌≤◌, ◌<◌, ◌+◌, ◌-◌, ℕ, zero, suc, Bool, true, false, ◌||◌, List, [], ◌∷◌, ◌++◌, length, Option, Some, None, IsSome, refl, sym, ap, subst, append-nil, arith, inl, inr, codes}
 use Rattle.std.specs.Option.{option_map, option_and_then}
 use Rattle.std.specs.Char.{is_whitespace}
@@ -73,13 +73,13 @@ use Rattle.irtext_parse_root.proofs.Proceeding.{entered_more, is_open_some, loop
 use Rattle.irtext_parse_root.proofs.Telling.{goes_told, goes_behind, stuck_told}
 use Rattle.irtext_parse_root.proofs.Unplaced.{alone_is, alone_came, alone_spares}
 
--- ---- a new object stands in new ones alone
--- nothing stands over nothing
+-- ---- a new object is nested in new ones only
+-- no object is above no object
 none_climbs : {O : Type 0} (up : O → Option O) (n : ℕ) (o : O) → climb up n None ≡ Some o → ⊥
 none_climbs up zero o e = absurd (cc e)
 none_climbs up (suc n) o e = absurd (cc e)
 
--- what stands in a new object is new
+-- what is nested in a new object is new
 pub inside_new : {O B T : Type 0} (m : ℕ) (g : GraphView O B T) → IsClosedBelow m g → (o : Object) → IsNew m g o → (n : ℕ) (q : Object) → climb (parent g) n (Some q) ≡ Some o → IsNew m g q
 inside_new m g closed o new zero q e = let f : o ≡ q = cc e in subst (IsNew m g) f new
 inside_new m g closed o new (suc n) q e = go (parent g q) refl e (λ k up. inside_new m g closed o new n k up)
@@ -89,7 +89,7 @@ inside_new m g closed o new (suc n) q e = go (parent g q) refl e (λ k up. insid
     go None is up inner = absurd (none_climbs (parent g) n o up)
 
 module _ {T A : Type 0} (m : ℕ) (old mid : ContextView T A) (older : AllOlder m old.graph) (kept : KeepsOlder m old mid) where
-  -- an operation that stood is older
+  -- an operation that was live is older
   pub not_new : (op : Ptr Operation) → IsSome (operation old op) → IsNew m mid.graph (TheOperation op) → ⊥
   not_new op there new =
       let gone : before m mid.graph.operations op ≡ None = new_operation m mid.graph op new in
@@ -98,7 +98,7 @@ module _ {T A : Type 0} (m : ℕ) (old mid : ContextView T A) (older : AllOlder 
       let h = subst IsSome none there in
       absurd (cc h)
 
-  -- the region can come to stand in it
+  -- the region can be inserted into it
   pub can_place : IsClosedBelow m mid.graph → (r : Ptr Region) → IsNew m mid.graph (TheRegion r) → (view : RegionView) → region mid r ≡ Some view → view.parent ≡ None → (op : Ptr Operation) → IsSome (operation old op)
       → CanInsert mid.graph (TheOperation op) (TheRegion r)
   can_place closed r new view is alone op there = record {
@@ -120,40 +120,40 @@ tight (Missing cause) x taken rest e = absurd (cc)
 tight (Bad cause upto) x taken rest e = absurd (cc)
 
 module _ {T A S : Type 0} (dialects : List (Text × Table)) (types_at : Reader T) (attr : Reader (AttrView A)) (does : Actions T A S) (k : Unbounded dialects types_at attr does) where
-  -- the brace behind a region's blocks
+  -- the brace after a region's blocks
   abbrev and_brace : Bool → ℕ → Reached Unit S → Reached Unit S
   and_brace iso place o = came o (λ _ z left. tells (word (codes "}") left) left z (λ _ end. Advanced tt (does.leaves iso place z) end))
 
   abbrev behind_brace : Bool → ℕ → S → Unit {0} → Text → Reached Unit S
   behind_brace iso place z x rest = and_brace iso place (blocks_by (block_at dialects types_at attr does) (length rest) rest z)
 
-  -- behind its brace its blocks are left
+  -- after its brace its blocks are left
   region_opens : (iso : Bool) (s : S) (u : Text) (x : Unit {0}) (taken r : Text) → (word (codes "{") ▷ space_at) u ≡ Read x taken r
       → region_at dialects types_at attr does iso u s ≡ theory.whole dialects types_at attr does (Some (a_region iso (length u))) [] (does.enters iso s) r
   region_opens iso s u x taken r e = k.region_is iso u s ∙ (tells_found ((word (codes "{") ▷ space_at) u) u (does.enters iso s) (behind_brace iso (length u) (does.enters iso s)) x taken r e
       ∙ ap (λ v. and_brace iso (length u) (blocks_by (block_at dialects types_at attr does) (length r) v (does.enters iso s))) (sym (tight (word (codes "{") u) x taken r e)))
 
-  -- no brace stands there
+  -- no brace follows
   region_lacks : (iso : Bool) (s : S) (u : Text) (cause : Fault) (upto : Text) → demanded ((word (codes "{") ▷ space_at) u) ≡ Bad cause upto
       → region_at dialects types_at attr does iso u s ≡ Stopped (does.enters iso s) cause (length u - length upto)
   region_lacks iso s u cause upto e = k.region_is iso u s ∙ tells_bad ((word (codes "{") ▷ space_at) u) u (does.enters iso s) (behind_brace iso (length u) (does.enters iso s)) cause upto e
 
-  -- it is entered before its brace is read
+  -- it is entered before its brace is parsed
   entered_once : (iso : Bool) (s z : S) (u : Text) → does.enters iso s ≡ z → does.enters iso z ≡ z → region_at dialects types_at attr does iso u s ≡ region_at dialects types_at attr does iso u z
   entered_once iso s z u f g = k.region_is iso u s ∙ (ap (λ y. tells ((word (codes "{") ▷ space_at) u) u y (behind_brace iso (length u) y)) (f ∙ sym g) ∙ sym (k.region_is iso u z))
 
--- a reading ends in what had been done there
+-- a parse ends with the state of what was done there
 ends_in : {X S : Type 0} (s : S) (o : Reached X S) → done_in o ≡ s → EndsIn s o
 ends_in s (Advanced x t rest) e = e
 ends_in s (Stopped t cause place) e = e
 
 -- ---- all of it
--- less may stand behind the first than behind what stands there
+-- the bound on the first place may be raised
 falls_from : (up above : ℕ) (items : Made) (below : ℕ) → above ≤ up → Falls above items below → Falls up items below
 falls_from up above items below le h = subst (λ z. Falls up z below) (append-nil items) (falls_both up [] items above below le h)
 
 module _ {T A U : Type 0} (types_at : Reader T) (reading : Reader A) (h : Splits types_at) (k : Splits reading) (before : Names) (old : StateStream T A U) (iso : Bool) where
-  -- it can't be entered, or no brace stands there
+  -- it can't be entered, or no brace follows
   entry_fails : (fault : ParseFault A) → fault.committed ≡ true → begins_region old.stream.rest ≡ true → RefusesRegion types_at (attr_at reading) iso before old fault → FaultUnder types_at (attr_at reading) iso before old fault
   entry_fails fault committed begins (read.not_isolated a) = under.by_names begins a.failure a.is
       (λ path items o stands.
@@ -182,14 +182,14 @@ neither true b e = absurd (cc)
 neither false b e = (refl, e)
 
 module _ {T A U : Type 0} (types_at : Reader T) (attr : Reader (AttrView A)) (before : Names) (old : StateStream T A U) (iso : Bool) (op : Ptr Operation) (isolation : IsolatedAs old.state.ctx.now op iso) where
-  -- it can't be entered, whatever stands there
+  -- it can't be entered, whatever text follows
   pub unentered_refused : (iso || is_open before.values) ≡ false → (fault : ParseFault A) → fault_of fault.cause ≡ NotIsolated → fault.committed ≡ true
       → ((view : OperationView T A) → operation old.state.ctx.now op ≡ Some view → IsPositionOf view.loc fault.pos) → UnlessMemory (RefusesUnder types_at attr op before old) fault
   unentered_refused shut fault because flag at =
       let both = neither iso (is_open before.values) shut in
       inr (under.not_isolated (subst (IsolatedAs old.state.ctx.now op) both.0 isolation) both.1 because flag at)
 
-  -- it can, and no brace stands there
+  -- it can, but no brace follows
   pub unbegun_refused : (iso || is_open before.values) ≡ true → begins_region old.stream.rest ≡ false → (fault : ParseFault A) (v : StreamView)
       → Passes itself replaced (Unexpected (first_of old.stream.rest) (Word (codes "{"))) old.stream fault v → UnlessMemory (RefusesUnder types_at attr op before old) fault
   unbegun_refused opened begins fault v h = inr (under.in_text iso isolation opened (under.no_region begins h.because h.committed h.place))
@@ -279,7 +279,7 @@ module _ {T A U : Type 0} (types_at : Reader T) (reading : Reader A) (h : Splits
   held : IsHeld (format_of dialects) L (within b.region) old.state.ctx.now s1.state.ctx.now [] [] (region_under b.region None ∷ []) None []
   held = record { whole = []; holds = holds; carried = tt }
 
-  -- what is read and done from its brace on
+  -- what is parsed and done from its brace on
   begun_stands : (path : ℕ → Path) (items : Made) (o : Machine) → StandsAs path items [] before old.state o → StandsAs path items [] n1 s1.state ((does path).enters iso o)
   begun_stands path items o st = bg.acts.so path items [] o st
 
@@ -291,7 +291,7 @@ module _ {T A U : Type 0} (types_at : Reader T) (reading : Reader A) (h : Splits
     turned = turned_over s1.state.ctx.now.dialects dialects s1.state.src old.state.src (whole s1.stream) (whole old.stream) same_dialects rest.src same_text
         (f.arrives (within b.region) (length before.values) (length before.labels) alone region_here).2
 
-    -- it stands nowhere
+    -- it has no parent
     pub still_alone : (view : RegionView) × (region s2.state.ctx.now b.region ≡ Some view) × (view.parent ≡ None)
     still_alone = turned.stays.stay b.region (record { parent = None; blocks = [] }) is_alone
 

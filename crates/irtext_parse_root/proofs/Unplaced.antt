@@ -1,4 +1,4 @@
--- A region that comes to stand nowhere: what is defined, what is in place and what waits stays so, and the region is all that came.
+-- A region that is created without a parent: names, parents and placeholders are unchanged, and only the region was created.
 use Rattle.std.proofs.Common.{◌≡◌, ◌∙◌, ◌⊎◌, ◌≤◌, ◌+◌, inl, inr, ℕ, Bool, true, false, cond, List, [], ◌∷◌, Option, Some, None, IsSome, length, map, slice_get, nat_lt, ◌==◌, eqb-true, arith, refl, sym, ap, subst}
 use Rattle.std.proofs.lemmas.Bool.Decides.{nat_tests}
 use Rattle.std.specs.Option.{option_map, option_and_then}
@@ -138,7 +138,7 @@ module _ {O B T : Type 0} (g k : GraphView (Option O) B T) (r : Ptr Region) (mak
   }
 
 -- ---- in a context
--- a pointer of which the generation was not handed out finds nothing
+-- a pointer with a generation that was not yet used finds nothing
 found_none : {X : Type 0} (c : Option (Cell X)) (n : ℕ) → n ≡ drawn c + 1 → object_in c n ≡ None
 found_none None n e = refl
 found_none (Some c) n e = go (c.generation == n) refl
@@ -151,7 +151,7 @@ came_new : {X K : Type 0} (old new : Store X) (p : Ptr K) (x : Entry X) → Inse
 came_new old new p x i = found_none (slice_get old.cells p.index) p.generation i.next
 
 module _ {T A : Type 0} (old new : ContextView T A) (r : Ptr Region) (makes : MakesRegion old.graph new.graph r) (with_it : new ≡ with_graph old new.graph) where
-  -- the region is there, and stands nowhere
+  -- the region is live, and has no parent
   pub alone_is : region new r ≡ Some (record { parent = None; blocks = [] })
   alone_is = ap (option_map region_of) makes.regions.updates.changed
 
@@ -163,7 +163,7 @@ module _ {T A : Type 0} (old new : ContextView T A) (r : Ptr Region) (makes : Ma
     blocks = refl;
   }
 
-  -- and all else is spared
+  -- and all else is unchanged
   pub alone_spares : ModifiesOnly (TheRegion r ∷ []) old new
   alone_spares = spares_by old new (TheRegion r ∷ []) go
     where
@@ -196,7 +196,7 @@ module _ {T A : Type 0} (old new : ContextView T A) (r : Ptr Region) (makes : Ma
   pub alone_new : (m : ℕ) → m ≤ old.graph.made → IsNew m new.graph (TheRegion r)
   alone_new m le = ap (λ z. is_older {O = Option (OperationData A)} {B = BlockData A} {T = Option T} m (option_map (λ d. ARegion d.0 d.1) (content_of z))) makes.regions.updates.changed ∙ young m le
 
-  -- what is open lasts
+  -- the open objects are still live
   pub alone_lasts : KeepsLive old new
   alone_lasts = record {
     operations = λ p h. let x = data_there old p h in there_data new p x.0 (ap (option_map (λ c. c.data_of)) (operation_same old.graph new.graph r makes p) ∙ x.1);
@@ -214,12 +214,12 @@ module _ {T A : Type 0} (old new : ContextView T A) (r : Ptr Region) (makes : Ma
     dialects = ap (λ c. c.dialects) with_it;
   }
 
-  -- the region stands
+  -- the region is live
   pub alone_there : IsLive new.graph (TheRegion r)
   alone_there = subst IsSome (sym (ap (λ z. option_map (λ d. ARegion d.0 d.1) (content_of z)) makes.regions.updates.changed)) refl
 
   module _ (names : Names) where
-    -- names are tied and wait as they did
+    -- names match the graph and wait as before
     pub alone_sound : {U : Type 0} (m : ℕ) (s z : code.State T A U) → s.ctx.now ≡ old → z.ctx.now ≡ new → IsSound m names s → IsSound m names z
     alone_sound m s z e f h =
         let tied = subst (λ c. MatchesGraph names.values names.labels c.graph) e h.tied in
@@ -230,7 +230,7 @@ module _ {T A : Type 0} (old new : ContextView T A) (r : Ptr Region) (makes : Ma
           blanks = subst (BlanksDefine m) (sym f) (blanks_on old new (blanks_by old.graph new.graph (λ p. inl (ap (option_map without_uses) (object_same old.graph new.graph r makes p)))) m (subst (BlanksDefine m) e h.blanks));
         }
 
-    -- and stand where they stood
+    -- names, graph and marks still agree with the state of the machine
     pub alone_stands : {U : Type 0} {path : ℕ → Path} {items : Made} {pledges : List Pledge} {o : Outcome} (s z : code.State T A U) → s.ctx.now ≡ old → z.ctx.now ≡ new → marks_of z ≡ marks_of s → MatchesGraph names.values names.labels old.graph
         → StandsAs path items pledges names s o → StandsAs path items pledges names z o
     alone_stands s z e f same tied h =

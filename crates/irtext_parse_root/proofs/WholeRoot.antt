@@ -1,4 +1,4 @@
--- The promise of a whole text on a fresh state, from what the reading of its operation leaves and what follows it.
+-- The promise of a whole text on a fresh state, from what the parse of its operation leaves and what follows it.
 use Rattle.std.proofs.Common.{◌≡◌, ◌∙◌, ℕ, true, true≢false, cond, List, [], ◌∷◌, refl, sym, ap, subst, inl, inr}
 use Rattle.irtext_base.specs.Text.{Text}
 use Rattle.irtext_base.specs.Format.{Id}
@@ -34,7 +34,7 @@ use Rattle.irtext_parse_root.specs.WholeAny.{HasSection}
 use Rattle.irtext_parse_root.proofs.Sectioned.{root_unmarked, root_marked, section_refused, reads_marked, resolves_marked}
 use Rattle.irtext_parse_root.proofs.WholeSteps.{whole_refused}
 
--- where some mark is noted, there are marks
+-- where some mark is recorded, there are marks
 some_noted : {X : Type 0} (marks : List X) → is_noted marks ≡ true → marks ≡ [] → ⊥
 some_noted marks e none = true≢false (sym e ∙ ap is_noted none)
 
@@ -53,12 +53,12 @@ module _ {T A U : Type 0} (types_at : Text → Outcome T) (types_written : T →
     root_built (x ∷ marks) n s = root_marked types_at types_written reading written types_split splits words short_types short_owns op old mid accepted m moves (some_noted (marks_of mid.state) (ap is_noted n)) sincere lawful
         e.end s older before (subst (λ (z : code.State T A U). KeepsOlder old.state.ctx.now.graph.made mid.state.ctx.now z.ctx.now) e.state later)
 
-    -- a root, and nothing but white space behind it
+    -- a root, and nothing but white space after it
     pub whole_built : BuildsWhole (texts_of types_at types_written) (texts_of reading written) types_at (attr_at reading) op old new
     whole_built = record { end = e.end; root = root_built (marks_of mid.state) refl e.section; ends = e.ends; state = e.state }
 
   module _ (fault : ParseFault A) where
-    -- a root, and something else behind it
+    -- a root, and more text after it
     more_there : (rest : Text) → ExpectsEnd (whole mid.stream) rest fault → (marks : List (ℕ × Item)) → marks_of mid.state ≡ marks → cond (is_noted marks) (HasSection (attr_at reading) mid rest) (rest ≡ mid.stream.rest)
         → LeavesMore (texts_of types_at types_written) (texts_of reading written) types_at (attr_at reading) old fault
     more_there rest x [] n s =
@@ -82,7 +82,7 @@ module _ {T A U : Type 0} (types_at : Text → Outcome T) (types_written : T →
           more = subst (λ text. ExpectsEnd text rest fault) same_whole x;
         }
 
-    -- why a whole text was not read behind its operation
+    -- why a whole text was not parsed after its operation
     pub rest_refused : UnlessMemory (MissesEnd (attr_at reading) mid) fault → UnlessMemory (RefusesWhole (texts_of types_at types_written) (texts_of reading written) types_at (attr_at reading) old) fault
     rest_refused (inl starved) = inl starved
     rest_refused (inr (wrong_section noted f)) = whole_refused (texts_of types_at types_written) (texts_of reading written) types_at (attr_at reading)

@@ -1,4 +1,4 @@
--- The end of a whole text, and what is left in front of it.
+-- The end of a whole text, and the text before it.
 use Rattle.std.proofs.Common.{◌≡◌, ◌∙◌, ◌-◌, ℕ, true, false, Option, Result, Ok, Err, [], ◌∷◌, ◌++◌, length, take, refl, sym, ap, subst, inl, inr, append-nil, append_assoc, is_some, true≢false}
 use Rattle.std.specs.Prelude.{OnOk}
 use Rattle.std.specs.Char.{is_whitespace}
@@ -39,7 +39,7 @@ none_first [] o e h = refl
 none_first (c ∷ text) o e h = absurd (true≢false (sym (ap is_some e) ∙ h))
 
 module _ {old new : StreamView} (passes : Takes itself replaced (front is_whitespace old.rest) (after_space old.rest) old new) (next : Option ℕ) (is_next : next ≡ first_of new.rest) where
-  -- what stands behind the white space
+  -- what follows the white space
   behind : new.rest ≡ after_space old.rest
   behind = ap (λ v. v.rest) passes.is
 
@@ -73,7 +73,7 @@ pub end_refused : {A : Type 0} {old mid new : StreamView} {next : Option ℕ} {f
 end_refused k = record { committed = k.committed; fails = ap (λ v. v.failed) k.left.is ∙ k.left.fails; failed = λ f. absurd (cc (k.because)) }
 
 -- ---- what follows the operation
--- a section was read, then only white space was left, and then each item got what its entry gives
+-- a section was parsed, then only white space was left, and then each item got what its entry gives
 module _ {T A U : Type 0} (E : Type 0) (attr : Text → Outcome (AttrView A)) (old mid : StateStream T A U) (entries : Entries A) (k : SectionRead E attr old mid entries) (a : AddsPaths old.state.ctx.now mid.state.ctx.now) (noted : is_noted (marks_of old.state) ≡ true)
     (spaced : StreamView) (ends : OnlySpace mid.stream spaced) where
   pub section_ends : {X F : Type 0} (new : StateStream T A U) (r : Result X F) → OnOk r (GivesAll (once_of entries) (items_of entries) mid.state.ctx.now new.state.ctx.now) → OnOk r (new.stream ≡ spaced) → OnOk r (marks_of new.state ≡ []) → OnOk r (EndsAny attr old new)
@@ -99,7 +99,7 @@ module _ {T A U : Type 0} (types_at : Text → Outcome T) (attr : Text → Outco
   misses_whole fault same (inr (wrong_section noted f)) = inr (no_root (any.no_section op mid tree noted f))
   misses_whole fault same (inr (not_ended rest is e)) = inr (more_left op mid tree rest is (subst (λ text. ExpectsEnd text rest fault) same e))
 
--- no root stood there, so no whole text
+-- no root was parsed, so no whole text
 pub whole_refused : {T A U : Type 0} (types : Texts T) (owns : Texts A) (types_at : Text → Outcome T) (attr : Text → Outcome (AttrView A)) {old : StateStream T A U} {fault : ParseFault A} → UnlessMemory (RefusesRoot types owns types_at attr old.state.ctx.now.dialects old.stream) fault → UnlessMemory (RefusesWhole types owns types_at attr old) fault
 whole_refused types owns types_at attr (inl e) = inl e
 whole_refused types owns types_at attr (inr h) = inr (inl h)

@@ -43,7 +43,7 @@ module _ {T A : Type 0} (content : List (Text × Attribute A)) (a b : ContextVie
       → n ≡ label_in None content → EditsBlock a b p (with_block_attributes next) → Stores content (item.Block p) n a b
   block_swapped_in p n next there h l e = branch_true _ (is_some (block a p)) there (record { left = next; edits = e; stored = λ view is. h view.attributes (ap (option_map (λ b. b.attributes)) is) }, l)
 
--- a row that goes on behind one of its items
+-- a list split after one of its items
 joined : {X : Type 0} (xs : List X) (x : X) (left : List X) → xs ++ x ∷ left ≡ (xs ++ x ∷ []) ++ left
 joined [] x left = refl
 joined (y ∷ xs) x left = ap (λ z. y ∷ z) (joined xs x left)
@@ -69,7 +69,7 @@ module _ {T A : Type 0} (mark : ℕ) where
   took_one s [] a b c k t = (b, c, k, t, same-keeps mark c c refl)
   took_one s (u ∷ ss) a b c (first, mid, k, t, more) one = (first, mid, k, t, took_one s ss mid b c more one)
 
-  -- the last step is taken back
+  -- the last step is undone
   pub took_back : (s : Step A) (ss : List (Step A)) (a b c : ContextView T A) → TakesAll mark (ss ++ s ∷ []) a b → PutsBack s.item s.before b c → TakesAll mark ss a c
   took_back s [] a b c (first, mid, k, t, kept) back = kept_trans k (item_back mark first mid b c kept s.item s.before t back)
   took_back s (u ∷ ss) a b c (first, mid, k, t, more) back = (first, mid, k, t, took_back s ss mid b c more back)

@@ -1,4 +1,4 @@
--- What entries that were read give their items is what those of the text give them.
+-- What entries that were parsed give their items is what those of the text give them.
 use Rattle.std.proofs.Common.{◌≡◌, ◌∙◌, ℕ, ◌==◌, nat_eq, Bool, true, false, cond, List, [], ◌∷◌, ◌++◌, Option, Some, None, refl, sym, ap, ap₂, subst}
 use Rattle.std.specs.Prelude.{flat_map}
 use Rattle.std.specs.Map.{lookup}

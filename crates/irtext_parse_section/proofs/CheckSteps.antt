@@ -9,7 +9,7 @@ pub none_wrong : (all left ws vs : List Wrong) → all ≡ left → left ≡ ws 
 none_wrong all left ws vs e f k = e ∙ (f ∙ ap (λ us. us ++ vs) k)
 
 module _ {A : Type 0} where
-  -- the first of some is the first of them and of those behind
+  -- the first failure of some is the first of them and of those after them
   first_of : (ws vs : List Wrong) (old new : StreamView) (fault : ParseFault A) → RefusesFirst ws old fault new → RefusesFirst (ws ++ vs) old fault new
   first_of [] vs old new fault h = absurd h
   first_of (w ∷ ws) vs old new fault h = h

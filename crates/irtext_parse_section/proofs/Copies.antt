@@ -1,4 +1,4 @@
--- Copies of dictionaries: entries that are put in one after another, where no key stands twice.
+-- Copies of dictionaries: entries are put in one after another, where no key occurs twice.
 use Rattle.std.proofs.Common.{◌≡◌, ◌∙◌, Bool, true, false, not, cond, ◌||◌, List, [], ◌∷◌, ◌++◌, map, refl, sym, ap, true≢false}
 use Rattle.std.specs.Map.{keys_of}
 use Rattle.std.specs.Str.{bytes_eq}

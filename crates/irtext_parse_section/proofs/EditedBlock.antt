@@ -1,5 +1,5 @@
--- An edit of one block's data leaves what stands in what, what uses what, and how old each object is.
-use Rattle.std.proofs.Common.{◌≡◌, ◌∙◌, inl, inr, refl, sym, ap, ℕ, Option, Some, None, slice_get, map}
+-- An edit of one block's data leaves the nesting, the uses, and the age of each object unchanged.
+use Rattle.std.proofs.Common.{◌≡◌, ◌∙◌, refl, sym, ap, ℕ, Option, Some, slice_get, map}
 use Rattle.std.specs.Option.{option_map}
 use Rattle.irtext_graph.specs.Back.{owner, operands_of, successors_of, IsClosedBelow}
 use Rattle.irtext_graph.specs.Content.{Node, Content.{AnOperation, ABlock, ARegion}, BlockContent}
@@ -14,47 +14,32 @@ use Rattle.irtext_graph.specs.declared.object.Object.{Object}
 use Rattle.irtext_graph.specs.declared.object.Object.TheVariants.{TheOperation, TheBlock, TheRegion}
 use Rattle.irtext_graph.specs.declared.object.Operation.{Operation}
 use Rattle.irtext_graph.specs.declared.object.Region.{Region}
-use Rattle.irtext_graph.proofs.Pointers.{ptr_or}
+use Rattle.irtext_graph.proofs.Stores.{edited_same}
 
 module _ {O B T : Type 0} (m : ℕ) (g h : GraphView O B T) (p : Ptr BasicBlock) (change : B → B) (e : EditsBlock g h p change) where
   abbrev BlockEntry : Type 0
   BlockEntry = Entry (Node Region Operation (BlockContent B T))
 
   -- what an edit of its data doesn't show in is seen of each block as before
-  seen_as_before : {V : Type 0} (see : Option BlockEntry → V) → ((s : Option BlockEntry) → see (option_map (object_of (with_block change)) s) ≡ see s) → (q : Ptr BasicBlock) → see (get h.blocks q) ≡ see (get g.blocks q)
-  seen_as_before see same q = elim (ptr_or q p) [
-    | inl f ↦ ap (λ q. see (get h.blocks q)) f ∙ (ap see e.blocks.updates.changed ∙ (same (get g.blocks p) ∙ ap (λ q. see (get g.blocks q)) (sym f)))
-    | inr n ↦ ap see (e.blocks.updates.others q n)
-  ]
-
-  same_parent : (s : Option BlockEntry) → parent_of (option_map (object_of (with_block change)) s) ≡ parent_of s
-  same_parent None = refl
-  same_parent (Some x) = refl
-
-  same_children : (s : Option BlockEntry) → children_of (option_map (object_of (with_block change)) s) ≡ children_of s
-  same_children None = refl
-  same_children (Some x) = refl
-
-  same_age : (s : Option BlockEntry) → is_older {O = O} {B = B} {T = T} m (option_map (λ d. ABlock d.0 d.1) (content_of (option_map (object_of (with_block change)) s))) ≡ is_older {O = O} {B = B} {T = T} m (option_map (λ d. ABlock d.0 d.1) (content_of s))
-  same_age None = refl
-  same_age (Some x) = refl
+  seen_as_before : {V : Type 0} (see : Option BlockEntry → V) → ((x : BlockEntry) → see (Some (object_of (with_block change) x)) ≡ see (Some x)) → (q : Ptr BasicBlock) → see (get h.blocks q) ≡ see (get g.blocks q)
+  seen_as_before see same q = edited_same g.blocks h.blocks p (with_block change) see same e.blocks q
 
   parents_stay : (o : Object) → parent h o ≡ parent g o
   parents_stay (TheOperation q) = ap (λ s. option_map TheBlock (parent_of (get s q))) e.operations
-  parents_stay (TheBlock b) = ap (option_map TheRegion) (seen_as_before parent_of same_parent b)
+  parents_stay (TheBlock b) = ap (option_map TheRegion) (seen_as_before parent_of (λ x. refl) b)
   parents_stay (TheRegion r) = ap (λ s. option_map TheOperation (parent_of (get s r))) e.regions
 
   children_stay : (o : Object) → children h o ≡ children g o
   children_stay (TheOperation q) = ap (λ s. map TheRegion (children_of (get s q))) e.operations
-  children_stay (TheBlock b) = ap (map TheOperation) (seen_as_before children_of same_children b)
+  children_stay (TheBlock b) = ap (map TheOperation) (seen_as_before children_of (λ x. refl) b)
   children_stay (TheRegion r) = ap (λ s. map TheBlock (children_of (get s r))) e.regions
 
   ages_stay : (o : Object) → is_older m (content h o) ≡ is_older m (content g o)
   ages_stay (TheOperation q) = ap (λ s. is_older {O = O} {B = B} {T = T} m (option_map (λ d. AnOperation d.0 d.1) (content_of (get s q)))) e.operations
-  ages_stay (TheBlock b) = seen_as_before (λ s. is_older {O = O} {B = B} {T = T} m (option_map (λ d. ABlock d.0 d.1) (content_of s))) same_age b
+  ages_stay (TheBlock b) = seen_as_before (λ s. is_older {O = O} {B = B} {T = T} m (option_map (λ d. ABlock d.0 d.1) (content_of s))) (λ x. refl) b
   ages_stay (TheRegion r) = ap (λ s. is_older {O = O} {B = B} {T = T} m (option_map (λ d. ARegion d.0 d.1) (content_of (get s r)))) e.regions
 
-  -- what nothing older than a mark stood in, held or used stays so
+  -- if no object older than a mark is connected with a newer one, by nesting or use, the same holds after the edit
   pub edited_block_closed : IsClosedBelow m g → IsClosedBelow m h
   edited_block_closed c = record {
     parents = λ o k f n. ages_stay o ∙ c.parents o k (sym (parents_stay o) ∙ f) (sym (ages_stay k) ∙ n);

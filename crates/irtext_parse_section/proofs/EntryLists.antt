@@ -1,4 +1,4 @@
--- What was read of entries stands for those of the text: one entry more, over the paths that are kept then.
+-- The parsed entries represent those of the text: one entry more, over the paths that are kept then.
 use Rattle.std.proofs.Common.{◌≡◌, ◌∙◌, ℕ, Bool, true, false, cond, not, ◌&&◌, ◌||◌, ◌==◌, nat_eq, is_some, List, [], ◌∷◌, ◌++◌, length, Option, Some, None, refl, sym, ap, ap₂, subst, append-nil, true≢false, arith}
 use Rattle.std.proofs.lemmas.Bool.Decides.{nat_tests}
 use Rattle.std.specs.Map.{lookup}
@@ -36,7 +36,7 @@ use Rattle.irtext_parse_section.specs.declared.said.ReadEntry.TheVariants as rea
 swap_sides : (i j : ℕ) → (i == j) ≡ nat_eq j i
 swap_sides i j = grind (arith, nat_tests)
 
--- a mark is noted under the indices of marks
+-- a mark is recorded under the indices of marks
 pub noted_among : {X : Type 0} (marks : List (ℕ × X)) (i : ℕ) → is_some (lookup (same_index i) marks) ≡ is_among i (indices_of marks)
 noted_among [] i = refl
 noted_among (m ∷ ms) i = go (i == m.0) refl (noted_among ms i)
@@ -71,11 +71,11 @@ seen_more i k y (s ∷ seen) = go (i == s.0) refl (seen_more i k y seen)
     go false e h = rw e h
 
 module _ {A X : Type 0} (seen : List (ℕ × Unit {0})) (found : List (Entry ℕ A X)) (h : AreSeen seen found) where
-  -- the reader's test is that of the text
+  -- the parser's test is that of the text
   pub test_same : {Y : Type 0} (marks : List (ℕ × Y)) (j : ℕ) → may_follow marks seen j ≡ may_have (indices_of marks) found j
   test_same marks j = ap₂ (λ a b. a && not b) (noted_among marks j) (h j)
 
-  -- an item's entry was noted
+  -- an item's entry was recorded
   seen_item : (k : ℕ) (m : Mark ℕ) (x : Option X) (ps : List (Name ℕ × section.Item ℕ A)) → k ≡ m.index → AreSeen (seen ++ (k, tt) ∷ []) (found ++ of_item m x ps ∷ [])
   seen_item k m x ps e i =
       seen_more i k tt seen ∙ (ap₂ ◌||◌ (h i) (ap (λ k. nat_eq k i) e) ∙ (sym (among_more i m.index (indices found)) ∙ ap (is_among i) (sym (flat_both _ found (of_item m x ps ∷ [])))))
@@ -86,7 +86,7 @@ module _ {A X : Type 0} (seen : List (ℕ × Unit {0})) (found : List (Entry ℕ
 
 -- ---- attributes that are written once
 module _ {A X : Type 0} where
-  -- the last under its index counts
+  -- the last entry with its index is the one that counts
   shared_once : (i : ℕ) (m : Mark ℕ) (a : Attribute A) (es : List (Entry ℕ A X)) → shared_attribute i (es ++ of_once m a ∷ []) ≡ cond (m.index == i) (Some a) (shared_attribute i es)
   shared_once i m a [] = refl
   shared_once i m a (of_item k x ps ∷ es) = shared_once i m a es
@@ -150,7 +150,7 @@ module _ {A : Type 0} where
     given_same (Some l) h = ap Some (written_same p q k (location_view l) h)
 
   module _ (marks : List (ℕ × Item)) (text : Text) where
-    -- they stand for the same over more paths
+    -- they represent the same over more paths
     items_on : (p q : List (List ℕ)) → KeepsPaths p q → (items : List (ItemEntry A)) (es : List (Entry ℕ A (Written A))) → AreItems marks p text items es → AreItems marks q text items es
     items_on p q k items [] h = h
     items_on p q k items (of_once m a ∷ es) h = items_on p q k items es h
@@ -214,7 +214,7 @@ module _ {A : Type 0} where
         kept = kept ∙ (h.kept ∙ sym (kept_once first found m a));
       }
 
--- ---- an entry that is read is of a new index
+-- ---- an entry that is parsed is of a new index
 passes : (a b : Bool) → a ≡ true → (a && not b) ≡ false → b ≡ true
 passes true true e f = refl
 passes true false e f = absurd (true≢false f)
@@ -242,7 +242,7 @@ none_there None e = refl
 none_there (Some x) e = absurd (true≢false e)
 
 module _ {A : Type 0} (attr : Text → Outcome (AttrView A)) (rules : ℕ → Rule A) where
-  -- what stands behind an entry's head
+  -- what follows an entry's head
   abbrev behind_head : Mark ℕ → Text → Outcome (Entry ℕ A (Written A))
   behind_head m t = cond (begins_given t) (mapped (λ g. of_item m g.0 g.1) (given_at attr (rules m.index) t)) (mapped (of_once m) (attribute_at attr t))
 
@@ -257,7 +257,7 @@ module _ {A : Type 0} (attr : Text → Outcome (AttrView A)) (rules : ℕ → Ru
       let c = chosen (begins_given a.middle) m a.value x ps a.middle a.more rest refl a.second in
       ap (λ (n : Mark ℕ). test n.index) (sym c.1) ∙ tested_passes test (entry_head_at text) a.value a.front a.middle a.first c.0
 
-  -- an entry that is read has an index that none before it has
+  -- an entry that is parsed has an index that none before it has
   pub entry_fresh : {Y : Type 0} (marks : List (ℕ × Y)) (seen : List (ℕ × Unit {0})) (x : Entry ℕ A (Written A)) (text taken rest : Text) → entry_at attr (may_follow marks seen) rules text ≡ Read x taken rest → IsFresh seen x
   entry_fresh marks seen (of_item m x ps) text taken rest e =
       none_there (lookup (same_index m.index) seen) (head_passes (is_some (lookup (same_index m.index) marks)) (is_some (lookup (same_index m.index) seen)) (item_passes (may_follow marks seen) m x ps text taken rest e))

@@ -1,4 +1,4 @@
--- Steps of the reader of an entry.
+-- Steps of the parser of an entry.
 use Rattle.std.proofs.Common.{◌≡◌, ℕ, Bool, true, false, List, [], Ok, Err, refl, sym, ap, subst, Option, Some}
 use Rattle.std.specs.Map.{lookup}
 use Rattle.std.specs.Prelude.{Vec, cond}
@@ -34,7 +34,7 @@ use Rattle.irtext_parse_section.specs.declared.said.ReadEntry.{ReadEntry}
 use Rattle.irtext_parse_section.specs.declared.said.ReadEntry.TheVariants as read
 use Rattle.irtext_parse_section.proofs.HeadSteps.{a_mark}
 
--- what stands behind the head
+-- what follows the head
 abbrev behind_head : {A : Type 0} → (Text → Outcome (AttrView A)) → (ℕ → Rule A) → Mark ℕ → Text → Outcome (Entry ℕ A (Written A))
 behind_head attr rules m t = cond (begins_given t) (mapped (λ g. of_item m g.0 g.1) (given_at attr (rules m.index) t)) (mapped (of_once m) (attribute_at attr t))
 
@@ -54,7 +54,7 @@ module _ {A : Type 0} (attr : Text → Outcome (AttrView A)) (test : ℕ → Boo
     item_behind : begins_given mid.rest ≡ true → Passed alone (entry_at attr test (rules_of marks)) (λ t. mapped (λ g. of_item (h.meant head) g.0 g.1) (given_at attr (rules_of marks (h.meant head).index) t)) old mid
     item_behind e = turned alone (λ t. mapped (λ g. of_item (h.meant head) g.0 g.1) (given_at attr (rules_of marks (h.meant head).index) t)) (rw e refl) behind
 
-    -- an attribute that is written once was read
+    -- an attribute that is written once was parsed
     pub once_there : {new : StreamView} (paths : List (List ℕ)) (a : AttrObj A) → begins_given mid.rest ≡ false → MustRead {A = A} itself replaced attribute_of (attribute_at attr) mid (Ok a) new
         → MustMean {A = A} itself replaced (IsEntry marks paths (whole old)) (entry_at attr test (rules_of marks)) old (Ok (read.OfOnce head.mark.index a)) new
     once_there paths a e r =
@@ -77,7 +77,7 @@ module _ {A : Type 0} (attr : Text → Outcome (AttrView A)) (test : ℕ → Boo
       its_rule : rule_for {A = A} (is_block item) ≡ rules_of marks (h.meant head).index
       its_rule = sym (ap (λ x. rule_of_item {A = A} x) carried)
 
-      -- what an item's entry gives was read
+      -- what an item's entry gives was parsed
       pub item_there : {new : StreamView} (paths : List (List ℕ)) (g : Option (Location A) × Vec (Key × GivenAttr A) Global) → begins_given mid.rest ≡ true
           → MustMean {A = A} itself replaced (IsGivenOver paths (whole mid)) (given_at attr (rule_for (is_block item))) mid (Ok g) new
           → MustMean {A = A} itself replaced (IsEntry marks paths (whole old)) (entry_at attr test (rules_of marks)) old (Ok (read.OfItem head.mark.index (record { item = item; location = g.0; pairs = g.1 }))) new

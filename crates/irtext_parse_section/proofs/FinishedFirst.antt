@@ -1,23 +1,23 @@
--- What takes no memory may come before what does: a location or a label that is set behind attributes that were put in might as well
--- have been set before them.
-use Rattle.std.proofs.Common.{◌≡◌, ◌∙◌, inl, inr, Bool, true, false, cond, is_some, List, Option, Some, None, refl, sym, ap, subst}
+-- A step that takes no memory may precede one that does: a location or a label that is set after attributes were put in might as well have
+-- been set before them.
+use Rattle.std.proofs.Common.{◌≡◌, ◌∙◌, Bool, true, false, cond, is_some, List, Option, Some, None, refl, sym, ap, subst}
 use Rattle.std.specs.Option.{option_map}
 use Rattle.std.specs.Prelude.{option_and_then}
 use Rattle.irtext_base.specs.Text.{Text}
 use Rattle.irtext_base.specs.declared.base.attributes.AttrObj.{AttrObj}
 use Rattle.irtext_base.specs.declared.location.Location.{Location}
-use Rattle.irtext_context.specs.Context.{ContextView, OperationView, operation, operation_of, block, block_of, view_of, EditsOperation, EditsBlock, with_loc, with_attributes, with_block_loc, with_block_attributes, with_label}
+use Rattle.irtext_context.specs.Context.{ContextView, OperationView, BlockView, operation, operation_of, block, block_of, view_of, EditsOperation, EditsBlock, with_loc, with_attributes, with_block_loc, with_block_attributes, with_label}
 use Rattle.irtext_context.specs.declared.base.block.BlockData.{BlockData}
 use Rattle.irtext_context.specs.declared.base.item.Item.{Item}
 use Rattle.irtext_context.specs.declared.base.item.Item.TheVariants as item
 use Rattle.irtext_context.specs.declared.base.operation.OperationData.{OperationData}
 use Rattle.irtext_context.proofs.Contexts.{OperationEntry, BlockEntry}
 use Rattle.irtext_graph.specs.Data.{with_data, with_block}
-use Rattle.irtext_graph.specs.Store.{get, object_of}
+use Rattle.irtext_graph.specs.Store.{get}
 use Rattle.irtext_graph.specs.declared.arena.Ptr.{Ptr}
 use Rattle.irtext_graph.specs.declared.object.BasicBlock.{BasicBlock}
 use Rattle.irtext_graph.specs.declared.object.Operation.{Operation}
-use Rattle.irtext_graph.proofs.Pointers.{ptr_or}
+use Rattle.irtext_graph.proofs.Stores.{edited_same}
 use Rattle.irtext_grammar.specs.Contexts.Held.{entries_of}
 use Rattle.irtext_grammar.specs.Grammar.Tree.{Attribute}
 use Rattle.irtext_grammar.specs.Graphs.Build.{put_all}
@@ -29,7 +29,7 @@ use Rattle.irtext_parse_section.proofs.Swaps.{operations_swapped, blocks_swapped
 abbrev pub Attributes : Type 0 → Type 0
 Attributes A = List (Text × AttrObj A)
 
--- an operation's attributes, where it stands
+-- an operation's attributes, if it is live
 abbrev pub attributes_at : {T A : Type 0} → ContextView T A → Ptr Operation → Option (Attributes A)
 attributes_at c p = option_map (λ op. op.attributes) (operation c p)
 
@@ -43,18 +43,9 @@ module _ {T A : Type 0} (a b : ContextView T A) where
     stands_in x None = refl
     stands_in x (Some d) = refl
 
-    stands_still : (s : Option (OperationEntry T A)) → is_some (option_and_then (operation_of {T = T} {A = A}) (option_map (object_of (with_data (option_map h))) s)) ≡ is_some (option_and_then (operation_of {T = T} {A = A}) s)
-    stands_still None = refl
-    stands_still (Some x) = stands_in x x.content.content.data_of
-
-    -- whatever is done to an operation's data, what stood stands, and nothing else does
+    -- whatever edit is made of an operation's data, the same operations are live
     pub operation_stands : (q : Ptr Operation) → is_some (operation b q) ≡ is_some (operation a q)
-    operation_stands q = elim (ptr_or q p) [
-      | inl f ↦ ap (λ z. is_some (operation b z)) f
-          ∙ (ap (λ s. is_some (option_and_then (operation_of {T = T} {A = A}) s)) e.graph.operations.updates.changed
-          ∙ (stands_still (get a.graph.operations p) ∙ ap (λ z. is_some (operation a z)) (sym f)))
-      | inr n ↦ ap (λ s. is_some (option_and_then (operation_of {T = T} {A = A}) s)) (e.graph.operations.updates.others q n)
-    ]
+    operation_stands q = edited_same a.graph.operations b.graph.operations p (with_data (option_map h)) (λ s. is_some (option_and_then (operation_of {T = T} {A = A}) s)) (λ x. stands_in x x.content.content.data_of) e.graph.operations q
 
     pub block_beside_stands : (q : Ptr BasicBlock) → block b q ≡ block a q
     block_beside_stands q = ap (λ s. option_map (block_of {T = T} {A = A}) (get s q)) e.graph.blocks
@@ -64,46 +55,19 @@ module _ {T A : Type 0} (a b : ContextView T A) where
       same_in x None = refl
       same_in x (Some d) = ap (λ w. Some w) (plain d)
 
-      same_still : (s : Option (OperationEntry T A)) → option_map (λ op. op.attributes) (option_and_then (operation_of {T = T} {A = A}) (option_map (object_of (with_data (option_map h))) s)) ≡ option_map (λ op. op.attributes) (option_and_then (operation_of {T = T} {A = A}) s)
-      same_still None = refl
-      same_still (Some x) = same_in x x.content.content.data_of
-
       pub same_attributes : (q : Ptr Operation) → attributes_at b q ≡ attributes_at a q
-      same_attributes q = elim (ptr_or q p) [
-        | inl f ↦ ap (attributes_at b) f
-            ∙ (ap (λ s. option_map (λ op. op.attributes) (option_and_then (operation_of {T = T} {A = A}) s)) e.graph.operations.updates.changed
-            ∙ (same_still (get a.graph.operations p) ∙ ap (attributes_at a) (sym f)))
-        | inr n ↦ ap (λ s. option_map (λ op. op.attributes) (option_and_then (operation_of {T = T} {A = A}) s)) (e.graph.operations.updates.others q n)
-      ]
+      same_attributes q = edited_same a.graph.operations b.graph.operations p (with_data (option_map h)) (λ s. option_map (λ (op : OperationView T A). op.attributes) (option_and_then (operation_of {T = T} {A = A}) s)) (λ x. same_in x x.content.content.data_of) e.graph.operations q
 
   module _ (p : Ptr BasicBlock) (h : BlockData A → BlockData A) (e : EditsBlock a b p h) where
-    block_still : (s : Option (BlockEntry T A)) → is_some (option_map (block_of {T = T} {A = A}) (option_map (object_of (with_block h)) s)) ≡ is_some (option_map (block_of {T = T} {A = A}) s)
-    block_still None = refl
-    block_still (Some x) = refl
-
     pub block_stands : (q : Ptr BasicBlock) → is_some (block b q) ≡ is_some (block a q)
-    block_stands q = elim (ptr_or q p) [
-      | inl f ↦ ap (λ z. is_some (block b z)) f
-          ∙ (ap (λ s. is_some (option_map (block_of {T = T} {A = A}) s)) e.graph.blocks.updates.changed
-          ∙ (block_still (get a.graph.blocks p) ∙ ap (λ z. is_some (block a z)) (sym f)))
-      | inr n ↦ ap (λ s. is_some (option_map (block_of {T = T} {A = A}) s)) (e.graph.blocks.updates.others q n)
-    ]
+    block_stands q = edited_same a.graph.blocks b.graph.blocks p (with_block h) (λ s. is_some (option_map (block_of {T = T} {A = A}) s)) (λ x. refl) e.graph.blocks q
 
     pub operation_beside_stands : (q : Ptr Operation) → operation b q ≡ operation a q
     operation_beside_stands q = ap (λ s. option_and_then (operation_of {T = T} {A = A}) (get s q)) e.graph.operations
 
     module _ (plain : (x : BlockData A) → (h x).attributes ≡ x.attributes) where
-      same_block_still : (s : Option (BlockEntry T A)) → option_map (λ b. b.attributes) (option_map (block_of {T = T} {A = A}) (option_map (object_of (with_block h)) s)) ≡ option_map (λ b. b.attributes) (option_map (block_of {T = T} {A = A}) s)
-      same_block_still None = refl
-      same_block_still (Some x) = ap (λ w. Some w) (plain x.content.content.data_of)
-
       pub same_block_attributes : (q : Ptr BasicBlock) → block_attributes_at b q ≡ block_attributes_at a q
-      same_block_attributes q = elim (ptr_or q p) [
-        | inl f ↦ ap (block_attributes_at b) f
-            ∙ (ap (λ s. option_map (λ b. b.attributes) (option_map (block_of {T = T} {A = A}) s)) e.graph.blocks.updates.changed
-            ∙ (same_block_still (get a.graph.blocks p) ∙ ap (block_attributes_at a) (sym f)))
-        | inr n ↦ ap (λ s. option_map (λ b. b.attributes) (option_map (block_of {T = T} {A = A}) s)) (e.graph.blocks.updates.others q n)
-      ]
+      same_block_attributes q = edited_same a.graph.blocks b.graph.blocks p (with_block h) (λ s. option_map (λ (b : BlockView T A). b.attributes) (option_map (block_of {T = T} {A = A}) s)) (λ x. ap (λ w. Some w) (plain x.content.content.data_of)) e.graph.blocks q
 
 -- ---- what was put in is put into the same attributes
 module _ {A : Type 0} (content : List (Text × Attribute A)) where
@@ -154,8 +118,7 @@ module _ {A : Type 0} where
 
 module _ {T A : Type 0} (content : List (Text × Attribute A)) (n : Option Text) where
   -- an edit of an operation that attributes do not look at comes before attributes of an item
-  operation_passes : (x : Item) (q : Ptr Operation) (h : OperationData A → OperationData A) → IsPlain h → (a b c : ContextView T A) → Stores content x n a b → EditsOperation b c q h
-      → (m : ContextView T A) × EditsOperation a m q h × Stores content x n m c
+  operation_passes : (x : Item) (q : Ptr Operation) (h : OperationData A → OperationData A) → IsPlain h → (a b c : ContextView T A) → Stores content x n a b → EditsOperation b c q h → (m : ContextView T A) × EditsOperation a m q h × Stores content x n m c
   operation_passes (item.Operation p) q h plain a b c r e = go (is_some (operation a p)) refl r
     where
       go : (t : Bool) → is_some (operation a p) ≡ t → cond t (StoresOperation p content a b) (b ≡ a) → (m : ContextView T A) × EditsOperation a m q h × Stores content (item.Operation p) n m c
@@ -176,9 +139,8 @@ module _ {T A : Type 0} (content : List (Text × Attribute A)) (n : Option Text)
           let d : EditsOperation a c q h = subst (λ z. EditsOperation z c q h) k e in
           (c, d, taken_false _ (is_some (block c p)) (ap is_some (block_beside_stands a c q h d p) ∙ f) refl)
 
-  -- so does one of a block
-  block_passes : (x : Item) (q : Ptr BasicBlock) (h : BlockData A → BlockData A) → IsPlainBlock h → (a b c : ContextView T A) → Stores content x n a b → EditsBlock b c q h
-      → (m : ContextView T A) × EditsBlock a m q h × Stores content x n m c
+  -- the same for one of a block
+  block_passes : (x : Item) (q : Ptr BasicBlock) (h : BlockData A → BlockData A) → IsPlainBlock h → (a b c : ContextView T A) → Stores content x n a b → EditsBlock b c q h → (m : ContextView T A) × EditsBlock a m q h × Stores content x n m c
   block_passes (item.Operation p) q h plain a b c r e = go (is_some (operation a p)) refl r
     where
       go : (t : Bool) → is_some (operation a p) ≡ t → cond t (StoresOperation p content a b) (b ≡ a) → (m : ContextView T A) × EditsBlock a m q h × Stores content (item.Operation p) n m c
@@ -199,7 +161,7 @@ module _ {T A : Type 0} (content : List (Text × Attribute A)) (n : Option Text)
           let d : EditsBlock a c q h = subst (λ z. EditsBlock z c q h) k e in
           (c, d, taken_false _ (is_some (block c p)) (block_stands a c q h d p ∙ f) refl)
 
-  -- attributes that are put into one item change nothing of what stands
+  -- putting attributes into one item does not change which objects are live
   operation_there : (x : Item) (a b : ContextView T A) → Stores content x n a b → (q : Ptr Operation) → is_some (operation b q) ≡ is_some (operation a q)
   operation_there (item.Operation p) a b r q = go (is_some (operation a p)) r
     where
@@ -230,7 +192,7 @@ module _ {T A : Type 0} (content : List (Text × Attribute A)) (n : Option Text)
   location_passes x q None a b c r e = (a, refl, subst (λ z. Stores content x n a z) (sym e) r)
   location_passes x q (Some l) a b c r e = operation_passes x q (with_loc l) (plain_loc l) a b c r e
 
-  -- so does one of a block
+  -- the same for one of a block
   block_location_passes : (x : Item) (q : Ptr BasicBlock) (l : Option (Location A)) (a b c : ContextView T A) → Stores content x n a b → LocatesBlock q l b c
       → (m : ContextView T A) × LocatesBlock q l a m × Stores content x n m c
   block_location_passes x q None a b c r e = (a, refl, subst (λ z. Stores content x n a z) (sym e) r)

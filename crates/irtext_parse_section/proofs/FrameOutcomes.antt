@@ -1,4 +1,4 @@
--- A location that is read step by step: what each step leaves to be read is what the location's definition says.
+-- A location that is parsed step by step: what each step leaves to be parsed is what the location's definition says.
 use Rattle.std.proofs.Common.{◌≡◌, ◌∙◌, ap, refl, sym, ℕ, suc, ◌≤◌, Bool, true, false, cond, Option, List, [], ◌∷◌, ◌++◌, codes, length, append-nil, true≢false}
 use Rattle.std.proofs.Math.Nat.{le_refl}
 use Rattle.irtext_base.specs.Text.{Text, begins}
@@ -21,7 +21,7 @@ use Rattle.irtext_parse_spec.proofs.Locations.LocationRests.{within_location}
 use Rattle.irtext_parse_section.specs.Frames.{FrameOf, for_name, for_callee, for_caller, for_row, ProgressOf, whole, inside, with_one, behind_at, call_site_head_at, row_opening_at, fused_opening_at, opening_at, further_at, frame_rest, progress_rest}
 
 -- ---- outcomes
--- what stands behind characters taken is demanded already
+-- what follows characters that were taken is required already
 pub prefixed_demanded : {X : Type 0} (t : Text) (o p : Outcome X) → demanded o ≡ demanded p → prefixed t o ≡ prefixed t p
 prefixed_demanded t o p e = sym (same t o) ∙ (ap (prefixed t) e ∙ same t p)
   where
@@ -45,7 +45,7 @@ demanded_none (Missing cause) = refl
 demanded_none (Bad cause upto) = refl
 
 module _ {X Y : Type 0} where
-  -- two things that are alike where they are demanded, and what follows them
+  -- two outcomes that are the same if they are required, and what follows them
   pub demanded_followed : (o p : Outcome X) (k : X → Text → Outcome Y) → demanded o ≡ demanded p → demanded (followed o k) ≡ demanded (followed p k)
   demanded_followed o p k e = sym (same o) ∙ (ap (λ z. followed z k) e ∙ same p)
     where
@@ -54,7 +54,7 @@ module _ {X Y : Type 0} where
       same (Missing cause) = refl
       same (Bad cause upto) = refl
 
-  -- what follows may be said in other words
+  -- what follows may be stated in other words
   pub followed_alike : (o : Outcome X) (k l : X → Text → Outcome Y) → ((x : X) (t : Text) → demanded (k x t) ≡ demanded (l x t)) → followed o k ≡ followed o l
   followed_alike (Read x taken rest) k l e = prefixed_demanded taken (k x rest) (l x rest) (e x rest)
   followed_alike (Missing cause) k l e = refl
@@ -70,19 +70,19 @@ module _ {X Y : Type 0} where
   followed_prefixed t (Bad cause upto) k = refl
 
 module _ {X Y V : Type 0} where
-  -- one thing, a second and a third
+  -- one parser, a second and a third
   pub followed_followed : (o : Outcome X) (k : X → Text → Outcome Y) (l : Y → Text → Outcome V) → followed (followed o k) l ≡ followed o (λ x t. followed (k x t) l)
   followed_followed (Read x taken rest) k l = followed_prefixed taken (k x rest) l
   followed_followed (Missing cause) k l = refl
   followed_followed (Bad cause upto) k l = refl
 
-  -- a thing seen by a function, and another behind it
+  -- a value seen by a function, and another parser after it
   pub followed_mapped : (see : X → Y) (o : Outcome X) (k : Y → Text → Outcome V) → followed (mapped see o) k ≡ followed o (λ x t. k (see x) t)
   followed_mapped see (Read x taken rest) k = refl
   followed_mapped see (Missing cause) k = refl
   followed_mapped see (Bad cause upto) k = refl
 
--- a thing, and nothing behind it
+-- a value, and nothing after it
 pub followed_nothing : {X : Type 0} (o : Outcome X) → followed o (λ x t. Read x [] t) ≡ o
 followed_nothing (Read x taken rest) = ap (λ z. Read x z rest) (append-nil taken)
 followed_nothing (Missing cause) = refl
@@ -95,14 +95,14 @@ joined_one (location k row) more l = ap (location k) (joined_one row more l)
 
 -- ---- the definition without a bound
 module _ {A : Type 0} (attr : Reader (AttrView A)) (no_more : LeavesNoMore attr) where
-  -- at a bound that the text meets a location is read as at the text's length
+  -- at a bound that the text is within, a location is parsed as at the text's length
   pub at_any : (n : ℕ) (text : Text) → length text ≤ n → location_within attr n text ≡ location_at attr text
   at_any n text h = (within_enough attr no_more n (length text) text h (le_refl (length text))).0
 
   further_any : (n : ℕ) (text : Text) → length text ≤ n → more_within attr n text ≡ further_at attr text
   further_any n text h = (within_enough attr no_more n (length text) text h (le_refl (length text))).1
 
-  -- a location is one of the kind that its first character names, in which locations stand
+  -- a location is one of the kind that its first character determines, with locations nested in it
   location_is : (text : Text) → location_at attr text ≡ kind_at (location_at attr) (further_at attr) attr text
   location_is [] = refl
   location_is (c ∷ text) =
@@ -116,7 +116,7 @@ module _ {A : Type 0} (attr : Reader (AttrView A)) (no_more : LeavesNoMore attr)
       more_same (location_within attr (length text)) (location_at attr) (more_within attr (length text)) (further_at attr) (length text) (within_location no_more (length text))
       (λ t h. at_any (length text) t h) (λ t h. further_any (length text) t h) (c ∷ text) (le_refl (suc (length text)))
 
-  -- ---- what stands behind a location
+  -- ---- what follows a location
   abbrev rest_of : ProgressOf (Option (List ℕ)) A → Text → Outcome (Written A)
   rest_of p text = progress_rest attr p text
 
@@ -128,25 +128,25 @@ module _ {A : Type 0} (attr : Reader (AttrView A)) (no_more : LeavesNoMore attr)
   word_ends : {X : Type 0} (o : Outcome X) (l : Written A) → followed (mapped (λ _. whole l) o) rest_of ≡ mapped (λ _. l) o
   word_ends o l = followed_mapped (λ _. whole l) o rest_of ∙ sym (mapped_is_followed (λ _. l) o)
 
-  -- white space, and further locations behind one
+  -- white space, and further locations after one
   abbrev spaced_further : Option (AttrView A) → WrittenRow A → Written A → Unit {0} → Text → Outcome (Written A)
   spaced_further m row l u text = followed (mapped (location l) (further_at attr text)) (ends_row m row)
 
-  -- a location of a row, and those behind it
+  -- a location of a list, and those after it
   abbrev in_row : Option (AttrView A) → WrittenRow A → Written A → Text → Outcome (Written A)
   in_row m row l text = frame_rest attr (for_row m row) l text
 
   row_rest : (m : Option (AttrView A)) (row : WrittenRow A) (l : Written A) (text : Text) → in_row m row l text ≡ followed (space_at text) (spaced_further m row l)
   row_rest m row l text = followed_followed (space_at text) (λ _ t. mapped (location l) (further_at attr t)) (ends_row m row)
 
-  -- the next location of a row, behind `,` and white space
+  -- the next location of a list, after `,` and white space
   abbrev next_in : Option (AttrView A) → WrittenRow A → Unit {0} → Text → Outcome (Written A)
   next_in m row u text = followed (location_at attr text) (in_row m row)
 
   abbrev behind_comma : (Written A → Text → Outcome (WrittenRow A)) → Unit {0} → Text → Outcome (WrittenRow A)
   behind_comma k u text = followed (space_at text) (λ _ t. followed (location_at attr t) k)
 
-  -- where `,` stands, the row goes on
+  -- if `,` follows, the list goes on
   comma_goes_on : (m : Option (AttrView A)) (row : WrittenRow A) (l : Written A) (text : Text)
       → followed (followed (text_at (codes ",") text) (behind_comma (behind_location (location_at attr) (further_at attr)))) (λ ls t. ends_row m row (location l ls) t)
       ≡ followed (text_at (codes ",") text) (λ _ t. followed (space_at t) (next_in m (with_one row l)))
@@ -160,7 +160,7 @@ module _ {A : Type 0} (attr : Reader (AttrView A)) (no_more : LeavesNoMore attr)
       followed_as (behind_location (location_at attr) (further_at attr) k v) (λ ls w. ends_row m row (location l ls) w) (ends_row m (with_one row l)) (λ ls w.
       ap (λ r. mapped (λ _. fused m r) (text_at (codes "]") w)) (sym (joined_one row ls l))))))
 
-  -- the row goes on, or it ends
+  -- the list goes on, or it ends
   abbrev row_step : Option (AttrView A) → WrittenRow A → Unit {0} → Text → Outcome (ProgressOf (Option (List ℕ)) A)
   row_step m row u text = cond (begins (the 44) text)
       (followed (text_at (codes ",") text) (λ _ t. mapped (λ _. inside (for_row m row)) (space_at t)))
@@ -187,7 +187,7 @@ module _ {A : Type 0} (attr : Reader (AttrView A)) (no_more : LeavesNoMore attr)
       ∙ (demanded_none (mapped (λ _. fused m (with_one row l)) (text_at (codes "]") text))
       ∙ ap demanded (sym (word_ends (text_at (codes "]") text) (fused m (with_one row l))) ∙ ap (λ b. followed (cond b comma bracket) rest_of) (sym e)))
 
-  -- behind a location in a frame a step is the first part of all that is left of the frame
+  -- after a location in a frame, a step is the first part of all that is left of the frame
   pub behind_is : (f : FrameOf (Option (List ℕ)) A) (l : Written A) (text : Text) → demanded (frame_rest attr f l text) ≡ demanded (followed (behind_at f l text) rest_of)
   behind_is (for_name name) l text = ap demanded (sym (word_ends (text_at (codes ")") text) (named name l)))
   behind_is for_callee l text = ap demanded (sym (followed_mapped (λ _. inside (for_caller l)) (spaced_at (codes "at") text) rest_of))
@@ -197,12 +197,12 @@ module _ {A : Type 0} (attr : Reader (AttrView A)) (no_more : LeavesNoMore attr)
       ∙ (followed_alike (space_at text) (spaced_further m row l) (λ u t. followed (row_step m (with_one row l) u t) rest_of) (λ _ t. row_steps m row l t (begins (the 44) t) refl)
       ∙ sym (followed_followed (space_at text) (row_step m (with_one row l)) rest_of)))
 
-  -- ---- a location up to the first that stands in it
-  -- what stands behind the row of several locations as one
+  -- ---- a location up to the first one nested in it
+  -- what follows the list of a fused location
   abbrev behind_row : Option (AttrView A) → WrittenRow A → Text → Outcome (Written A)
   behind_row m ls text = mapped (λ _. fused m ls) (text_at (codes "]") text)
 
-  -- the first location of a row, and those behind it
+  -- the first location of a list, and those after it
   row_opens : (m : Option (AttrView A)) (text : Text) (b : Bool) → begins begins_location text ≡ b
       → demanded (followed (row_at (location_at attr) (further_at attr) text) (behind_row m)) ≡ demanded (followed (row_opening_at m text) rest_of)
   row_opens m text true e =
@@ -249,7 +249,7 @@ module _ {A : Type 0} (attr : Reader (AttrView A)) (no_more : LeavesNoMore attr)
       sym (followed_mapped (λ _. inside for_callee) (call_site_head_at text) rest_of
       ∙ followed_followed (text_at (codes "callsite") text) (λ _ t. spaced_at (codes "(") t) in_call_site)
 
-  -- the kinds, each in front of what is left of it
+  -- the kinds, each before the rest of it
   kinds_are : (text : Text) (a : Bool) (b : Bool) (c : Bool) (d : Bool) (e : Bool) (p q r s t n : Outcome (Written A)) (p2 q2 r2 s2 t2 n2 : Outcome (ProgressOf (Option (List ℕ)) A))
       → p ≡ followed p2 rest_of → q ≡ followed q2 rest_of → r ≡ followed r2 rest_of → s ≡ followed s2 rest_of → t ≡ followed t2 rest_of → n ≡ followed n2 rest_of
       → cond a p (cond b q (cond c r (cond d s (cond e t n)))) ≡ followed (cond a p2 (cond b q2 (cond c r2 (cond d s2 (cond e t2 n2))))) rest_of
@@ -260,7 +260,7 @@ module _ {A : Type 0} (attr : Reader (AttrView A)) (no_more : LeavesNoMore attr)
   kinds_are text false false false false true p q r s t n p2 q2 r2 s2 t2 n2 hp hq hr hs ht hn = ht
   kinds_are text false false false false false p q r s t n p2 q2 r2 s2 t2 n2 hp hq hr hs ht hn = hn
 
-  -- a location up to the first that stands in it, and what is left of it
+  -- a location up to the first one nested in it, and the rest of it
   pub opening_is : (text : Text) → location_at attr text ≡ followed (opening_at attr text) rest_of
   opening_is text =
       location_is text

@@ -1,4 +1,4 @@
--- The loop that reads a location: what it has read so far, with what is open, is all of what the definition has read.
+-- The loop that parses a location: what it has parsed so far, with the open frames, is all that the definition has parsed.
 use Rattle.std.proofs.Common.{◌≡◌, ◌∙◌, ap, ap₂, refl, sym, subst, ℕ, suc, ◌≤◌, ◌<◌, Bool, true, false, cond, Result, Ok, Err, IfOk, Option, List, [], ◌∷◌, ◌++◌, Box, Vec, map, codes, length, arith, ◌⊎◌, inl, inr, append-nil, true≢false}
 use Rattle.std.proofs.Math.Nat.{le_refl}
 use Rattle.std.specs.Global.{Global}
@@ -49,7 +49,7 @@ module _ {A : Type 0} where
   row_with_one [] l = refl
   row_with_one (k ∷ ls) l = ap (location (location_view k)) (row_with_one ls l)
 
-  -- a row with one more is the row with that one last
+  -- a list with one more is the list with that one last
   pub row_grew : (old new : List (Location A)) (l : Location A) → new ≡ old ++ l ∷ [] → in_row (map location_view new) ≡ with_one (in_row (map location_view old)) (location_view l)
   row_grew old new l e = ap (λ ls. in_row (map location_view ls)) e ∙ row_with_one old l
 
@@ -81,7 +81,7 @@ module _ {A : Type 0} where
         (ends alone progress_view (progress.Whole l) (turned alone (λ t. Read (whole (location_view l)) [] t) (ap (λ v. Read (whole v) [] mid.rest) (sym h.0)) p))
 
   module _ (m : Option (AttrView A)) (row : LocationsOf Source A) {old mid : StreamView} (fine : old.failed ≡ false) (space : Takes itself replaced (front is_whitespace old.rest) (after is_whitespace old.rest) old mid) where
-    -- `,` in front of one location more, or the bracket
+    -- `,` before one more location, or the bracket
     abbrev behind_space : Unit {0} → Text → Outcome (ProgressOf Source A)
     behind_space u text = cond (begins (the 44) text) (followed (text_at (codes ",") text) (λ _ t. mapped (λ _. inside (for_row m row)) (space_at t))) (mapped (λ _. whole (fused m row)) (text_at (codes "]") text))
 
@@ -98,7 +98,7 @@ module _ {A : Type 0} where
         turned alone (row_end_at m row)
         (ap (λ z. cond z (followed (text_at (codes ",") mid.rest) (λ _ u. mapped (λ _. inside (for_row m row)) (space_at u))) (mapped (λ _. whole (fused m row)) (text_at (codes "]") mid.rest))) b) spaced_row
 
--- memory is refused for a call site behind its bracket
+-- out of memory for a call site after its bracket
 pub caller_starves : {A B : Type 0} (f : FrameOf Source A) (callee caller : LocationOf Source A) {old mid new : StreamView} {fault : ParseFault B} → f ≡ for_caller callee → old.failed ≡ false
     → MustRead {A = B} {Y = Unit {0}} itself replaced (λ u. u) (spaced_at (codes ")")) old (Ok tt) mid → StarvesHere itself replaced mid fault new → MustRead {Y = Progress A} itself replaced progress_view (behind_at f caller) old (Err fault) new
 caller_starves f callee caller {old = old} {new = new} {fault = fault} e fine h k =
@@ -132,7 +132,7 @@ module _ {S R A : Type 0} (see : S → R) where
       step : Unit {0} → Text → Outcome (ProgressOf S A)
       step u t = cond (begins (the 44) t) (followed (text_at (codes ",") t) (λ _ u. mapped (λ _. inside (for_row m row)) (space_at u))) (mapped (λ _. whole (fused m row)) (text_at (codes "]") t))
 
-  -- what stands behind a location is the same over other sources
+  -- what follows a location is the same over other sources
   behind_natural : (f : FrameOf S A) (l : LocationOf S A) (text : Text) → mapped (progress_sourced see) (behind_at f l text) ≡ behind_at (frame_sourced see f) (sourced see l) text
   behind_natural (for_name name) l text = word_natural (text_at (codes ")") text) (whole (named name l))
   behind_natural for_callee l text = word_natural (spaced_at (codes "at") text) (inside (for_caller l))
@@ -160,8 +160,8 @@ module _ {S R A : Type 0} (see : S → R) where
         opened : {Z : Type 0} → Option (AttrView A) → Text → Outcome (ProgressOf Z A)
         opened m v = followed (text_at (codes "[") v) (λ _ w. followed (space_at w) (λ _ x. row_opening_at m x))
 
--- ---- what a step may answer
--- each value that is read is so
+-- ---- what a step may return
+-- each value that is parsed has the property
 record Says {X : Type 0} (Q : X → Type 0) (o : Outcome X) : Type 0 where
   pub by : (x : X) (taken rest : Text) → o ≡ Read x taken rest → Q x
 
@@ -195,7 +195,7 @@ module _ {X : Type 0} {Q : X → Type 0} where
   says_followed (Bad cause upto) k h = says_bad cause upto
 
 module _ {S A : Type 0} where
-  -- what stands behind a location in a frame may end the frame, or lead to the next location in it
+  -- what follows a location in a frame may end the frame, or lead to the next location in it
   abbrev IsNext : FrameOf S A → LocationOf S A → ProgressOf S A → Type 0
   IsNext (for_name name) l p = whole (named name l) ≡ p
   IsNext for_callee l p = inside (for_caller l) ≡ p
@@ -277,7 +277,7 @@ module _ {A : Type 0} (p q : List (List ℕ)) (k : KeepsPaths p q) where
   frame_stays (for_caller callee) h = stays_known p q k callee h
   frame_stays (for_row m row) h = row_stays_known p q k row h
 
--- ---- what is open
+-- ---- the open frames
 module _ {A : Type 0} where
   -- the frames as their texts say them over these paths
   abbrev pub frames_over : List (List ℕ) → List (Frame A) → List (FrameOf (Option (List ℕ)) A)
@@ -318,7 +318,7 @@ module _ {A : Type 0} where
     frames_stay [] h = tt
     frames_stay (f ∷ frames) h = (frame_stays p q k (frame_view f) h.0, frames_stay frames h.1)
 
--- ---- answers
+-- ---- results
 module _ {B X V : Type 0} (k : X → V) (old new : StreamView) where
   refuses_so : (b : Bool) (o : Outcome X) (p : Outcome V) (fault : ParseFault B) → mapped k o ≡ p → Starves itself replaced old fault new ⊎ Refuses itself replaced (demanded (unless_failed b o)) old fault new
       → Starves itself replaced old fault new ⊎ Refuses itself replaced (demanded (unless_failed b p)) old fault new
@@ -335,12 +335,12 @@ module _ {X V : Type 0} (k : X → V) (old new : StreamView) where
   gives_so false (Missing cause) p x e h = absurd h
   gives_so false (Bad cause upto) p x e h = absurd h
 
--- an answer whose value is seen by a function more
+-- a result whose value is seen by one more function
 seen_so : {B X Y V : Type 0} {see : Y → X} {sees : Y → V} (k : X → V) {f : Text → Outcome X} (g : Text → Outcome V) {old new : StreamView} (r : Result Y (ParseFault B)) → ((y : Y) → sees y ≡ k (see y)) → mapped k (f old.rest) ≡ g old.rest → MustRead itself replaced see f old r new → MustRead itself replaced sees g old r new
 seen_so {see = see} k {f = f} g {old = old} {new = new} (Ok y) s e h = record { answers = subst (λ v. Gives itself replaced (demanded (unless_failed old.failed (g old.rest))) old v new) (sym (s y)) (gives_so k old new old.failed (f old.rest) (g old.rest) (see y) e h.answers) }
 seen_so k {f = f} g {old = old} {new = new} (Err fault) s e h = record { answers = refuses_so k old new old.failed (f old.rest) (g old.rest) fault e h.answers }
 
--- where the first thing is refused, all is
+-- if the first part is an error, all is
 first_so : {B X V : Type 0} (old new : StreamView) (fault : ParseFault B) (b : Bool) (o : Outcome X) (p : Outcome V) (k : X → Text → Outcome V) → p ≡ followed o k → Starves itself replaced old fault new ⊎ Refuses itself replaced (demanded (unless_failed b o)) old fault new
     → Starves itself replaced old fault new ⊎ Refuses itself replaced (demanded (unless_failed b p)) old fault new
 first_so old new fault b o p k e (inl h) = inl h
@@ -353,16 +353,16 @@ first_refused : {B X Y W V : Type 0} {see : Y → X} {sees : W → V} {f : Text 
 first_refused {f = f} {old = old} {new = new} {fault = fault} g k e h = record { answers = first_so old new fault old.failed (f old.rest) (g old.rest) k e h.answers }
 
 module _ {V : Type 0} {outcome next : Text → Outcome V} {old mid : StreamView} where
-  -- what is to be read may be said in other words, since it is demanded
+  -- what is to be parsed may be stated in other words, since it is required
   turned_alike : (other : Text → Outcome V) → demanded (next mid.rest) ≡ demanded (other mid.rest) → Passed alone outcome next old mid → Passed alone outcome other old mid
   turned_alike other e p = record { fine = p.fine; taken = p.taken; takes = p.takes; so_far = p.so_far ∙ prefixed_demanded p.taken (next mid.rest) (other mid.rest) e }
 
-  -- what was to be read may be said in other words
+  -- what was to be parsed may be stated in other words
   said_as : (other : Text → Outcome V) → other old.rest ≡ outcome old.rest → Passed alone outcome next old mid → Passed alone other next old mid
   said_as other e p = record { fine = p.fine; taken = p.taken; takes = p.takes; so_far = ap demanded e ∙ p.so_far }
 
 -- ---- the loop
--- the caller's reader leaves no more than its text
+-- the caller's parser leaves no more than its text
 pub attr_leaves : {A : Type 0} (reading : Text → Outcome A) → Sincere reading → LeavesNoMore (attr_at reading)
 attr_leaves reading s = record { by = λ text. record { by = λ x taken rest e. leaves_no_more (honest_attr (record { of = of_sincere reading s })) text x taken rest e } }
 
@@ -379,7 +379,7 @@ module _ {A : Type 0} (attr : Reader (AttrView A)) (no_more : LeavesNoMore attr)
   resumed_alike [] o p e = e
   resumed_alike (g ∷ frames) o p e = demanded_followed (resumed attr frames o) (resumed attr frames p) (frame_rest attr g) (resumed_alike frames o p e)
 
-  -- what is left, as a function of how far the innermost was read
+  -- what is left, as a function of how far the innermost was parsed
   abbrev left_in : List (FrameOf (Option (List ℕ)) A) → ProgressOf (Option (List ℕ)) A → Text → Outcome (Written A)
   left_in frames p text = left_of attr frames p text
 
@@ -390,14 +390,14 @@ module _ {A : Type 0} (attr : Reader (AttrView A)) (no_more : LeavesNoMore attr)
       ∙ (ap (resumed attr (frames ++ f ∷ [])) (opening_is attr no_more text)
       ∙ resumed_followed (frames ++ f ∷ []) (opening_at attr text) (λ p t. progress_rest attr p t))
 
-  -- what stands behind the location inside a frame
+  -- what follows the location inside a frame
   step_behind : (frames : List (FrameOf (Option (List ℕ)) A)) (f : FrameOf (Option (List ℕ)) A) (l : Written A) (text : Text) → demanded (left_in (frames ++ f ∷ []) (whole l) text) ≡ demanded (followed (behind_at f l text) (left_in frames))
   step_behind frames f l text =
       ap demanded (resumed_pushed frames f (Read l [] text))
       ∙ (resumed_alike frames (prefixed [] (frame_rest attr f l text)) (followed (behind_at f l text) (λ p t. progress_rest attr p t)) (demanded_none (frame_rest attr f l text) ∙ behind_is attr no_more f l text)
       ∙ ap demanded (resumed_followed frames (behind_at f l text) (λ p t. progress_rest attr p t)))
 
-  -- what was read so far, and where: what is open and how far the innermost was read, over the paths that are kept now
+  -- what was parsed so far, and where: the open frames and how far the innermost was parsed, over the paths that are kept now
   pub record SoFar (before : List (List ℕ)) (old : StreamView) (paths : List (List ℕ)) (frames : List (Frame A)) (p : Progress A) (now : StreamView) : Type 0 where
     pub open_known : FramesKnown (length paths) frames
     pub known : known_progress (length paths) p ≡ true
@@ -414,13 +414,13 @@ module _ {A : Type 0} (attr : Reader (AttrView A)) (no_more : LeavesNoMore attr)
     kept = k;
   }
 
-  -- it was refused
+  -- it was an error
   pub not_begun : {B : Type 0} {paths : List (List ℕ)} {old new : StreamView} {fault : ParseFault B} → MustReadOver {A = B} known_progress progress_over (opening_at attr) paths old (Err fault) new
       → MustRead itself replaced (location_over paths) (location_at attr) old (Err fault) new
   not_begun {old = old} h = first_refused (location_at attr) (λ p t. progress_rest attr p t) (opening_is attr no_more old.rest) h.read
 
   module _ {before paths : List (List ℕ)} {old now : StreamView} (frames : List (Frame A)) where
-    -- memory is refused where the stream stands
+    -- out of memory at the stream's position
     pub starves_so_far : {B : Type 0} {p : Progress A} (other : List (List ℕ)) {new : StreamView} {fault : ParseFault B} → SoFar before old paths frames p now → StarvesHere itself replaced now fault new
         → MustRead itself replaced (location_over other) (location_at attr) old (Err fault) new
     starves_so_far other s h = starved alone s.passed h
@@ -447,7 +447,7 @@ module _ {A : Type 0} (attr : Reader (AttrView A)) (no_more : LeavesNoMore attr)
         kept = k ∙ ap (λ z. progress_kept z (progress_over other p)) (s.kept ∙ (sym (kept_pushed before (frames_over paths frames) (frame_over paths f)) ∙ ap (frames_kept before) same_frames));
       }
 
-      -- it was refused
+      -- it was an error
       pub not_opened : {B : Type 0} {new : StreamView} {fault : ParseFault B} → MustReadOver {A = B} known_progress progress_over (opening_at attr) other now (Err fault) new
           → MustRead itself replaced (location_over other) (location_at attr) old (Err fault) new
       not_opened h = refuses alone (left_in (frames_over other (frames ++ f ∷ []))) at_opening h.read
@@ -461,7 +461,7 @@ module _ {A : Type 0} (attr : Reader (AttrView A)) (no_more : LeavesNoMore attr)
           → MustRead itself replaced (progress_over paths) (behind_at (frame_over paths f) (location_over paths l)) now r new
       over_paths r h = seen_so (progress_sourced (path_of paths)) (behind_at (frame_over paths f) (location_over paths l)) r (λ y. refl) (behind_natural (path_of paths) (frame_view f) (location_view l) now.rest) h
 
-      -- what stands behind the location inside a frame was read
+      -- what follows the location inside a frame was parsed
       pub came_behind : {B : Type 0} {p : Progress A} {new : StreamView} → MustRead {A = B} itself replaced progress_view (behind_at (frame_view f) (location_view l)) now (Ok p) new → SoFar before old paths frames p new
       came_behind {B = B} {p = p} {new = new} h =
           let o = known_popped (length paths) frames f s.open_known in
@@ -477,12 +477,12 @@ module _ {A : Type 0} (attr : Reader (AttrView A)) (no_more : LeavesNoMore attr)
                 ∙ sym (next_kept (frames_kept before (frames_over paths frames)) (frame_over paths f) (location_over paths l) (progress_over paths p) ((behind_says (frame_over paths f) (location_over paths l) now.rest).by (progress_over paths p) b.taken new.rest b.is))));
           }
 
-      -- it was refused
+      -- it was an error
       pub not_behind : {B : Type 0} (other : List (List ℕ)) {new : StreamView} {fault : ParseFault B} → MustRead {A = B} itself replaced progress_view (behind_at (frame_view f) (location_view l)) now (Err fault) new
           → MustRead itself replaced (location_over other) (location_at attr) old (Err fault) new
       not_behind other {fault = fault} h = refuses alone (left_in (frames_over paths frames)) at_behind (over_paths (Err fault) h)
 
-    -- nothing is open, and all was read
+    -- nothing is open, and all was parsed
     pub all_read : {B : Type 0} {l : Location A} → length frames ≡ 0 → SoFar before old paths frames (progress.Whole l) now → MustReadOver {A = B} known_location location_over (location_at attr) paths old (Ok l) now
     all_read {l = l} e s = none frames e s
       where
@@ -498,7 +498,7 @@ module _ {A : Type 0} (attr : Reader (AttrView A)) (no_more : LeavesNoMore attr)
         none (f ∷ fs) e s = absurd (omega (arith, e))
 
   module _ {B : Type 0} (paths : List (List ℕ)) {old new : StreamView} where
-    -- at every bound that the text meets a location is read as at its length
+    -- at every bound that the text is within, a location is parsed as at its length
     read_any : (r : Result (Location A) (ParseFault B)) (depth : ℕ) → length old.rest ≤ depth → MustRead itself replaced (location_over paths) (location_at attr) old r new → MustRead itself replaced (location_over paths) (location_within attr depth) old r new
     read_any r depth h m = record { answers = subst (λ o. Answers itself replaced (location_over paths) (demanded (unless_failed old.failed o)) old r new) (sym (at_any attr no_more depth old.rest h)) m.answers }
 
@@ -510,7 +510,7 @@ module _ {A : Type 0} (attr : Reader (AttrView A)) (no_more : LeavesNoMore attr)
 
 -- ---- several locations as one, as a location that is opened
 module _ {A B : Type 0} (attr : Reader (AttrView A)) {old new : StreamView} where
-  -- where `f` stands and no source, several locations as one are opened
+  -- if the text begins with `f` and no source, a fused location is opened
   pub fused_opens : (paths : List (List ℕ)) {r : Result (Progress A) (ParseFault B)} → begins begins_source old.rest ≡ false → begins (the 102) old.rest ≡ true → MustRead itself replaced progress_view (fused_opening_at attr) old r new
       → MustReadOver known_progress progress_over (opening_at attr) paths old r new
   fused_opens paths {r = r} a b h =
@@ -597,11 +597,11 @@ module _ {A : Type 0} (attr : Reader (AttrView A)) (no_more : LeavesNoMore attr)
   pub opened_shorter : {B : Type 0} {paths : List (List ℕ)} {old new : StreamView} {p : Progress A} → begins begins_source old.rest ≡ false → MustReadOver {A = B} known_progress progress_over (opening_at attr) paths old (Ok p) new → length new.rest < length old.rest
   opened_shorter {paths = paths} {old = old} {new = new} {p = p} n h = let a = answered h.read in opening_shorter old.rest (progress_over paths p) a.taken new.rest n a.is
 
--- what stands behind a location takes a character
+-- what follows a location takes a character
 pub behind_less : {A B : Type 0} (f : FrameOf Source A) (l : LocationOf Source A) {old new : StreamView} {p : Progress A} → MustRead {A = B} itself replaced progress_view (behind_at f l) old (Ok p) new → length new.rest < length old.rest
 behind_less f l {old = old} {new = new} {p = p} h = let a = answered h in behind_shorter f l old.rest (progress_view p) a.taken new.rest a.is
 
--- a place is opened and read at once
+-- a place is opened and parsed at once
 pub place_opens : {A B : Type 0} (attr : Reader (AttrView A)) {paths : List (List ℕ)} {old new : StreamView} {l : Location A} → begins begins_source old.rest ≡ true → MustReadOver {A = B} known_location location_over place_at paths old (Ok l) new
     → MustReadOver {A = B} known_progress progress_over (opening_at attr) paths old (Ok (progress.Whole l)) new
 place_opens attr {paths = paths} {old = old} {new = new} {l = l} b h =
@@ -617,7 +617,7 @@ place_opens attr {paths = paths} {old = old} {new = new} {l = l} b h =
       });
     }
 
--- it is refused
+-- it is an error
 pub place_refused : {A B : Type 0} (attr : Reader (AttrView A)) {paths : List (List ℕ)} {old new : StreamView} {fault : ParseFault B} → begins begins_source old.rest ≡ true → MustReadOver {A = B} (known_location {A = A}) location_over place_at paths old (Err fault) new
     → MustReadOver {A = B} known_progress progress_over (opening_at attr) paths old (Err fault) new
 place_refused attr {paths = paths} {old = old} b h =

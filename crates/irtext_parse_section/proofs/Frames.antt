@@ -1,5 +1,5 @@
--- What entries leave as it was: whatever each edit of an item keeps, all of them keep; and an item that none of them is of stands as it
--- stood.
+-- What entries leave unchanged: whatever each edit of an item preserves, all of them preserve; and an item that no entry is of is
+-- unchanged.
 use Rattle.std.proofs.Common.{◌≡◌, ◌∙◌, ◌≢◌, ℕ, Bool, true, false, cond, is_some, List, [], ◌∷◌, Option, Some, None, refl, sym, ap, subst}
 use Rattle.std.specs.Map.{lookup}
 use Rattle.irtext_base.specs.Text.{Text}
@@ -75,7 +75,7 @@ module _ {T A : Type 0} (p : Ptr Operation) where
   beside_labelled q None a b e = ap (λ (c : ContextView T A). get c.graph.operations p) e
   beside_labelled q (Some l) a b e = ap (λ s. get s p) e.graph.operations
 
-  -- an operation stands as it stood where another item was given something
+  -- an operation is unchanged if another item was given something
   pub operation_beside : (x : Item) (l : Option (Location A)) (content : List (Text × Attribute A)) (a b : ContextView T A) → (x ≡ item.Operation p → ⊥) → Gives x l content a b → get b.graph.operations p ≡ get a.graph.operations p
   operation_beside (item.Operation q) l content a b n g = go (is_some (operation a q)) g
     where
@@ -104,7 +104,7 @@ module _ {T A : Type 0} (p : Ptr BasicBlock) where
   beside_operation q None a b e = ap (λ (c : ContextView T A). get c.graph.blocks p) e
   beside_operation q (Some l) a b e = ap (λ s. get s p) e.graph.blocks
 
-  -- so does a block
+  -- the same for a block
   pub block_beside : (x : Item) (l : Option (Location A)) (content : List (Text × Attribute A)) (a b : ContextView T A) → (x ≡ item.Block p → ⊥) → Gives x l content a b → get b.graph.blocks p ≡ get a.graph.blocks p
   block_beside (item.Operation q) l content a b n g = go (is_some (operation a q)) g
     where
@@ -128,14 +128,14 @@ Avoids marks x (of_once m a ∷ es) = Avoids marks x es
 Avoids marks x (of_item m y ps ∷ es) = (lookup (same_index m.index) marks ≡ Some x → ⊥) × Avoids marks x es
 
 module _ {T A : Type 0} (marks : List (ℕ × Item)) (paths : List (List ℕ)) (all : List (Entry ℕ A (Written A))) where
-  -- an operation that no entry is of stands as it stood
+  -- an operation that no entry is of is unchanged
   pub operation_avoided : (p : Ptr Operation) (es : List (Entry ℕ A (Written A))) (a b : ContextView T A) → Avoids marks (item.Operation p) es → AppliesAll marks paths all es a b → get b.graph.operations p ≡ get a.graph.operations p
   operation_avoided p [] a b n e = ap (λ (c : ContextView T A). get c.graph.operations p) e
   operation_avoided p (of_once m x ∷ es) a b n h = operation_avoided p es a b n h
   operation_avoided p (of_item m x ps ∷ es) a b n (mid, one, more) =
       operation_avoided p es mid b n.1 more ∙ operation_beside p one.item one.location _ a mid (λ e. n.0 (one.carries ∙ ap Some e)) one.gives
 
-  -- so does a block
+  -- the same for a block
   pub block_avoided : (p : Ptr BasicBlock) (es : List (Entry ℕ A (Written A))) (a b : ContextView T A) → Avoids marks (item.Block p) es → AppliesAll marks paths all es a b → get b.graph.blocks p ≡ get a.graph.blocks p
   block_avoided p [] a b n e = ap (λ (c : ContextView T A). get c.graph.blocks p) e
   block_avoided p (of_once m x ∷ es) a b n h = block_avoided p es a b n h

@@ -40,29 +40,24 @@ module _ {T A : Type 0} (mark : ℕ) where
   labelled_closed p None old new e closed = same_closed old new e closed
   labelled_closed p (Some l) old new e closed = edited_block_closed mark old.graph new.graph p (with_label (Some l)) e.graph closed
 
+-- what is put into the attributes that are seen of something is put into those of the one view of it
+put_there : {V A : Type 0} (see : V → List (Text × AttrObj A)) (o : Option V) (content : List (Text × Attribute A)) (now left : List (Text × AttrObj A)) → option_map see o ≡ Some now → entries_of left ≡ put_all (entries_of now) content
+    → (view : V) → o ≡ Some view → entries_of left ≡ put_all (entries_of (see view)) content
+put_there see o content now left value h view is =
+    let same : now ≡ see view = cc (sym value ∙ ap (option_map see) is) in
+    h ∙ ap (λ es. put_all (entries_of es) content) same
+
 module _ {T A X E : Type 0} {old new : ContextView T A} where
   -- what was put into the attributes of an operation was stored
   pub stores_operation : (p : Ptr Operation) (content : List (Text × Attribute A)) (now left : List (Text × AttrObj A)) (r : Result X E) → option_map (λ (v : OperationView T A). v.attributes) (operation old p) ≡ Some now
       → EditsOperation old new p (with_attributes left) → OnOk r (entries_of left ≡ put_all (entries_of now) content) → OnOk r (StoresOperation p content old new)
-  stores_operation p content now left (Ok x) value e h = record {
-    left = left;
-    edits = e;
-    stored = λ view is.
-        let same : now ≡ view.attributes = cc (sym value ∙ ap (option_map (λ (v : OperationView T A). v.attributes)) is) in
-        h ∙ ap (λ es. put_all (entries_of es) content) same;
-  }
+  stores_operation p content now left (Ok x) value e h = record { left = left; edits = e; stored = put_there (λ v. v.attributes) (operation old p) content now left value h }
   stores_operation p content now left (Err x) value e h = tt
 
   -- so was what was put into those of a block
   pub stores_block : (p : Ptr BasicBlock) (content : List (Text × Attribute A)) (now left : List (Text × AttrObj A)) (r : Result X E) → option_map (λ (v : BlockView T A). v.attributes) (block old p) ≡ Some now
       → EditsBlock old new p (with_block_attributes left) → OnOk r (entries_of left ≡ put_all (entries_of now) content) → OnOk r (StoresBlock p content old new)
-  stores_block p content now left (Ok x) value e h = record {
-    left = left;
-    edits = e;
-    stored = λ view is.
-        let same : now ≡ view.attributes = cc (sym value ∙ ap (option_map (λ (v : BlockView T A). v.attributes)) is) in
-        h ∙ ap (λ es. put_all (entries_of es) content) same;
-  }
+  stores_block p content now left (Ok x) value e h = record { left = left; edits = e; stored = put_there (λ v. v.attributes) (block old p) content now left value h }
   stores_block p content now left (Err x) value e h = tt
 
 -- an item that is newer stays so while what is older is kept

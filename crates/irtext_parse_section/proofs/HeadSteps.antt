@@ -1,4 +1,4 @@
--- Steps of the readers of an entry's head.
+-- Steps of the parsers of an entry's head.
 use Rattle.std.proofs.Common.{◌≡◌, ℕ, Bool, true, false, cond, not, ◌&&◌, is_some, Ok, Err, List, [], ◌++◌, length, refl, sym, ap, ap₂, subst, append-nil, ◌⊎◌, inl, inr, Option, Some, None}
 use Rattle.std.specs.Map.{lookup}
 use Rattle.irtext_base.specs.Text.{Text}
@@ -32,7 +32,7 @@ abbrev pub a_mark : ℕ → ℕ → Mark ℕ
 a_mark place i = record { place = place; index = i }
 
 module _ {A : Type 0} {old new : StreamView} where
-  -- an index that was read is one of a mark
+  -- an index that was parsed is one of a mark
   pub mark_read : {i : ℕ} → MustRead {A = A} itself replaced (λ n. n) index_at old (Ok i) new → MustRead {A = A} itself replaced (λ n. a_mark (length old.rest) n) mark_at old (Ok i) new
   mark_read {i = i} h = record { answers = (seen_alone alone {A = A} (λ n. a_mark (length old.rest) n) (a_mark (length old.rest)) i refl h).answers }
 
@@ -80,7 +80,7 @@ module _ (test : ℕ → Bool) where
   passes false (Bad cause upto) x old new h e f = absurd h
 
 module _ {A : Type 0} where
-  -- a fault at an earlier place of the text is one of what was read from there
+  -- a fault at an earlier place of the text is one of what was parsed from there
   pub refused_there : (cause : Fault) (place : Place) (old mid new : StreamView) (fault : ParseFault A) (t r : Text) → Takes itself replaced t r old mid → StandsBehind place old.passed → RefusesAt itself replaced cause place mid fault new → Commits itself replaced cause [] old fault new
   refused_there cause place old mid new fault t r k p h = record {
     because = h.because;
@@ -108,7 +108,7 @@ module _ {A : Type 0} where
     unread false (Missing cause) old new fault (inr h) = inr h
     unread false (Bad cause upto) old new fault (inr h) = inr h
 
-    -- no item's entry goes on behind the index
+    -- after the index, the entry does not go on as that of an item
     pub head_short : {old mid : StreamView} {mark : ReadMark} (x : Option Item) → MustMean {A = A} itself replaced (IsMark (whole old)) entry_head_at old (Ok mark) mid → begins_given mid.rest ≡ false
         → MustMean {A = A} itself replaced (IsHead (whole old)) (λ t. tested test (entry_head_at t)) old (Ok (record { mark = mark; item = x })) mid
     head_short {old = old} {mid = mid} {mark = mark} x h e =
@@ -124,7 +124,7 @@ module _ {A : Type 0} where
           read = record { answers = passes test old.failed (entry_head_at old.rest) (h.meant mark) old mid h.read.answers e (subst (λ i. test i ≡ true) h.means.indexed f) };
         }
 
-    -- one goes on whose index does not
+    -- an item's entry goes on, but its index fails
     pub head_fails : {old mid new : StreamView} {mark : ReadMark} {fault : ParseFault A} → MustMean {A = A} itself replaced (IsMark (whole old)) entry_head_at old (Ok mark) mid → begins_given mid.rest ≡ true → test mark.index ≡ false
         → StandsBehind mark.at old.passed → RefusesAt itself replaced (UnknownIndex mark.index) mark.at mid fault new
         → MustMean {A = A} itself replaced (IsHead (whole old)) (λ t. tested test (entry_head_at t)) old (Err fault) new

@@ -33,7 +33,7 @@ use Rattle.irtext_parse_spec.specs.Agrees.{refused}
 use Rattle.irtext_parse_spec.specs.Entries.{wrong_references}
 use Rattle.irtext_parse_spec.proofs.Claims.{wrong_index, wrong_pairs, wrong_entries, refused_parts}
 use Rattle.irtext_parse_section.specs.Applied.{no_label, label_by, label_in, LocatesOperation, StoresOperation, LocatesBlock, StoresBlock, LabelsBlock, Gives, AppliesAll}
-use Rattle.irtext_parse_section.specs.Items.{CarriesOnly, OperationGiven, BlockGiven}
+use Rattle.irtext_parse_section.specs.Items.{CarriesOnly, OperationHas, BlockHas, OperationGiven, BlockGiven}
 use Rattle.irtext_parse_section.specs.Section.{ReadsSection}
 use Rattle.irtext_parse_section.proofs.Frames.{Avoids, applied_paths, operation_beside, block_beside, operation_avoided, block_avoided}
 
@@ -91,7 +91,7 @@ module _ {A : Type 0} (marks : List (ℕ × Item)) (rules : ℕ → Rule A) (x :
   avoids_unmarked n (of_once m a ∷ es) = avoids_unmarked n es
   avoids_unmarked n (of_item m y ps ∷ es) = (n m.index, avoids_unmarked n es)
 
-  -- none is behind the one of its mark
+  -- no entry of an item follows the one of its mark
   avoids_later : (k : ℕ) → ((i : ℕ) → lookup (same_index i) marks ≡ Some x → i ≡ k) → (before : List ℕ) (es : List (Entry ℕ A (Written A))) → is_among k before ≡ true → wrong_entries (indices_of marks) rules before es ≡ [] → Avoids marks x es
   avoids_later k only before [] f e = tt
   avoids_later k only before (of_once m a ∷ es) f e = avoids_later k only before es f e
@@ -146,50 +146,31 @@ named_some l None h = h
 named_some l (Some n) h = refl
 
 -- ---- what one entry gives
+-- what is seen of an item, once it changed
+changed_view : {V : Type 0} (change : V → V) (view : V) {before after : Option V} → before ≡ Some view → after ≡ option_map change before → after ≡ Some (change view)
+changed_view change view is e = e ∙ ap (option_map change) is
+
 module _ {T A : Type 0} (paths : List (List ℕ)) where
-  -- an operation has this besides
-  record OperationHas (p : Ptr Operation) (given : Option (Option (Written A) × List (Text × Attribute A))) (view : OperationView T A) (c : ContextView T A) : Type 0 where
-    pub after : OperationView T A
-    pub is : operation c p ≡ Some after
-    pub id : after.id ≡ view.id
-    pub types : after.result_types ≡ view.result_types
-    pub inner : after.regions ≡ view.regions
-    pub entries : entries_of after.attributes ≡ with_content (entries_of view.attributes) given
-    pub location : location_over paths after.loc ≡ located (location_over paths view.loc) given
-
-  -- a block has this besides
-  record BlockHas (b : Ptr BasicBlock) (given : Option (Option (Written A) × List (Text × Attribute A))) (view : BlockView T A) (c : ContextView T A) : Type 0 where
-    pub after : BlockView T A
-    pub is : block c b ≡ Some after
-    pub label : unwrap_or after.label [] ≡ labelled (unwrap_or view.label []) given
-    pub has_label : is_some view.label ≡ true → is_some after.label ≡ true
-    pub types : after.arg_types ≡ view.arg_types
-    pub inner : after.operations ≡ view.operations
-    pub entries : entries_of after.attributes ≡ with_content (entries_of view.attributes) (but_label given)
-    pub location : location_over paths after.loc ≡ located (location_over paths view.loc) given
-
   -- nothing besides
-  operation_same : (p : Ptr Operation) (view : OperationView T A) (c : ContextView T A) → operation c p ≡ Some view → OperationHas p None view c
+  operation_same : (p : Ptr Operation) (view : OperationView T A) (c : ContextView T A) → operation c p ≡ Some view → OperationHas paths None c p view
   operation_same p view c is = record { after = view; is = is; id = refl; types = refl; inner = refl; entries = refl; location = refl }
 
-  block_same : (b : Ptr BasicBlock) (view : BlockView T A) (c : ContextView T A) → block c b ≡ Some view → BlockHas b None view c
+  block_same : (b : Ptr BasicBlock) (view : BlockView T A) (c : ContextView T A) → block c b ≡ Some view → BlockHas paths None c b view
   block_same b view c is = record { after = view; is = is; label = refl; has_label = λ h. h; types = refl; inner = refl; entries = refl; location = refl }
 
   -- ---- an operation
   operation_located : (p : Ptr Operation) (view : OperationView T A) (l : Option (Location A)) (a b : ContextView T A) → operation a p ≡ Some view → LocatesOperation p l a b → operation b p ≡ Some (record view { loc = chosen view.loc l })
   operation_located p view None a b is e = ap (λ (c : ContextView T A). operation c p) e ∙ is
-  operation_located p view (Some l) a b is e =
-      edited_seen a b p (with_loc l) (λ (v : OperationView T A). record v { loc = l }) (λ results regions held. refl) e ∙ ap (option_map (λ (v : OperationView T A). record v { loc = l })) is
+  operation_located p view (Some l) a b is e = let change = λ (v : OperationView T A). record v { loc = l } in changed_view change view is (edited_seen a b p (with_loc l) change (λ results regions held. refl) e)
 
   operation_stored : (p : Ptr Operation) (view : OperationView T A) (content : List (Text × Attribute A)) (a b : ContextView T A) → operation a p ≡ Some view → (k : StoresOperation p content a b) → operation b p ≡ Some (record view { attributes = k.left })
-  operation_stored p view content a b is k =
-      edited_seen a b p (with_attributes k.left) (λ (v : OperationView T A). record v { attributes = k.left }) (λ results regions held. refl) k.edits ∙ ap (option_map (λ (v : OperationView T A). record v { attributes = k.left })) is
+  operation_stored p view content a b is k = let change = λ (v : OperationView T A). record v { attributes = k.left } in changed_view change view is (edited_seen a b p (with_attributes k.left) change (λ results regions held. refl) k.edits)
 
   operation_gets : (p : Ptr Operation) (view : OperationView T A) (l : Option (Location A)) (x : Option (Written A)) (content : List (Text × Attribute A)) (a b : ContextView T A) → operation a p ≡ Some view → given_over paths l ≡ x
-      → Gives (item.Operation p) l content a b → OperationHas p (Some (x, content)) view b
+      → Gives (item.Operation p) l content a b → OperationHas paths (Some (x, content)) b p view
   operation_gets p view l x content a b is over g = go (operation a p) is g
     where
-      go : (o : Option (OperationView T A)) → o ≡ Some view → cond (is_some o) ((mid : ContextView T A) × LocatesOperation p l a mid × StoresOperation p content mid b) (b ≡ a) → OperationHas p (Some (x, content)) view b
+      go : (o : Option (OperationView T A)) → o ≡ Some view → cond (is_some o) ((mid : ContextView T A) × LocatesOperation p l a mid × StoresOperation p content mid b) (b ≡ a) → OperationHas paths (Some (x, content)) b p view
       go None e g = absurd (cc e)
       go (Some v) e (mid, h, k) =
           let there = operation_located p view l a mid is h in
@@ -206,23 +187,20 @@ module _ {T A : Type 0} (paths : List (List ℕ)) where
   -- ---- a block
   block_located : (p : Ptr BasicBlock) (view : BlockView T A) (l : Option (Location A)) (a b : ContextView T A) → block a p ≡ Some view → LocatesBlock p l a b → block b p ≡ Some (record view { loc = chosen view.loc l })
   block_located p view None a b is e = ap (λ (c : ContextView T A). block c p) e ∙ is
-  block_located p view (Some l) a b is e =
-      edited_block_seen a b p (with_block_loc l) (λ (v : BlockView T A). record v { loc = l }) (λ arguments operations held. refl) e ∙ ap (option_map (λ (v : BlockView T A). record v { loc = l })) is
+  block_located p view (Some l) a b is e = let change = λ (v : BlockView T A). record v { loc = l } in changed_view change view is (edited_block_seen a b p (with_block_loc l) change (λ arguments operations held. refl) e)
 
   block_stored : (p : Ptr BasicBlock) (view : BlockView T A) (content : List (Text × Attribute A)) (a b : ContextView T A) → block a p ≡ Some view → (k : StoresBlock p content a b) → block b p ≡ Some (record view { attributes = k.left })
-  block_stored p view content a b is k =
-      edited_block_seen a b p (with_block_attributes k.left) (λ (v : BlockView T A). record v { attributes = k.left }) (λ arguments operations held. refl) k.edits ∙ ap (option_map (λ (v : BlockView T A). record v { attributes = k.left })) is
+  block_stored p view content a b is k = let change = λ (v : BlockView T A). record v { attributes = k.left } in changed_view change view is (edited_block_seen a b p (with_block_attributes k.left) change (λ arguments operations held. refl) k.edits)
 
   block_labelled : (p : Ptr BasicBlock) (view : BlockView T A) (l : Option Text) (a b : ContextView T A) → block a p ≡ Some view → LabelsBlock p l a b → block b p ≡ Some (record view { label = named view.label l })
   block_labelled p view None a b is e = ap (λ (c : ContextView T A). block c p) e ∙ is
-  block_labelled p view (Some l) a b is e =
-      edited_block_seen a b p (with_label (Some l)) (λ (v : BlockView T A). record v { label = Some l }) (λ arguments operations held. refl) e ∙ ap (option_map (λ (v : BlockView T A). record v { label = Some l })) is
+  block_labelled p view (Some l) a b is e = let change = λ (v : BlockView T A). record v { label = Some l } in changed_view change view is (edited_block_seen a b p (with_label (Some l)) change (λ arguments operations held. refl) e)
 
   block_gets : (p : Ptr BasicBlock) (view : BlockView T A) (l : Option (Location A)) (x : Option (Written A)) (content : List (Text × Attribute A)) (a b : ContextView T A) → block a p ≡ Some view → given_over paths l ≡ x
-      → Gives (item.Block p) l content a b → BlockHas p (Some (x, content)) view b
+      → Gives (item.Block p) l content a b → BlockHas paths (Some (x, content)) b p view
   block_gets p view l x content a b is over g = go (block a p) is g
     where
-      go : (o : Option (BlockView T A)) → o ≡ Some view → cond (is_some o) ((mid last : ContextView T A) × LocatesBlock p l a mid × StoresBlock p (no_label content) mid last × LabelsBlock p (label_in None content) last b) (b ≡ a) → BlockHas p (Some (x, content)) view b
+      go : (o : Option (BlockView T A)) → o ≡ Some view → cond (is_some o) ((mid last : ContextView T A) × LocatesBlock p l a mid × StoresBlock p (no_label content) mid last × LabelsBlock p (label_in None content) last b) (b ≡ a) → BlockHas paths (Some (x, content)) b p view
       go None e g = absurd (cc e)
       go (Some v) e (mid, last, h, k, w) =
           let placed = block_located p view l a mid is h in
@@ -248,12 +226,16 @@ module _ (marks : List (ℕ × Item)) where
 
 -- ---- what all entries give
 module _ {T A : Type 0} (marks : List (ℕ × Item)) (rules : ℕ → Rule A) (paths : List (List ℕ)) (all : List (Entry ℕ A (Written A))) where
-  module _ (p : Ptr Operation) (k : ℕ) (carried : lookup (same_index k) marks ≡ Some (item.Operation p)) (only : (i : ℕ) → lookup (same_index i) marks ≡ Some (item.Operation p) → i ≡ k) where
-    marked_operation : (before : List ℕ) (es : List (Entry ℕ A (Written A))) → wrong_entries (indices_of marks) rules before es ≡ [] → (view : OperationView T A) (a b : ContextView T A) → operation a p ≡ Some view → AppliesAll marks paths all es a b
-        → OperationHas paths p (content_in all es k) view b
-    marked_operation before [] fine view a b is e = operation_same paths p view b (ap (λ (c : ContextView T A). operation c p) e ∙ is)
-    marked_operation before (of_once m x ∷ es) fine view a b is h = marked_operation before es fine view a b is h
-    marked_operation before (of_item m x ps ∷ es) fine view a b is (mid, one, more) = go (m.index == k) refl (marked_operation next es later view mid b)
+  -- an item with a mark has what the entry of this mark gives: it has what one entry gives, others leave what is seen of it, and those that avoid it leave what it has
+  module _ (y : Item) (k : ℕ) (carried : lookup (same_index k) marks ≡ Some y) (only : (i : ℕ) → lookup (same_index i) marks ≡ Some y → i ≡ k)
+      {V : Type 0} (seen : ContextView T A → Option V) (view : V) (Has : Option (Option (Written A) × List (Text × Attribute A)) → ContextView T A → Type 0) (same : (c : ContextView T A) → seen c ≡ Some view → Has None c)
+      (gets : (l : Option (Location A)) (x : Option (Written A)) (content : List (Text × Attribute A)) (a b : ContextView T A) → seen a ≡ Some view → given_over paths l ≡ x → Gives y l content a b → Has (Some (x, content)) b)
+      (beside : (z : Item) (l : Option (Location A)) (content : List (Text × Attribute A)) (a b : ContextView T A) → (z ≡ y → ⊥) → Gives z l content a b → seen b ≡ seen a)
+      (kept : (es : List (Entry ℕ A (Written A))) (a b : ContextView T A) → Avoids marks y es → AppliesAll marks paths all es a b → (given : Option (Option (Written A) × List (Text × Attribute A))) → Has given a → Has given b) where
+    marked : (before : List ℕ) (es : List (Entry ℕ A (Written A))) → wrong_entries (indices_of marks) rules before es ≡ [] → (a b : ContextView T A) → seen a ≡ Some view → AppliesAll marks paths all es a b → Has (content_in all es k) b
+    marked before [] fine a b is e = same b (ap seen e ∙ is)
+    marked before (of_once m x ∷ es) fine a b is h = marked before es fine a b is h
+    marked before (of_item m x ps ∷ es) fine a b is (mid, one, more) = go (m.index == k) refl (marked next es later mid b)
       where
         next : List ℕ
         next = before ++ m.index ∷ []
@@ -264,41 +246,28 @@ module _ {T A : Type 0} (marks : List (ℕ × Item)) (rules : ℕ → Rule A) (p
         given : List (Text × Attribute A)
         given = flat_map (resolved all) ps
 
-        go : (t : Bool) → (m.index == k) ≡ t → (operation mid p ≡ Some view → AppliesAll marks paths all es mid b → OperationHas paths p (content_in all es k) view b) → OperationHas paths p (cond t (Some (x, given)) (content_in all es k)) view b
+        go : (t : Bool) → (m.index == k) ≡ t → (seen mid ≡ Some view → AppliesAll marks paths all es mid b → Has (content_in all es k) b) → Has (cond t (Some (x, given)) (content_in all es k)) b
         go true e again =
-            let its : Gives (item.Operation p) one.location given a mid = subst (λ y. Gives y one.location given a mid) (of_mark marks k m.index (item.Operation p) one.item e one.carries carried) one.gives in
-            let has = operation_gets paths p view one.location x given a mid is one.over its in
-            let rest = operation_avoided marks paths all p es mid b (avoids_later marks rules (item.Operation p) k only next es (among_last k m.index before (number_eq m.index k (same_number m.index k e))) later) more in
-            record { after = has.after; is = ap (option_and_then operation_of) rest ∙ has.is; id = has.id; types = has.types; inner = has.inner; entries = has.entries; location = has.location }
-        go false e again =
-            again (ap (option_and_then operation_of) (operation_beside p one.item one.location given a mid (not_mark marks k m.index (item.Operation p) one.item e one.carries only) one.gives) ∙ is) more
+            let its : Gives y one.location given a mid = subst (λ z. Gives z one.location given a mid) (of_mark marks k m.index y one.item e one.carries carried) one.gives in
+            let avoids = avoids_later marks rules y k only next es (among_last k m.index before (number_eq m.index k (same_number m.index k e))) later in
+            kept es mid b avoids more (Some (x, given)) (gets one.location x given a mid is one.over its)
+        go false e again = again (beside one.item one.location given a mid (not_mark marks k m.index y one.item e one.carries only) one.gives ∙ is) more
 
-  module _ (p : Ptr BasicBlock) (k : ℕ) (carried : lookup (same_index k) marks ≡ Some (item.Block p)) (only : (i : ℕ) → lookup (same_index i) marks ≡ Some (item.Block p) → i ≡ k) where
-    marked_block : (before : List ℕ) (es : List (Entry ℕ A (Written A))) → wrong_entries (indices_of marks) rules before es ≡ [] → (view : BlockView T A) (a b : ContextView T A) → block a p ≡ Some view → AppliesAll marks paths all es a b
-        → BlockHas paths p (content_in all es k) view b
-    marked_block before [] fine view a b is e = block_same paths p view b (ap (λ (c : ContextView T A). block c p) e ∙ is)
-    marked_block before (of_once m x ∷ es) fine view a b is h = marked_block before es fine view a b is h
-    marked_block before (of_item m x ps ∷ es) fine view a b is (mid, one, more) = go (m.index == k) refl (marked_block next es later view mid b)
-      where
-        next : List ℕ
-        next = before ++ m.index ∷ []
+  marked_operation : (p : Ptr Operation) (k : ℕ) → lookup (same_index k) marks ≡ Some (item.Operation p) → ((i : ℕ) → lookup (same_index i) marks ≡ Some (item.Operation p) → i ≡ k) → (view : OperationView T A) (es : List (Entry ℕ A (Written A)))
+      → wrong_entries (indices_of marks) rules [] es ≡ [] → (a b : ContextView T A) → operation a p ≡ Some view → AppliesAll marks paths all es a b → OperationHas paths (content_in all es k) b p view
+  marked_operation p k carried only view =
+      marked (item.Operation p) k carried only (λ c. operation c p) view (λ given c. OperationHas paths given c p view) (operation_same paths p view) (operation_gets paths p view)
+      (λ z l content a b n g. ap (option_and_then operation_of) (operation_beside p z l content a b n g))
+      (λ es a b v h given has. record { after = has.after; is = ap (option_and_then operation_of) (operation_avoided marks paths all p es a b v h) ∙ has.is; id = has.id; types = has.types; inner = has.inner; entries = has.entries; location = has.location }) []
 
-        later : wrong_entries (indices_of marks) rules next es ≡ []
-        later = behind_none (wrong_pairs (rules m.index) ps) (wrong_entries (indices_of marks) rules next es) (behind_none (wrong_index (indices_of marks) before m) (wrong_pairs (rules m.index) ps ++ wrong_entries (indices_of marks) rules next es) fine)
+  marked_block : (p : Ptr BasicBlock) (k : ℕ) → lookup (same_index k) marks ≡ Some (item.Block p) → ((i : ℕ) → lookup (same_index i) marks ≡ Some (item.Block p) → i ≡ k) → (view : BlockView T A) (es : List (Entry ℕ A (Written A)))
+      → wrong_entries (indices_of marks) rules [] es ≡ [] → (a b : ContextView T A) → block a p ≡ Some view → AppliesAll marks paths all es a b → BlockHas paths (content_in all es k) b p view
+  marked_block p k carried only view =
+      marked (item.Block p) k carried only (λ c. block c p) view (λ given c. BlockHas paths given c p view) (block_same paths p view) (block_gets paths p view)
+      (λ z l content a b n g. ap (option_map block_of) (block_beside p z l content a b n g))
+      (λ es a b v h given has. record { after = has.after; is = ap (option_map block_of) (block_avoided marks paths all p es a b v h) ∙ has.is; label = has.label; has_label = has.has_label; types = has.types; inner = has.inner; entries = has.entries; location = has.location }) []
 
-        given : List (Text × Attribute A)
-        given = flat_map (resolved all) ps
-
-        go : (t : Bool) → (m.index == k) ≡ t → (block mid p ≡ Some view → AppliesAll marks paths all es mid b → BlockHas paths p (content_in all es k) view b) → BlockHas paths p (cond t (Some (x, given)) (content_in all es k)) view b
-        go true e again =
-            let its : Gives (item.Block p) one.location given a mid = subst (λ y. Gives y one.location given a mid) (of_mark marks k m.index (item.Block p) one.item e one.carries carried) one.gives in
-            let has = block_gets paths p view one.location x given a mid is one.over its in
-            let rest = block_avoided marks paths all p es mid b (avoids_later marks rules (item.Block p) k only next es (among_last k m.index before (number_eq m.index k (same_number m.index k e))) later) more in
-            record { after = has.after; is = ap (option_map block_of) rest ∙ has.is; label = has.label; has_label = has.has_label; types = has.types; inner = has.inner; entries = has.entries; location = has.location }
-        go false e again =
-            again (ap (option_map block_of) (block_beside p one.item one.location given a mid (not_mark marks k m.index (item.Block p) one.item e one.carries only) one.gives) ∙ is) more
-
--- ---- once a section was read
+-- ---- once a section was parsed
 module _ {T A U : Type 0} (attr : Text → Outcome (AttrView A)) (old new : StateStream T A U) (r : ReadsSection attr old new) where
   abbrev c : ContextView T A
   c = old.state.ctx.now
@@ -315,11 +284,11 @@ module _ {T A U : Type 0} (attr : Text → Outcome (AttrView A)) (old new : Stat
   same_paths : d.paths ≡ r.middle.paths
   same_paths = applied_paths marks r.middle.paths r.entries r.entries r.middle d r.applied
 
-  -- an operation without a mark stands as it stood
+  -- an operation without a mark is unchanged
   pub operation_untouched : (p : Ptr Operation) → CarriesOnly marks (item.Operation p) None → get d.graph.operations p ≡ get c.graph.operations p
   operation_untouched p n = operation_avoided marks r.middle.paths r.entries p r.entries r.middle d (avoids_unmarked {A = A} marks (λ i k a. true) (item.Operation p) n r.entries) r.applied ∙ ap (λ g. get g.operations p) same_graph
 
-  -- so does a block
+  -- the same for a block
   pub block_untouched : (p : Ptr BasicBlock) → CarriesOnly marks (item.Block p) None → get d.graph.blocks p ≡ get c.graph.blocks p
   block_untouched p n = block_avoided marks r.middle.paths r.entries p r.entries r.middle d (avoids_unmarked {A = A} marks (λ i k a. true) (item.Block p) n r.entries) r.applied ∙ ap (λ g. get g.blocks p) same_graph
 
@@ -327,37 +296,20 @@ module _ {T A U : Type 0} (attr : Text → Outcome (AttrView A)) (old new : Stat
     all_fine : wrong_entries (indices_of marks) rules [] r.entries ≡ []
     all_fine = front_none (wrong_entries (indices_of marks) rules [] r.entries) (wrong_references rules r.entries) (sym (refused_parts (indices_of marks) rules r.entries) ∙ none)
 
-    operation_over : (p : Ptr Operation) (m : Option (Mark ℕ)) (view : OperationView T A) → OperationHas r.middle.paths p (content r.entries m) view d → OperationGiven r.entries m d p view
-    operation_over p m view h = record {
-      after = h.after;
-      is = h.is;
-      id = h.id;
-      types = h.types;
-      inner = h.inner;
-      entries = h.entries;
-      location = subst (λ z. location_over z h.after.loc ≡ located (location_over z view.loc) (content r.entries m)) (sym same_paths) h.location;
-    }
+    operation_over : (p : Ptr Operation) (m : Option (Mark ℕ)) (view : OperationView T A) → OperationHas r.middle.paths (content r.entries m) d p view → OperationGiven r.entries m d p view
+    operation_over p m view h = subst (λ z. OperationHas z (content r.entries m) d p view) (sym same_paths) h
 
-    block_over : (p : Ptr BasicBlock) (m : Option (Mark ℕ)) (view : BlockView T A) → BlockHas r.middle.paths p (content r.entries m) view d → BlockGiven r.entries m d p view
-    block_over p m view h = record {
-      after = h.after;
-      is = h.is;
-      label = h.label;
-      has_label = h.has_label;
-      types = h.types;
-      inner = h.inner;
-      entries = h.entries;
-      location = subst (λ z. location_over z h.after.loc ≡ located (location_over z view.loc) (content r.entries m)) (sym same_paths) h.location;
-    }
+    block_over : (p : Ptr BasicBlock) (m : Option (Mark ℕ)) (view : BlockView T A) → BlockHas r.middle.paths (content r.entries m) d p view → BlockGiven r.entries m d p view
+    block_over p m view h = subst (λ z. BlockHas z (content r.entries m) d p view) (sym same_paths) h
 
     -- an operation has what the entry of its mark gives it, over what it had
     pub operation_given : (p : Ptr Operation) (m : Option (Mark ℕ)) → CarriesOnly marks (item.Operation p) m → (view : OperationView T A) → operation c p ≡ Some view → OperationGiven r.entries m d p view
     operation_given p None carries view is = operation_over p None view (operation_same r.middle.paths p view d (ap (option_and_then operation_of) (operation_untouched p carries) ∙ is))
     operation_given p (Some k) carries view is =
-        operation_over p (Some k) view (marked_operation marks rules r.middle.paths r.entries p k.index carries.0 carries.1 [] r.entries all_fine view r.middle d (ap (λ g. option_and_then operation_of (get g.operations p)) same_graph ∙ is) r.applied)
+        operation_over p (Some k) view (marked_operation marks rules r.middle.paths r.entries p k.index carries.0 carries.1 view r.entries all_fine r.middle d (ap (λ g. option_and_then operation_of (get g.operations p)) same_graph ∙ is) r.applied)
 
     -- so has a block, and its label
     pub block_given : (b : Ptr BasicBlock) (m : Option (Mark ℕ)) → CarriesOnly marks (item.Block b) m → (view : BlockView T A) → block c b ≡ Some view → BlockGiven r.entries m d b view
     block_given b None carries view is = block_over b None view (block_same r.middle.paths b view d (ap (option_map block_of) (block_untouched b carries) ∙ is))
     block_given b (Some k) carries view is =
-        block_over b (Some k) view (marked_block marks rules r.middle.paths r.entries b k.index carries.0 carries.1 [] r.entries all_fine view r.middle d (ap (λ g. option_map block_of (get g.blocks b)) same_graph ∙ is) r.applied)
+        block_over b (Some k) view (marked_block marks rules r.middle.paths r.entries b k.index carries.0 carries.1 view r.entries all_fine r.middle d (ap (λ g. option_map block_of (get g.blocks b)) same_graph ∙ is) r.applied)

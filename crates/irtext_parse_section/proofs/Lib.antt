@@ -1,10 +1,11 @@
--- Steps of the readers of a section, of their check, and of what they apply
+-- Steps of the parsers of a section, of their check, and of what they apply
 pub mod HeadSteps
 pub mod PairSteps
 pub mod CheckSteps
 pub mod EntrySteps
 pub mod ApplySteps
 pub mod EditedBlock
+pub mod Edits
 pub mod GivenSteps
 pub mod LoopText
 pub mod EntryLists
@@ -27,3 +28,4 @@ pub mod FrameOutcomes
 pub mod FrameSteps
 pub mod Places
 pub mod Plain
+pub mod SetBack

@@ -13,7 +13,6 @@ use Rattle.irtext_base.specs.declared.parsable.fault.ParseFault.{ParseFault}
 use Rattle.irtext_tokens.proofs.Steps.{alone}
 use Rattle.irtext_context.specs.declared.base.item.Item.{Item}
 use Rattle.irtext_parse_state.specs.States.{marks_of}
-use Rattle.irtext_parse_state.specs.declared.parsable.state.State.{State}
 use Rattle.irtext_parse_state.specs.declared.parsable.state.StateStream.{StateStream}
 use Rattle.irtext_grammar.specs.Grammar.Section.{Entry}
 use Rattle.irtext_grammar.specs.Names.Acts.{Rule}
@@ -36,29 +35,22 @@ use Rattle.irtext_parse_section.specs.declared.said.ReadEntry.TheVariants as rea
 use Rattle.irtext_parse_section.proofs.EntryLists.{test_same, entry_more, entry_fresh}
 use Rattle.irtext_parse_section.proofs.LoopText.{text_begins, text_ends, text_starved_here, text_refused, text_starved, entry_shorter, text_more}
 
--- what a call says where it was not refused
+-- what a call promises if it returned no error
 pub unless_err : {X E P : Type 0} (r : Result X E) → is_err r ≡ false → OnOk r P → P
 unless_err (Ok x) e h = h
 unless_err (Err y) e h = absurd (true≢false e)
 
--- what a call says where it was refused
+-- what a call promises if it returned an error
 pub where_err : {X E P : Type 0} (r : Result X E) → is_err r ≡ true → OnErr r P → P
 where_err (Ok x) e h = absurd (true≢false (sym e))
 where_err (Err y) e h = h
 
--- nothing of the rest of a state changed, or twice nothing
-pub rest_stays : {T A U : Type 0} (s : State T A U) → KeepsRest s s
-rest_stays s = record { src = refl; aux_data = refl }
-
-pub rest_joins : {T A U : Type 0} {old mid new : State T A U} → KeepsRest old mid → KeepsRest mid new → KeepsRest old new
-rest_joins a b = record { src = b.src ∙ a.src; aux_data = b.aux_data ∙ a.aux_data }
-
--- one entry comes to none
+-- one entry, recorded after no other
 notes_one : {A : Type 0} (e : ReadEntry A) → Notes nothing e (one_noted e)
 notes_one (read.OfItem i e) = (refl, λ _. refl, refl)
 notes_one (read.OfOnce i a) = (refl, refl, refl)
 
--- what one entry comes to, where there was none, is that entry alone
+-- if no entry was recorded before, the record is that entry alone
 pub noted_first : {A : Type 0} (old new : Noted A) (e : ReadEntry A) → old ≡ nothing → Notes old e new → new ≡ one_noted e
 noted_first {A} old new e none n = go e (subst (λ z. Notes z e new) none n)
   where
@@ -72,17 +64,17 @@ noted_first {A} old new e none n = go e (subst (λ z. Notes z e new) none n)
     go (read.OfOnce i a) n = three [] [] ((i, a) ∷ []) n.0 n.1 n.2
 
 module _ {A : Type 0} (attr : Text → Outcome (AttrView A)) where
-  -- less is left behind an entry and its white space
+  -- an entry and its white space consume at least one character
   pub entries_shorter : {E : Type 0} {Means : ReadEntry A → Entry ℕ A (Written A) → Type 0} (test : ℕ → Bool) (rules : ℕ → Rule A) {now mid new : StreamView} {e : ReadEntry A} → MustMean {A = E} itself replaced Means (entry_at attr test rules) now (Ok e) mid
       → Takes itself replaced (front is_whitespace mid.rest) (after is_whitespace mid.rest) mid new → length new.rest < length now.rest
   entries_shorter test rules k left = entry_shorter attr [] rules test k.read left
 
 module _ {T A U : Type 0} (attr : Text → Outcome (AttrView A)) where
-  -- all entries of a text, behind a root of the marks of a state
+  -- all entries of a text, after a root with the marks of a state
   abbrev pub all_of : StateStream T A U → Text → Outcome (List (Entry ℕ A (Written A)))
   all_of s t = entries_after attr (indices_of (marks_of s.state)) (rules_of (marks_of s.state)) (length t) [] t
 
-  -- no entry was read yet
+  -- no entry was parsed yet
   pub so_far_none : (s : StateStream T A U) → s.stream.failed ≡ false → EntriesSoFar attr s s nothing
   so_far_none s fine = record {
     rest = record { src = refl; aux_data = refl };
@@ -103,7 +95,7 @@ module _ {T A U : Type 0} (attr : Text → Outcome (AttrView A)) where
     same_whole : whole now.stream ≡ whole old.stream
     same_whole = takes_whole alone old.stream now.stream h.so_far.moves.taken now.stream.rest h.so_far.moves.takes
 
-    -- memory was refused behind them
+    -- out of memory after them
     pub starved_so_far : {E : Type 0} {Means : Entries A → List (Entry ℕ A (Written A)) → Type 0} {new : StreamView} {fault : ParseFault E} → StarvesHere itself replaced now.stream fault new → MustMean itself replaced Means (all_of old) old.stream (Err fault) new
     starved_so_far s = must_refuse alone (text_starved_here attr (indices_of marks) (rules_of marks) h.so_far (λ _. []) s)
 
@@ -128,7 +120,7 @@ module _ {T A U : Type 0} (attr : Text → Outcome (AttrView A)) where
     abbrev by_marks : Text → Outcome (Entry ℕ A (Written A))
     by_marks = entry_at attr (may_follow marks entries.seen) (rules_of marks)
 
-    -- the next entry, by what was noted at the beginning
+    -- the next entry, by what was recorded at the beginning
     moved : {E : Type 0} (paths : List (List ℕ)) (r : Result (ReadEntry A) (ParseFault E)) (new : StreamView) → MustMean itself replaced (IsEntry (marks_of now.state) paths (whole now.stream)) by_now now.stream r new
         → MustMean itself replaced (IsEntry marks paths (whole old.stream)) by_marks now.stream r new
     moved paths r new k =
@@ -136,7 +128,7 @@ module _ {T A U : Type 0} (attr : Text → Outcome (AttrView A)) where
         (subst (λ t. MustMean itself replaced (IsEntry (marks_of now.state) paths t) by_now now.stream r new) same_whole k)
 
     module _ (go : begins (the 33) now.stream.rest ≡ true) where
-      -- the next is refused
+      -- the next entry is an error
       pub entries_refused : {E : Type 0} {Means : Entries A → List (Entry ℕ A (Written A)) → Type 0} (paths : List (List ℕ)) {new : StreamView} {fault : ParseFault E}
           → MustMean itself replaced (IsEntry (marks_of now.state) paths (whole now.stream)) by_now now.stream (Err fault) new → MustMean itself replaced Means (all_of old) old.stream (Err fault) new
       entries_refused paths {new = new} {fault = fault} k =
@@ -146,12 +138,12 @@ module _ {T A U : Type 0} (attr : Text → Outcome (AttrView A)) where
         read_there : MustMean {A = E} itself replaced (IsEntry marks mid.state.ctx.now.paths (whole old.stream)) by_marks now.stream (Ok e) mid.stream
         read_there = moved mid.state.ctx.now.paths (Ok e) mid.stream k
 
-        -- it was read, and memory was refused behind it
+        -- it was parsed, and then out of memory
         pub entries_starved : {F : Type 0} {Means : Entries A → List (Entry ℕ A (Written A)) → Type 0} {new : StreamView} {fault : ParseFault F} → StarvesHere itself replaced mid.stream fault new → MustMean itself replaced Means (all_of old) old.stream (Err fault) new
         entries_starved s = must_refuse alone (text_starved attr (indices_of marks) (rules_of marks) h.so_far go (may_follow marks entries.seen) same_test read_there.read (λ _. []) s)
 
         module _ (new : StreamView) (left : Takes itself replaced (front is_whitespace mid.stream.rest) (after is_whitespace mid.stream.rest) mid.stream new) where
-          -- it was read, and noted behind the others
+          -- it was parsed, and recorded after the others
           pub entries_more : (next : Noted A) → KeepsRest now.state mid.state → marks_of mid.state ≡ marks_of now.state → AddsPaths now.state.ctx.now mid.state.ctx.now
               → mid.state.ctx.now.paths ≡ entry_kept now.state.ctx.now.paths mid.state.ctx.now.paths e → Notes entries e next → EntriesSoFar attr old (record mid { stream = new }) next
           entries_more next rest same adds kept noted =
@@ -167,7 +159,7 @@ module _ {T A U : Type 0} (attr : Text → Outcome (AttrView A)) where
                 so_far = text_more attr (indices_of marks) (rules_of marks) h.so_far go (may_follow marks entries.seen) same_test read_there.read left;
               }
 
-  -- a first entry was read, and alone is noted
+  -- a first entry was parsed, and alone is recorded
   pub first_so_far : (begin mid : StateStream T A U) {E : Type 0} (e : ReadEntry A) (new : StreamView) → begin.stream.failed ≡ false → begins (the 33) begin.stream.rest ≡ true
       → MustMean {A = E} itself replaced (IsEntry (marks_of begin.state) mid.state.ctx.now.paths (whole begin.stream)) (entry_at attr (may_follow {Y = Unit {0}} (marks_of begin.state) []) (rules_of (marks_of begin.state))) begin.stream (Ok e) mid.stream
       → Takes itself replaced (front is_whitespace mid.stream.rest) (after is_whitespace mid.stream.rest) mid.stream new

@@ -1,4 +1,4 @@
--- How far the text of entries was read: one entry more, or none, or a refusal.
+-- How far the text of entries was parsed: one entry more, or none, or an error.
 use Rattle.std.proofs.Common.{◌≡◌, ◌∙◌, ◌<◌, ◌≤◌, ℕ, zero, suc, Bool, true, false, Ok, Err, List, [], ◌∷◌, ◌++◌, length, length-append, refl, sym, ap, arith, true≢false}
 use Rattle.std.specs.Char.{is_whitespace}
 use Rattle.irtext_base.specs.Text.{Text, begins, front, after}
@@ -29,11 +29,11 @@ module _ {A : Type 0} (attr : Text → Outcome (AttrView A)) (marks : List ℕ) 
   abbrev pub all_at : Text → Outcome (List (Entry ℕ A (Written A)))
   all_at t = entries_after attr marks rules (length t) [] t
 
-  -- what stands behind an entry's white space
+  -- what follows an entry's white space
   abbrev behind_space : ℕ → List (Entry ℕ A (Written A)) → Entry ℕ A (Written A) → Unit {0} → Text → Outcome (List (Entry ℕ A (Written A)))
   behind_space n found e u t = entries_after attr marks rules n (found ++ e ∷ []) t
 
-  -- what stands behind an entry
+  -- what follows an entry
   abbrev behind_entry : ℕ → List (Entry ℕ A (Written A)) → Entry ℕ A (Written A) → Text → Outcome (List (Entry ℕ A (Written A)))
   behind_entry n found e t = followed (space_at t) (behind_space n found e)
 
@@ -46,7 +46,7 @@ module _ {A : Type 0} (attr : Text → Outcome (AttrView A)) (marks : List ℕ) 
   entries_go_on : (n : ℕ) (found : List (Entry ℕ A (Written A))) (text : Text) → begins (the 33) text ≡ true → entries_after attr marks rules (suc n) found text ≡ followed (entry_at attr (may_have marks found) rules text) (behind_entry n found)
   entries_go_on n found text e = rw e refl
 
-  -- behind an entry and its white space less is left
+  -- an entry and its white space consume at least one character
   pub entry_shorter : {Y E : Type 0} (test : ℕ → Bool) {see : Y → Entry ℕ A (Written A)} {now mid new : StreamView} {y : Y} → MustRead {A = E} itself replaced see (entry_at attr test rules) now (Ok y) mid
       → Takes itself replaced (front is_whitespace mid.rest) (after is_whitespace mid.rest) mid new → length new.rest < length now.rest
   entry_shorter test {see} {now} {mid} {new} {y} k s =
@@ -55,7 +55,7 @@ module _ {A : Type 0} (attr : Text → Outcome (AttrView A)) (marks : List ℕ) 
       let left : new.rest ≡ after is_whitespace mid.rest = ap (λ v. v.rest) s.is in
       omega (arith, less, ap length left, ap length s.same, length-append (front is_whitespace mid.rest) (after is_whitespace mid.rest))
 
-  -- no entry was read yet
+  -- no entry was parsed yet
   pub text_begins : (old : StreamView) → old.failed ≡ false → TextSoFar attr marks rules old old []
   text_begins old fine =
       let p = starts alone all_at (entries_after attr marks rules (length old.rest) []) old fine refl in
@@ -69,7 +69,7 @@ module _ {A : Type 0} (attr : Text → Outcome (AttrView A)) (marks : List ℕ) 
     pub text_ends : {Y E : Type 0} (sees : Y → List (Entry ℕ A (Written A))) (y : Y) → sees y ≡ found → begins (the 33) now.rest ≡ false → MustRead {A = E} itself replaced sees all_at old (Ok y) now
     text_ends sees y e stop = ends alone sees y (turned alone (λ t. Read (sees y) [] t) (entries_end h.room found now.rest stop ∙ ap (λ z. Read z [] now.rest) (sym e)) so_far)
 
-    -- memory was refused behind them
+    -- out of memory after them
     pub text_starved_here : {X F : Type 0} {new : StreamView} {fault : ParseFault F} (sees : X → List (Entry ℕ A (Written A))) → StarvesHere itself replaced now fault new → MustRead itself replaced sees all_at old (Err fault) new
     text_starved_here sees s = starved alone {sees = sees} so_far s
 
@@ -77,14 +77,14 @@ module _ {A : Type 0} (attr : Text → Outcome (AttrView A)) (marks : List ℕ) 
       room_left : (k : ℕ) × (h.room ≡ suc k)
       room_left = some_left h.room now.rest go h.enough
 
-      -- an entry is to be read, by this test of its index
+      -- an entry is to be parsed, by this test of its index
       to_entry : Passed alone all_at (λ t. followed (entry_at attr test rules t) (behind_entry room_left.0 found)) old now
       to_entry = turned alone (λ t. followed (entry_at attr test rules t) (behind_entry room_left.0 found))
           (ap (λ n. entries_after attr marks rules n found now.rest) room_left.1 ∙ (entries_go_on room_left.0 found now.rest go
           ∙ ap (λ (test : ℕ → Bool). followed (entry_at attr test rules now.rest) (behind_entry room_left.0 found)) (λ i j. sym (same j) i)))
           so_far
 
-      -- it is refused
+      -- it is an error
       pub text_refused : {X Y E : Type 0} {see : Y → Entry ℕ A (Written A)} {new : StreamView} {fault : ParseFault E} (sees : X → List (Entry ℕ A (Written A))) → MustRead itself replaced see (entry_at attr test rules) now (Err fault) new → MustRead itself replaced sees all_at old (Err fault) new
       text_refused sees k = refuses alone {sees = sees} (behind_entry room_left.0 found) to_entry k
 
@@ -92,12 +92,12 @@ module _ {A : Type 0} (attr : Text → Outcome (AttrView A)) (marks : List ℕ) 
         to_space : Passed alone all_at (behind_entry room_left.0 found (see y)) old mid
         to_space = more alone (behind_entry room_left.0 found) to_entry k
 
-        -- memory was refused behind it
+        -- out of memory after it
         pub text_starved : {X F : Type 0} {new : StreamView} {fault : ParseFault F} (sees : X → List (Entry ℕ A (Written A))) → StarvesHere itself replaced mid fault new → MustRead itself replaced sees all_at old (Err fault) new
         text_starved sees s = starved alone {sees = sees} to_space s
 
         module _ {new : StreamView} (s : Takes itself replaced (front is_whitespace mid.rest) (after is_whitespace mid.rest) mid new) where
-          -- it was read, and the white space behind it passed
+          -- it was parsed, and the white space after it consumed
           pub text_more : TextSoFar attr marks rules old new (found ++ see y ∷ [])
           text_more =
               let p = spaced alone (behind_space room_left.0 found (see y)) to_space s in

@@ -18,6 +18,8 @@ use Rattle.irtext_parse_section.specs.Checked.{pairs_wrong, items_wrong}
 use Rattle.irtext_parse_section.specs.Said.{is_block}
 use Rattle.irtext_parse_section.specs.Together.{Stores, Finishes}
 use Rattle.irtext_parse_section.specs.declared.said.ItemEntry.{ItemEntry}
+use Rattle.irtext_graph.proofs.Nests.{some_eq}
+use Rattle.irtext_parse_section.proofs.Edits.{operation_unedited, block_unedited}
 use Rattle.irtext_parse_section.proofs.FinishedFirst.{gives_both}
 
 -- ---- nothing is put into attributes
@@ -26,7 +28,7 @@ abbrev no_text : Option Text
 no_text = None
 
 module _ {T A : Type 0} where
-  -- an operation with the attributes that it has is as it was
+  -- an operation with the attributes that it has is unchanged
   same_data : (x : OperationEntry T A) (o : Option (OperationData A)) (view : OperationView T A) → option_map (view_of {T = T} {A = A} x.content.content.results x.content.children) o ≡ Some view → o ≡ option_map (with_attributes view.attributes) o
   same_data x None view e = refl
   same_data x (Some d) view e =
@@ -45,51 +47,25 @@ module _ {T A : Type 0} where
       let same : block_of {T = T} {A = A} x ≡ view = cc e in
       ap (λ ds. Some (record x { content = record x.content { content = record x.content.content { data_of = record x.content.content.data_of { attributes = ds } } } })) (ap (λ (v : BlockView T A). v.attributes) same)
 
+  same_entries : (view now : OperationView T A) → Some view ≡ Some now → entries_of view.attributes ≡ entries_of now.attributes
+  same_entries view now e = ap (λ (v : OperationView T A). entries_of v.attributes) (some_eq e)
+
+  same_block_entries : (view now : BlockView T A) → Some view ≡ Some now → entries_of view.attributes ≡ entries_of now.attributes
+  same_block_entries view now e = ap (λ (v : BlockView T A). entries_of v.attributes) (some_eq e)
+
   -- nothing was put into an item's attributes
   stores_none : (x : Item) (c : ContextView T A) → Stores [] x None c c
   stores_none (item.Operation p) c = go (operation c p) refl
     where
       go : (o : Option (OperationView T A)) → operation c p ≡ o → cond (is_some o) (StoresOperation p [] c c) (c ≡ c)
       go None e = refl
-      go (Some view) e = record {
-        left = view.attributes;
-        edits = record {
-          graph = record {
-            operations = record { updates = record { changed = same_operation (get c.graph.operations p) view e; others = λ q n. refl }; generations = λ i. refl; free = refl; len = refl };
-            blocks = refl;
-            regions = refl;
-            made = refl;
-            values = refl;
-            first_place = refl;
-          };
-          paths = refl;
-          dialects = refl;
-        };
-        stored = λ now is. let same : view ≡ now = cc (sym e ∙ is) in ap (λ (v : OperationView T A). entries_of v.attributes) same;
-      }
+      go (Some view) e = record { left = view.attributes; edits = operation_unedited c p (with_attributes view.attributes) (same_operation (get c.graph.operations p) view e); stored = λ now is. same_entries view now (sym e ∙ is) }
   stores_none (item.Block p) c = go (block c p) refl
     where
       go : (o : Option (BlockView T A)) → block c p ≡ o → cond (is_some o) (StoresBlock p [] c c × (no_text ≡ None)) (c ≡ c)
       go None e = refl
-      go (Some view) e = (
-        record {
-          left = view.attributes;
-          edits = record {
-            graph = record {
-              operations = refl;
-              blocks = record { updates = record { changed = same_block (get c.graph.blocks p) view e; others = λ q n. refl }; generations = λ i. refl; free = refl; len = refl };
-              regions = refl;
-              made = refl;
-              values = refl;
-              first_place = refl;
-            };
-            paths = refl;
-            dialects = refl;
-          };
-          stored = λ now is. let same : view ≡ now = cc (sym e ∙ is) in ap (λ (v : BlockView T A). entries_of v.attributes) same;
-        },
-        refl,
-      )
+      go (Some view) e =
+          (record { left = view.attributes; edits = block_unedited c p (with_block_attributes view.attributes) (same_block (get c.graph.blocks p) view e); stored = λ now is. same_block_entries view now (sym e ∙ is) }, refl)
 
   -- an entry without pairs gives a location
   pub only_gives : (e : ItemEntry A) (a c : ContextView T A) → e.pairs.items ≡ [] → Finishes e.item e.location None a c → GivesAll [] (e ∷ []) a c

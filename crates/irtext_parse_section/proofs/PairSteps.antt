@@ -1,4 +1,4 @@
--- Steps of the readers of pairs.
+-- Steps of the parsers of pairs.
 use Rattle.std.proofs.Common.{◌≡◌, ◌∙◌, ℕ, Bool, true, false, Result, Ok, Err, [], ◌∷◌, length, refl, sym, ap, ap₂, subst, ◌⊎◌, inl, inr}
 use Rattle.std.specs.Prelude.{IfOk}
 use Rattle.std.specs.Char.{is_whitespace}
@@ -43,11 +43,11 @@ abbrev reference_of : {A : Type 0} → ℕ → ℕ → Item ℕ A
 reference_of place i = reference (record { place = place; index = i })
 
 module _ {A : Type 0} (attr : Text → Outcome (AttrView A)) where
-  -- where `!` stands, what is given is an index
+  -- if the text begins with `!`, the given value is an index
   item_is_index : (text : Text) → begins (the 33) text ≡ true → item_at attr text ≡ mapped (reference_of (length text)) (index_at text)
   item_is_index text b = rw b (mapped_mapped reference (λ i. record { place = length text; index = i }) (reference_of (length text)) (index_at text) (λ i. refl))
 
-  -- an index was read behind `!`
+  -- an index was parsed after `!`
   pub reference_there : {old new : StreamView} (mark : ReadMark) → begins (the 33) old.rest ≡ true → MustRead {A = A} itself replaced (λ n. n) index_at old (Ok mark.index) new → StandsBehind mark.at old.passed
       → MustMean {A = A} itself replaced (IsGiven (whole old)) (item_at attr) old (Ok (given.Reference mark)) new
   reference_there {old = old} mark b h p =
@@ -58,13 +58,13 @@ module _ {A : Type 0} (attr : Text → Outcome (AttrView A)) where
         read = record { answers = rw (item_is_index old.rest b) (seen_alone alone {A = A} (λ (m : GivenAttr A). reference_of place mark.index) (reference_of place) (given.Reference mark) refl h).answers };
       }
 
-  -- no index stands behind it
+  -- no index follows it
   pub reference_refused : {Means : GivenAttr A → Item ℕ A → Type 0} {old new : StreamView} {fault : ParseFault A} → Item ℕ A → begins (the 33) old.rest ≡ true → MustRead {Y = ℕ} itself replaced (λ n. n) index_at old (Err fault) new
       → MustMean itself replaced Means (item_at attr) old (Err fault) new
   reference_refused {old = old} {new = new} {fault = fault} any b h =
       record { meant = λ _. any; means = tt; read = record { answers = rw (item_is_index old.rest b) (refuses_mapped_demanded itself replaced alone.view_at alone.at_at (reference_of (length old.rest)) old.failed (index_at old.rest) old new fault h.answers) } }
 
-  -- an attribute was read
+  -- an attribute was parsed
   pub attribute_there : {old new : StreamView} (a : AttrObj A) → begins (the 33) old.rest ≡ false → MustRead {A = A} itself replaced attribute_of (attribute_at attr) old (Ok a) new
       → MustMean {A = A} itself replaced (IsGiven (whole old)) (item_at attr) old (Ok (given.Direct a)) new
   attribute_there a b h = record {
@@ -73,7 +73,7 @@ module _ {A : Type 0} (attr : Text → Outcome (AttrView A)) where
     read = record { answers = rw b (seen_alone alone {A = A} (λ (m : GivenAttr A). direct (attribute_of a)) direct (given.Direct a) refl h).answers };
   }
 
-  -- none stands there
+  -- no attribute follows
   pub attribute_refused : {Means : GivenAttr A → Item ℕ A → Type 0} {old new : StreamView} {fault : ParseFault A} → Item ℕ A → begins (the 33) old.rest ≡ false → MustRead {Y = AttrObj A} itself replaced attribute_of (attribute_at attr) old (Err fault) new
       → MustMean itself replaced Means (item_at attr) old (Err fault) new
   attribute_refused {old = old} {new = new} {fault = fault} any b h =
@@ -81,7 +81,7 @@ module _ {A : Type 0} (attr : Text → Outcome (AttrView A)) where
 
 -- ---- keys that are kept
 module _ {A : Type 0} (rule : Rule A) where
-  -- a pair that was read may stand there exactly where the one may that it stands for
+  -- a parsed pair is allowed exactly if the pair that it represents is
   pub stands_same : (text : Text) (p : Key × GivenAttr A) (x : Name ℕ × Item ℕ A) → IsPair text p x → stands_under rule p.0.name p.1 ≡ may_stand rule x
   stands_same text (key, given.Direct a) (n, direct b) h = ap₂ rule h.0.named h.1
   stands_same text (key, given.Direct a) (n, reference m) h = absurd h.1
@@ -127,7 +127,7 @@ module _ {A : Type 0} (rule : Rule A) where
   if_ok text meant (Ok d) h = h d refl
   if_ok text meant (Err fault) h = tt
 
-  -- a pair that was read is kept, or its key is reserved; one that was not read is refused as it was
+  -- a pair that was parsed is kept, or its key is reserved; one that was not parsed is the same error
   pub may_keep : {raw : Text → Outcome (Name ℕ × Item ℕ A)} {old mid new : StreamView} (place : Place) (a r : Result (Key × GivenAttr A) (ParseFault A)) → MayMean itself replaced (IsPair (whole old)) raw old a mid → StandsBehind place old.passed → Allows rule place a mid r new
       → MayMean itself replaced (IsPair (whole old)) (λ t. kept rule (raw t)) old r new
   may_keep {raw = raw} {old = old} {mid = mid} {new = new} place a r h p k =
@@ -139,7 +139,7 @@ module _ {A : Type 0} (rule : Rule A) where
       }
 
 module _ {A : Type 0} (item : Text → Outcome (Name ℕ × Item ℕ A)) where
-  -- there is a first pair, and what stands behind it
+  -- there is a first pair, and what follows it
   pub list_pairs : {old mid new last : StreamView} {first : Key × GivenAttr A} {r : Result _ (ParseFault A)} → MayMean {A = A} itself replaced (IsPair (whole old)) item old (Ok first) mid → Takes itself replaced (front is_whitespace mid.rest) (after is_whitespace mid.rest) mid new
       → PairsBehind item first new r last → MustPairs (separated_at 44 item) old r last
   list_pairs {old = old} {mid = mid} {new = new} {last = last} {first = n} {r = r} h k rest =

@@ -32,7 +32,7 @@ memory_comes {A} old mid fine h =
     let g : Gives itself replaced (source_at old.rest) old None mid = subst (λ t. Gives itself replaced (source_at t) old None mid) (sym k.1) (refl, record { is = k.2; same = sym k.1 }) in
     record { answers = (gets_must {A = A} source_at old mid None fine g).answers }
 
--- a source was read, and its line and column come next
+-- a source was parsed, and its line and column come next
 pub source_passed : {A Y : Type 0} {see : Y → Option (List ℕ)} {old mid : StreamView} {y : Y} → MustRead {A = A} itself replaced see source_at old (Ok y) mid → Passed alone {V = Written A} place_at (λ t. mapped (src_pos (see y)) (behind_source_at t)) old mid
 source_passed {see = see} {mid = mid} {y = y} h =
     let s = see y in
@@ -45,6 +45,6 @@ place_within attr depth [] h b = absurd (cc)
 place_within attr zero (c ∷ text) h b = absurd (omega (arith, h))
 place_within attr (suc n) (c ∷ text) h b = is_place (location_within attr n) (more_within attr n) attr (c ∷ text) b
 
--- the place that was read is the location
+-- the place that was parsed is the location
 pub place_is : {A : Type 0} (attr : Text → Outcome (AttrView A)) {paths : List (List ℕ)} {old new : StreamView} {r : Result (Location A) (ParseFault A)} → begins begins_source old.rest ≡ true → MustReadOver known_location location_over place_at paths old r new → MustReadWithin known_location location_over (location_within attr) paths old r new
 place_is attr {old = old} b h = record { within = λ depth enough. record { known = h.known; read = record { answers = rw (place_within attr depth old.rest enough b) h.read.answers } } }

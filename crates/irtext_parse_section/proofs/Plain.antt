@@ -1,7 +1,10 @@
--- Numbers, lines and columns as they are mostly written are those that the readers of their parts read.
+-- Numbers, lines and columns as they are mostly printed are those that the parsers of their parts parse.
 use Rattle.std.proofs.Common.{◌≡◌, ℕ, ℤ, pos, true, false, cond, nat_lt, Option, Some, None, Ok, [], ◌∷◌, ◌++◌, codes, refl, sym, ◌∙◌, ap, subst, arith}
 use Rattle.std.proofs.lemmas.Bool.Decides.{nat_tests}
-use Rattle.std.specs.Str.{chars}
+use Rattle.std.specs.List.{list_all}
+use Rattle.std.specs.Str.{IsAscii, chars}
+use Rattle.std.proofs.lemmas.Str.{chars-IsAscii}
+use Rattle.std.proofs.lemmas.Str.Ascii.{IsAscii-nil, IsAscii-cons}
 use Rattle.std.specs.Option.{option_map}
 use Rattle.std.specs.Prelude.{FitsSigned, ◌<◌, ◌^◌}
 use Rattle.std.specs.Int.{w32}
@@ -10,7 +13,7 @@ use Rattle.irtext_base.specs.Text.{Text, begins, front, after}
 use Rattle.irtext_base.specs.Stream.{StreamView, behind}
 use Rattle.irtext_stream.specs.Stream.{Comes}
 use Rattle.irtext_base.specs.Answers.{Outcome, Read, Missing, Bad, Takes, Gives, SameStream, demanded, followed, mapped, prefixed, unless_failed}
-use Rattle.irtext_base.proofs.Characters.{word_no_space}
+use Rattle.irtext_base.proofs.Characters.{and_left, and_right, word_no_space}
 use Rattle.irtext_base.proofs.Compose.{takes_more, takes_stands, stands_after}
 use Rattle.irtext_base.proofs.Numbers.{digit_in_word}
 use Rattle.irtext_tokens.specs.Infix.{Reader}
@@ -27,12 +30,12 @@ use Rattle.irtext_parse_section.specs.Plain.{TakesDigits, TakesNumber, Looks, Ge
 no_sign : (c : ℕ) → is_ascii_digit c ≡ true → is_sign c ≡ false
 no_sign c e = grind (arith, nat_tests)
 
--- no sign stands in front of a digit
+-- a digit has no sign before it
 unsigned : (text : Text) → begins is_ascii_digit text ≡ true → (sign_of text ≡ []) × (after_sign text ≡ text)
 unsigned [] e = absurd (cc)
 unsigned (c ∷ text) e = (ap (λ b. cond b (c ∷ []) []) (no_sign c e), ap (λ b. cond b text (c ∷ text)) (no_sign c e))
 
--- no white space stands in front of a digit
+-- a digit has no white space before it
 no_space : (text : Text) → begins is_ascii_digit text ≡ true → (front is_whitespace text ≡ []) × (after is_whitespace text ≡ text)
 no_space [] e = absurd (cc)
 no_space (c ∷ text) e =
@@ -58,7 +61,7 @@ integer_read text n z b v e = let s = unsigned text b in rw (s.1, s.0, b, v, fit
 pub integer_taken : {old new : StreamView} (n : ℕ) (z : ℤ) → TakesDigits old n new → within (signed_below 32) false n ≡ Some z → TakesNumber integer_at old z new
 integer_taken {old = old} n z t e = record { some = t.some; is = integer_read old.rest n z t.some t.value e; takes = t.takes }
 
--- the stream stands where it stood
+-- the stream is unchanged
 pub still : (s : StreamView) → SameStream itself replaced s.failed s s
 still s = record { seen = s; is = refl; fails = refl; same = refl }
 
@@ -66,7 +69,7 @@ still s = record { seen = s; is = refl; fails = refl; same = refl }
 pub taken : {old new : StreamView} (t r : Text) → Takes itself replaced t r old new → SameStream itself replaced old.failed old new
 taken {old = old} {new = new} t r k = takes_stands itself replaced alone.view_at alone.at_at old new t r k
 
--- the stream stands in its text behind characters that were taken
+-- the stream is over the same text, after characters that were taken
 pub further : {old mid new : StreamView} (t r : Text) → Takes itself replaced t r old mid → SameStream itself replaced mid.failed mid new → SameStream itself replaced old.failed old new
 further {old = old} {mid = mid} {new = new} t r k h =
     let f : mid.failed ≡ old.failed = ap (λ v. v.failed) k.is in
@@ -78,14 +81,14 @@ line_read text z t r b e = let s = no_space text b in rw (s.0, s.1, e) refl
 column_read : (text : Text) (z : ℤ) (t r : Text) → begins is_ascii_digit text ≡ true → integer_at text ≡ Read z t r → column_at (codes ", column: " ++ text) ≡ Read z (codes ", column: " ++ t) r
 column_read text z t r b e = let s = no_space text b in rw (s.0, s.1, e) refl
 
--- a label was passed, and characters behind it
+-- a label was consumed, and characters after it
 pub behind_label : {X : Type 0} (reader : Reader X) (label t r : Text) (x : X) (old mid new : StreamView) (rest : Text) → old.rest ≡ label ++ rest → mid ≡ behind old label rest → reader (label ++ rest) ≡ Read x (label ++ t) r → Takes itself replaced t r mid new → Gets reader old new x
 behind_label reader label t r x old mid new rest e m is k =
     let v : mid.rest ≡ rest = ap (λ v. v.rest) m in
     let j : Takes itself replaced label mid.rest old mid = record { is = m ∙ ap (λ r. behind old label r) (sym v); same = ap (λ r. label ++ r) v ∙ sym e } in
     subst (λ u. Gives itself replaced (reader u) old x new) (sym e) (subst (λ o. Gives itself replaced o old x new) (sym is) (refl, takes_more itself replaced alone.view_at alone.at_at old mid new label mid.rest t r j k))
 
--- a label was passed, and a number behind it
+-- a label was consumed, and a number after it
 labelled : (reader : Reader ℤ) (label : Text) → ((text : Text) (z : ℤ) (t r : Text) → begins is_ascii_digit text ≡ true → integer_at text ≡ Read z t r → reader (label ++ text) ≡ Read z (label ++ t) r)
     → (old mid new : StreamView) (rest : Text) (z : ℤ) → old.rest ≡ label ++ rest → mid ≡ behind old label rest → TakesNumber integer_at mid z new → Gets reader old new z
 labelled reader label reads old mid new rest z e m n =
@@ -99,7 +102,7 @@ line_taken = labelled line_at (codes ": line: ") line_read
 pub column_taken : (old mid new : StreamView) (rest : Text) (z : ℤ) → old.rest ≡ codes ", column: " ++ rest → mid ≡ behind old (codes ", column: ") rest → TakesNumber integer_at mid z new → Gets column_at old new z
 column_taken = labelled column_at (codes ", column: ") column_read
 
--- one thing was read, and another behind it
+-- one value was parsed, and another after it
 gives_behind : {Y : Type 0} (o : Outcome Y) (t r : Text) (old mid new : StreamView) (y : Y) → Takes itself replaced t r old mid → Gives itself replaced o mid y new → Gives itself replaced (prefixed t o) old y new
 gives_behind (Read z u q) t r old mid new y k h = (h.0, takes_more itself replaced alone.view_at alone.at_at old mid new t r u q k h.1)
 gives_behind (Missing cause) t r old mid new y k h = absurd h
@@ -131,7 +134,7 @@ mapped_gives f (Bad cause upto) old new x g = absurd g
 abbrev at_line : ℤ → ℤ → SourcePosition
 at_line line column = record { line = line; column = column }
 
--- a line and a column were read
+-- a line and a column were parsed
 pub position_taken : (old mid new : StreamView) (line column : ℤ) → Gets line_at old mid line → Gets column_at mid new column → Gets behind_source_at old new (at_line line column)
 position_taken old mid new line column g h =
     let last : ℤ → Text → Outcome SourcePosition = λ n t. followed (spaced_at (codes ",") t) (λ _ u. mapped (at_line n) (labelled_at (codes "column") u)) in
@@ -144,7 +147,7 @@ gives_demanded (Read y t r) old new x g = g
 gives_demanded (Missing cause) old new x g = absurd g
 gives_demanded (Bad cause upto) old new x g = absurd g
 
--- what was read on a stream that has not failed
+-- what was parsed on a stream that has not failed
 pub gets_must : {X A : Type 0} (reader : Reader X) (old new : StreamView) (x : X) → old.failed ≡ false → Gets reader old new x → MustRead {A = A} itself replaced (λ (y : X). y) reader old (Ok x) new
 gets_must reader old new x fine g =
     record { answers = subst (λ b. Gives itself replaced (demanded (unless_failed b (reader old.rest))) old x new) (sym fine) (gives_demanded (reader old.rest) old new x g) }
@@ -163,7 +166,7 @@ below n e = grind (arith, nat_tests)
 same_some : (x y : ℤ) → ◌≡◌ {A = Option ℤ} (Some x) (Some y) → y ≡ x
 same_some x y e = cc
 
--- such a number fits
+-- a number below 2 ^ 31 fits
 fits_signed : (n : ℕ) (z : ℤ) → within (signed_below 32) false n ≡ Some z → FitsSigned w32 z
 fits_signed n z e =
     elim (nat_lt n 2147483648) as (λ b. nat_lt n 2147483648 ≡ b → ◌≡◌ {A = Option ℤ} (cond b (Some (pos n)) None) (Some z) → FitsSigned w32 z) [
@@ -176,22 +179,25 @@ pub number_looks : {old new : StreamView} (n : ℕ) (r : Option ℤ) → TakesDi
 number_looks n (Some z) t e = (integer_taken n z t (sym e), fits_signed n z (sym e))
 number_looks {old = old} n None t e = taken (front is_ascii_digit old.rest) (after is_ascii_digit old.rest) t.takes
 
-chars_line : chars (codes ": line: ") ≡ codes ": line: "
-unfolding chars
-chars_line = refl
+below_ascii : (c : ℕ) → nat_lt c 128 ≡ true → c < 128
+below_ascii c e = grind (arith, nat_tests)
 
-chars_column : chars (codes ", column: ") ≡ codes ", column: "
-unfolding chars
-chars_column = refl
+ascii_tested : (text : Text) → list_all (λ c. nat_lt c 128) text ≡ true → IsAscii text
+ascii_tested [] e = IsAscii-nil
+ascii_tested (c ∷ text) e = IsAscii-cons c text (below_ascii c (and_left (nat_lt c 128) (list_all (λ c. nat_lt c 128) text) e)) (ascii_tested text (and_right (nat_lt c 128) (list_all (λ c. nat_lt c 128) text) e))
 
--- a label was passed, and a look for a number behind it
+-- the characters of an ASCII text are its codes
+pub chars_ascii : (text : Text) → list_all (λ c. nat_lt c 128) text ≡ true → chars text ≡ text
+chars_ascii text e = chars-IsAscii text (ascii_tested text e)
+
+-- a label was consumed, and a number after it is looked for
 labelled_looks : (reader : Reader ℤ) (label : Text) → ((old mid new : StreamView) (rest : Text) (z : ℤ) → old.rest ≡ label ++ rest → mid ≡ behind old label rest → TakesNumber integer_at mid z new → Gets reader old new z)
     → (old mid new : StreamView) (r : Option ℤ) → Comes label old (λ v. mid ≡ v) → Looks (λ z. TakesNumber integer_at mid z new × FitsSigned w32 z) mid r new → Looks (GetsInteger reader old new) old r new
 labelled_looks reader label takes old mid new (Some z) h n = (takes old mid new h.0 z h.1 h.2 n.0, n.1)
 labelled_looks reader label takes old mid new None h s = further label h.0 (record { is = h.2; same = sym h.1 }) s
 
 pub line_looks : (old mid new : StreamView) (r : Option ℤ) → Comes (chars (codes ": line: ")) old (λ v. mid ≡ v) → Looks (λ z. TakesNumber integer_at mid z new × FitsSigned w32 z) mid r new → Looks (GetsInteger line_at old new) old r new
-line_looks old mid new r h s = labelled_looks line_at (codes ": line: ") line_taken old mid new r (subst (λ t. Comes t old (λ v. mid ≡ v)) chars_line h) s
+line_looks old mid new r h s = labelled_looks line_at (codes ": line: ") line_taken old mid new r (subst (λ t. Comes t old (λ v. mid ≡ v)) (chars_ascii (codes ": line: ") refl) h) s
 
 pub column_looks : (old mid new : StreamView) (r : Option ℤ) → Comes (chars (codes ", column: ")) old (λ v. mid ≡ v) → Looks (λ z. TakesNumber integer_at mid z new × FitsSigned w32 z) mid r new → Looks (GetsInteger column_at old new) old r new
-column_looks old mid new r h s = labelled_looks column_at (codes ", column: ") column_taken old mid new r (subst (λ t. Comes t old (λ v. mid ≡ v)) chars_column h) s
+column_looks old mid new r h s = labelled_looks column_at (codes ", column: ") column_taken old mid new r (subst (λ t. Comes t old (λ v. mid ≡ v)) (chars_ascii (codes ", column: ") refl) h) s

@@ -1,4 +1,4 @@
--- Parts of entries as they are mostly written are those that the readers of their parts read.
+-- Parts of entries as they are mostly printed are those that the parsers of their parts parse.
 use Rattle.std.proofs.Common.{◌≡◌, ℕ, false, Option, Some, None, Ok, Vec, [], ◌++◌, codes, refl, sym, ◌∙◌, ap, subst}
 use Rattle.std.specs.Global.{Global}
 use Rattle.std.specs.Str.{chars}
@@ -16,71 +16,55 @@ use Rattle.irtext_grammar.specs.Names.Acts.{Rule}
 use Rattle.irtext_parse_pieces.specs.declared.entries.Key.{Key}
 use Rattle.irtext_parse_spec.specs.Entries.{pairs_at}
 use Rattle.irtext_parse_section.specs.Plain.{TakesDigits, Looks, Gets}
-use Rattle.irtext_parse_section.proofs.Plain.{number_taken, behind_label, further, gets_must}
+use Rattle.irtext_parse_section.proofs.Plain.{number_taken, behind_label, further, gets_must, chars_ascii}
 use Rattle.irtext_parse_section.specs.Entries.{location_end_at}
 use Rattle.irtext_parse_section.specs.Said.{MustPairs}
 use Rattle.irtext_parse_section.specs.declared.said.GivenAttr.{GivenAttr}
 
--- `!` was passed, and digits behind it
+-- `!` was consumed, and digits after it
 pub index_taken : (old mid new : StreamView) (rest : Text) (n : ℕ) → old.rest ≡ codes "!" ++ rest → mid ≡ behind old (codes "!") rest → TakesDigits mid n new → Gets index_at old new n
 index_taken old mid new rest n e m d =
     let t = number_taken n d in
     let v : mid.rest ≡ rest = ap (λ v. v.rest) m in
     behind_label index_at (codes "!") (front is_ascii_digit mid.rest) (after is_ascii_digit mid.rest) n old mid new rest e m (rw (← v) (ap (prefixed (codes "!")) t.is)) t.takes
 
--- ` = ` was passed, and white space behind it
+-- ` = ` was consumed, and white space after it
 pub equals_taken : (old mid new : StreamView) (rest : Text) → old.rest ≡ codes " = " ++ rest → mid ≡ behind old (codes " = ") rest → Takes itself replaced (front is_whitespace mid.rest) (after is_whitespace mid.rest) mid new → Gets (spaced_at (codes "=")) old new tt
 equals_taken old mid new rest e m t =
     let v : mid.rest ≡ rest = ap (λ v. v.rest) m in
     behind_label (spaced_at (codes "=")) (codes " = ") (front is_whitespace mid.rest) (after is_whitespace mid.rest) tt old mid new rest e m (rw v refl) t
 
--- `], ` was passed, and white space behind it
+-- `], ` was consumed, and white space after it
 pub end_taken : (old mid new : StreamView) (rest : Text) → old.rest ≡ codes "], " ++ rest → mid ≡ behind old (codes "], ") rest → Takes itself replaced (front is_whitespace mid.rest) (after is_whitespace mid.rest) mid new → Gets location_end_at old new tt
 end_taken old mid new rest e m t =
     let v : mid.rest ≡ rest = ap (λ v. v.rest) m in
     behind_label location_end_at (codes "], ") (front is_whitespace mid.rest) (after is_whitespace mid.rest) tt old mid new rest e m (rw v refl) t
 
--- no pairs stand between brackets
+-- no pairs are between the brackets
 pub no_pairs : {A : Type 0} (attr : Text → Outcome (AttrView A)) (rule : Rule A) (rest : Text) → pairs_at attr rule (codes "[]" ++ rest) ≡ Read [] (codes "[]") rest
 unfolding pairs_at word_at
 no_pairs attr rule rest = refl
 
-chars_mark : chars (codes "!") ≡ codes "!"
-unfolding chars
-chars_mark = refl
-
-chars_equals : chars (codes " = ") ≡ codes " = "
-unfolding chars
-chars_equals = refl
-
-chars_end : chars (codes "], ") ≡ codes "], "
-unfolding chars
-chars_end = refl
-
-chars_brackets : chars (codes "[]") ≡ codes "[]"
-unfolding chars
-chars_brackets = refl
-
--- `!` was passed, and a look for digits behind it
+-- `!` was consumed, and digits after it are looked for
 pub index_looks : (old mid new : StreamView) (r : Option ℕ) → Comes (chars (codes "!")) old (λ v. mid ≡ v) → Looks (λ n. TakesDigits mid n new) mid r new → Looks (Gets index_at old new) old r new
 index_looks old mid new (Some n) h d =
-    let k : Comes (codes "!") old (λ v. mid ≡ v) = subst (λ t. Comes t old (λ v. mid ≡ v)) chars_mark h in
+    let k : Comes (codes "!") old (λ v. mid ≡ v) = subst (λ t. Comes t old (λ v. mid ≡ v)) (chars_ascii (codes "!") refl) h in
     index_taken old mid new k.0 n k.1 k.2 d
 index_looks old mid new None h s = further (chars (codes "!")) h.0 (record { is = h.2; same = sym h.1 }) s
 
 -- ` = ` and white space were passed
 pub equals_comes : (old mid new : StreamView) → Comes (chars (codes " = ")) old (λ v. mid ≡ v) → Takes itself replaced (front is_whitespace mid.rest) (after is_whitespace mid.rest) mid new → Gets (spaced_at (codes "=")) old new tt
 equals_comes old mid new h t =
-    let k : Comes (codes " = ") old (λ v. mid ≡ v) = subst (λ t. Comes t old (λ v. mid ≡ v)) chars_equals h in
+    let k : Comes (codes " = ") old (λ v. mid ≡ v) = subst (λ t. Comes t old (λ v. mid ≡ v)) (chars_ascii (codes " = ") refl) h in
     equals_taken old mid new k.0 k.1 k.2 t
 
 -- `], ` and white space were passed
 pub end_comes : (old mid new : StreamView) → Comes (chars (codes "], ")) old (λ v. mid ≡ v) → Takes itself replaced (front is_whitespace mid.rest) (after is_whitespace mid.rest) mid new → Gets location_end_at old new tt
 end_comes old mid new h t =
-    let k : Comes (codes "], ") old (λ v. mid ≡ v) = subst (λ t. Comes t old (λ v. mid ≡ v)) chars_end h in
+    let k : Comes (codes "], ") old (λ v. mid ≡ v) = subst (λ t. Comes t old (λ v. mid ≡ v)) (chars_ascii (codes "], ") refl) h in
     end_taken old mid new k.0 k.1 k.2 t
 
--- a value behind what ends a location
+-- a value after what ends a location
 pub end_mapped : {X : Type 0} (x : X) (text : Text) → mapped (λ _. x) (location_end_at text) ≡ followed (spaced_at (codes "]") text) (λ _ t. followed (text_at (codes ",") t) (λ _ u. mapped (λ _. x) (space_at u)))
 end_mapped {X} x text = go (spaced_at (codes "]") text)
   where
@@ -92,6 +76,6 @@ end_mapped {X} x text = go (spaced_at (codes "]") text)
 -- brackets without pairs were passed
 pub no_pairs_come : {A : Type 0} (attr : Text → Outcome (AttrView A)) (rule : Rule A) (old new : StreamView) → old.failed ≡ false → (none : Vec (Key × GivenAttr A) Global) → none.items ≡ [] → Comes (chars (codes "[]")) old (λ v. new ≡ v) → MustPairs (pairs_at attr rule) old (Ok none) new
 no_pairs_come {A} attr rule old new fine none e h =
-    let k : Comes (codes "[]") old (λ v. new ≡ v) = subst (λ t. Comes t old (λ v. new ≡ v)) chars_brackets h in
+    let k : Comes (codes "[]") old (λ v. new ≡ v) = subst (λ t. Comes t old (λ v. new ≡ v)) (chars_ascii (codes "[]") refl) h in
     let g : Gets (pairs_at attr rule) old new [] = subst (λ t. Gives itself replaced (pairs_at attr rule t) old [] new) (sym k.1) (subst (λ o. Gives itself replaced o old [] new) (sym (no_pairs attr rule k.0)) (refl, record { is = k.2; same = sym k.1 })) in
     record { meant = λ _. []; means = rw e tt; read = record { answers = (gets_must {A = A} (pairs_at attr rule) old new [] fine g).answers } }

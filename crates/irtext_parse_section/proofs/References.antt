@@ -1,4 +1,4 @@
--- Steps of a section whose entries were read: its references are right, or the first that is wrong is refused.
+-- Steps of a section whose entries were parsed: its references are right, or the first that is wrong is the error.
 use Rattle.std.proofs.Common.{◌≡◌, ◌∙◌, ◌≤◌, ◌⊎◌, inl, inr, ℕ, Bool, true, false, cond, nat_eq, is_some, List, [], ◌∷◌, ◌++◌, length, length-append, Option, Some, None, Ok, Err, refl, sym, ap, ap₂, subst, append_assoc, arith}
 use Rattle.std.proofs.lemmas.List.{take-append-drop, length-drop}
 use Rattle.std.specs.Prelude.{codes, ◌-◌, take, drop, flat_map}
@@ -52,7 +52,7 @@ use Rattle.irtext_parse_section.specs.declared.said.GivenAttr.{GivenAttr}
 use Rattle.irtext_parse_section.specs.declared.said.GivenAttr.TheVariants as given
 use Rattle.irtext_parse_section.specs.declared.said.ItemEntry.{ItemEntry}
 
--- what is wrong with what was read is the failure, where it stands in the text
+-- a failure of the parsed entries is the failure of the grammar, at its place in the text
 pub record IsWrong (text : Text) (w : Wrong) (f : Failure Text ℕ) : Type 0 where
   pub cause : w.cause ≡ f.cause
   pub place : ℕ
@@ -116,11 +116,11 @@ module _ {A : Type 0} (text : Text) (once : List (ℕ × AttrObj A)) (all : List
       subst (λ fs. Each (IsWrong text) (pairs_wrong once of_block e.pairs.items ++ items_wrong once items) fs) (sym (flat_both wrong acts more))
       (each_join (IsWrong text) (pairs_wrong once of_block e.pairs.items) (items_wrong once items) (wrongs acts) (wrongs more) first (items_same items es k))
 
-  -- what is wrong with the references that were read is what is wrong with those of the text
+  -- what is wrong with the references that were parsed is what is wrong with those of the text
   pub references_same : (items : List (ItemEntry A)) → AreItems marks paths text items all → Each (IsWrong text) (items_wrong once items) (wrong_references (rules_of marks) all)
   references_same items k = subst (λ fs. Each (IsWrong text) (items_wrong once items) fs) (sym (references_fail (rules_of marks) all)) (items_same items all k)
 
--- ---- references stand in the text of the section
+-- ---- the places of references are in the text of the section
 module _ {T A : Type 0} (types : Texts T) (reading : Text → Outcome A) (written : A → Text) (sincere : Sincere reading) (lawful : Lawful A (texts_of reading written)) (marks : List ℕ) (rules : ℕ → Rule A) where
   abbrev all_next : Unit {0} → Text → Outcome (List (Entry ℕ A (Written A)))
   all_next _ t = entries_after (attr_at reading) marks rules (length t) [] t
@@ -138,14 +138,14 @@ module _ {T A : Type 0} (types : Texts T) (reading : Text → Outcome A) (writte
       let near = entries_near types reading written no_formats sincere.reads words cut (length text) k.es a.middle rest (omega (arith, ap length split, length-append a.front a.middle)) k.reads in
       subst (single.Each (StandsNear (length text))) (sym (references_fail rules es)) (late_near (length text) rules es es (subst (λ es. single.Each (EntryNear (length text)) es) (sym k.whole) near))
 
--- ---- a section whose entries were read
+-- ---- a section whose entries were parsed
 same_front : (a b c d : Text) → a ++ b ≡ c ++ d → length b ≡ length d → a ≡ c
 same_front [] b [] d e l = refl
 same_front [] b (y ∷ c) d e l = absurd (omega (arith, ap length e, l, length-append c d))
 same_front (x ∷ a) b [] d e l = absurd (omega (arith, ap length e, l, length-append a b))
 same_front (x ∷ a) b (y ∷ c) d e l = let f : x ≡ y = cc e in let g : a ++ b ≡ c ++ d = cc e in ap₂ ◌∷◌ f (same_front a b c d g l)
 
--- a place of the text stands behind so many of its characters
+-- a place of the text is after this many of its characters
 stands_there : (first text : Text) (place : Place) (left : ℕ) → left ≤ length text → Leaves (first ++ text) place left → StandsBehind place (first ++ take (length text - left) text)
 stands_there first text place left near l =
     let n = length text - left in
@@ -170,7 +170,7 @@ module _ {A X E : Type 0} (rules : ℕ → Rule A) where
   unread text false (Bad cause u) old new fault (inr h) = inr h
 
 module _ {A Y E : Type 0} (attr : Text → Outcome (AttrView A)) (marks : List ℕ) (rules : ℕ → Rule A) where
-  -- the entries are refused
+  -- the entries are an error
   pub section_unread : {Means Other : Y → List (Entry ℕ A (Written A)) → Type 0} {old new : StreamView} {fault : ParseFault E} → MustMean itself replaced Means (entries_at attr marks rules) old (Err fault) new → MustMean itself replaced Other (section_at attr marks rules) old (Err fault) new
   section_unread {old = old} {new = new} {fault = fault} k =
       must_refuse alone {see = k.meant} (record { answers = unread rules old.rest old.failed (entries_at attr marks rules old.rest) old new fault k.read.answers })
@@ -198,7 +198,7 @@ module _ {A Y E : Type 0} (attr : Text → Outcome (AttrView A)) (marks : List �
         no_other [] h = refl
         no_other (f ∷ fs) h = absurd h
 
-    -- the first that is wrong is refused
+    -- the first that is wrong is the error
     pub section_wrong : {Other : Y → List (Entry ℕ A (Written A)) → Type 0} {new : StreamView} {fault : ParseFault E} (ws : List Wrong) → single.Each (StandsNear (length old.rest)) (wrong_references rules found) → Each (IsWrong (whole old)) ws (wrong_references rules found)
         → RefusesFirst ws mid fault new → MustMean itself replaced Other (section_at attr marks rules) old (Err fault) new
     section_wrong {new = new} {fault = fault} ws near same h =

@@ -1,4 +1,4 @@
--- Steps of the reading of a whole section.
+-- Steps of the parse of a whole section.
 use Rattle.std.proofs.Common.{◌≡◌, ℕ, Bool, true, false, List, [], Ok, refl, sym, ap, subst}
 use Rattle.irtext_base.specs.Text.{Text}
 use Rattle.irtext_base.specs.Stream.{StreamView}
@@ -31,11 +31,11 @@ use Rattle.irtext_parse_section.proofs.AppliedEntries.{applies_all, entries_newe
 pub adds_closed : {T A : Type 0} (mark : ℕ) (old new : ContextView T A) → AddsPaths old new → IsClosedBelow mark old.graph → IsClosedBelow mark new.graph
 adds_closed {T} {A} mark old new a h = subst (λ g. IsClosedBelow mark g) (sym (ap (λ (c : ContextView T A). c.graph) a.rest)) h
 
--- memory was refused behind what was read
+-- out of memory after what was parsed
 pub starved_refusal : {A : Type 0} {old mid new : StreamView} {fault : ParseFault A} → StarvesHere itself replaced mid fault new → CommittedRefusal old fault new
 starved_refusal h = record { committed = h.committed; fails = ap (λ v. v.failed) h.left; failed = λ f. absurd (cc (h.because)) }
 
--- for want of memory
+-- out of memory
 pub starved_there : {A : Type 0} {mid new : StreamView} {fault : ParseFault A} → StarvesHere itself replaced mid fault new → IsStarved fault
 starved_there h = record { because = h.because; flag = h.committed }
 
@@ -44,7 +44,7 @@ pub either_way : {P : Type 0} (t : Bool) → (t ≡ true → P) → (t ≡ false
 either_way true f g = f refl
 either_way false f g = g refl
 
--- a section was read, to be given
+-- a section was parsed, to be given
 abbrev pub SectionRead : {T A U : Type 0} → Type 0 → (Text → Outcome (AttrView A)) → StateStream T A U → StateStream T A U → Entries A → Type 0
 SectionRead E attr old mid entries = MustMean {A = E} itself replaced (AreEntriesOver (marks_of old.state) old.state.ctx.now.paths mid.state.ctx.now.paths (whole old.stream)) (section_at attr (indices_of (marks_of old.state)) (rules_of (marks_of old.state))) old.stream (Ok entries) mid.stream
 
@@ -59,7 +59,7 @@ module _ {T A U : Type 0} (E : Type 0) (attr : Text → Outcome (AttrView A)) (o
       let newer = still_newer mark old.state.ctx.now mid.state.ctx.now kept (marks_of old.state) n in
       kept_trans kept (h (entries_newer mark mid.state.ctx.now (whole old.stream) (marks_of old.state) mid.state.ctx.now.paths (items_of entries) found k.means.are.items newer))
 
-  -- the section was read and given
+  -- the section was parsed and given
   pub reads_section : (new : StateStream T A U) → GivesAll (once_of entries) (items_of entries) mid.state.ctx.now new.state.ctx.now → new.stream ≡ mid.stream → marks_of new.state ≡ [] → ReadsSection attr old new
   reads_section new gives stream fresh =
       let r = answered k.read in

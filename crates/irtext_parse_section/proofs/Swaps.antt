@@ -15,10 +15,11 @@ use Rattle.irtext_graph.specs.declared.object.Operation.{Operation}
 use Rattle.irtext_graph.specs.declared.object.Region.{Region}
 use Rattle.irtext_graph.proofs.Data.{edits_at}
 use Rattle.irtext_graph.proofs.Pointers.{ptr_or}
+use Rattle.irtext_parse_section.proofs.Edits.{rest_same, rest_twice, operation_rest, block_rest, operation_edit, block_edit}
 
 -- ---- one kind of objects
 module _ {X : Type 0} where
-  -- an edit of one object, whether it stands or not
+  -- an edit of one object, whether it is live or not
   pub edits_there : {K : Type 0} (s : Store X) (p : Ptr K) (change : X → X) → Edits s (edited_at s p change) p change
   edits_there {K} s p change = go (get s p) refl
     where
@@ -84,7 +85,7 @@ module _ {X : Type 0} where
       go true = refl
       go false = refl
 
-  -- what is older stands as it stood once an edit is taken back
+  -- older objects are as they were before an edit once it is undone
   pub taken_back : {K : Type 0} (mark : ℕ) (a b c d : Store X) (p : Ptr K) (f h : X → X) → Edits a b p f → ((q : Ptr K) → before mark c q ≡ before mark b q) → Edits c d p h
       → ((x : Entry X) → get a p ≡ Some x → h (f x.content) ≡ x.content) → (q : Ptr K) → before mark d q ≡ before mark a q
   taken_back {K} mark a b c d p f h one kept two back q = elim (ptr_or q p) [
@@ -119,25 +120,12 @@ module _ {T A : Type 0} (a b c : ContextView T A) where
     -- the second of two edits of operations comes first
     pub operations_swapped : (m : ContextView T A) × EditsOperation a m q h × EditsOperation m c p f
     operations_swapped =
-        let m : ContextView T A = record a { graph = record a.graph { operations = edited_at a.graph.operations q (with_data (option_map h)) } } in
-        let first : EditsOperation a m q h = record {
-          graph = record { operations = edits_there a.graph.operations q (with_data (option_map h)); blocks = refl; regions = refl; made = refl; values = refl; first_place = refl };
-          paths = refl;
-          dialects = refl;
-        } in
-        let second : EditsOperation m c p f = record {
-          graph = record {
-            operations = swapped a.graph.operations b.graph.operations c.graph.operations p q (with_data (option_map f)) (with_data (option_map h)) one.graph.operations two.graph.operations same_node;
-            blocks = two.graph.blocks ∙ one.graph.blocks;
-            regions = two.graph.regions ∙ one.graph.regions;
-            made = two.graph.made ∙ one.graph.made;
-            values = two.graph.values ∙ one.graph.values;
-            first_place = two.graph.first_place ∙ one.graph.first_place;
-          };
-          paths = two.paths ∙ one.paths;
-          dialects = two.dialects ∙ one.dialects;
-        } in
-        (m, first, second)
+        let m : ContextView T A = record a { graph = record a.graph { operations = edited_at a.graph.operations q (with_data (option_map h)) } } in (
+          m,
+          operation_edit a m q h (edits_there a.graph.operations q (with_data (option_map h))) refl (rest_same a),
+          operation_edit m c p f (swapped a.graph.operations b.graph.operations c.graph.operations p q (with_data (option_map f)) (with_data (option_map h)) one.graph.operations two.graph.operations same_node)
+              (two.graph.blocks ∙ one.graph.blocks) (rest_twice a b c (operation_rest a b p f one) (operation_rest b c q h two)),
+        )
 
   module _ (p q : Ptr BasicBlock) (f h : BlockData A → BlockData A) (one : EditsBlock a b p f) (two : EditsBlock b c q h) (same : (x : BlockData A) → h (f x) ≡ f (h x)) where
     same_block : (n : Node Region Operation (BlockContent (BlockData A) (Option T))) → with_block h (with_block f n) ≡ with_block f (with_block h n)
@@ -146,70 +134,29 @@ module _ {T A : Type 0} (a b c : ContextView T A) where
     -- the second of two edits of blocks comes first
     pub blocks_swapped : (m : ContextView T A) × EditsBlock a m q h × EditsBlock m c p f
     blocks_swapped =
-        let m : ContextView T A = record a { graph = record a.graph { blocks = edited_at a.graph.blocks q (with_block h) } } in
-        let first : EditsBlock a m q h = record {
-          graph = record { operations = refl; blocks = edits_there a.graph.blocks q (with_block h); regions = refl; made = refl; values = refl; first_place = refl };
-          paths = refl;
-          dialects = refl;
-        } in
-        let second : EditsBlock m c p f = record {
-          graph = record {
-            operations = two.graph.operations ∙ one.graph.operations;
-            blocks = swapped a.graph.blocks b.graph.blocks c.graph.blocks p q (with_block f) (with_block h) one.graph.blocks two.graph.blocks same_block;
-            regions = two.graph.regions ∙ one.graph.regions;
-            made = two.graph.made ∙ one.graph.made;
-            values = two.graph.values ∙ one.graph.values;
-            first_place = two.graph.first_place ∙ one.graph.first_place;
-          };
-          paths = two.paths ∙ one.paths;
-          dialects = two.dialects ∙ one.dialects;
-        } in
-        (m, first, second)
+        let m : ContextView T A = record a { graph = record a.graph { blocks = edited_at a.graph.blocks q (with_block h) } } in (
+          m,
+          block_edit a m q h refl (edits_there a.graph.blocks q (with_block h)) (rest_same a),
+          block_edit m c p f (two.graph.operations ∙ one.graph.operations) (swapped a.graph.blocks b.graph.blocks c.graph.blocks p q (with_block f) (with_block h) one.graph.blocks two.graph.blocks same_block)
+              (rest_twice a b c (block_rest a b p f one) (block_rest b c q h two)),
+        )
 
   -- an edit of a block comes before one of an operation
   pub block_first : (p : Ptr Operation) (q : Ptr BasicBlock) (f : OperationData A → OperationData A) (h : BlockData A → BlockData A) → EditsOperation a b p f → EditsBlock b c q h
       → (m : ContextView T A) × EditsBlock a m q h × EditsOperation m c p f
   block_first p q f h one two =
-      let m : ContextView T A = record a { graph = record a.graph { blocks = c.graph.blocks } } in
-      let first : EditsBlock a m q h = record {
-        graph = record { operations = refl; blocks = subst (λ s. Edits s c.graph.blocks q (with_block h)) one.graph.blocks two.graph.blocks; regions = refl; made = refl; values = refl; first_place = refl };
-        paths = refl;
-        dialects = refl;
-      } in
-      let second : EditsOperation m c p f = record {
-        graph = record {
-          operations = subst (λ s. Edits a.graph.operations s p (with_data (option_map f))) (sym two.graph.operations) one.graph.operations;
-          blocks = refl;
-          regions = two.graph.regions ∙ one.graph.regions;
-          made = two.graph.made ∙ one.graph.made;
-          values = two.graph.values ∙ one.graph.values;
-          first_place = two.graph.first_place ∙ one.graph.first_place;
-        };
-        paths = two.paths ∙ one.paths;
-        dialects = two.dialects ∙ one.dialects;
-      } in
-      (m, first, second)
+      let m : ContextView T A = record a { graph = record a.graph { blocks = c.graph.blocks } } in (
+        m,
+        block_edit a m q h refl (subst (λ s. Edits s c.graph.blocks q (with_block h)) one.graph.blocks two.graph.blocks) (rest_same a),
+        operation_edit m c p f (subst (λ s. Edits a.graph.operations s p (with_data (option_map f))) (sym two.graph.operations) one.graph.operations) refl (rest_twice a b c (operation_rest a b p f one) (block_rest b c q h two)),
+      )
 
   -- an edit of an operation comes before one of a block
   pub operation_first : (p : Ptr BasicBlock) (q : Ptr Operation) (f : BlockData A → BlockData A) (h : OperationData A → OperationData A) → EditsBlock a b p f → EditsOperation b c q h
       → (m : ContextView T A) × EditsOperation a m q h × EditsBlock m c p f
   operation_first p q f h one two =
-      let m : ContextView T A = record a { graph = record a.graph { operations = c.graph.operations } } in
-      let first : EditsOperation a m q h = record {
-        graph = record { operations = subst (λ s. Edits s c.graph.operations q (with_data (option_map h))) one.graph.operations two.graph.operations; blocks = refl; regions = refl; made = refl; values = refl; first_place = refl };
-        paths = refl;
-        dialects = refl;
-      } in
-      let second : EditsBlock m c p f = record {
-        graph = record {
-          operations = refl;
-          blocks = subst (λ s. Edits a.graph.blocks s p (with_block f)) (sym two.graph.blocks) one.graph.blocks;
-          regions = two.graph.regions ∙ one.graph.regions;
-          made = two.graph.made ∙ one.graph.made;
-          values = two.graph.values ∙ one.graph.values;
-          first_place = two.graph.first_place ∙ one.graph.first_place;
-        };
-        paths = two.paths ∙ one.paths;
-        dialects = two.dialects ∙ one.dialects;
-      } in
-      (m, first, second)
+      let m : ContextView T A = record a { graph = record a.graph { operations = c.graph.operations } } in (
+        m,
+        operation_edit a m q h (subst (λ s. Edits s c.graph.operations q (with_data (option_map h))) one.graph.operations two.graph.operations) refl (rest_same a),
+        block_edit m c p f refl (subst (λ s. Edits a.graph.blocks s p (with_block f)) (sym two.graph.blocks) one.graph.blocks) (rest_twice a b c (block_rest a b p f one) (operation_rest b c q h two)),
+      )

@@ -1,5 +1,5 @@
 -- Steps that are taken back leave what is older as it was; and steps that all are taken give what the entries give.
-use Rattle.std.proofs.Common.{◌≡◌, ◌∙◌, ◌↔◌, ℕ, Bool, true, false, cond, is_some, List, Option, Some, None, refl, sym, ap, arith, true≢false}
+use Rattle.std.proofs.Common.{◌≡◌, ◌∙◌, ◌↔◌, ℕ, Bool, true, false, cond, is_some, List, Option, Some, None, refl, sym, ap, true≢false}
 use Rattle.std.specs.Option.{option_map}
 use Rattle.std.specs.Prelude.{option_and_then}
 use Rattle.irtext_base.specs.Text.{Text}
@@ -10,7 +10,7 @@ use Rattle.irtext_context.specs.declared.base.block.BlockData.{BlockData}
 use Rattle.irtext_context.specs.declared.base.item.Item.{Item}
 use Rattle.irtext_context.specs.declared.base.item.Item.TheVariants as item
 use Rattle.irtext_context.specs.declared.base.operation.OperationData.{OperationData}
-use Rattle.irtext_context.proofs.Contexts.{same-paths, same-keeps, edits-keeps, edits_block-keeps, OperationEntry, BlockEntry}
+use Rattle.irtext_context.proofs.Contexts.{same-keeps, edits-keeps, edits_block-keeps, OperationEntry, BlockEntry}
 use Rattle.irtext_context.proofs.Kept.{kept_trans}
 use Rattle.irtext_graph.specs.Data.{with_data, with_block}
 use Rattle.irtext_graph.specs.Store.{get, before, object_of}
@@ -21,6 +21,7 @@ use Rattle.irtext_graph.proofs.Nests.{some_eq}
 use Rattle.irtext_grammar.specs.Grammar.Tree.{Attribute}
 use Rattle.irtext_parse_section.specs.Applied.{no_label, label_in, LocatesOperation, StoresOperation, LocatesBlock, StoresBlock, LabelsBlock, Gives, IsNewer}
 use Rattle.irtext_parse_section.specs.Together.{Takes, TakesOperation, TakesBlock, PutsBack}
+use Rattle.irtext_parse_section.proofs.Edits.{operation_rest, block_rest, operation_unedited, block_unedited, kept_around}
 use Rattle.irtext_parse_section.proofs.Swaps.{taken_back}
 
 -- ---- one item's attributes are put back
@@ -37,19 +38,11 @@ module _ {T A : Type 0} (mark : ℕ) (a b c d : ContextView T A) (kept : KeepsOl
         ap (λ y. record x.content { content = record x.content.content { data_of = y } }) (restored x.content.content.results x.content.children x.content.content.data_of seen)
 
     pub operation_back : KeepsOlder mark a d
-    operation_back = record {
-      graph = record {
-        operations = taken_back mark a.graph.operations b.graph.operations c.graph.operations d.graph.operations p (with_data (option_map (with_attributes t.left))) (with_data (option_map (with_attributes had)))
-            t.edits.graph.operations kept.graph.operations e.graph.operations entry_restored;
-        blocks = λ q. ap (λ s. before mark s q) e.graph.blocks ∙ (kept.graph.blocks q ∙ ap (λ s. before mark s q) t.edits.graph.blocks);
-        regions = λ q. ap (λ s. before mark s q) e.graph.regions ∙ (kept.graph.regions q ∙ ap (λ s. before mark s q) t.edits.graph.regions);
-        made = let i = t.edits.graph.made in let j = kept.graph.made in let k = e.graph.made in omega (arith, i, j, k);
-        values = let i = t.edits.graph.values in let j = kept.graph.values in let k = e.graph.values in omega (arith, i, j, k);
-        first_place = e.graph.first_place ∙ (kept.graph.first_place ∙ t.edits.graph.first_place);
-      };
-      paths = λ i path f. same-paths e.paths i path (kept.paths i path (same-paths t.edits.paths i path f));
-      dialects = e.dialects ∙ (kept.dialects ∙ t.edits.dialects);
-    }
+    operation_back =
+        kept_around mark a b c d (operation_rest a b p (with_attributes t.left) t.edits) kept (operation_rest c d p (with_attributes had) e)
+        (taken_back mark a.graph.operations b.graph.operations c.graph.operations d.graph.operations p (with_data (option_map (with_attributes t.left))) (with_data (option_map (with_attributes had)))
+        t.edits.graph.operations kept.graph.operations e.graph.operations entry_restored)
+        (λ q. ap (λ s. before mark s q) e.graph.blocks ∙ (kept.graph.blocks q ∙ ap (λ s. before mark s q) t.edits.graph.blocks))
 
   module _ (p : Ptr BasicBlock) (had : List (Text × AttrObj A)) (t : TakesBlock p had a b) (e : EditsBlock c d p (with_block_attributes had)) where
     block_restored : (x : BlockEntry T A) → get a.graph.blocks p ≡ Some x → with_block (with_block_attributes had) (with_block (with_block_attributes t.left) x.content) ≡ x.content
@@ -59,19 +52,11 @@ module _ {T A : Type 0} (mark : ℕ) (a b c d : ContextView T A) (kept : KeepsOl
         ap (λ w. record x.content { content = record x.content.content { data_of = record x.content.content.data_of { attributes = w } } }) (sym (some_eq seen))
 
     pub block_back : KeepsOlder mark a d
-    block_back = record {
-      graph = record {
-        operations = λ q. ap (λ s. before mark s q) e.graph.operations ∙ (kept.graph.operations q ∙ ap (λ s. before mark s q) t.edits.graph.operations);
-        blocks = taken_back mark a.graph.blocks b.graph.blocks c.graph.blocks d.graph.blocks p (with_block (with_block_attributes t.left)) (with_block (with_block_attributes had))
-            t.edits.graph.blocks kept.graph.blocks e.graph.blocks block_restored;
-        regions = λ q. ap (λ s. before mark s q) e.graph.regions ∙ (kept.graph.regions q ∙ ap (λ s. before mark s q) t.edits.graph.regions);
-        made = let i = t.edits.graph.made in let j = kept.graph.made in let k = e.graph.made in omega (arith, i, j, k);
-        values = let i = t.edits.graph.values in let j = kept.graph.values in let k = e.graph.values in omega (arith, i, j, k);
-        first_place = e.graph.first_place ∙ (kept.graph.first_place ∙ t.edits.graph.first_place);
-      };
-      paths = λ i path f. same-paths e.paths i path (kept.paths i path (same-paths t.edits.paths i path f));
-      dialects = e.dialects ∙ (kept.dialects ∙ t.edits.dialects);
-    }
+    block_back =
+        kept_around mark a b c d (block_rest a b p (with_block_attributes t.left) t.edits) kept (block_rest c d p (with_block_attributes had) e)
+        (λ q. ap (λ s. before mark s q) e.graph.operations ∙ (kept.graph.operations q ∙ ap (λ s. before mark s q) t.edits.graph.operations))
+        (taken_back mark a.graph.blocks b.graph.blocks c.graph.blocks d.graph.blocks p (with_block (with_block_attributes t.left)) (with_block (with_block_attributes had))
+        t.edits.graph.blocks kept.graph.blocks e.graph.blocks block_restored)
 
   -- an item's attributes were taken, and put back
   pub item_back : (x : Item) (h : Option (List (Text × AttrObj A))) → Takes x h a b → PutsBack x h c d → KeepsOlder mark a d
@@ -80,7 +65,7 @@ module _ {T A : Type 0} (mark : ℕ) (a b c d : ContextView T A) (kept : KeepsOl
   item_back (item.Block p) None t e = kept_trans (same-keeps mark a b t) (kept_trans kept (same-keeps mark c d e))
   item_back (item.Block p) (Some had) t e = block_back p had t e
 
--- ---- where nothing stands there is nothing to be put back
+-- ---- where an object is not live, there is nothing to restore
 module _ {T A : Type 0} (a : ContextView T A) where
   module _ (p : Ptr Operation) (h : OperationData A → OperationData A) where
     no_data : (x : OperationEntry T A) (o : Option (OperationData A)) → is_some (option_map (view_of {T = T} {A = A} x.content.content.results x.content.children) o) ≡ false → o ≡ option_map h o
@@ -92,18 +77,7 @@ module _ {T A : Type 0} (a : ContextView T A) where
     no_entry (Some x) e = ap (λ d. Some (record x { content = record x.content { content = record x.content.content { data_of = d } } })) (no_data x x.content.content.data_of e)
 
     pub no_operation : is_some (operation a p) ≡ false → EditsOperation a a p h
-    no_operation e = record {
-      graph = record {
-        operations = record { updates = record { changed = no_entry (get a.graph.operations p) e; others = λ q n. refl }; generations = λ i. refl; free = refl; len = refl };
-        blocks = refl;
-        regions = refl;
-        made = refl;
-        values = refl;
-        first_place = refl;
-      };
-      paths = refl;
-      dialects = refl;
-    }
+    no_operation e = operation_unedited a p h (no_entry (get a.graph.operations p) e)
 
   module _ (p : Ptr BasicBlock) (h : BlockData A → BlockData A) where
     no_block_entry : (s : Option (BlockEntry T A)) → is_some (option_map (block_of {T = T} {A = A}) s) ≡ false → s ≡ option_map (object_of (with_block h)) s
@@ -111,18 +85,7 @@ module _ {T A : Type 0} (a : ContextView T A) where
     no_block_entry (Some x) e = absurd (cc)
 
     pub no_block : is_some (block a p) ≡ false → EditsBlock a a p h
-    no_block e = record {
-      graph = record {
-        operations = refl;
-        blocks = record { updates = record { changed = no_block_entry (get a.graph.blocks p) e; others = λ q n. refl }; generations = λ i. refl; free = refl; len = refl };
-        regions = refl;
-        made = refl;
-        values = refl;
-        first_place = refl;
-      };
-      paths = refl;
-      dialects = refl;
-    }
+    no_block e = block_unedited a p h (no_block_entry (get a.graph.blocks p) e)
 
 -- what a test did not find
 pub not_there : {X : Type 0} (t : Bool) (o : Option X) → (t ≡ true ↔ is_some o ≡ true) → t ≡ false → is_some o ≡ false

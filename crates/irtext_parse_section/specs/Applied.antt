@@ -69,10 +69,20 @@ module _ {T A : Type 0} where
   LocatesOperation p None old new = new ≡ old
   LocatesOperation p (Some l) old new = EditsOperation old new p (with_loc l)
 
+  -- a block has this location from now on, if one is given
+  abbrev pub LocatesBlock : Ptr BasicBlock → Option (Location A) → ContextView T A → ContextView T A → Type 0
+  LocatesBlock p None old new = new ≡ old
+  LocatesBlock p (Some l) old new = EditsBlock old new p (with_block_loc l)
+
   -- the attributes of an operation changed, and nothing else
   pub record EditsAttributes (p : Ptr Operation) (old new : ContextView T A) : Type 0 where
     pub left : List (Text × AttrObj A)
     pub edits : EditsOperation old new p (with_attributes left)
+
+  -- the attributes of a block changed, and nothing else
+  pub record EditsBlockAttributes (p : Ptr BasicBlock) (old new : ContextView T A) : Type 0 where
+    pub left : List (Text × AttrObj A)
+    pub edits : EditsBlock old new p (with_block_attributes left)
 
   -- these attributes were stored in those of an operation, one after another
   pub record StoresOperation (p : Ptr Operation) (content : List (Text × Attribute A)) (old new : ContextView T A) : Type 0 where
@@ -80,25 +90,15 @@ module _ {T A : Type 0} where
     pub edits : EditsOperation old new p (with_attributes left)
     pub stored : (view : OperationView T A) → operation old p ≡ Some view → entries_of left ≡ put_all (entries_of view.attributes) content
 
-  -- an operation, if it is live, got a location, if one is given, and attributes
-  abbrev pub GivesOperation : Ptr Operation → Option (Location A) → List (Text × Attribute A) → ContextView T A → ContextView T A → Type 0
-  GivesOperation p l content old new = cond (is_some (operation old p)) ((mid : ContextView T A) × LocatesOperation p l old mid × StoresOperation p content mid new) (new ≡ old)
-
-  -- a block has this location from now on, if one is given
-  abbrev pub LocatesBlock : Ptr BasicBlock → Option (Location A) → ContextView T A → ContextView T A → Type 0
-  LocatesBlock p None old new = new ≡ old
-  LocatesBlock p (Some l) old new = EditsBlock old new p (with_block_loc l)
-
-  -- the attributes of a block changed, and nothing else
-  pub record EditsBlockAttributes (p : Ptr BasicBlock) (old new : ContextView T A) : Type 0 where
-    pub left : List (Text × AttrObj A)
-    pub edits : EditsBlock old new p (with_block_attributes left)
-
   -- these attributes were stored in those of a block, one after another
   pub record StoresBlock (p : Ptr BasicBlock) (content : List (Text × Attribute A)) (old new : ContextView T A) : Type 0 where
     pub left : List (Text × AttrObj A)
     pub edits : EditsBlock old new p (with_block_attributes left)
     pub stored : (view : BlockView T A) → block old p ≡ Some view → entries_of left ≡ put_all (entries_of view.attributes) content
+
+  -- an operation, if it is live, got a location, if one is given, and attributes
+  abbrev pub GivesOperation : Ptr Operation → Option (Location A) → List (Text × Attribute A) → ContextView T A → ContextView T A → Type 0
+  GivesOperation p l content old new = cond (is_some (operation old p)) ((mid : ContextView T A) × LocatesOperation p l old mid × StoresOperation p content mid new) (new ≡ old)
 
   -- a block has this label from now on, if one is given
   abbrev pub LabelsBlock : Ptr BasicBlock → Option Text → ContextView T A → ContextView T A → Type 0

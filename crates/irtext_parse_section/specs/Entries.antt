@@ -188,8 +188,12 @@ pub record EntriesSoFar {T A U : Type 0} (attr : Text → Outcome (AttrView A)) 
   pub are : AreNoted (marks_of old.state) old.state.ctx.now.paths now.state.ctx.now.paths (whole old.stream) entries found
   pub so_far : TextSoFar attr (indices_of (marks_of old.state)) (rules_of (marks_of old.state)) old.stream now.stream found
 
+-- The parsed entries are those that the outcome gives, and they took the context from its paths to those that it has then; or the error
+-- is that of the outcome.
+abbrev pub MustReadEntries : {T A U E : Type 0} → (Text → Outcome (List (Entry ℕ A (Written A)))) → StateStream T A U → Result (Entries A) (ParseFault E) → StateStream T A U → Type 0
+MustReadEntries outcome old result new = MustMean itself replaced (AreEntriesOver (marks_of old.state) old.state.ctx.now.paths new.state.ctx.now.paths (whole old.stream)) outcome old.stream result new.stream
+
 -- After what was parsed so far, the result is the list of all entries of the whole text, or its fault.
 abbrev pub MustGoOn : {T A U E : Type 0} → (Text → Outcome (AttrView A)) → Noted A → StateStream T A U → Result (Entries A) (ParseFault E) → StateStream T A U → Type 0
 MustGoOn {T} {A} {U} attr entries now result new = (old : StateStream T A U) → EntriesSoFar attr old now entries
-    → MustMean itself replaced (AreEntriesOver (marks_of old.state) old.state.ctx.now.paths new.state.ctx.now.paths (whole old.stream))
-    (λ t. entries_after attr (indices_of (marks_of old.state)) (rules_of (marks_of old.state)) (length t) [] t) old.stream result new.stream
+    → MustReadEntries (λ t. entries_after attr (indices_of (marks_of old.state)) (rules_of (marks_of old.state)) (length t) [] t) old result new

@@ -2,13 +2,11 @@
 ghost use Rattle.std.specs.Prelude.{◌≡◌, false, IfOk, OnOk, length, []};
 ghost use Rattle.irtext_tokens.specs.AttrTexts.{attr_at};
 ghost use Rattle.irtext_parse_state.specs.States.{marks_of};
+ghost use Rattle.irtext_parse_section.specs.Entries.{MustReadEntries, Notes, noted, nothing, one_noted, MustGoOn};
 ghost use Rattle.irtext_parse_spec.specs.Promises.Section.{indices_of};
-ghost use Rattle.irtext_parse_spec.specs.Readers.NewPaths.{AddsPaths};
-ghost use Rattle.irtext_parse_spec.specs.Readers.Streams.{itself, replaced, KeepsRest};
-ghost use Rattle.irtext_parse_pieces.specs.Named.{MustMean, whole};
+ghost use Rattle.irtext_parse_spec.specs.Readers.NewPaths.{AddsOnlyPaths};
 ghost use Rattle.irtext_parse_spec.specs.Entries.{entries_after};
 ghost use Rattle.irtext_parse_section.specs.Said.{rules_of};
-ghost use Rattle.irtext_parse_section.specs.Entries.{AreEntriesOver, Notes, noted, nothing, one_noted, MustGoOn};
 
 use crate::entry::entry_parse;
 use crate::said::{Entries, NotedEntries, ReadEntry};
@@ -68,10 +66,7 @@ fn more_parse<T: IrText<A>, A: AttrText<A>, U>(
     entries: NotedEntries<A>,
     keys: Keys,
 ) -> ParseResult<Entries<A>, A>
-    ensures lent { s.new.state.ctx.ghost_name ≡ s.old.state.ctx.ghost_name }
-    ensures rest { KeepsRest s.old.state s.new.state }
-    ensures marks { marks_of s.new.state ≡ marks_of s.old.state }
-    ensures adds { AddsPaths s.old.state.ctx.now s.new.state.ctx.now }
+    ensures only { AddsOnlyPaths s.old.state s.new.state }
     ensures read { MustGoOn (attr_at A.IrText.reading) (noted entries) s.old result s.new }
 {
     let mut entries = entries;
@@ -93,13 +88,10 @@ fn more_parse<T: IrText<A>, A: AttrText<A>, U>(
 #[inline(never)]
 fn first_and_more<T: IrText<A>, A: AttrText<A>, U>(
     s: &mut StateStream<'_, T, A, U>,
-    first: ReadEntry<A>,
     keys: Keys,
+    first: ReadEntry<A>,
 ) -> ParseResult<Entries<A>, A>
-    ensures lent { s.new.state.ctx.ghost_name ≡ s.old.state.ctx.ghost_name }
-    ensures rest { KeepsRest s.old.state s.new.state }
-    ensures marks { marks_of s.new.state ≡ marks_of s.old.state }
-    ensures adds { AddsPaths s.old.state.ctx.now s.new.state.ctx.now }
+    ensures only { AddsOnlyPaths s.old.state s.new.state }
     ensures read { MustGoOn (attr_at A.IrText.reading) (one_noted first) s.old result s.new }
 {
     match first_noted(s.stream.allocator(), first) {
@@ -114,14 +106,8 @@ pub(crate) fn entries_parse<T: IrText<A>, A: AttrText<A>, U>(
     s: &mut StateStream<'_, T, A, U>,
 ) -> ParseResult<Entries<A>, A>
     requires fine { s.old.stream.failed ≡ false }
-    ensures lent { s.new.state.ctx.ghost_name ≡ s.old.state.ctx.ghost_name }
-    ensures rest { KeepsRest s.old.state s.new.state }
-    ensures marks { marks_of s.new.state ≡ marks_of s.old.state }
-    ensures adds { AddsPaths s.old.state.ctx.now s.new.state.ctx.now }
-    ensures read { MustMean itself replaced
-        (AreEntriesOver (marks_of s.old.state) s.old.state.ctx.now.paths s.new.state.ctx.now.paths (whole s.old.stream))
-        (λ t. entries_after (attr_at A.IrText.reading) (indices_of (marks_of s.old.state)) (rules_of (marks_of s.old.state)) (length t) [] t)
-        s.old.stream result s.new.stream }
+    ensures only { AddsOnlyPaths s.old.state s.new.state }
+    ensures read { MustReadEntries (λ t. entries_after (attr_at A.IrText.reading) (indices_of (marks_of s.old.state)) (rules_of (marks_of s.old.state)) (length t) [] t) s.old result s.new }
 {
     if !next_is(&s.stream, '!') {
         return Ok(Entries::Nothing);
@@ -130,10 +116,10 @@ pub(crate) fn entries_parse<T: IrText<A>, A: AttrText<A>, U>(
     let first = entry_parse(s, None, &mut keys)?;
     skip_white_space(&mut s.stream);
     if next_is(&s.stream, '!') {
-        return first_and_more(s, first, keys);
+        return first_and_more(s, keys, first);
     }
     match first {
         ReadEntry::OfItem(_, entry) => Ok(Entries::Only(entry)),
-        ReadEntry::OfOnce(index, attr) => first_and_more(s, ReadEntry::OfOnce(index, attr), keys),
+        ReadEntry::OfOnce(index, attr) => first_and_more(s, keys, ReadEntry::OfOnce(index, attr)),
     }
 }

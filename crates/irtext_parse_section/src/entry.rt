@@ -7,8 +7,8 @@ ghost use Rattle.irtext_tokens.specs.MustRead.{MustRead};
 ghost use Rattle.irtext_stream.specs.Places.{StandsBehind};
 ghost use Rattle.irtext_parse_state.specs.States.{same_index, marks_of};
 ghost use Rattle.irtext_parse_spec.specs.Readers.Marks.{may_follow};
-ghost use Rattle.irtext_parse_spec.specs.Readers.NewPaths.{AddsPaths};
-ghost use Rattle.irtext_parse_spec.specs.Readers.Streams.{itself, replaced, KeepsRest};
+ghost use Rattle.irtext_parse_spec.specs.Readers.NewPaths.{AddsOnlyPaths};
+ghost use Rattle.irtext_parse_spec.specs.Readers.Streams.{itself, replaced};
 ghost use Rattle.irtext_parse_pieces.specs.Marks.{IsMark};
 ghost use Rattle.irtext_parse_pieces.specs.Named.{MustMean, whole};
 ghost use Rattle.irtext_parse_section.specs.Plain.{Looks, Sees, Gets};
@@ -196,10 +196,7 @@ pub(crate) fn entry_parse<T: IrText<A>, A: AttrText<A>, U>(
     seen: Option<&Numbered<()>>,
     keys: &mut Keys,
 ) -> ParseResult<ReadEntry<A>, A>
-    ensures lent { s.new.state.ctx.ghost_name ≡ s.old.state.ctx.ghost_name }
-    ensures rest { KeepsRest s.old.state s.new.state }
-    ensures marks { marks_of s.new.state ≡ marks_of s.old.state }
-    ensures adds { AddsPaths s.old.state.ctx.now s.new.state.ctx.now }
+    ensures only { AddsOnlyPaths s.old.state s.new.state }
     ensures read { MustMean itself replaced (IsEntry (marks_of s.old.state) s.new.state.ctx.now.paths (whole s.old.stream))
         (entry_at (attr_at A.IrText.reading) (may_follow (marks_of s.old.state) (earlier_indices (option_copied seen.entry)))
         (rules_of (marks_of s.old.state)))

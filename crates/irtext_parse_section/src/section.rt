@@ -7,13 +7,12 @@ ghost use Rattle.irtext_tokens.specs.AttrTexts.{attr_at};
 ghost use Rattle.irtext_parse_state.specs.States.{marks_of};
 ghost use Rattle.irtext_parse_spec.specs.Promises.Section.{indices_of, IsStarved, Faults};
 ghost use Rattle.irtext_parse_spec.specs.Promises.Supported.{RefusedAs};
-ghost use Rattle.irtext_parse_spec.specs.Readers.NewPaths.{AddsPaths};
+ghost use Rattle.irtext_parse_spec.specs.Readers.NewPaths.{AddsPaths, AddsOnlyPaths};
 ghost use Rattle.irtext_parse_spec.specs.Readers.Refusals.{CommittedRefusal};
 ghost use Rattle.irtext_parse_spec.specs.Readers.Streams.{itself, replaced, KeepsRest};
-ghost use Rattle.irtext_parse_pieces.specs.Named.{MustMean, whole};
 ghost use Rattle.irtext_parse_spec.specs.Entries.{entries_at, section_at};
 ghost use Rattle.irtext_parse_section.specs.Applied.{GivesAll, ItemsAreNewer, AreNewer};
-ghost use Rattle.irtext_parse_section.specs.Entries.{AreEntriesOver, items_of, once_of};
+ghost use Rattle.irtext_parse_section.specs.Entries.{MustReadEntries, items_of, once_of};
 ghost use Rattle.irtext_parse_section.specs.Said.{rules_of};
 ghost use Rattle.irtext_parse_section.specs.Section.{ReadsSection};
 
@@ -32,14 +31,8 @@ use std::alloc::AllocError;
 fn all_parse<T: IrText<A>, A: AttrText<A>, U>(
     s: &mut StateStream<'_, T, A, U>,
 ) -> ParseResult<Entries<A>, A>
-    ensures lent { s.new.state.ctx.ghost_name ≡ s.old.state.ctx.ghost_name }
-    ensures rest { KeepsRest s.old.state s.new.state }
-    ensures marks { marks_of s.new.state ≡ marks_of s.old.state }
-    ensures adds { AddsPaths s.old.state.ctx.now s.new.state.ctx.now }
-    ensures read { MustMean itself replaced
-        (AreEntriesOver (marks_of s.old.state) s.old.state.ctx.now.paths s.new.state.ctx.now.paths (whole s.old.stream))
-        (entries_at (attr_at A.IrText.reading) (indices_of (marks_of s.old.state)) (rules_of (marks_of s.old.state)))
-        s.old.stream result s.new.stream }
+    ensures only { AddsOnlyPaths s.old.state s.new.state }
+    ensures read { MustReadEntries (entries_at (attr_at A.IrText.reading) (indices_of (marks_of s.old.state)) (rules_of (marks_of s.old.state))) s.old result s.new }
 {
     spaced_text_demanded(&mut s.stream, "outlined_attributes:")?;
     entries_parse(s)
@@ -50,14 +43,8 @@ fn all_parse<T: IrText<A>, A: AttrText<A>, U>(
 pub fn section_checked<T: IrText<A>, A: AttrText<A>, U>(
     s: &mut StateStream<'_, T, A, U>,
 ) -> ParseResult<Entries<A>, A>
-    ensures lent { s.new.state.ctx.ghost_name ≡ s.old.state.ctx.ghost_name }
-    ensures rest { KeepsRest s.old.state s.new.state }
-    ensures marks { marks_of s.new.state ≡ marks_of s.old.state }
-    ensures adds { AddsPaths s.old.state.ctx.now s.new.state.ctx.now }
-    ensures read { MustMean itself replaced
-        (AreEntriesOver (marks_of s.old.state) s.old.state.ctx.now.paths s.new.state.ctx.now.paths (whole s.old.stream))
-        (section_at (attr_at A.IrText.reading) (indices_of (marks_of s.old.state)) (rules_of (marks_of s.old.state)))
-        s.old.stream result s.new.stream }
+    ensures only { AddsOnlyPaths s.old.state s.new.state }
+    ensures read { MustReadEntries (section_at (attr_at A.IrText.reading) (indices_of (marks_of s.old.state)) (rules_of (marks_of s.old.state))) s.old result s.new }
 {
     let entries = all_parse(s)?;
     entries_checked(&mut s.stream, &entries)?;
@@ -67,8 +54,8 @@ pub fn section_checked<T: IrText<A>, A: AttrText<A>, U>(
 /// Gives each item what its entry gives. If an allocation fails and `earlier` is set, no item changes.
 fn entries_given<T: IrText<A>, A: AttrText<A>, U>(
     s: &mut StateStream<'_, T, A, U>,
-    entries: Entries<A>,
     earlier: bool,
+    entries: Entries<A>,
 ) -> Result<(), AllocError>
     ensures lent { s.new.state.ctx.ghost_name ≡ s.old.state.ctx.ghost_name }
     ensures rest { KeepsRest s.old.state s.new.state }
@@ -91,9 +78,9 @@ pub fn section_given<T: IrText<A>, A: AttrText<A>, U>(
     entries: Entries<A>,
     earlier: bool,
 ) -> ParseResult<(), A>
+    ensures gives { OnOk result (GivesAll (once_of entries) (items_of entries) s.old.state.ctx.now s.new.state.ctx.now) }
     ensures lent { s.new.state.ctx.ghost_name ≡ s.old.state.ctx.ghost_name }
     ensures rest { KeepsRest s.old.state s.new.state }
-    ensures gives { OnOk result (GivesAll (once_of entries) (items_of entries) s.old.state.ctx.now s.new.state.ctx.now) }
     ensures stream { OnOk result (s.new.stream ≡ s.old.stream) }
     ensures fresh { OnOk result (marks_of s.new.state ≡ []) }
     ensures starved { IfErr result (λ fault. StarvesHere itself replaced s.old.stream fault s.new.stream) }
@@ -102,7 +89,7 @@ pub fn section_given<T: IrText<A>, A: AttrText<A>, U>(
     ensures closed { (mark : ℕ) → IsClosedBelow mark s.old.state.ctx.now.graph → IsClosedBelow mark s.new.state.ctx.now.graph }
     ensures unchanged { (mark : ℕ) → earlier ≡ true → OnErr result (KeepsOlder mark s.old.state.ctx.now s.new.state.ctx.now) }
 {
-    if entries_given(s, entries, earlier).is_err() {
+    if entries_given(s, earlier, entries).is_err() {
         return Err(out_of_memory(&mut s.stream));
     }
     s.state.truncate_marks(0);
@@ -118,9 +105,9 @@ pub fn section_parse<T: IrText<A>, A: AttrText<A>, U>(
     s: &mut StateStream<'_, T, A, U>,
     earlier: bool,
 ) -> ParseResult<(), A>
+    ensures read { OnOk result (ReadsSection (attr_at A.IrText.reading) s.old s.new) }
     ensures lent { s.new.state.ctx.ghost_name ≡ s.old.state.ctx.ghost_name }
     ensures rest { KeepsRest s.old.state s.new.state }
-    ensures read { OnOk result (ReadsSection (attr_at A.IrText.reading) s.old s.new) }
     ensures missed { s.old.stream.failed ≡ false → IfErr result (λ fault. Faults true (RefusedAs
         (section_at (attr_at A.IrText.reading) (indices_of (marks_of s.old.state)) (rules_of (marks_of s.old.state)) s.old.stream.rest))
         s.old.stream fault) }

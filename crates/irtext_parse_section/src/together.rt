@@ -168,31 +168,17 @@ fn step_made<T: IrText<A>, A: AttrText<A>>(
     ensures takes { IfOk result (λ step. Takes step.item step.before ctx.old ctx.new) }
     ensures err { OnErr result (ctx.new ≡ ctx.old) }
 {
-    let ItemEntry {
+    let item = entry.item;
+    let (before, label) = match item {
+        Item::Operation(op) => (operation_stepped(ctx, once, op, entry.pairs)?, None),
+        Item::Block(at) => block_stepped(ctx, once, at, entry.pairs)?,
+    };
+    Ok(Step {
         item,
-        location,
-        pairs,
-    } = entry;
-    match item {
-        Item::Operation(op) => {
-            let before = operation_stepped(ctx, once, op, pairs)?;
-            Ok(Step {
-                item,
-                before,
-                location,
-                label: None,
-            })
-        }
-        Item::Block(at) => {
-            let (before, label) = block_stepped(ctx, once, at, pairs)?;
-            Ok(Step {
-                item,
-                before,
-                location,
-                label,
-            })
-        }
-    }
+        before,
+        location: entry.location,
+        label,
+    })
 }
 
 /// Appends a step to the others. There has to be capacity for it.
@@ -377,8 +363,8 @@ pub(crate) fn items_given_together<T: IrText<A>, A: AttrText<A>>(
     once: &Once<A>,
     items: Vec<ItemEntry<A>>,
 ) -> Result<(), AllocError>
-    ensures gives { OnOk result (GivesAll once.now.entries items.items ctx.old ctx.new) }
     ensures unchanged { (mark : ℕ) → OnErr result (KeepsOlder mark ctx.old ctx.new) }
+    ensures gives { OnOk result (GivesAll once.now.entries items.items ctx.old ctx.new) }
     ensures kept { (mark : ℕ) → ItemsAreNewer mark ctx.old items.items → KeepsOlder mark ctx.old ctx.new }
     ensures closed { (mark : ℕ) → IsClosedBelow mark ctx.old.graph → IsClosedBelow mark ctx.new.graph }
 {

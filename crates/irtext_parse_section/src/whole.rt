@@ -57,8 +57,8 @@ fn one_item<A: Drop>(alloc: Global, entry: ItemEntry<A>) -> Result<Vec<ItemEntry
 #[inline(never)]
 fn only_stored<T: IrText<A>, A: AttrText<A>>(
     ctx: &mut Context<T, A>,
-    entry: ItemEntry<A>,
     earlier: bool,
+    entry: ItemEntry<A>,
 ) -> Result<(), AllocError>
     ensures gives { OnOk result (GivesAll [] (entry ∷ []) ctx.old ctx.new) }
     ensures kept { (mark : ℕ) → ItemsAreNewer mark ctx.old (entry ∷ []) → KeepsOlder mark ctx.old ctx.new }
@@ -90,7 +90,7 @@ fn only_given<T: IrText<A>, A: AttrText<A>>(
         item_located(ctx, entry.item, entry.location);
         return Ok(());
     }
-    only_stored(ctx, entry, earlier)
+    only_stored(ctx, earlier, entry)
 }
 
 /// Gives each live item of the entries what its entry gives. If an allocation fails and `earlier` is set, no item changes.

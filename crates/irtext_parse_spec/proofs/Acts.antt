@@ -1,5 +1,5 @@
--- What a context holds of what was read so far, behind each item of nested text: where the item brings its object, or changes the
--- innermost of what is open alone, the context holds what the item builds.
+-- What a context contains of the text parsed so far, after each item of nested text: if the item creates its object, or changes only the
+-- innermost open frame, the context contains what the item builds.
 use Rattle.std.proofs.Common.{◌≡◌, ◌∙◌, ℕ, Bool, List, [], ◌∷◌, ◌++◌, Option, Some, None, IsSome, option_map, append-nil, refl, sym, ap, subst, inl, inr}
 use Rattle.irtext_base.specs.Format.{Format, Id}
 use Rattle.irtext_base.specs.declared.location.Location.{Location}
@@ -21,7 +21,7 @@ use Rattle.irtext_parse_spec.specs.Unchanged.{OwnSoFar, own_of, RegionsHold, Blo
 use Rattle.irtext_parse_spec.specs.Grows.{with_last_region, with_last_block, with_last_operation, RegionCame, OperationGains, RegionGains, BlockGains, OperationCame, BlockCame, OwnBecame}
 use Rattle.irtext_parse_spec.proofs.Kept.{there_still, uses_kept, regions_kept, blocks_kept, operations_kept, tree_kept, operation_kept, region_kept, block_kept, all_kept}
 
--- ---- one behind another
+-- ---- one after another
 module _ {T A : Type 0} (IsLocation : Object → ℕ → Location A → Type 0) (c : ContextView T A) (whole : List Object) where
   regions_behind : (ps qs : List (Ptr Region)) (rs more : Regions (Op ℕ T A) (Head ℕ T A) (Brace ℕ)) → RegionsHold IsLocation c whole ps rs → RegionsHold IsLocation c whole qs more
       → RegionsHold IsLocation c whole (ps ++ qs) (append_regions rs more)
@@ -44,14 +44,14 @@ module _ {T A : Type 0} (IsLocation : Object → ℕ → Location A → Type 0) 
   operations_behind (p ∷ ps) qs no_operations more h k = absurd h
   operations_behind (p ∷ ps) qs (forest.operation o rs os) more (i, v, h) k = (i, v, operations_behind ps qs os more h k)
 
--- ---- objects that are spared
+-- ---- objects that are unchanged
 module _ {T A : Type 0} (IsLocation : Object → ℕ → Location A → Type 0) (old new : ContextView T A) (whole : List Object) (ats : List (OpenAt T A)) (root : Option (Ptr Operation)) (b : Building T A)
     (h : HoldsSoFar IsLocation old whole ats root b) (but : List Object) (s : ModifiesOnly but old new) where
-  -- what is whole is as it was, where no object of it is one that changed
+  -- what is complete is unchanged, if no object of it is one that changed
   whole_spared : ((o : Object) → Among o but → IsThere old o → Among o (open_objects ats)) → (o : Object) → Among o whole → IsAsItWas old new o
   whole_spared within o i = s.spared o (h.whole_there o i) (λ j. h.not_whole o (within o j (h.whole_there o i)) i)
 
-  -- and so is what is open
+  -- and so are the open objects
   open_spared : (o : Object) → Among o (open_objects ats) → (Among o but → ⊥) → IsAsItWas old new o
   open_spared o i apart = s.spared o (h.open_there o i) apart
 
@@ -70,24 +70,24 @@ apart_head k os (a, r) = a
 apart_tail : (k : Object) (os : List Object) → AreApart (k ∷ os) → AreApart os
 apart_tail k os (a, r) = r
 
--- one that changed is the innermost of what is open, whatever of what came besides was not there
+-- a changed object that was present is the innermost open one; objects created along with it were not present
 module _ {T A : Type 0} (c : ContextView T A) where
-  -- where nothing came
+  -- nothing was created
   first_within : (k : Object) (os : List Object) (o : Object) → Among o (k ∷ []) → IsThere c o → Among o (k ∷ os)
   first_within k os o (inl e) there = inl e
   first_within k os o (inr j) there = absurd j
 
-  -- where one came
+  -- one object was created
   behind_new : (n k : Object) (os : List Object) → (IsThere c n → ⊥) → (o : Object) → Among o (n ∷ k ∷ []) → IsThere c o → Among o (k ∷ os)
   behind_new n k os is_new o (inl e) there = absurd (is_new (subst (λ z. IsThere c z) e there))
   behind_new n k os is_new o (inr i) there = first_within k os o i there
 
-  -- an object that was there is none that came
+  -- an object that was present is not one that was created
   not_new : (n : Object) → (IsThere c n → ⊥) → (o : Object) → IsThere c o → Among o (n ∷ []) → ⊥
   not_new n is_new o there (inl e) = is_new (subst (λ z. IsThere c z) e there)
   not_new n is_new o there (inr i) = i
 
-  -- and none of one that came and one that changed, where it is not among those with it
+  -- an object that was present and is among `os` is neither the created one nor the changed one, if the changed one is not among `os`
   not_behind : (n k o : Object) (os : List Object) → (IsThere c n → ⊥) → (Among k os → ⊥) → Among o os → IsThere c o → Among o (n ∷ k ∷ []) → ⊥
   not_behind n k o os is_new apart i there (inl e) = is_new (subst (λ z. IsThere c z) e there)
   not_behind n k o os is_new apart i there (inr j) = is_none_of k o os apart i j
@@ -102,7 +102,7 @@ opened_not_whole : (k : Object) (os whole : List Object) → (Among k whole → 
 opened_not_whole k os whole none all o (inl e) j = none (subst (λ z. Among z whole) e j)
 opened_not_whole k os whole none all o (inr i) j = all o i j
 
--- what is open is none of what is whole where one object becomes whole that is not open any more
+-- no open object is complete, after an object became complete that is not open any more
 closed_not_whole : (k : Object) (os whole : List Object) → (Among k os → ⊥) → ((o : Object) → Among o os → Among o whole → ⊥) → (o : Object) → Among o os → Among o (k ∷ whole) → ⊥
 closed_not_whole k os whole none all o i (inl e) = none (subst (λ z. Among z os) e i)
 closed_not_whole k os whole none all o i (inr j) = all o i j
@@ -128,7 +128,7 @@ module _ {T A : Type 0} (IsLocation : Object → ℕ → Location A → Type 0) 
         apart = h.apart;
       }
 
--- where nothing was read, nothing is held
+-- where nothing was parsed, nothing is held
 pub holds_nothing : {T A : Type 0} (IsLocation : Object → ℕ → Location A → Type 0) (c : ContextView T A) → HoldsSoFar IsLocation c [] [] None nothing_open
 holds_nothing IsLocation c = record {
   are_open = tt;
@@ -139,14 +139,14 @@ holds_nothing IsLocation c = record {
   apart = tt;
 }
 
--- ---- the items, each with what comes to the context
+-- ---- the items, each with what it adds to the context
 module _ {T A : Type 0} (IsLocation : Object → ℕ → Location A → Type 0) (old new : ContextView T A) (whole : List Object) where
   -- what is left where nothing is open
   nothing_inner : (c : ContextView T A) (us : List (Unfinished T A)) (i j : Option Object) → AreOpenAt IsLocation c whole [] us i → AreOpenAt IsLocation c whole [] us j
   nothing_inner c [] i j h = tt
   nothing_inner c (u ∷ us) i j h = absurd h
 
-  -- what came is an operation that is open and has no regions
+  -- an operation that was created is an open operation without regions
   operation_opens : (p : Ptr Operation) (own : OwnSoFar T A) → OperationCame old new (IsLocation (TheOperation p)) p own → OperationIsOpen IsLocation new whole p own no_regions None
   operation_opens p own came = record { view = came.view; is = came.is; has = came.has; uses = came.uses; done = []; regions = came.regions; hold = tt }
 
@@ -205,7 +205,7 @@ module _ {T A : Type 0} (IsLocation : Object → ℕ → Location A → Type 0) 
       hold = blocks_kept IsLocation old new whole whole (λ o i. i) same k.done bs k.hold;
     }
 
-    -- what came is a block that is open and has no operations
+    -- a block that was created is an open block without operations
     block_opens : (b : Ptr BasicBlock) (head : Head ℕ T A) → BlockCame old new (IsLocation (TheBlock b)) b head → BlockIsOpen IsLocation new whole b head no_operations None
     block_opens b head came = record { view = came.view; is = came.is; has = came.has; done = []; operations = came.operations; hold = tt }
 
@@ -267,7 +267,7 @@ module _ {T A : Type 0} (IsLocation : Object → ℕ → Location A → Type 0) 
     tt,
   )
 
-  -- a region whose last block became whole
+  -- a region whose last block became complete
   blocks_close : (r : Ptr Region) (b : Ptr BasicBlock) (bs : Blocks (Op ℕ T A) (Head ℕ T A) (Brace ℕ)) (last : Head ℕ T A × Operations (Op ℕ T A) (Head ℕ T A) (Brace ℕ)) → Among (TheBlock b) whole
       → RegionIsOpen IsLocation c whole r bs (b ∷ []) → BlockIsOpen IsLocation c whole b last.0 last.1 None → RegionIsOpen IsLocation c whole r (whole_blocks bs (Some last)) []
   blocks_close r b bs last i f k = record {
@@ -278,7 +278,7 @@ module _ {T A : Type 0} (IsLocation : Object → ℕ → Location A → Type 0) 
     hold = blocks_behind IsLocation c whole f.done (b ∷ []) bs (forest.block last.0 last.1 no_blocks) f.hold (block_whole b last.0 last.1 i k);
   }
 
-  -- an operation whose last region became whole
+  -- an operation whose last region became complete
   regions_close : (p : Ptr Operation) (own : OwnSoFar T A) (r : Ptr Region) (rs : Regions (Op ℕ T A) (Head ℕ T A) (Brace ℕ)) (place : ℕ) (bs : Blocks (Op ℕ T A) (Head ℕ T A) (Brace ℕ)) → Among (TheRegion r) whole
       → OperationIsOpen IsLocation c whole p own rs (Some (TheRegion r)) → RegionIsOpen IsLocation c whole r bs []
       → OperationIsOpen IsLocation c whole p own (append_regions rs (forest.region (shown place) bs no_regions)) None
@@ -292,7 +292,7 @@ module _ {T A : Type 0} (IsLocation : Object → ℕ → Location A → Type 0) 
     hold = regions_behind IsLocation c whole f.done (r ∷ []) rs (forest.region (shown place) bs no_regions) f.hold (region_whole r place bs i k);
   }
 
-  -- a block whose last operation became whole
+  -- a block whose last operation became complete
   operations_close : (b : Ptr BasicBlock) (head : Head ℕ T A) (os : Operations (Op ℕ T A) (Head ℕ T A) (Brace ℕ)) (p : Ptr Operation) (o : Op ℕ T A) (mark : Option (Mark ℕ)) (rs : Regions (Op ℕ T A) (Head ℕ T A) (Brace ℕ))
       → Among (TheOperation p) whole → BlockIsOpen IsLocation c whole b head os (Some (TheOperation p)) → OperationIsOpen IsLocation c whole p (own_of o) rs None
       → BlockIsOpen IsLocation c whole b head (append_operations os (forest.operation (with_mark mark o) rs no_operations)) None
@@ -421,7 +421,7 @@ as_it_is c (TheOperation p) = (refl, record { as_many_operands = refl; as_many_s
 as_it_is c (TheBlock b) = (refl, refl)
 as_it_is c (TheRegion r) = refl
 
--- what is open where the block that is open in a region ends
+-- the open frames after the block that is open in a region ends
 abbrev pub block_ended : {T A : Type 0} → List (Unfinished T A) → List (Unfinished T A)
 block_ended (region_so_far bs last ∷ outer) = region_so_far (whole_blocks bs last) None ∷ outer
 block_ended others = others

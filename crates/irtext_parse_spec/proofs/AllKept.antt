@@ -1,4 +1,4 @@
--- What is kept at each place is kept of all that stands.
+-- What holds at each place of a store holds of all live objects.
 use Rattle.std.proofs.Common.{◌≡◌, ◌<◌, ◌+◌, ◌^◌, ◌==◌, ℕ, Bool, true, false, cond, Option, Some, None, refl, ap, ◌∙◌, subst, arith, length, slice_get}
 use Rattle.std.specs.Option.{option_map, option_and_then}
 use Rattle.std.specs.Prelude.{IfSome}
@@ -19,7 +19,7 @@ module _ {X K : Type 0} (s : Store X) (p : Ptr K) (e : Entry X) where
   equal_numbers : (m n : ℕ) → (m == n) ≡ true → m ≡ n
   equal_numbers m n e = grind (arith, nat_tests)
 
-  -- the object at a place stands under the pointer of that place
+  -- the object at a place is live under the pointer of that place
   pub pointer_back : get s p ≡ Some e → pointer_at s p.index ≡ Some p
   pointer_back h = go (slice_get s.cells p.index) refl h
     where
@@ -39,7 +39,7 @@ module _ {X K : Type 0} (s : Store X) (p : Ptr K) (e : Entry X) where
       go None t q = absurd (cc)
       go (Some c) t q = slice_get_within s.cells p.index c t
 
--- what is said of the next place is said of all before the one behind
+-- what holds below a place, and at it, holds below the next place
 pub next_place : (Q : ℕ → Type 0) (n : ℕ) → ((i : ℕ) → i < n → Q i) → Q n → (i : ℕ) → i < n + 1 → Q i
 next_place Q n before here i low = go (i == n) refl
   where

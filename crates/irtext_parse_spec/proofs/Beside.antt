@@ -1,4 +1,5 @@
--- Two doings side by side: each tree does both, and each reading comes to its end or is stuck where each of the two does.
+-- Two sets of actions side by side: the actions of each tree are performed on both states, and each parse ends or is stuck where each of
+-- the two does.
 use Rattle.std.proofs.Common.{◌≡◌, ℕ, Bool, List, Option, refl, ap₂}
 use Rattle.irtext_base.specs.Text.{Text}
 use Rattle.irtext_base.specs.Format.{Id}
@@ -14,27 +15,11 @@ use Rattle.irtext_parse_spec.proofs.Seen.{Shows, shows_tree, seen_operation_at, 
 module _ {T A S U : Type 0} (d : Actions T A S) (e : Actions T A U) where
   -- what both do, seen as what the first has done, is what the first does
   pub shows_first : Shows (λ (s : S × U). s.0) (both d e) d
-  shows_first = record {
-    uses = λ place id parts s. refl;
-    late = λ place id piece s. refl;
-    enters = λ iso s. refl;
-    leaves = λ iso place s. refl;
-    closes = λ place names id parts s. refl;
-    marks = λ mark s. refl;
-    heads = λ head s. refl;
-  }
+  shows_first = record { uses = λ place id parts s. refl; late = λ place id piece s. refl; enters = λ iso s. refl; leaves = λ iso place s. refl; closes = λ place names id parts s. refl; marks = λ mark s. refl; heads = λ head s. refl }
 
   -- and seen as what the second has done, what the second does
   pub shows_second : Shows (λ (s : S × U). s.1) (both d e) e
-  shows_second = record {
-    uses = λ place id parts s. refl;
-    late = λ place id piece s. refl;
-    enters = λ iso s. refl;
-    leaves = λ iso place s. refl;
-    closes = λ place names id parts s. refl;
-    marks = λ mark s. refl;
-    heads = λ head s. refl;
-  }
+  shows_second = record { uses = λ place id parts s. refl; late = λ place id piece s. refl; enters = λ iso s. refl; leaves = λ iso place s. refl; closes = λ place names id parts s. refl; marks = λ mark s. refl; heads = λ head s. refl }
 
   -- a tree does what it does in each of the two ways
   pub both_tree : (isolated : Id → Bool) (x : Tree ℕ T A) (s : S) (t : U) → do_tree isolated (both d e) x (s, t) ≡ (do_tree isolated d x s, do_tree isolated e x t)
@@ -42,7 +27,7 @@ module _ {T A S U : Type 0} (d : Actions T A S) (e : Actions T A U) where
       ap₂ (λ y z. (y, z)) (shows_tree isolated (λ z. z.0) (both d e) d shows_first x (s, t)) (shows_tree isolated (λ z. z.1) (both d e) e shows_second x (s, t))
 
   module _ (dialects : List (Text × Table)) (types_at : Text → Outcome T) (attr : Text → Outcome (AttrView A)) where
-    -- the reading of an operation
+    -- the parse of an operation
     pub operation_beside : (inside : Bool) (text : Text) (s : S) (t : U)
         → AreBeside (operation_at dialects types_at attr d inside text s) (operation_at dialects types_at attr e inside text t) (operation_at dialects types_at attr (both d e) inside text (s, t))
     operation_beside inside text s t = record {
@@ -50,7 +35,7 @@ module _ {T A S U : Type 0} (d : Actions T A S) (e : Actions T A U) where
       right = (seen_operation_at dialects types_at attr (λ z. z.1) (both d e) e shows_second inside).at text (s, t);
     }
 
-    -- what is left of what is open
+    -- the rest of an open frame
     pub rest_beside : (o : Open T A) (text : Text) (s : S) (t : U)
         → AreBeside (rest_of dialects types_at attr d o text s) (rest_of dialects types_at attr e o text t) (rest_of dialects types_at attr (both d e) o text (s, t))
     rest_beside o text s t = record {

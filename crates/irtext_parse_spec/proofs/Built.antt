@@ -1,4 +1,4 @@
--- What a whole tree builds: regions, blocks and operations come behind those that are there, and the tree is what is finished.
+-- What a whole tree builds: regions, blocks and operations are added after those that are already built, and the tree is complete.
 use Rattle.std.proofs.Common.{◌≡◌, ◌∙◌, ℕ, Bool, List, [], ◌∷◌, Option, Some, None, refl, sym, ap}
 use Rattle.std.specs.Prelude.{⊤}
 use Rattle.irtext_base.specs.Format.{Format, Id}
@@ -12,7 +12,7 @@ use Rattle.irtext_parse_spec.proofs.Naming.Runs.{body_by_format}
 use Rattle.irtext_parse_spec.specs.Building.{append_regions, append_blocks, append_operations, Unfinished, operation_so_far, region_so_far, Building, with_mark, whole_blocks, operation_added, nothing_open, finished, building}
 use Rattle.irtext_parse_spec.proofs.Whole.{HasParts, WholeRegions, WholeBlocks, WholeOperations, IsWhole}
 
--- ---- one behind another
+-- ---- one after another
 module _ {O B R : Type 0} where
   regions_nil : (rs : Regions O B R) → append_regions rs no_regions ≡ rs
   regions_nil no_regions = refl
@@ -40,13 +40,13 @@ module _ {O B R : Type 0} where
   operations_push (operation p qs done) o rs os = ap (operation p qs) (operations_push done o rs os)
 
 module _ {T A : Type 0} where
-  -- the blocks that are whole, behind these blocks
+  -- the blocks that are complete, after these blocks
   abbrev pub blocks_after : Blocks (Op ℕ T A) (Head ℕ T A) (Brace ℕ) → Option (Head ℕ T A × Operations (Op ℕ T A) (Head ℕ T A) (Brace ℕ)) → Blocks (Op ℕ T A) (Head ℕ T A) (Brace ℕ)
       → Blocks (Op ℕ T A) (Head ℕ T A) (Brace ℕ)
   blocks_after bs last no_blocks = bs
   blocks_after bs last (block h os more) = blocks_after (whole_blocks bs last) (Some (h, os)) more
 
-  -- the block that is open, behind these blocks
+  -- the block that is open, after these blocks
   abbrev pub last_after : Option (Head ℕ T A × Operations (Op ℕ T A) (Head ℕ T A) (Brace ℕ)) → Blocks (Op ℕ T A) (Head ℕ T A) (Brace ℕ) → Option (Head ℕ T A × Operations (Op ℕ T A) (Head ℕ T A) (Brace ℕ))
   last_after last no_blocks = last
   last_after last (block h os more) = last_after (Some (h, os)) more
@@ -116,7 +116,7 @@ module _ {T A : Type 0} (formats : Id → Option Format) (isolated : Id → Bool
       ∙ (parts_build place id ps [] no_regions e tt at as_id (append_regions done rs) outer t
       ∙ ap (λ z. in_operation at as_id z outer t) (regions_nil (append_regions done rs)))
 
-  -- an operation, of which it is known what its regions do, is added to what is open
+  -- an operation, given what its regions do, is added to the open frames
   operation_builds : (o : Op ℕ T A) (fs : List (Building T A → Building T A)) (rs : Regions (Op ℕ T A) (Head ℕ T A) (Brace ℕ)) → HasParts formats o rs → EachBuilds fs rs
       → (b : Building T A) → do_operation isolated does o fs b ≡ operation_added o rs b.unfinished b.tree
   operation_builds o fs rs ((f, known, is), enough) h b =
@@ -141,7 +141,7 @@ module _ {T A : Type 0} (formats : Id → Option Format) (isolated : Id → Bool
     regions_build iso (region (shown place) bs rs) w =
         (region_builds iso place bs (do_blocks isolated does bs) (blocks_build bs w.0 no_blocks None), regions_build iso rs w.1)
 
-    -- blocks come behind those of the region that is open
+    -- blocks are added after those of the open region
     pub blocks_build : (bs : Blocks (Op ℕ T A) (Head ℕ T A) (Brace ℕ)) → WholeBlocks formats bs
         → (done : Blocks (Op ℕ T A) (Head ℕ T A) (Brace ℕ)) (last : Option (Head ℕ T A × Operations (Op ℕ T A) (Head ℕ T A) (Brace ℕ))) (outer : List (Unfinished T A)) (t : Option (Tree ℕ T A))
         → do_blocks isolated does bs (in_region done last outer t) ≡ in_region (blocks_after done last bs) (last_after last bs) outer t
@@ -150,7 +150,7 @@ module _ {T A : Type 0} (formats : Id → Option Format) (isolated : Id → Bool
         ap (do_blocks isolated does bs) (operations_build os w.0 (whole_blocks done last) h no_operations outer t)
         ∙ blocks_build bs w.1 (whole_blocks done last) (Some (h, os)) outer t
 
-    -- operations come behind those of the block that is open
+    -- operations are added after those of the open block
     pub operations_build : (os : Operations (Op ℕ T A) (Head ℕ T A) (Brace ℕ)) → WholeOperations formats os
         → (bs : Blocks (Op ℕ T A) (Head ℕ T A) (Brace ℕ)) (h : Head ℕ T A) (done : Operations (Op ℕ T A) (Head ℕ T A) (Brace ℕ)) (outer : List (Unfinished T A)) (t : Option (Tree ℕ T A))
         → do_operations isolated does os (in_region bs (Some (h, done)) outer t) ≡ in_region bs (Some (h, append_operations done os)) outer t
@@ -160,10 +160,10 @@ module _ {T A : Type 0} (formats : Id → Option Format) (isolated : Id → Bool
         ∙ (operations_build os w.2 bs h (append_operations done (operation o rs no_operations)) outer t
         ∙ ap (λ z. in_region bs (Some (h, z)) outer t) (operations_push done o rs os))
 
-  -- a tree is added to what is open
+  -- a tree is added to the open frames
   pub tree_builds : (x : Tree ℕ T A) → IsWhole formats x → (b : Building T A) → do_tree isolated does x b ≡ operation_added x.own x.regions b.unfinished b.tree
   tree_builds x w b = operation_builds x.own (do_regions isolated does (isolated x.own.id) x.regions) x.regions w.0 (regions_build (isolated x.own.id) x.regions w.1) b
 
-  -- a tree, where nothing was read before, is what is finished
+  -- a tree, where nothing was parsed before, is what is finished
   pub tree_finished : (x : Tree ℕ T A) → IsWhole formats x → do_tree isolated does x nothing_open ≡ finished x
   tree_finished x w = tree_builds x w nothing_open

@@ -32,11 +32,11 @@ and_nothing : (o : Option (List (Fact Text))) → and_then o [] ≡ o
 and_nothing None = refl
 and_nothing (Some fs) = ap Some (append-nil fs)
 
--- scopes to which nothing is said
+-- scopes without new facts
 unsaid : (s : Scopes Text) → s ⊳ nothing ≡ s
 unsaid s = λ i. record { values = and_nothing s.values i; labels = and_nothing s.labels i; marks = append-nil s.marks i; entries = append-nil s.entries i }
 
--- what is wrong with claims is the same in whatever scopes they stand
+-- the failures of claims are the same in all scopes
 pub claims_fail : (s : Scopes Text) (acts : List (Act Text ℕ)) (k : Script Text ℕ) → Each IsClaim acts → failures same_text s (does_all acts k) ≡ wrongs acts ++ failures same_text s k
 claims_fail s [] k h = refl
 claims_fail s (claim b x ∷ acts) k h =
@@ -49,7 +49,7 @@ claims_fail s (define_label w p ∷ acts) k h = absurd h.0
 claims_fail s (mark i p ∷ acts) k h = absurd h.0
 claims_fail s (entry i p ∷ acts) k h = absurd h.0
 
--- acts, and others behind them
+-- acts, and others after them
 does_both : (xs ys : List (Act Text ℕ)) (k : Script Text ℕ) → does_all (xs ++ ys) k ≡ does_all xs (does_all ys k)
 does_both [] ys k = refl
 does_both (x ∷ xs) ys k = ap (λ z. does_all (x ∷ []) z) (does_both xs ys k)
@@ -69,13 +69,13 @@ module _ {A : Type 0} where
   item_claims rule ((n, direct a) ∷ ps) = (tt, item_claims rule ps)
   item_claims rule ((n, reference m) ∷ ps) = item_claims rule ps
 
-  -- what is wrong with pairs as they stand
+  -- the failures of pairs alone, without those of their references
   abbrev pub wrong_pairs : Rule A → List (Name ℕ × Item ℕ A) → List (Failure Text ℕ)
   wrong_pairs rule ps = wrongs (flat_map (item_acts rule) ps)
 
 module _ {A X : Type 0} where
   module _ (marks : List ℕ) (rules : ℕ → Rule A) where
-    -- what is wrong with entries as they stand, behind those of these indices
+    -- the failures of entries alone, without those of their references, after entries with these indices
     abbrev pub wrong_entries : List ℕ → List (Entry ℕ A X) → List (Failure Text ℕ)
     wrong_entries before [] = []
     wrong_entries before (of_item m x ps ∷ es) = wrong_index marks before m ++ (wrong_pairs (rules m.index) ps ++ wrong_entries (before ++ m.index ∷ []) es)
@@ -113,7 +113,7 @@ module _ {A X : Type 0} where
   pub references_fail : (rules : ℕ → Rule A) (es : List (Entry ℕ A X)) → wrong_references rules es ≡ wrongs (flat_map (late_acts rules es) es)
   references_fail rules es = claims_fail no_scope (flat_map (late_acts rules es) es) done (late_claims rules es es) ∙ append-nil (wrongs (flat_map (late_acts rules es) es))
 
-  -- What is wrong with a section: its entries as they stand, and then their references.
+  -- The failures of a section: those of its entries alone, and then those of their references.
   pub refused_parts : (marks : List ℕ) (rules : ℕ → Rule A) (es : List (Entry ℕ A X)) → refused marks rules es ≡ wrong_entries marks rules [] es ++ wrong_references rules es
   refused_parts marks rules es =
       let late = flat_map (late_acts rules es) es in

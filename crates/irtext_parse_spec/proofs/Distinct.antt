@@ -1,4 +1,4 @@
--- What stands under an operation of a context defines no value and no block twice.
+-- An operation of a context and everything nested in it define no value and no block twice.
 use Rattle.std.proofs.Common.{◌≡◌, ◌+◌, ◌≤◌, ◌⊎◌, ℕ, zero, suc, Bool, true, false, cond, Option, Some, None, refl, sym, ap, ◌∙◌, subst, inl, inr, arith, List, [], ◌∷◌, map, filter_map, drop, length, slice_get}
 use Rattle.std.specs.Prelude.{⊤}
 use Rattle.std.specs.List.{cons_option}
@@ -56,7 +56,7 @@ block_makes : (x : Thing) (p : Path) (i : ℕ) (o : Option (ℕ × ℕ)) (s : Sc
 block_makes x p i None s = refl
 block_makes x p i (Some b) s = refl
 
--- values that are defined, as things
+-- values that are defined, as items of type `Thing`
 abbrev named : {T : Type 0} → List (ℕ × T) → List Thing
 named rs = map (λ r. a_value r.0) rs
 
@@ -142,11 +142,11 @@ module _ {T A : Type 0} (text_of : A → Text) (ctx : ContextView T A) (C : Prin
   one_giver (TheOperation p) (TheRegion q) (a_value n) h k = absurd k
   one_giver (TheRegion p) q x h k = absurd h
 
-  -- an object, or what stands in it, defines x so often: once at most
+  -- an object, with everything nested in it, defines x n times, and at most once
   abbrev Few : Thing → Object → ℕ → Type 0
   Few x o n = (n ≡ 0) ⊎ ((n ≡ 1) × (q : Object) × IsInside ctx.graph o q × Gives q x)
 
-  -- one of several objects does, or what stands in one
+  -- several objects, with everything nested in them, define x n times, and at most once
   abbrev Any : Thing → List Object → ℕ → Type 0
   Any x os n = (n ≡ 0) ⊎ ((n ≡ 1) × (c : Object) × Among c os × (q : Object) × IsInside ctx.graph c q × Gives q x)
 
@@ -229,7 +229,7 @@ module _ {T A : Type 0} (text_of : A → Text) (ctx : ContextView T A) (C : Prin
 
   -- ---- scripts
 
-  -- a region's script defines what the region does, whatever comes behind it
+  -- a region's script defines x as often as the region does, whatever script follows
   abbrev Region1 : Thing → Object → (Script Thing ⊤ → Script Thing ⊤) → Type 0
   Region1 x o r = (n : ℕ) × Few x o n × ((s : Script Thing ⊤) → Defines x (r s) ≡ n + Defines x s)
 
@@ -293,9 +293,9 @@ module _ {T A : Type 0} (text_of : A → Text) (ctx : ContextView T A) (C : Prin
       then_same x os (does_all (uses_of_values p 0 o.operands) (does_all (uses_of_blocks p 0 o.successors) (all_of rs then))) (all_of rs then) then
       (values_make x p 0 o.operands (does_all (uses_of_blocks p 0 o.successors) (all_of rs then)) ∙ blocks_make x p 0 o.successors (all_of rs then)) (all_few x k os rs s h then)
 
-  -- ---- what stands in an operation
+  -- ---- what is nested in an operation
 
-  -- regions that stand in an operation, as scripts
+  -- the regions of an operation, as scripts
   abbrev Inner : Ptr Operation → Regions (Ptr Operation) (Ptr BasicBlock) (Ptr Region) → Type 0
   Inner p rs = (os : List Object) × Siblings (TheOperation p) os × ((x : Thing) (at : Path) (j : ℕ) (iso : Bool) → RegionsOf x os (graph_regions C isolated at j iso (seen_regions text_of ctx rs)))
 
@@ -362,7 +362,7 @@ module _ {T A : Type 0} (text_of : A → Text) (ctx : ContextView T A) (C : Prin
             let here = block_few x b view (j ∷ at) (graph_blocks C isolated at (suc j) (blocks_seen bs)) in
             subst (Any x (TheBlock b ∷ map TheBlock bs)) (sym here.2) (any_more x k (TheBlock b) (map TheBlock bs) here.0 (Defines x (graph_blocks C isolated at (suc j) (blocks_seen bs))) s here.1 (others (suc j)))
 
-    -- a region, whatever comes behind it
+    -- a region, whatever script follows
     region_few : (x : Thing) (r : Ptr Region) (at : Path) (iso : Bool) → Region1 x (TheRegion r) (script.within iso tt (graph_blocks C isolated at 0 (blocks_seen (blocks ctx.graph r))))
     region_few x r at iso =
         let body = graph_blocks C isolated at 0 (blocks_seen (blocks ctx.graph r)) in

@@ -1,6 +1,6 @@
--- What calls of a context do, as what is open sees it: what is made is new, what comes to stand in an object is the last of it, and all
--- else is spared.
-use Rattle.std.proofs.Common.{◌≡◌, ◌≢◌, ◌∙◌, ◌⊎◌, ℕ, ◌+◌, ◌==◌, Bool, true, false, cond, List, [], ◌∷◌, ◌++◌, map, Option, Some, None, IsSome, option_map, slice_get, suc, arith, eqb-true, refl, sym, ap, ap₂, subst, inl, inr}
+-- What calls of a context do, as seen from the open frames: what is made is new, what is added to an object is its last child, and all else
+-- is unchanged.
+use Rattle.std.proofs.Common.{◌≡◌, ◌≢◌, ◌∙◌, ◌⊎◌, ℕ, List, [], ◌∷◌, ◌++◌, map, Option, Some, None, IsSome, option_map, slice_get, suc, refl, sym, ap, ap₂, subst, inl, inr}
 use Rattle.std.specs.Prelude.{option_and_then, length, ⊤}
 use Rattle.std.proofs.lemmas.List.{map_push}
 use Rattle.irtext_base.specs.Text.{Text}
@@ -31,7 +31,7 @@ use Rattle.irtext_graph.specs.declared.object.Defined.{Defined}
 use Rattle.irtext_graph.specs.declared.object.Site.TheVariants.{AtOperand, AtSuccessor}
 use Rattle.irtext_graph.specs.Regions.{with_child}
 use Rattle.irtext_graph.specs.Data.{with_data}
-use Rattle.irtext_graph.specs.Store.{Cell, Store, drawn, object_in, object_of, get, Inserts}
+use Rattle.irtext_graph.specs.Store.{object_of, get}
 use Rattle.irtext_graph.proofs.Nests.{some_eq, told}
 use Rattle.irtext_graph.proofs.Same.{object_tells}
 use Rattle.irtext_graph.proofs.Frames.{map_same, option_same, block_same, region_same, operation_same}
@@ -86,14 +86,14 @@ module _ {O B T : Type 0} where
     as_many_successors = ap length (successors_are_seen k p ∙ (ap successors_seen e ∙ sym (successors_are_seen g p)));
   }
 
-  -- so it is where the same stands under its pointer
+  -- an operation uses as many values and blocks as before if the object under its pointer is unchanged
   pub kept_as_many : (g k : GraphView O B T) (p : Ptr Operation) → get k.operations p ≡ get g.operations p → UsesAsMany g k p
   kept_as_many g k p e = record {
     as_many_operands = ap (λ x. length (operands_of (option_map (λ e. e.content.content) x))) e;
     as_many_successors = ap (λ x. length (successors_of (option_map (λ e. e.content.content) x))) e;
   }
 
-  -- so it is where its node changed and not what it uses
+  -- the same if its node changed but not what it uses
   pub edited_as_many : (g k : GraphView O B T) (p : Ptr Operation) (change : Node BasicBlock Region (OperationContent O T) → Node BasicBlock Region (OperationContent O T))
       → ((n : Node BasicBlock Region (OperationContent O T)) → (change n).content.operands ≡ n.content.operands) → ((n : Node BasicBlock Region (OperationContent O T)) → (change n).content.successors ≡ n.content.successors)
       → get k.operations p ≡ option_map (object_of change) (get g.operations p) → UsesAsMany g k p
@@ -135,8 +135,8 @@ module _ {O B T : Type 0} where
   many_same g k (TheBlock b) e = tt
   many_same g k (TheRegion r) e = tt
 
--- ---- objects seen by what they are, what stands in them, and where they stand
--- an object is the same apart from what it uses, uses as many, holds the same and stands in the same
+-- ---- objects seen by their data, their children and their parents
+-- an object is the same apart from what it uses: it uses as many values and blocks, and has the same children and the same parent
 pub record IsAlike {O B T : Type 0} (g k : GraphView O B T) (q : Object) : Type 0 where
   pub contents : option_map without_uses (content k q) ≡ option_map without_uses (content g q)
   pub as_many : HasAsMany g k q
@@ -192,7 +192,7 @@ region_is T A None = refl
 region_is T A (Some e) = refl
 
 module _ {T A : Type 0} (old new : ContextView T A) where
-  -- what is alike is as it was
+  -- objects that are alike are unchanged
   pub alike_as : (q : Object) → IsAlike old.graph new.graph q → IsAsItWas old new q
   alike_as (TheOperation p) h = (
     operation_is (get new.graph.operations p)
@@ -213,24 +213,24 @@ module _ {T A : Type 0} (old new : ContextView T A) where
       (option_same TheOperation operation_same (parent_of (get new.graph.regions r)) (parent_of (get old.graph.regions r)) h.parents)
       ∙ sym (region_is T A (get old.graph.regions r))))
 
-  -- what is as it was was there, if it is there
+  -- an unchanged object that is present was present
   pub there_before : (q : Object) → IsAsItWas old new q → IsThere new q → IsThere old q
   there_before (TheOperation p) e h = subst IsSome e.0 h
   there_before (TheBlock b) e h = (subst IsSome e.0 h.0, subst IsSome e.1 h.1)
   there_before (TheRegion r) e h = subst IsSome e h
 
-  -- what is as it was is spared, and nothing came, but for these
+  -- if all objects but these are unchanged, only these are modified or created
   pub spares_by : (but : List Object) → ((q : Object) → (Among q but → ⊥) → IsAsItWas old new q) → ModifiesOnly but old new
   spares_by but h = record {
     spared = λ q there apart. h q apart;
     brought = λ q there. elim (among_or_not q but) [ inl i ↦ inr i | inr apart ↦ inl (there_before q (h q apart) there) ];
   }
 
-  -- what is alike is spared, and nothing came, but for these
+  -- if all objects but these are alike, only these are modified or created
   pub spares_alike : (but : List Object) → ((q : Object) → (Among q but → ⊥) → IsAlike old.graph new.graph q) → ModifiesOnly but old new
   spares_alike but h = spares_by but (λ q apart. alike_as q (h q apart))
 
-  -- so is what stands under the same pointers
+  -- if the objects under all other pointers are unchanged, only these are modified or created
   spares_same : (but : List Object) → ((p : Ptr Operation) → (Among (TheOperation p) but → ⊥) → get new.graph.operations p ≡ get old.graph.operations p)
       → ((b : Ptr BasicBlock) → (Among (TheBlock b) but → ⊥) → get new.graph.blocks b ≡ get old.graph.blocks b)
       → ((r : Ptr Region) → (Among (TheRegion r) but → ⊥) → get new.graph.regions r ≡ get old.graph.regions r) → ModifiesOnly but old new
@@ -252,7 +252,7 @@ module _ {T A : Type 0} (old new : ContextView T A) where
   pub spares_fewer : (but : List Object) → ModifiesOnly [] old new → ModifiesOnly but old new
   spares_fewer but s = spares_wider [] but (λ q i. absurd i) s
 
--- one change behind another
+-- one change after another
 as_then : {T A : Type 0} (a b c : ContextView T A) (q : Object) → IsAsItWas a b q → IsAsItWas b c q → IsAsItWas a c q
 as_then a b c (TheOperation p) e f = (f.0 ∙ e.0, as_many_then a.graph b.graph c.graph p e.1 f.1)
 as_then a b c (TheBlock d) e f = (f.0 ∙ e.0, f.1 ∙ e.1)
@@ -281,12 +281,12 @@ module _ {T A : Type 0} (old new : ContextView T A) where
     regions = refl;
   }
 
-  -- what was there is spared
+  -- what was there is unchanged
   pub operation_made_spares : (p : Ptr Operation) (held : OperationData A) (types : List T) {operands : List Value} {successors : List (Ptr BasicBlock)} → MakesOperation old new p held types operands successors → ModifiesOnly (TheOperation p ∷ []) old new
   operation_made_spares p held types m = spares_same old new (TheOperation p ∷ []) (λ q apart. m.graph.operations.updates.others q (λ e. apart (inl (ap TheOperation e))))
       (λ b apart. ap (λ s. get s b) m.graph.blocks) (λ r apart. ap (λ s. get s r) m.graph.regions)
 
-  -- a region that came to stand last in an operation
+  -- a region that was added as the last one of an operation
   pub region_added_came : (p : Ptr Operation) (r : Ptr Region) → AddsRegion old new p r → RegionCame old new r
   region_added_came p r a = record {
     is_new = λ there. let e = ap (option_map region_of) (inserted_new old.graph.regions new.graph.regions r _ a.graph.regions) in cc (subst IsSome e there);
@@ -302,12 +302,12 @@ module _ {T A : Type 0} (old new : ContextView T A) where
     uses = edited_as_many old.graph new.graph p (with_child r) (λ n. refl) (λ n. refl) a.graph.operations.updates.changed;
   }
 
-  -- and all else is spared
+  -- and all else is unchanged
   pub region_added_spares : (p : Ptr Operation) (r : Ptr Region) → AddsRegion old new p r → ModifiesOnly (TheRegion r ∷ TheOperation p ∷ []) old new
   region_added_spares p r a = spares_same old new (TheRegion r ∷ TheOperation p ∷ []) (λ q apart. a.graph.operations.updates.others q (λ e. apart (inr (inl (ap TheOperation e)))))
       (λ b apart. ap (λ s. get s b) a.graph.blocks) (λ q apart. a.graph.regions.updates.others q (λ e. apart (inl (ap TheRegion e))))
 
-  -- ---- an operation that came to stand last in a block
+  -- ---- an operation that was added as the last one of a block
   module _ (b : Ptr BasicBlock) (p : Ptr Operation) (a : Appends old.graph new.graph (TheBlock b) (TheOperation p)) where
     -- the block has it
     pub operation_placed_gains : BlockGains old new b p
@@ -320,7 +320,7 @@ module _ {T A : Type 0} (old new : ContextView T A) where
           stays = a.parents (TheBlock b) (λ e. cc);
         }
 
-    -- all else is spared
+    -- all else is unchanged
     pub operation_placed_spares : ModifiesOnly (TheBlock b ∷ []) old new
     operation_placed_spares = spares_by old new (TheBlock b ∷ []) go
       where
@@ -337,7 +337,7 @@ module _ {T A : Type 0} (old new : ContextView T A) where
         go (TheBlock d) apart = alike_as old new (TheBlock d) (alike (TheBlock d) (λ e. apart (inl e)) (λ e. cc))
         go (TheRegion r) apart = alike_as old new (TheRegion r) (alike (TheRegion r) (λ e. cc) (λ e. cc))
 
-  -- ---- a block that stood nowhere and came to stand last in a region
+  -- ---- a block without a parent that was added as the last one of a region
   module _ (r : Ptr Region) (b : Ptr BasicBlock) (free : parent old.graph (TheBlock b) ≡ None) (a : Appends old.graph new.graph (TheRegion r) (TheBlock b)) where
     -- the region has it
     pub block_placed_gains : RegionGains old new r b
@@ -351,7 +351,7 @@ module _ {T A : Type 0} (old new : ContextView T A) where
               ∙ (ap₂ (λ u w. region_seen_in z u w) above inside ∙ (region_more z (parent_of x) (children_of x) b ∙ ap (option_map (with_last_block b)) (sym (region_is T A x)))));
         }
 
-    -- all else is spared
+    -- all else is unchanged
     pub block_placed_spares : ModifiesOnly (TheBlock b ∷ TheRegion r ∷ []) old new
     block_placed_spares = spares_alike old new (TheBlock b ∷ TheRegion r ∷ []) (λ q apart. record {
       contents = ap (option_map without_uses) (a.objects.contents q);
@@ -360,7 +360,7 @@ module _ {T A : Type 0} (old new : ContextView T A) where
       lists = a.others q (λ e. apart (inr (inl e)));
     })
 
-    -- what is seen of the block is the same, and it stands in the region
+    -- the view of the block is the same, and the region is its parent
     pub block_placed_view : block new b ≡ block old b
     block_placed_view =
         block_is (get new.graph.blocks b)
@@ -378,7 +378,7 @@ module _ {T A : Type 0} (IsLocation : ℕ → Location A → Type 0) where
       → HasHead IsLocation (made_block held types) h
   made_head held types h label same entries location = record { label = label; types = ap known same; entries = entries; location = location }
 
--- ---- an operation that was made, and placed last in a block
+-- ---- an operation that was made, and appended to a block
 module _ {T A : Type 0} (IsLocation : ℕ → Location A → Type 0) (old mid new : ContextView T A) (b : Ptr BasicBlock) (p : Ptr Operation) (held : OperationData A) (types : List T) {operands : List Value} {successors : List (Ptr BasicBlock)}
     (m : MakesOperation old mid p held types operands successors) (a : Appends mid.graph new.graph (TheBlock b) (TheOperation p)) where
   -- it is new, and has its own
@@ -404,14 +404,14 @@ module _ {T A : Type 0} (IsLocation : ℕ → Location A → Type 0) (old mid ne
         stays = placed.stays ∙ ap (λ s. option_map TheRegion (parent_of (get s b))) m.graph.blocks;
       }
 
-  -- and all else is spared
+  -- and all else is unchanged
   pub operation_came_spares : ModifiesOnly (TheOperation p ∷ TheBlock b ∷ []) old new
   operation_came_spares =
       let but = TheOperation p ∷ TheBlock b ∷ [] in
       spares_then old mid new but (spares_wider old mid (TheOperation p ∷ []) but (λ q i. elim i [ inl e ↦ inl e | inr j ↦ absurd j ]) (operation_made_spares old mid p held types m))
       (spares_wider mid new (TheBlock b ∷ []) but (λ q i. inr i) (operation_placed_spares mid new b p a))
 
--- ---- a block that was made, and placed last in a region
+-- ---- a block that was made, and appended to a region
 module _ {T A : Type 0} (IsLocation : ℕ → Location A → Type 0) (old mid new : ContextView T A) (r : Ptr Region) (b : Ptr BasicBlock) (held : BlockData A) (types : List T)
     (m : MakesBlock old mid b held types) (a : Appends mid.graph new.graph (TheRegion r) (TheBlock b)) where
   free_at_first : parent mid.graph (TheBlock b) ≡ None
@@ -437,7 +437,7 @@ module _ {T A : Type 0} (IsLocation : ℕ → Location A → Type 0) (old mid ne
     gains = (block_placed_gains mid new r b free_at_first a).gains ∙ ap (λ s. option_map (with_last_block b) (option_map region_of (get s r))) m.graph.regions;
   }
 
-  -- and all else is spared
+  -- and all else is unchanged
   pub block_came_spares : ModifiesOnly (TheBlock b ∷ TheRegion r ∷ []) old new
   block_came_spares = spares_then old mid new (TheBlock b ∷ TheRegion r ∷ [])
       (spares_same old mid (TheBlock b ∷ TheRegion r ∷ []) (λ q apart. ap (λ s. get s q) m.graph.operations) (λ d apart. m.graph.blocks.updates.others d (λ e. apart (inl (ap TheBlock e))))
@@ -456,7 +456,7 @@ module _ {T A : Type 0} (IsLocation : ℕ → Location A → Type 0) (old new : 
     regions = λ w k. let f : was ≡ w = some_eq (sym is ∙ k) in ap (λ (v : OperationView T A). v.regions) f;
   }
 
-  -- and all else is spared
+  -- and all else is unchanged
   pub attributes_written_spares : ModifiesOnly (TheOperation p ∷ []) old new
   attributes_written_spares = spares_same old new (TheOperation p ∷ []) (λ q apart. e.graph.operations.updates.others q (λ k. apart (inl (ap TheOperation k))))
       (λ b apart. ap (λ s. get s b) e.graph.blocks) (λ r apart. ap (λ s. get s r) e.graph.regions)

@@ -1,4 +1,4 @@
--- The readers of entries answer what the grammar reads, up to the first that is wrong.
+-- The parsers of entries return what the grammar parses, up to the first that is wrong.
 use Rattle.std.proofs.Common.{◌≡◌, ◌∙◌, ◌≤◌, inl, inr, ℕ, zero, suc, Bool, true, false, cond, not, ◌&&◌, ◌||◌, Option, Some, None, List, [], ◌∷◌, ◌++◌, map, length, refl, sym, ap, ap₂, subst, true≢false, append_assoc, append-nil, length-append, arith}
 use Rattle.std.proofs.lemmas.Bool.Decides.{nat_tests}
 use Rattle.std.specs.Prelude.{codes}
@@ -9,7 +9,7 @@ use Rattle.irtext_base.specs.Format.{Id, Format}
 use Rattle.irtext_base.specs.Faults as fault
 use Rattle.irtext_base.specs.Answers.{Outcome, Read, Missing, Bad, mapped, followed}
 use Rattle.irtext_base.specs.Locations.{AttrView}
-use Rattle.irtext_base.specs.Own.{Texts, Language, Standing, language, texts_of}
+use Rattle.irtext_base.specs.Own.{Texts, Language, language, texts_of}
 use Rattle.irtext_base.specs.Paths.{Written}
 use Rattle.irtext_base.proofs.Along.{front_after}
 use Rattle.irtext_base.proofs.Characters.{after_twice}
@@ -24,7 +24,6 @@ use Rattle.irtext_grammar.specs.Names.Acts.{Rule}
 use Rattle.irtext_grammar.specs.Names.Resolves.{indices}
 use Rattle.irtext_grammar.specs.Names.Script.{Failure, UnknownIndex}
 use Rattle.irtext_grammar.proofs.Names.ResolvedSection.{flat_both}
-use Rattle.irtext_parse_spec.specs.Promises.Supported.{location_standing}
 use Rattle.irtext_parse_spec.specs.Readers.Directives.{attribute_at}
 use Rattle.irtext_parse_spec.proofs.Joins.Answers.{Splits, followed_read, followed-read, mapped_read}
 use Rattle.irtext_parse_spec.proofs.Joins.Section.{spaced_read, spaced_found}
@@ -42,7 +41,7 @@ use Rattle.irtext_parse_spec.proofs.Grows.{grows_entry, less_left}
 use Rattle.irtext_parse_spec.proofs.Pairs.{bracketed, attribute_begins, own_location}
 use Rattle.irtext_parse_spec.proofs.Stops.{stops_before, stops_as, stops_first, stops_second, stops_seen}
 
--- where a word begins no item's entry goes on
+-- if a word begins here, the entry does not go on as that of an item
 no_given_there : (text : Text) → begins begins_word text ≡ true → begins_given text ≡ false
 no_given_there [] e = absurd (true≢false (sym e))
 no_given_there (c ∷ text) e = other c e
@@ -51,7 +50,7 @@ no_given_there (c ∷ text) e = other c e
     other c e = grind (arith, nat_tests)
 
 -- ---- one entry
--- a head that is answered passed the test, where an item's entry goes on
+-- a head that parses passed the test, if the entry goes on as that of an item
 tested_read : (test : ℕ → Bool) (o : Outcome (Mark ℕ)) (m : Mark ℕ) (taken rest : Text) → tested test o ≡ Read m taken rest → (o ≡ Read m taken rest) × ((begins_given rest && not (test m.index)) ≡ false)
 tested_read test (Read n a r) m taken rest e = go (begins_given r && not (test n.index)) refl e
   where
@@ -67,7 +66,7 @@ passes true false e f = absurd (true≢false f)
 passes false b e f = absurd (true≢false (sym e))
 
 module _ {A X : Type 0} (test : ℕ → Bool) (rules : ℕ → Rule A) where
-  -- what is wrong with an entry as it stands, where this is the test of its index
+  -- the failures of an entry alone, without those of its references, given the test of its index
   abbrev pub wrong_entry : Entry ℕ A X → List (Failure Text ℕ)
   wrong_entry (of_item m x ps) = cond (test m.index) [] (record { cause = UnknownIndex m.index; at = Some m.place } ∷ []) ++ wrong_pairs (rules m.index) ps
   wrong_entry (of_once m a) = []
@@ -86,7 +85,7 @@ module _ {T A : Type 0} (types : Texts T) (reading : Text → Outcome A) (writte
   abbrev equals_next : Mark ℕ → Text → Outcome (Mark ℕ)
   equals_next m t = mapped (λ _. m) (spaced_at (codes "=") t)
 
-  -- an entry's head, as the grammar has it: what is left stands behind white space
+  -- an entry's head, as the grammar parses it; the rest is without leading white space
   record HeadRead (m : Mark ℕ) (text taken rest : Text) : Type 0 where
     pub mid : Text
     pub marks : reads.mark l m text mid
@@ -126,7 +125,7 @@ module _ {T A : Type 0} (types : Texts T) (reading : Text → Outcome A) (writte
     abbrev choice : Mark ℕ → Text → Outcome (Entry ℕ A (Written A))
     choice m t = cond (begins_given t) (item_next m t) (once_next m t)
 
-    -- an entry that is answered the grammar reads, and nothing is wrong with it
+    -- an entry that is accepted the grammar parses, and without a failure
     pub entry_read : (text : Text) (e : Entry ℕ A (Written A)) (taken rest : Text) → entry_at attr test rules text ≡ Read e taken rest → An e text rest × (taken ++ rest ≡ text) × (wrong_entry test rules e ≡ [])
     entry_read text e taken rest is =
         let a = followed_read (tested test (entry_head_at text)) choice e taken rest is in
@@ -155,14 +154,14 @@ module _ {T A : Type 0} (types : Texts T) (reading : Text → Outcome A) (writte
               subst (λ e. wrong_entry test rules e ≡ []) k.2 refl,
             )
 
-    -- a bracket or `@` stands where an item's entry goes on
+    -- an item's entry goes on with a bracket or `@`
     goes_on : (x : Option (Written A)) (ps : List (Name ℕ × Item ℕ A)) (end rest : Text) → (section.located l (own_location reading) x ▹ bracketed l (own_location reading) ps) (after_space end) rest → begins_given (after_space end) ≡ true
     goes_on None ps end rest (mid, (f, same), (m, a, b)) =
         let e : after_space end ≡ 91 ∷ m = sym (after_twice is_whitespace end) ∙ (ap after_space (sym same) ∙ a) in
         ap begins_given e
     goes_on (Some x) ps end rest (mid, (t, a, b), c) = ap begins_given a
 
-    -- an entry that the grammar reads is answered, where nothing is wrong with it
+    -- an entry that the grammar parses is accepted, where nothing is wrong with it
     pub entry_found : (text : Text) (e : Entry ℕ A (Written A)) (rest : Text) → An e text rest → ReadOrStops text (entry_at attr test rules text) e rest (wrong_entry test rules e)
     entry_found text (of_once m a) rest (mid, r, (end, q, s)) =
         let h = head_found text m mid end r q in
@@ -214,7 +213,7 @@ module _ {T A : Type 0} (types : Texts T) (reading : Text → Outcome A) (writte
               bad = ap (λ o. followed o choice) head;
             })
 
-  -- ---- entries, one behind the other
+  -- ---- entries, one after another
   module _ (marks : List ℕ) (rules : ℕ → Rule A) where
     abbrev test_behind : List (Entry ℕ A (Written A)) → ℕ → Bool
     test_behind earlier = may_have marks earlier
@@ -237,7 +236,7 @@ module _ {T A : Type 0} (types : Texts T) (reading : Text → Outcome A) (writte
     abbrev entry_next : ℕ → List (Entry ℕ A (Written A)) → Entry ℕ A (Written A) → Text → Outcome (List (Entry ℕ A (Written A)))
     entry_next n earlier e t = followed (space_at t) (more_next n earlier e)
 
-    -- entries that are answered behind others, as the grammar has them
+    -- entries that parse after others, as the grammar parses them
     pub record EntriesRead (earlier all : List (Entry ℕ A (Written A))) (text taken rest : Text) : Type 0 where
       pub es : List (Entry ℕ A (Written A))
       pub whole : all ≡ earlier ++ es
@@ -288,7 +287,7 @@ module _ {T A : Type 0} (types : Texts T) (reading : Text → Outcome A) (writte
     something [] e h = true≢false (sym e)
     something (c ∷ text) e h = omega (arith, h)
 
-    -- entries that the grammar reads are answered, up to the first thing that is wrong
+    -- entries that the grammar parses are accepted, up to the first failure
     pub entries_found : (n : ℕ) (earlier es : List (Entry ℕ A (Written A))) (text rest : Text) → length text ≤ n → repeated (the 33) (map An es) text rest
         → ReadOrStops text (entries_after attr marks rules n earlier text) (earlier ++ es) rest (wrong_entries marks rules (indices earlier) es)
     entries_found zero earlier [] text rest i (f, e) = inl (refl, ([], ap₂ (λ z t. Read z [] t) (sym (append-nil earlier)) (sym e)))

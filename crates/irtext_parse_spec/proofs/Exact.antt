@@ -1,4 +1,4 @@
--- The readers of one item's own parts answer what the grammar reads.
+-- The parsers of one item's own parts return what the grammar parses.
 pub mod Combined
 pub mod Listed
 pub mod Names

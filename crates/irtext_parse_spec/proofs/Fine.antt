@@ -1,4 +1,4 @@
--- No cause that the readers of a section answer says that the stream had failed.
+-- No cause that the parsers of a section return says that the stream had failed.
 use Rattle.std.proofs.Common.{ℕ, zero, suc, Bool, not, ◌&&◌, Some, None, List, [], ◌∷◌, ◌++◌, length}
 use Rattle.std.specs.Prelude.{codes}
 use Rattle.irtext_base.specs.Text.{Text, begins}
@@ -24,7 +24,7 @@ use Rattle.irtext_parse_spec.proofs.Readers.NeverFailed.{NotFailed, Fine, fine_h
 use Rattle.irtext_parse_spec.specs.Heads.{name_at, mark_at}
 use Rattle.irtext_parse_spec.specs.Entries.{item_at, pair_at, may_stand, kept, begins_given, tested, entry_head_at, pairs_at, given_at, entry_at, may_have, fault_for, upto, wrong_references, unless_wrong, referred, entries_after, entries_at, section_at}
 
--- a reader of which each outcome is fine
+-- a parser of which each outcome is fine
 record AllFine {X : Type 0} (f : Reader X) : Type 0 where
   pub fine : (text : Text) → Fine (f text)
 
@@ -45,7 +45,7 @@ fine_keeps = record {
   row = fine_row;
 }
 
--- no failure says so
+-- no failure has this cause
 not_failed : (c : Cause Text) → NotFailed (fault_for c)
 not_failed (script.ResultCount types names) e = cc e
 not_failed (script.NoActiveScope n) e = cc e
@@ -130,6 +130,6 @@ module _ {A : Type 0} (reading : Text → Outcome A) (sincere : Sincere reading)
     fine_referred text (Missing cause) h = h
     fine_referred text (Bad cause upto) h = h
 
-    -- the reader of a section
+    -- the parser of a section
     pub fine_section : (text : Text) → Fine (section_at attr marks rules text)
     fine_section text = fine_referred text (entries_at attr marks rules text) (fine_followed _ _ (fine_honest (honest_spaced (codes "outlined_attributes:")) text) (λ _ t. fine_entries (length t) [] t))

@@ -1,4 +1,4 @@
--- The reader of what an item's entry gives answers what the grammar reads: its location, and its pairs.
+-- The parser of what an item's entry gives returns what the grammar parses: its location, and its pairs.
 use Rattle.std.proofs.Common.{◌≡◌, ◌∙◌, inl, inr, ℕ, Bool, true, false, cond, Option, Some, None, List, [], ◌++◌, length, refl, sym, ap, ap₂, subst, append_assoc}
 use Rattle.std.specs.Prelude.{codes}
 use Rattle.std.specs.Char.{is_whitespace}
@@ -19,7 +19,6 @@ use Rattle.irtext_grammar.specs.Grammar.Section as section
 use Rattle.irtext_grammar.specs.Grammar.Section.{Item}
 use Rattle.irtext_grammar.specs.Grammar.Tree.{Name}
 use Rattle.irtext_grammar.specs.Names.Acts.{Rule}
-use Rattle.irtext_parse_spec.specs.Promises.Supported.{location_standing}
 use Rattle.irtext_parse_spec.specs.Readers.Locations.{WrittenRow, behind_location, row_of, row_at, location_at}
 use Rattle.irtext_parse_spec.specs.Readers.Section.{entry_location_at}
 use Rattle.irtext_parse_spec.proofs.Joins.Answers.{Splits, followed_read, followed-read, mapped_read, splits_followed, splits_mapped}
@@ -34,7 +33,7 @@ use Rattle.irtext_parse_spec.proofs.Pairs.{bracketed, pairs_read, pairs_found, o
 use Rattle.irtext_parse_spec.proofs.Stops.{stops_seen, stops_second}
 
 -- ---- what is taken of a location and what is left make up the text
--- a reader that takes a front of its text
+-- a parser that takes a front of its text
 pub record Cuts {X : Type 0} (f : Reader X) : Type 0 where
   pub splits : Splits f
 
@@ -71,14 +70,14 @@ cuts_keeps = record {
 pub splits_location : {A : Type 0} (attr : Text → Outcome (AttrView A)) → Splits attr → Splits (location_at attr)
 splits_location attr h text x taken rest e = (keeps_within cuts_keeps (record { splits = h }) (length text)).splits text x taken rest e
 
--- a reader's answer stands, as the grammar looks at it
+-- the outcome, as the grammar uses it, is a value only if the parser succeeded
 standing_found : {X : Type 0} (o : Outcome X) (x : X) (rest : Text) → standing o ≡ found x rest → (taken : Text) × (o ≡ Read x taken rest)
 standing_found (Read y a r) x rest e = (a, ap₂ (λ y r. Read y a r) (cc e) (cc e))
 standing_found (Missing cause) x rest e = absurd (cc e)
 standing_found (Bad cause upto) x rest e = absurd (cc e)
 
 module _ {A : Type 0} (attr : Text → Outcome (AttrView A)) (cut : Splits attr) where
-  -- ---- an entry's location: what its reader does, step by step
+  -- ---- an entry's location: what its parser does, step by step
   abbrev last_next : Written A → Unit {0} → Text → Outcome (Option (Written A))
   last_next x _ text = mapped (λ _. Some x) (space_at text)
 
@@ -111,7 +110,7 @@ module _ {A : Type 0} (attr : Text → Outcome (AttrView A)) (cut : Splits attr)
       go false e = let f : [] ≡ taken = cc e in let g : text ≡ rest = cc e in ap₂ ◌++◌ (sym f) (sym g)
 
   module _ {T : Type 0} (L : Language ℕ T A) (loc : Text → Standing (Written A)) (stands : (text : Text) → loc text ≡ standing (location_at attr text)) where
-    -- the location's text, where no white space stands in front
+    -- the location's text, without white space before it
     located_read : (text : Text) (x : Option (Written A)) (taken rest : Text) → after_space text ≡ text → entry_location_at attr text ≡ Read x taken rest
         → (m : Text) × section.located L loc x text m × (after_space m ≡ rest)
     located_read text x taken rest tight e = go (begins (the 64) text) refl e
@@ -173,7 +172,7 @@ module _ {T A : Type 0} (types : Texts T) (reading : Text → Outcome A) (writte
     abbrev pairs_next : Option (Written A) → Text → Outcome (Option (Written A) × List (Name ℕ × Item ℕ A))
     pairs_next x t = mapped (λ ps. (x, ps)) (pairs_at attr rule t)
 
-    -- what is answered the grammar reads, and nothing is wrong with it
+    -- what is accepted the grammar parses, and without a failure
     pub given_read : (text : Text) (g : Option (Written A) × List (Name ℕ × Item ℕ A)) (taken rest : Text) → after_space text ≡ text → given_at attr rule text ≡ Read g taken rest
         → Given g text rest × (taken ++ rest ≡ text) × (wrong_pairs rule g.1 ≡ [])
     given_read text g taken rest tight e =
@@ -187,7 +186,7 @@ module _ {T A : Type 0} (types : Texts T) (reading : Text → Outcome A) (writte
           ap (wrong_pairs rule) (sym (ap (λ g. g.1) m.2)) ∙ c.2,
         )
 
-    -- what the grammar reads is answered, up to the first key whose attribute may not stand there
+    -- what the grammar parses is accepted, up to the first key whose attribute is not allowed
     pub given_found : (text : Text) (g : Option (Written A) × List (Name ℕ × Item ℕ A)) (rest : Text) → after_space text ≡ text → Given g text rest → ReadOrStops text (given_at attr rule text) g rest (wrong_pairs rule g.1)
     given_found text g rest tight (mid, a, b) = go (pairs_found types reading written formats splits words rule (after_space mid) g.1 rest b)
       where

@@ -1,4 +1,4 @@
--- An entry that is read takes some character.
+-- An entry that is parsed takes some character.
 use Rattle.std.proofs.Common.{◌≡◌, ℕ, ◌<◌, Bool, true, false, cond, ◌&&◌, not, [], ◌∷◌, ◌++◌, length, length-append, refl, ap, arith}
 use Rattle.std.specs.Prelude.{codes}
 use Rattle.irtext_base.specs.Text.{Text}
@@ -13,7 +13,7 @@ use Rattle.irtext_grammar.specs.Names.Acts.{Rule}
 use Rattle.irtext_parse_spec.specs.Heads.{mark_at}
 use Rattle.irtext_parse_spec.specs.Entries.{begins_given, tested, entry_head_at, entry_at}
 
--- some character is taken of what is read
+-- some character is taken of what is parsed
 pub record Grows {X : Type 0} (o : Outcome X) : Type 0 where
   pub takes : (x : X) (taken rest : Text) → o ≡ Read x taken rest → taken ≡ [] → ⊥
 

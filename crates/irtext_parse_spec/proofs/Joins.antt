@@ -1,4 +1,4 @@
--- What a reader answers agrees with the grammar.
+-- What a parser returns agrees with the grammar.
 pub mod Answers
 pub mod Tokens
 pub mod Section

@@ -1,7 +1,7 @@
--- What a context holds stays held where each object of it is as it was, and where more is whole.
+-- What a context contains it still contains if each object of it is unchanged, and if more is complete.
 use Rattle.std.proofs.Common.{◌≡◌, ◌∙◌, ℕ, List, [], ◌∷◌, Option, Some, None, IsSome, refl, sym, subst, inl, inr}
 use Rattle.irtext_base.specs.declared.location.Location.{Location}
-use Rattle.irtext_context.specs.Context.{ContextView, operation, block, region}
+use Rattle.irtext_context.specs.Context.{ContextView, block, region}
 use Rattle.irtext_graph.specs.declared.arena.Ptr.{Ptr}
 use Rattle.irtext_graph.specs.declared.object.Operation.{Operation}
 use Rattle.irtext_graph.specs.declared.object.BasicBlock.{BasicBlock}
@@ -16,7 +16,7 @@ use Rattle.irtext_grammar.specs.Grammar.Tree.{Op, Head, Brace, Tree}
 use Rattle.irtext_parse_spec.specs.Building.{Unfinished, operation_so_far, region_so_far, but_its_mark}
 use Rattle.irtext_parse_spec.specs.Unchanged.{OwnSoFar, own_of, HasUses, UsesAsMany, RegionsHold, BlocksHold, OperationsHold, OpenAt, operation_under, ended_under, region_under, as_inner, objects_under, open_objects, OperationIsOpen, RegionIsOpen, BlockIsOpen, IsOpenAt, AreOpenAt, TreeHolds, IsThere, IsAsItWas}
 
--- where an object is as it was, it is there as it was
+-- an object that was present and is unchanged is still present
 pub there_still : {T A : Type 0} (old new : ContextView T A) (o : Object) → IsAsItWas old new o → IsThere old o → IsThere new o
 there_still old new (TheOperation p) e h = subst IsSome (sym e.0) h
 there_still old new (TheBlock b) e h = (subst IsSome (sym e.0) h.0, subst IsSome (sym e.1) h.1)
@@ -61,7 +61,7 @@ module _ {T A : Type 0} (IsLocation : Object → ℕ → Location A → Type 0) 
   tree_kept (Some p) None h = absurd h
   tree_kept (Some p) (Some t) h = operations_kept (p ∷ []) (forest.operation t.own t.regions no_operations) h
 
-  -- ---- what is open
+  -- ---- the open frames
   -- an operation
   pub operation_kept : (p : Ptr Operation) (own : OwnSoFar T A) (rs : Regions (Op ℕ T A) (Head ℕ T A) (Brace ℕ)) (inner : Option Object) → IsAsItWas old new (TheOperation p)
       → OperationIsOpen IsLocation old whole p own rs inner → OperationIsOpen IsLocation new more p own rs inner

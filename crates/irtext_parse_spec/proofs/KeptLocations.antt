@@ -1,4 +1,4 @@
--- What a location keeps is what stands before its last one keeps, and what the last one keeps.
+-- A location of several others has the properties that a context keeps if those before the last one have them, and the last one.
 use Rattle.std.proofs.Common.{◌≡◌, ap, sym, subst, ℕ, ◌+◌, List, [], ◌∷◌, ◌++◌, map, Box, Vec, Global, String, Option}
 use Rattle.std.proofs.lemmas.Str.{IsUtf8-string_bytes}
 use Rattle.std.specs.Prelude.{IfSome}

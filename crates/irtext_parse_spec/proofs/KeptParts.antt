@@ -36,7 +36,7 @@ use Rattle.irtext_parse_spec.specs.Promises.KeptRoot.{AllHold, IsKept, RowHold}
 use Rattle.irtext_parse_spec.specs.Promises.LocationsBack.{AllFit, RowFit}
 use Rattle.irtext_grammar.proofs.Lists.SameText.{same_text-bytes_eq}
 
--- what is known of all once it is known of those that are left is known of all once it is known of those behind the next
+-- if a conclusion follows from a property of all items from a position on, it follows from the property of all items after that position
 pub next_kept : {X G : Type 0} (H : X → Type 0) (Q : List X → Type 0) → ((x : X) (xs : List X) → H x → Q xs → Q (x ∷ xs))
     → (items : List X) (i : ℕ) (x : X) → i < length items → x ≡ get_or items i x → H x → (Q (drop i items) → G) → Q (drop (i + 1) items) → G
 next_kept H Q cons items i x l e h before rest =
@@ -77,7 +77,7 @@ pub keeps_distinct : {A : Type 0} (es : List (Text × AttrObj A)) → distinct s
 keeps_distinct [] = refl
 keeps_distinct (e ∷ es) = ap₂ (λ h d. not h && d) (has_key e.0 es) (keeps_distinct es)
 
--- a part of what stands, as a call answers it
+-- a part of a live object, as a call returns it
 pub part_is : {V X : Type 0} (see : V → X) (o : Option V) (v : V) (x : X) → o ≡ Some v → option_map see o ≡ Some x → x ≡ see v
 part_is see o v x is e = sym (same_Some (see v) x (sym (ap (option_map see) is) ∙ e))
 
@@ -89,7 +89,7 @@ accepted_in : (r : Option (Bor OpInfo)) → IfSome r (λ info. Accepted (directi
 accepted_in None h = tt
 accepted_in (Some info) h = h
 
--- the format of an operation, if it is registered, reads uniquely
+-- the format of an operation, if it is registered, parses uniquely
 pub accepted_of : (dialects : List (Text × Table)) (id : OpId) (r : Option (Bor OpInfo)) → option_map (λ info. known_of info.now) r ≡ registered dialects id → IfSome r (λ info. Accepted (directives.format_of info.now.format)) → IsAccepted dialects (id_of id)
 accepted_of dialects id r e h = subst (λ o. IfSome (option_map (λ (known : Known). known.format) o) Accepted) e (accepted_in r h)
 

@@ -1,4 +1,4 @@
--- What stands in one of several children of one object stands in no other of them.
+-- What is inside one of several children of an object is inside no other of them.
 use Rattle.std.proofs.Common.{◌≡◌, ◌+◌, ◌⊎◌, ℕ, zero, suc, Option, Some, refl, sym, ap, ◌∙◌, inl, inr, arith, List, [], ◌∷◌, slice_get}
 use Rattle.std.specs.Prelude.{⊤}
 use Rattle.std.proofs.Math.Nat.{le_refl}
@@ -61,7 +61,7 @@ module _ {O : Type 0} where
     pub kin : (k : O) → Kin up k (kids k)
     kin k = (differs (kids k) (s.once k), parents up k (kids k) (s.down k))
 
-    -- no object stands in one that stands in it
+    -- no object is inside an object that is inside it
     pub not_above : (k c : O) → up c ≡ Some k → Within up c k → ⊥
     not_above k c e w =
         let z : suc w.0 ≡ w.0 + 1 = omega arith in
@@ -75,7 +75,7 @@ module _ {O : Type 0} where
         sym (ap (climb up (suc j)) e ∙ ap (climb up j) p) ∙ (sym (climb-add up n (suc j) (Some q)) ∙ (sym (ap (λ (i : ℕ). climb up i (Some q)) z) ∙ f)) in
         not_above k d r (j, way)
 
-    -- what stands in two children stands in one
+    -- an object that is inside two children is inside one and the same child
     pub same_child : (k c d q : O) → up c ≡ Some k → up d ≡ Some k → Within up c q → Within up d q → c ≡ d
     same_child k c d q p r w v = elim (order w.0 v.0) [
       | inl e ↦ some_eq (sym w.1 ∙ (ap (λ (i : ℕ). climb up i (Some q)) e ∙ v.1))

@@ -1,4 +1,4 @@
--- What the readers of nested text answer is what the grammar reads, and their bounds are enough.
+-- What the parsers of nested text return is what the grammar parses, and their bounds are enough.
 pub mod Leaving
 pub mod Alike
 pub mod Bound

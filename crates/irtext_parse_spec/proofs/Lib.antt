@@ -30,7 +30,7 @@ pub mod Readers
 pub mod Resume
 pub mod Roots
 pub mod RoundTrips
-mod Rows
+pub mod Rows
 pub mod SectionWhole
 pub mod Seen
 pub mod Stops

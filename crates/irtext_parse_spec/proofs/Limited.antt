@@ -1,4 +1,4 @@
--- The text of a root that was printed under a limit reads as nothing where a region was left out.
+-- The text of a root that was printed under a limit parses as nothing where a region was left out.
 use Rattle.std.specs.Prelude.{◌++◌, ◌<◌, ◌^◌, ℕ, Bool, List, [], length, refl}
 use Rattle.std.proofs.Common.{inr, inl, ap, sym, subst, ◌∙◌, append-nil}
 use Rattle.irtext_base.specs.Answers.{Outcome}

@@ -1,4 +1,4 @@
--- Locations: they are read back, and a bound on their nesting changes nothing.
+-- Locations: they are parsed back, and a bound on their nesting changes nothing.
 pub mod Begins
 pub mod Integers
 pub mod GivesBack

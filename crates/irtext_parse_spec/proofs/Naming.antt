@@ -1,4 +1,5 @@
--- Names as a text is read: the acts are those of the tree's script in its order, the first failure stays, and each item has a place of its own.
+-- Names as a text is parsed: the acts are those of the tree's script in its order, the first failure stays, and each item has a place of
+-- its own.
 pub mod Runs
 pub mod Keeps
 pub mod KeepsReading

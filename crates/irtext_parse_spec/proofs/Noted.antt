@@ -1,4 +1,4 @@
--- What a context holds of what was read so far is held with more said of the locations.
+-- What a context contains of what was parsed so far, with more known of the locations.
 use Rattle.std.proofs.Common.{ℕ, List, [], ◌∷◌, Option, Some, None, inl, inr, refl}
 use Rattle.irtext_base.specs.declared.location.Location.{Location}
 use Rattle.irtext_context.specs.Context.{ContextView, OperationView, BlockView}
@@ -98,7 +98,7 @@ module _ {T A : Type 0} (I J : Object → ℕ → Location A → Type 0) (wider 
   tree_wider (Some p) None h = absurd h
   tree_wider (Some p) (Some t) h = operations_wider (p ∷ []) (forest.operation t.own t.regions no_operations) h
 
-  -- what is held is held with more said
+  -- what is contained is contained with more known
   pub holds_wider : (ats : List (OpenAt T A)) (root : Option (Ptr Operation)) (b : Building T A) → HoldsSoFar I c whole ats root b → HoldsSoFar J c whole ats root b
   holds_wider ats root b h = record {
     are_open = all_wider ats b.unfinished None h.are_open;
@@ -109,12 +109,12 @@ module _ {T A : Type 0} (I J : Object → ℕ → Location A → Type 0) (wider 
     apart = h.apart;
   }
 
--- what is noted stays noted where one item more is
+-- what is recorded stays recorded where one item more is
 pub still_noted : {A : Type 0} (IsLocation : ℕ → Location A → Type 0) (items : Made) (n : ℕ) (k : Object) (o : Object) (m : ℕ) (l : Location A) → noted items IsLocation o m l → noted ((n, k) ∷ items) IsLocation o m l
 still_noted IsLocation items n k o m l h = (inr h.0, h.1)
 
 module _ {T A : Type 0} (IsLocation : ℕ → Location A → Type 0) where
-  -- an operation that came is noted
+  -- an operation that was created is recorded
   pub came_noted : (old new : ContextView T A) (items : Made) (p : Ptr Operation) (own : OwnSoFar T A) → OperationCame old new IsLocation p own
       → OperationCame old new (noted ((own.place, TheOperation p) ∷ items) IsLocation (TheOperation p)) p own
   came_noted old new items p own h = record {
@@ -138,7 +138,7 @@ module _ {T A : Type 0} (IsLocation : ℕ → Location A → Type 0) where
     inside = h.inside;
   }
 
-  -- an operation whose own changed is noted where it was
+  -- an operation whose own changed is recorded where it was
   pub became_noted : (old new : ContextView T A) (items : Made) (p : Ptr Operation) (own : OwnSoFar T A) → Among (own.place, TheOperation p) items → OwnBecame old new IsLocation p own
       → OwnBecame old new (noted items IsLocation (TheOperation p)) p own
   became_noted old new items p own i h = record {

@@ -1,6 +1,5 @@
--- The readers of what entries give under keys answer what the grammar reads, up to the first key whose attribute may not stand there.
-use Rattle.std.proofs.Common.{◌≡◌, ◌∙◌, inl, inr, ℕ, Bool, true, false, cond, Option, Some, List, [], ◌∷◌, ◌++◌, map, refl, sym, ap, subst, true≢false, arith}
-use Rattle.std.proofs.lemmas.Bool.Decides.{nat_tests}
+-- The parsers of the keyed attributes of entries return what the grammar parses, up to the first key whose attribute is not allowed.
+use Rattle.std.proofs.Common.{◌≡◌, ◌∙◌, inl, inr, ℕ, Bool, true, false, cond, Option, Some, List, [], ◌∷◌, ◌++◌, map, refl, sym, ap, subst, true≢false}
 use Rattle.std.proofs.lemmas.List.{map-id}
 use Rattle.std.specs.Prelude.{codes}
 use Rattle.std.specs.List.{list_all}
@@ -40,12 +39,12 @@ use Rattle.irtext_parse_spec.proofs.Exact.Listed.{Starts, starts_so}
 use Rattle.irtext_parse_spec.proofs.Exact.Names.{exact_name, exact_mark, starts_name}
 use Rattle.irtext_parse_spec.specs.Entries.{item_at, pair_at, may_stand, kept, pairs_at}
 use Rattle.irtext_parse_spec.specs.Agrees.{StopsAt, ReadOrStops}
-use Rattle.irtext_parse_spec.proofs.Claims.{wrong, wrong_pairs}
+use Rattle.irtext_parse_spec.proofs.Claims.{wrong_pairs}
 use Rattle.irtext_parse_spec.proofs.Stops.{stops_first, stops_second}
 
 -- ---- a key that is kept
 module _ {A : Type 0} (rule : Rule A) where
-  -- a pair that is answered is one whose attribute may stand under its key
+  -- a pair that parses is one whose attribute is allowed under its key
   kept_read : (o : Outcome (Name ℕ × Item ℕ A)) (p : Name ℕ × Item ℕ A) (taken rest : Text) → kept rule o ≡ Read p taken rest → (o ≡ Read p taken rest) × (may_stand rule p ≡ true)
   kept_read (Read q a r) p taken rest e = go (may_stand rule q) refl e
     where
@@ -64,7 +63,7 @@ module _ {A : Type 0} (rule : Rule A) where
   kept_missing (Missing c) cause e = e
   kept_missing (Bad c upto) cause e = absurd (cc e)
 
-  -- pairs of which each may stand there claim nothing wrongly
+  -- pairs that are all allowed have no failures
   pub fine_pairs : (ps : List (Name ℕ × Item ℕ A)) → list_all (may_stand rule) ps ≡ true → wrong_pairs rule ps ≡ []
   fine_pairs [] h = refl
   fine_pairs ((n, direct a) ∷ ps) h =
@@ -72,7 +71,7 @@ module _ {A : Type 0} (rule : Rule A) where
       rw f (fine_pairs ps (and_right (rule n.text a) (list_all (may_stand rule) ps) h))
   fine_pairs ((n, reference m) ∷ ps) h = fine_pairs ps h
 
-  -- behind such pairs the first wrong one is the first of all
+  -- after pairs that are allowed, the first failing pair is the first failure of all
   first_wrong : (before behind : List (Name ℕ × Item ℕ A)) (p : Name ℕ × Item ℕ A) → list_all (may_stand rule) before ≡ true → may_stand rule p ≡ false
       → wrong_pairs rule (before ++ p ∷ behind) ≡ record { cause = ReservedKey p.0.text; at = Some p.0.place } ∷ wrong_pairs rule behind
   first_wrong [] behind (n, direct a) h f = rw f refl
@@ -82,7 +81,7 @@ module _ {A : Type 0} (rule : Rule A) where
       rw g (first_wrong before behind p (and_right (rule n.text a) (list_all (may_stand rule) before) h) f)
   first_wrong ((n, reference m) ∷ before) behind p h f = first_wrong before behind p h f
 
--- a location, as the grammar parses one with attributes that are parsed so
+-- a location, as the grammar parses one with these attributes
 abbrev pub own_location : {A : Type 0} → (Text → Outcome A) → Text → Standing (Written A)
 own_location reading = location_standing (attr_at reading)
 
@@ -186,7 +185,7 @@ module _ {T A : Type 0} (types : Texts T) (reading : Text → Outcome A) (writte
     abbrev space_next : Unit {0} → Text → Outcome (List (Name ℕ × Item ℕ A))
     space_next _ text = followed (space_at text) list_next
 
-    -- pairs that are answered the grammar reads, and nothing is wrong with them
+    -- pairs that are accepted the grammar parses, and without a failure
     pub pairs_read : (text : Text) (ps : List (Name ℕ × Item ℕ A)) (taken rest : Text) → pairs_at attr rule text ≡ Read ps taken rest → bracketed l loc ps text rest × (taken ++ rest ≡ text) × (wrong_pairs rule ps ≡ [])
     unfolding pairs_at
     pairs_read text ps taken rest e =
@@ -210,7 +209,7 @@ module _ {T A : Type 0} (types : Texts T) (reading : Text → Outcome A) (writte
           ap (wrong_pairs rule) (sym items) ∙ fine_pairs rule k.items k.fine,
         )
 
-    -- where the list stops at a pair, that pair's key is the first thing that is wrong
+    -- if the list stops at a pair, the key of that pair is the first failure
     list_stops : (ps : List (Name ℕ × Item ℕ A)) (text : Text) (o : Outcome (List (Name ℕ × Item ℕ A))) → Stop 44 pairs_of ps text o → StopsAt text o (wrong_pairs rule ps)
     list_stops ps text o k = record {
       first = record { cause = ReservedKey k.first.0.text; at = Some k.first.0.place };
@@ -223,7 +222,7 @@ module _ {T A : Type 0} (types : Texts T) (reading : Text → Outcome A) (writte
       bad = k.is;
     }
 
-    -- pairs that the grammar reads are answered, up to the first key whose attribute may not stand there
+    -- pairs that the grammar parses are accepted, up to the first key whose attribute is not allowed
     pub pairs_found : (text : Text) (ps : List (Name ℕ × Item ℕ A)) (rest : Text) → bracketed l loc ps text rest → ReadOrStops text (pairs_at attr rule text) ps rest (wrong_pairs rule ps)
     unfolding pairs_at
     pairs_found text ps rest (m, a, (k, s, c)) = go (list_found 44 pairs_of ps (after_space m) k s)

@@ -1,4 +1,4 @@
--- The references of entries and their keys stand in the text that the entries were read of.
+-- The references of entries and their keys have places in the text that the entries were parsed from.
 use Rattle.std.proofs.Common.{◌≡◌, ℕ, ◌≤◌, Bool, true, false, cond, Option, Some, List, [], ◌∷◌, ◌++◌, map, length, length-append, refl, sym, ap, subst, arith}
 use Rattle.std.specs.Prelude.{flat_map, is_some, ⊤}
 use Rattle.std.specs.Char.{is_whitespace}
@@ -7,7 +7,7 @@ use Rattle.irtext_base.specs.Reading.{the, more, separated, repeated}
 use Rattle.irtext_base.specs.Format.{Id, Format}
 use Rattle.irtext_base.specs.Answers.{Outcome}
 use Rattle.irtext_base.specs.Locations.{AttrView}
-use Rattle.irtext_base.specs.Own.{Texts, Language, Standing, language, texts_of}
+use Rattle.irtext_base.specs.Own.{Texts, Language, language, texts_of}
 use Rattle.irtext_base.specs.Paths.{Written}
 use Rattle.irtext_base.proofs.Along.{front_after}
 use Rattle.irtext_base.proofs.Characters.{after_twice}
@@ -21,7 +21,6 @@ use Rattle.irtext_grammar.specs.Grammar.Tree.{Name}
 use Rattle.irtext_grammar.specs.Names.Acts.{Rule, keeps_if, shared_attribute, reference_acts, late_acts}
 use Rattle.irtext_grammar.specs.Names.Script.{Failure}
 use Rattle.irtext_grammar.specs.Spelling.Spellable.{Each}
-use Rattle.irtext_parse_spec.specs.Promises.Supported.{location_standing}
 use Rattle.irtext_parse_spec.proofs.Joins.Answers.{Splits}
 use Rattle.irtext_parse_spec.specs.Exact.{NeedsWord}
 use Rattle.irtext_parse_spec.proofs.Exact.Attributes.{exact_attribute}
@@ -30,8 +29,8 @@ use Rattle.irtext_parse_spec.proofs.Claims.{wrong, wrongs}
 use Rattle.irtext_parse_spec.proofs.Given.{splits_entry_location, located_found}
 use Rattle.irtext_parse_spec.proofs.Pairs.{exact_pair, own_location}
 
--- ---- what is wrong with references stands where they stand
--- a reference stands no farther from the end than this
+-- ---- the failures of references are at the places of the references
+-- the place of a reference is at most this far from the end
 abbrev IsNear : {A : Type 0} → ℕ → Item ℕ A → Type 0
 IsNear b (direct a) = ⊤
 IsNear b (reference m) = m.place ≤ b
@@ -45,7 +44,7 @@ abbrev pub EntryNear : {A X : Type 0} → ℕ → Entry ℕ A X → Type 0
 EntryNear b (of_item m x ps) = AreNear b ps
 EntryNear b (of_once m a) = ⊤
 
--- a failure stands no farther from the end than this
+-- the place of a failure is at most this far from the end
 pub record StandsNear (b : ℕ) (f : Failure Text ℕ) : Type 0 where
   pub place : ℕ
   pub at : f.at ≡ Some place
@@ -71,7 +70,7 @@ module _ (b : ℕ) where
         subst (Each (StandsNear b)) (sym (flat_both wrong (flat_map (reference_acts (rules m.index) all) ps) (flat_map (late_acts rules all) es)))
         (each_both (StandsNear b) (wrongs (flat_map (reference_acts (rules m.index) all) ps)) (wrongs (flat_map (late_acts rules all) es)) (references_near (rules m.index) all ps h.0) (late_near rules all es h.1))
 
--- ---- what is read leaves no more than its text
+-- ---- what is parsed leaves no more than its text
 split_near : (taken rest text : Text) → taken ++ rest ≡ text → length rest ≤ length text
 split_near taken rest text e = omega (arith, ap length e, length-append taken rest)
 
@@ -132,7 +131,7 @@ module _ {T A : Type 0} (types : Texts T) (reading : Text → Outcome A) (writte
       let v = pairs_near b ps (after_space f) j inside s in
       (v.0, omega (arith, v.1, space_near j, ap length w))
 
-  -- entries that the grammar reads of a text stand in it
+  -- entries that the grammar parses from a text have their places in it
   pub entries_near : (b : ℕ) (es : List (Entry ℕ A (Written A))) (text rest : Text) → length text ≤ b → repeated (the 33) (map (section.entry l (own_location reading)) es) text rest → Each (EntryNear b) es
   entries_near b [] text rest h r = tt
   entries_near b (e ∷ es) text rest h (mid, r, s) =

@@ -1,4 +1,4 @@
--- A root that was read is closed, where its operations fit their formats.
+-- A root that was parsed is closed, where its operations fit their formats.
 use Rattle.std.proofs.Common.{◌≡◌, ℕ, suc, Bool, not, ◌&&◌, List, [], ◌∷◌, length, Option, Some, None, refl, sym, ap, ap₂, ◌∙◌, subst}
 use Rattle.std.specs.Prelude.{⊤}
 use Rattle.std.specs.List.{list_all}
@@ -58,8 +58,9 @@ module _ {T A : Type 0} where
 
 -- ---- formats
 
-module _ {P T A X : Type 0} (L : Language P T A) (none : NoneLeftOut L) (C : Printing T A) (formats : (i : Id) → L.format_of i ≡ C.format_of i) (isolated : Id → Bool) (first : P → X) (es : List (Entry P A X)) where
-  accepted_at : (o : GraphOp T A) (x : Op P T A) (n : ℕ) → FitsFormat C isolated (C.format_of o.id) o n → o.id ≡ x.id → KnownAccepted L x
+-- the format of an operation of a tree is accepted, where an operation of a graph with the same id fits it
+module _ {P T A : Type 0} (L : Language P T A) (C : Printing T A) (formats : (i : Id) → L.format_of i ≡ C.format_of i) (isolated : Id → Bool) where
+  pub accepted_at : (o : GraphOp T A) (x : Op P T A) (n : ℕ) → FitsFormat C isolated (C.format_of o.id) o n → o.id ≡ x.id → KnownAccepted L x
   accepted_at o x n h e f known = of (C.format_of o.id) h f (ap C.format_of e ∙ (sym (formats x.id) ∙ known))
     where
       same : (a b : Format) → Some a ≡ Some b → a ≡ b
@@ -73,6 +74,7 @@ module _ {P T A X : Type 0} (L : Language P T A) (none : NoneLeftOut L) (C : Pri
       of None h f q = absurd h
       of (Some y) h f q = subst Accepted (same y f q) (here y h)
 
+module _ {P T A X : Type 0} (L : Language P T A) (none : NoneLeftOut L) (C : Printing T A) (formats : (i : Id) → L.format_of i ≡ C.format_of i) (isolated : Id → Bool) (first : P → X) (es : List (Entry P A X)) where
   abbrev Facts : Type 0
   Facts = List (Fact closed.Thing)
 
@@ -94,20 +96,20 @@ module _ {P T A X : Type 0} (L : Language P T A) (none : NoneLeftOut L) (C : Pri
     operations_accepted v u w l p q i j os no_operations f m = tt
     operations_accepted v u w l p q i j no_operations (operation x ys xs) f m = absurd m
     operations_accepted v u w l p q i j (operation o rs os) (operation x ys xs) f m = (
-      accepted_at o x (length (regions_list rs)) f.0 m.0.shape.id,
+      accepted_at L C formats isolated o x (length (regions_list rs)) f.0 m.0.shape.id,
       regions_accepted v w (i ∷ p) (j ∷ q) 0 0 (isolated o.id) (isolated x.id) rs ys f.1 m.1,
       operations_accepted v u w l p q (suc i) (suc j) os xs f.2 m.2,
     )
 
-  -- the formats of what was read are accepted, where what stands for it fits
+  -- the formats in a parsed tree are accepted, if a root that represents the tree fits
   all_accepted : (t : Tree P T A) (g : Graph T A) → Fit C isolated g → StandsFor (stood C isolated g) (build isolated first es t) → AllAccepted L t
   all_accepted t g f s = (
-    accepted_at g.own t.own (length (regions_list g.regions)) f.0 s.0.shape.id,
+    accepted_at L C formats isolated g.own t.own (length (regions_list g.regions)) f.0 s.0.shape.id,
     regions_accepted [] [] [] [] 0 0 (isolated g.own.id) (isolated t.own.id) g.regions t.regions f.1 s.1,
   )
 
 module _ {P T A X : Type 0} (L : Language P T A) (none : NoneLeftOut L) (C : Printing T A) (formats : (i : Id) → L.format_of i ≡ C.format_of i) (isolated : Id → Bool) (first : P → X) where
-  -- a root that was read and fits is closed, and all that can have a name has one
+  -- a root that was parsed and fits is closed, and all that can have a name has one
   pub closed_where_read : (t : Tree P T A) (es : List (Entry P A X)) (g : Graph T A) (source rest : Text) → reads L t source rest → failures_of isolated t es ≡ []
       → StandsFor (stood C isolated g) (build isolated first es t) → Distinct C isolated g → Fit C isolated g → ClosedRoot C isolated g × Named C g
   closed_where_read t es g source rest r e s d fit =

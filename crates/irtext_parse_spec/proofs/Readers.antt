@@ -1,4 +1,4 @@
--- Steps of readers.
+-- Steps of parsers.
 pub mod NewPaths
 pub mod Steps
 pub mod Honest

@@ -1,4 +1,5 @@
--- A reading told from what is open: its turns, what it comes to where nothing can change, and that its bounds are none.
+-- A parse described from its open frames: its turns, its result where no action can change the state, and that its bounds make no
+-- difference.
 pub mod Frames
 pub mod Front
 pub mod Unbounded

@@ -1,4 +1,4 @@
--- What a context keeps of all that stands in it gives each root what the laws of the round trip ask.
+-- What a context keeps of all its live objects gives each root what the laws of the round trip require.
 use Rattle.std.proofs.Common.{◌≡◌, ◌<◌, ◌-◌, ◌^◌, ◌&&◌, ◌==◌, ℕ, zero, suc, Bool, true, false, cond, not, Option, Some, None, refl, ap, ap₂, ◌∙◌, subst, arith, List, [], ◌∷◌, length, map, flat_map, filter_map, slice_get}
 use Rattle.std.specs.List.{list_all, cons_option}
 use Rattle.std.specs.Map.{lookup}
@@ -55,7 +55,7 @@ use Rattle.irtext_tokens.specs.AttrTexts.{attr_at}
 
 -- ---- forests
 
--- of all that printing sees under pointers it is known what is known of each operation and each block that stands
+-- what holds of each live operation and each live block holds of all that printing sees under pointers
 module _ {T A : Type 0} (text_of : A → Text) (ctx : ContextView T A) (OfO : GraphOp T A → Type 0) (OfB : GraphBlock T A → Type 0)
     (own : (p : Ptr Operation) (view : OperationView T A) → operation ctx p ≡ Some view → OfO (seen_operation text_of ctx p view))
     (head : (b : Ptr BasicBlock) (view : BlockView T A) → block ctx b ≡ Some view → OfB (seen_block text_of ctx b view)) where
@@ -174,7 +174,7 @@ identifier_given (Some m) n h e = subst IsIdentifier (same m n e) h
 same_generation : (g : ℕ) → (g == g) ≡ true
 same_generation g = grind (arith, nat_tests)
 
--- the object of a place stands under the pointer of that place
+-- the object at a place is live under the pointer of that place
 stands_at : {X : Type 0} (cells : List (Cell X)) (i : ℕ) (c : Cell X) → slice_get cells i ≡ Some c → object_in (slice_get cells i) c.generation ≡ c.object
 stands_at cells i c e = ap (λ o. object_in o c.generation) e ∙ ap (λ b. cond b c.object None) (same_generation c.generation)
 
@@ -189,7 +189,7 @@ below_each {T} bound (v ∷ vs) h = go v.of_type (below_each bound vs (λ i t e.
     go (Some t) more = (h zero v refl, more)
 
 module _ {T A : Type 0} (ctx : ContextView T A) (kept : KeepsAll ctx) where
-  number_below : (v : Value) (t : Typed (Option T)) → value_at ctx.graph v ≡ Some t → t.number < 2 ^ 64
+  pub number_below : (v : Value) (t : Typed (Option T)) → value_at ctx.graph v ≡ Some t → t.number < 2 ^ 64
   number_below v t e = let a = kept.counters.below v t e in let b = kept.counters.values in omega (arith, a, b)
 
   values_below : (vs : List Value) → Each (λ (n : ℕ). n < 2 ^ 64) (filter_map (number_of ctx) vs)
@@ -201,7 +201,7 @@ module _ {T A : Type 0} (ctx : ContextView T A) (kept : KeepsAll ctx) where
       go None e more = more
       go (Some t) e more = (number_below v t e, more)
 
-  place_small : (b : Ptr BasicBlock) (view : BlockView T A) → block ctx b ≡ Some view → ((place_of ctx b).0 < 2 ^ 64) × ((place_of ctx b).1 < 2 ^ 64)
+  pub place_small : (b : Ptr BasicBlock) (view : BlockView T A) → block ctx b ≡ Some view → ((place_of ctx b).0 < 2 ^ 64) × ((place_of ctx b).1 < 2 ^ 64)
   place_small b view e =
       let p = kept.places b view e in
       let i = p.0 in
@@ -213,7 +213,7 @@ module _ {T A : Type 0} (ctx : ContextView T A) (kept : KeepsAll ctx) where
   abbrev as_content : ℕ × BlockContent (BlockData A) (Option T) → Content (Option (OperationData A)) (BlockData A) (Option T)
   as_content d = ABlock d.0 d.1
 
-  -- a block that stands is seen
+  -- a live block has a view
   block_seen : (b : Ptr BasicBlock) → IsLive ctx.graph (TheBlock b) → (view : BlockView T A) × (block ctx b ≡ Some view)
   block_seen b h = go (get ctx.graph.blocks b) refl h
     where
@@ -326,7 +326,7 @@ module _ {T A : Type 0} (ctx : ContextView T A) (kept : KeepsAll ctx) where
           distinct = distinct_under text_of ctx C iso kept.counters.nested kept.counters.differ p (graph_at p view) (ap (option_map (graph_at p)) e);
         }
 
-    -- what stands under a pointer
+    -- the root under a pointer
     pub kept_root : (p : Ptr Operation) (g : Graph T A) → seen_root text_of ctx p ≡ Some g → KeptRoot (attr_at reading) text_of C iso g
     kept_root p g e = go (operation ctx p) refl e
       where

@@ -1,3 +1,3 @@
--- What is written of attributes and of locations that are kept is read back.
+-- What is written of attributes and of locations that are kept is parsed back.
 pub mod KeptBack
 pub mod AttrBack

@@ -1,5 +1,5 @@
--- Worked rows: a context by hand in which an operation with one region of one block holds another operation. It holds the whole tree, and
--- what was read of it at points of the reading.
+-- Worked rows: a context by hand in which an operation with one region of one block has another operation in it. It contains the whole
+-- tree, and the parsed part of it at points of the parse.
 use Rattle.std.proofs.Common.{◌≡◌, ℕ, false, List, [], ◌∷◌, Option, Some, None, codes, refl, inl, inr}
 use Rattle.irtext_base.specs.Format.{Id}
 use Rattle.irtext_base.specs.Format as format
@@ -8,6 +8,7 @@ use Rattle.irtext_base.specs.declared.base.attributes.AttrObj.TheVariants.{Own}
 use Rattle.irtext_base.specs.declared.location.Location.{Location, SrcPos}
 use Rattle.irtext_base.specs.declared.location.Source.TheVariants.{InMemory}
 use Rattle.irtext_context.specs.Context.{ContextView}
+use Rattle.irtext_graph.specs.Store.{Cell}
 use Rattle.irtext_graph.specs.declared.arena.Ptr.{Ptr}
 use Rattle.irtext_graph.specs.declared.object.Operation.{Operation}
 use Rattle.irtext_graph.specs.declared.object.BasicBlock.{BasicBlock}
@@ -62,14 +63,18 @@ region_ptr = record { index = 0; generation = 1; of = record {} }
 abbrev block_ptr : Ptr BasicBlock
 block_ptr = record { index = 0; generation = 1; of = record {} }
 
+-- a cell of an arena, by hand: the object in it was made after this many
+abbrev pub cell : {X : Type 0} → ℕ → X → Cell X
+cell born x = record { generation = 1; object = Some (record { born = born; content = x }) }
+
 -- the location of a place, by hand: its column is the place
-abbrev loc_at : ℕ → Location ℕ
+abbrev pub loc_at : ℕ → Location ℕ
 loc_at place = SrcPos InMemory (record { line = cut 1; column = cut place })
 
 abbrev IsLoc : Object → ℕ → Location ℕ → Type 0
 IsLoc o place loc = loc ≡ loc_at place
 
--- a context in which the inner operation stands in the block or not
+-- a context in which the inner operation is in the block or not
 abbrev context : List (Ptr Operation) → ContextView ℕ ℕ
 context inside = record {
   graph = record {
@@ -78,50 +83,24 @@ context inside = record {
     first_place = 1;
     operations = record {
       cells =
-          record {
-            generation = 1;
-            object = Some (record {
-              born = 0;
-              content = record {
-                parent = None;
-                children = region_ptr ∷ [];
-                content = record { data_of = Some (record { id = op_id outer_id; attributes = []; loc = loc_at 25 }); operands = []; successors = []; results = [] };
-              };
-            });
-          }
-          ∷ record {
-            generation = 1;
-            object = Some (record {
-              born = 3;
-              content = record {
-                parent = Some block_ptr;
-                children = [];
-                content = record {
-                  data_of = Some (record { id = op_id inner_id; attributes = (codes "k", Own 7) ∷ []; loc = loc_at 9 });
-                  operands = [];
-                  successors = [];
-                  results = record { of_type = Some 5; number = 0 } ∷ [];
-                };
-              };
-            });
-          }
+          cell 0 (record {
+            parent = None;
+            children = region_ptr ∷ [];
+            content = record { data_of = Some (record { id = op_id outer_id; attributes = []; loc = loc_at 25 }); operands = []; successors = []; results = [] };
+          })
+          ∷ cell 3 (record {
+            parent = Some block_ptr;
+            children = [];
+            content = record { data_of = Some (record { id = op_id inner_id; attributes = (codes "k", Own 7) ∷ []; loc = loc_at 9 }); operands = []; successors = []; results = record { of_type = Some 5; number = 0 } ∷ [] };
+          })
           ∷ [];
       free = None;
     };
     blocks = record {
-      cells = record {
-        generation = 1;
-        object = Some (record {
-          born = 2;
-          content = record { parent = Some region_ptr; children = inside; content = record { data_of = record { label = Some (codes "b"); attributes = []; loc = loc_at 15 }; arguments = [] } };
-        });
-      } ∷ [];
+      cells = cell 2 (record { parent = Some region_ptr; children = inside; content = record { data_of = record { label = Some (codes "b"); attributes = []; loc = loc_at 15 }; arguments = [] } }) ∷ [];
       free = None;
     };
-    regions = record {
-      cells = record { generation = 1; object = Some (record { born = 1; content = record { parent = Some outer_ptr; children = block_ptr ∷ []; content = record {} } }) } ∷ [];
-      free = None;
-    };
+    regions = record { cells = cell 1 (record { parent = Some outer_ptr; children = block_ptr ∷ []; content = record {} }) ∷ []; free = None };
   };
   paths = [];
   dialects = [];
@@ -131,7 +110,7 @@ context inside = record {
 abbrev all_objects : List Object
 all_objects = TheOperation outer_ptr ∷ TheRegion region_ptr ∷ TheBlock block_ptr ∷ TheOperation inner_ptr ∷ []
 
--- where the whole tree was read, it stands under the pointer of its root
+-- after the whole tree was parsed, it is under the pointer of its root
 whole_row : TreeHolds IsLoc (context (inner_ptr ∷ [])) all_objects (Some outer_ptr) (Some whole_tree)
 whole_row = (
   inl refl,
@@ -149,7 +128,7 @@ whole_row = (
   tt,
 )
 
--- where the inner operation is whole but for its mark, all round it is open
+-- where the inner operation is complete but for its mark, all around it is open
 abbrev at_mark : List (OpenAt ℕ ℕ)
 at_mark = ended_under inner_ptr ∷ region_under region_ptr (Some block_ptr) ∷ operation_under outer_ptr (record { place = 25; id = outer_id; operands = 0; successors = 0; types = []; entries = [] }) ∷ []
 
@@ -166,7 +145,7 @@ mark_row = (
   ),
 )
 
--- where the block's header was read, nothing stands in it
+-- after the block's header was parsed, the block is empty
 head_row : AreOpenAt IsLoc (context []) [] (region_under region_ptr (Some block_ptr) ∷ [])
     (region_so_far no_blocks (Some (head, no_operations)) ∷ []) None
 head_row = (

@@ -1,13 +1,13 @@
--- The reader of a section answers what the grammar reads, and refuses it first where the grammar does.
+-- The parser of a section returns what the grammar parses, and the first failure is the same.
 use Rattle.std.proofs.Common.{◌≡◌, ◌∙◌, inl, inr, ℕ, Option, Some, List, [], ◌∷◌, ◌++◌, map, length, length-append, refl, sym, ap, ap₂, subst, arith}
 use Rattle.std.proofs.lemmas.List.{take-append-drop, length-drop}
 use Rattle.std.specs.Prelude.{codes, ◌-◌, take, drop}
-use Rattle.irtext_base.specs.Text.{Text, front, after_space}
+use Rattle.irtext_base.specs.Text.{Text, after_space}
 use Rattle.irtext_base.specs.Reading.{the, repeated}
 use Rattle.irtext_base.specs.Format.{Id, Format}
 use Rattle.irtext_base.specs.Answers.{Outcome, Read, Missing, Bad}
 use Rattle.irtext_base.specs.Locations.{AttrView}
-use Rattle.irtext_base.specs.Own.{Texts, Language, Standing, language, texts_of}
+use Rattle.irtext_base.specs.Own.{Texts, Language, language, texts_of}
 use Rattle.irtext_base.specs.Paths.{Written}
 use Rattle.irtext_tokens.specs.AttrTexts.{attr_at}
 use Rattle.irtext_tokens.specs.Demanded.{spaced_at}
@@ -16,7 +16,6 @@ use Rattle.irtext_grammar.specs.Grammar.Section.{Entry}
 use Rattle.irtext_grammar.specs.Names.Acts.{Rule}
 use Rattle.irtext_grammar.specs.Names.Script.{Failure}
 use Rattle.irtext_grammar.specs.Spelling.Spellable.{Each}
-use Rattle.irtext_parse_spec.specs.Promises.Supported.{location_standing}
 use Rattle.irtext_parse_spec.proofs.Joins.Answers.{Splits, followed_read, followed-read}
 use Rattle.irtext_parse_spec.proofs.Joins.Section.{spaced_read, spaced_found}
 use Rattle.irtext_parse_spec.specs.Exact.{NeedsWord}
@@ -41,7 +40,7 @@ module _ {A X : Type 0} (rules : ℕ → Rule A) where
   referred_read text (Missing cause) es taken rest e = absurd (cc e)
   referred_read text (Bad cause upto) es taken rest e = absurd (cc e)
 
-  -- entries that were read of a text, in which they stand, are answered, or the text is bad at the first reference that is wrong
+  -- entries that were parsed from a text, with places in it, are returned, or the text is bad at the first reference that fails
   referred_found : (text : Text) (o : Outcome (List (Entry ℕ A X))) (es : List (Entry ℕ A X)) (taken rest : Text) → o ≡ Read es taken rest → Each (EntryNear (length text)) es → ReadOrStops text (referred rules text o) es rest (wrong_references rules es)
   referred_found text o es taken rest e near = go (wrong_references rules es) refl (subst (Each (StandsNear (length text))) (sym (references_fail rules es)) (late_near (length text) rules es es near))
     where
@@ -72,7 +71,7 @@ module _ {T A : Type 0} (types : Texts T) (reading : Text → Outcome A) (writte
     abbrev all_next : Unit {0} → Text → Outcome (List (Entry ℕ A (Written A)))
     all_next _ t = entries_after attr marks rules (length t) [] t
 
-    -- a section that is answered the grammar reads, and nothing is refused of it
+    -- a section that is accepted the grammar parses, and it has no failure
     pub section_read : (text : Text) (es : List (Entry ℕ A (Written A))) (taken rest : Text) → section_at attr marks rules text ≡ Read es taken rest
         → section.section l (own_location reading) es text rest × (taken ++ rest ≡ text) × (refused marks rules es ≡ [])
     section_read text es taken rest e =
@@ -85,7 +84,7 @@ module _ {T A : Type 0} (types : Texts T) (reading : Text → Outcome A) (writte
           refused_parts marks rules es ∙ ap₂ ◌++◌ (ap (wrong_entries marks rules []) k.whole ∙ k.fine) r.1,
         )
 
-    -- a section that the grammar reads is answered, or refused at the first thing that is refused of it
+    -- a section that the grammar parses is accepted, or rejected at the first failure
     pub section_found : (text : Text) (es : List (Entry ℕ A (Written A))) (rest : Text) → section.section l (own_location reading) es text rest → ReadOrStops text (section_at attr marks rules text) es rest (refused marks rules es)
     section_found text es rest (m, e, r) = go (entries_found types reading written formats splits words cut marks rules (length (after_space m)) [] es (after_space m) rest (omega arith) r)
       where

@@ -1,4 +1,5 @@
--- What items do in one way, seen in another: a tree's doing and a whole reading are then seen so too, also one that is stuck.
+-- The actions of items on one state, seen on another: the actions of a tree and a whole parse are then seen on the other, too, also a parse
+-- that is stuck.
 use Rattle.std.proofs.Common.{◌≡◌, ◌∙◌, ℕ, zero, suc, Bool, true, false, cond, List, [], ◌∷◌, ◌++◌, length, Option, Some, None, codes, refl, ap}
 use Rattle.std.specs.Prelude.{⊤}
 use Rattle.irtext_base.specs.Text.{Text, begins, after_space}
@@ -91,26 +92,26 @@ module _ {T A S U : Type 0} (isolated : Id → Bool) (see : S → U) (d : Action
   pub shows_tree : (x : Tree ℕ T A) (s : S) → see (do_tree isolated d x s) ≡ do_tree isolated e x (see s)
   shows_tree x s = shows_operation x.own (do_regions isolated d (isolated x.own.id) x.regions) (do_regions isolated e (isolated x.own.id) x.regions) (shows_regions (isolated x.own.id) x.regions) s
 
--- ---- readings
+-- ---- parses
 module _ {S U : Type 0} (see : S → U) where
-  -- the one reader, as `see` shows it, answers what the other does
+  -- the one parser, as `see` shows it, returns what the other does
   pub record ReadsSeen (f : Reads S) (g : Reads U) : Type 0 where
     pub at : (text : Text) (s : S) → seen_as see (f text s) ≡ g text (see s)
 
-  -- what comes behind a reading
+  -- what follows a parse
   pub seen_came : {X Y : Type 0} (o : Reached X S) (p : Reached X U) (next : X → S → Text → Reached Y S) (other : X → U → Text → Reached Y U) → seen_as see o ≡ p
       → ((x : X) (s : S) (rest : Text) → seen_as see (next x s rest) ≡ other x (see s) rest) → seen_as see (came o next) ≡ came p other
   seen_came (Advanced x s rest) p next other k h = h x s rest ∙ ap (λ z. came z other) k
   seen_came (Stopped s cause place) p next other k h = ap (λ z. came z other) k
 
-  -- what comes behind what must stand at a text
+  -- what follows a required value at a text
   pub seen_tells : {X Y : Type 0} (o : Outcome X) (text : Text) (s : S) (u : U) (next : X → Text → Reached Y S) (other : X → Text → Reached Y U) → see s ≡ u
       → ((x : X) (rest : Text) → seen_as see (next x rest) ≡ other x rest) → seen_as see (tells o text s next) ≡ tells o text u other
   seen_tells (Read x taken rest) text s u next other k h = h x rest
   seen_tells (Missing cause) text s u next other k h = ap (λ z. Stopped z cause (length text)) k
   seen_tells (Bad cause upto) text s u next other k h = ap (λ z. tells (Bad cause upto) text z other) k
 
-  -- a reading that is begun or not
+  -- a parse that is begun or not
   seen_if : {X : Type 0} (b : Bool) (o p : Reached X S) (q r : Reached X U) → seen_as see o ≡ q → seen_as see p ≡ r → seen_as see (cond b o p) ≡ cond b q r
   seen_if true o p q r h k = h
   seen_if false o p q r h k = k
@@ -122,7 +123,7 @@ module _ {S U : Type 0} (see : S → U) where
     seen_regions (suc n) text s = seen_if (begins_region text) _ _ _ _
         (seen_came (f text s) (g text (see s)) (λ _ t rest. regions_by f n (after_space rest) t) (λ _ t rest. regions_by g n (after_space rest) t) (h.at text s) (λ _ t rest. seen_regions n (after_space rest) t)) refl
 
-    -- operations behind `;`
+    -- operations after `;`
     pub seen_more : (n : ℕ) (text : Text) (s : S) → seen_as see (more_by f n text s) ≡ more_by g n text (see s)
     seen_more zero text s = refl
     seen_more (suc n) text s =
@@ -143,7 +144,7 @@ module _ {S U : Type 0} (see : S → U) where
         (seen_came (f text s) (g text (see s)) (λ _ t rest. blocks_by f n (after_space rest) t) (λ _ t rest. blocks_by g n (after_space rest) t) (h.at text s) (λ _ t rest. seen_blocks n (after_space rest) t)) refl
 
 module _ {T A S U : Type 0} (dialects : List (Text × Table)) (types_at : Text → Outcome T) (attr : Text → Outcome (AttrView A)) (see : S → U) (d : Actions T A S) (e : Actions T A U) (shows : Shows see d e) where
-  -- parts in front of the first region
+  -- parts before the first region
   pub seen_front : (inside : Bool) (ss : List Step) (found : List (Part ℕ T A)) (text : Text) (s : S)
       → seen_as see (front_by dialects types_at attr d inside ss found text s) ≡ front_by dialects types_at attr e inside ss found text (see s)
   seen_front inside [] found text s = refl
@@ -171,7 +172,7 @@ module _ {T A S U : Type 0} (dialects : List (Text × Table)) (types_at : Text �
         seen_tells see ((space_at ▷ mark_if_at) text) text (d.closes place names id parts s) (e.closes place names id parts (see s)) _ _ closed
         (λ m rest. ap (λ z. Advanced tt z rest) (shows.marks m (d.closes place names id parts s) ∙ ap (e.marks m) closed))
 
-    -- what stands behind an operation's id
+    -- what follows an operation's id
     pub seen_body : (inside : Bool) (place : ℕ) (names : List (Name ℕ)) (id : Id) (text : Text) (s : S)
         → seen_as see (body_by dialects types_at attr d f inside place names id text s) ≡ body_by dialects types_at attr e g inside place names id text (see s)
     seen_body inside place names id text s =
@@ -224,7 +225,7 @@ module _ {T A S U : Type 0} (dialects : List (Text × Table)) (types_at : Text �
       = record { at = λ rest. seen_blocks see _ _ block (length rest) rest } in
       record { at = (seen_region _ _ blocks iso).at }
 
-  -- a region's reading is seen so
+  -- the parse of a region is seen so
   pub seen_region_at : (iso : Bool) → ReadsSeen see (region_at dialects types_at attr d iso) (region_at dialects types_at attr e iso)
   seen_region_at iso = record { at = λ text. (seen_within (suc (length text)) iso).at text }
 
@@ -232,11 +233,11 @@ module _ {T A S U : Type 0} (dialects : List (Text × Table)) (types_at : Text �
   pub seen_operation_at : (inside : Bool) → ReadsSeen see (operation_at dialects types_at attr d inside) (operation_at dialects types_at attr e inside)
   seen_operation_at inside = record { at = (seen_operation (region_at dialects types_at attr d) (region_at dialects types_at attr e) seen_region_at inside).at }
 
-  -- ---- what is open
+  -- ---- the open frames
   seen_item : ReadsSeen see (operations_by (operation_at dialects types_at attr d true)) (operations_by (operation_at dialects types_at attr e true))
   seen_item = record { at = seen_operations see _ _ (seen_operation_at true) }
 
-  -- what is left of what is open
+  -- the rest of an open frame
   pub seen_rest : (o : Open T A) → ReadsSeen see (rest_of dialects types_at attr d o) (rest_of dialects types_at attr e o)
   seen_rest (to_come inside) = seen_operation_at inside
   seen_rest (an_operation o) = record {
@@ -253,7 +254,7 @@ module _ {T A S U : Type 0} (dialects : List (Text × Table)) (types_at : Text �
   seen_rest (a_block true) = record { at = λ text s. seen_item.at (after_space text) s }
   seen_rest (a_block false) = record { at = λ text s. seen_more see _ _ (seen_operation_at true) (length text) (after_space text) s }
 
-  -- what comes of the whole, where what is innermost came to this
+  -- the result of the whole parse, given that of the innermost frame
   pub seen_resume : (frames : List (Open T A)) (o : Reached Unit S) (p : Reached Unit U) → seen_as see o ≡ p → seen_as see (resume dialects types_at attr d frames o) ≡ resume dialects types_at attr e frames p
   seen_resume [] o p h = h
   seen_resume (f ∷ frames) o p h = seen_came see (resume dialects types_at attr d frames o) (resume dialects types_at attr e frames p) _ _ (seen_resume frames o p h) (λ _ s text. (seen_rest f).at text s)

@@ -1,4 +1,4 @@
--- A text that is bad at the first thing that is wrong, with more in front of it, or more that is wrong behind it.
+-- A text that is bad at the first failure, with more text before it, or more failures after it.
 use Rattle.std.proofs.Common.{◌≡◌, ◌∙◌, ℕ, List, [], ◌++◌, refl, ap, append_assoc}
 use Rattle.irtext_base.specs.Text.{Text}
 use Rattle.irtext_base.specs.Faults.{Fault}
@@ -7,7 +7,7 @@ use Rattle.irtext_grammar.specs.Names.Script.{Failure}
 use Rattle.irtext_parse_spec.specs.Entries.{fault_for}
 use Rattle.irtext_parse_spec.specs.Agrees.{StopsAt}
 
--- more is wrong behind
+-- more failures after
 pub stops_before : {X : Type 0} {text : Text} {o : Outcome X} (fs gs all : List (Failure Text ℕ)) → all ≡ fs ++ gs → StopsAt text o fs → StopsAt text o all
 stops_before fs gs all e s = record {
   first = s.first;
@@ -24,7 +24,7 @@ stops_before fs gs all e s = record {
 pub stops_as : {X : Type 0} {text : Text} {o : Outcome X} (fs gs : List (Failure Text ℕ)) → gs ≡ fs → StopsAt text o fs → StopsAt text o gs
 stops_as fs gs e s = record { first = s.first; others = s.others; is = e ∙ s.is; upto = s.upto; stop = s.stop; splits = s.splits; at = s.at; bad = s.bad }
 
--- what is bad there is bad in the whole, behind the characters in front
+-- what is bad at a position is bad in the whole text, after the characters before that position
 pub stops_behind : {X Y : Type 0} (front mid text : Text) {o : Outcome X} {p : Outcome Y} {fs : List (Failure Text ℕ)} → front ++ mid ≡ text → ((cause : Fault) (upto : Text) → o ≡ Bad cause upto → p ≡ Bad cause (front ++ upto)) → StopsAt mid o fs → StopsAt text p fs
 stops_behind front mid text e h s = record {
   first = s.first;
@@ -37,11 +37,11 @@ stops_behind front mid text e h s = record {
   bad = h (fault_for s.first.cause) s.upto s.bad;
 }
 
--- the first of two things is bad
+-- the first of two parsers finds a bad text
 pub stops_first : {X Y : Type 0} (next : X → Text → Outcome Y) {text : Text} {o : Outcome X} {fs : List (Failure Text ℕ)} → StopsAt text o fs → StopsAt text (followed o next) fs
 stops_first next {text} s = stops_behind [] text text refl (λ cause upto e. ap (λ o. followed o next) e) s
 
--- the second of two things is bad
+-- the second of two parsers finds a bad text
 pub stops_second : {X Y : Type 0} (next : X → Text → Outcome Y) (o : Outcome X) (x : X) (front mid text : Text) {fs : List (Failure Text ℕ)} → o ≡ Read x front mid → front ++ mid ≡ text → StopsAt mid (next x mid) fs → StopsAt text (followed o next) fs
 stops_second next o x front mid text e split s = stops_behind front mid text split (λ cause upto b. ap (λ o. followed o next) e ∙ ap (prefixed front) b) s
 

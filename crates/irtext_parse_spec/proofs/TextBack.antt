@@ -1,4 +1,4 @@
--- The printed text of a closed root is read back.
+-- The printed text of a closed root is parsed back.
 use Rattle.std.proofs.Common.{◌≡◌, ◌<◌, ◌^◌, ℕ, Bool, true, sym, subst, List, [], length, Option, None}
 use Rattle.irtext_base.specs.Answers.{Outcome}
 use Rattle.irtext_base.specs.Format.{Id}
@@ -50,13 +50,13 @@ module _ {T A : Type 0} (types : Texts T) (reading : Text → Outcome A) (text_o
       marks = small_marks (unplaced types owns C.format_of) C None g width n few;
     }
 
-    -- the text reads as a tree and entries that build an equal root
+    -- the text parses as a tree and entries that build an equal root
     back : ComesBack types owns (location_standing attr) K first C isolated g width n
     back =
         comes_back types owns types_law owns_law unreserved (location_standing attr) K first position C sound reflexive isolated g width n names root.fits printed.kept.small (printed.kept.keys root.unlabelled) printed.kept.held root.closed
         (small_section (unplaced types owns C.format_of) C g width n few)
 
-    -- whatever the text reads as resolves, and builds an equal root
+    -- whatever the text parses as resolves, and builds an equal root
     each_back : (tree : Tree ℕ T A) (entries : List (Entry ℕ A (Written A))) (rest : Text) → reads_root (language types owns C.format_of) (location_standing attr) tree entries t rest
         → (after_space rest ≡ []) × (failures_of isolated tree entries ≡ []) × UpToFillings K (stood C isolated g) (build isolated first entries tree)
     each_back tree entries rest r =
@@ -90,6 +90,6 @@ module _ {T A : Type 0} (types : Texts T) (reading : Text → Outcome A) (text_o
           ends = e.0;
         }
 
-    -- it reads as something that resolves
+    -- it parses as something that resolves
     pub readable : (tree : Tree ℕ T A) × (entries : List (Entry ℕ A (Written A))) × (rest : Text) × reads_root (language types owns C.format_of) (location_standing attr) tree entries t rest × (failures_of isolated tree entries ≡ [])
     readable = let r = back in (r.0, r.1, r.2, subst (λ x. reads_root (language types owns C.format_of) (location_standing attr) r.0 r.1 x r.2) (sym printed.is) r.3, r.5)

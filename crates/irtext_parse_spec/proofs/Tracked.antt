@@ -1,5 +1,5 @@
--- What a context holds behind each item of nested text, with each item at its place and nothing else come: each turn's structure with the
--- premises of the lemmas on what is held alone.
+-- What a context contains after each item of nested text, with each item at its place and nothing else created: the structure of each turn,
+-- with the premises of the lemmas on what it contains.
 use Rattle.std.proofs.Common.{◌≡◌, ◌∙◌, ℕ, Bool, List, [], ◌∷◌, ◌++◌, Option, Some, None, option_map, refl, sym, ap, subst, inl, inr}
 use Rattle.irtext_base.specs.Format.{Format, Id}
 use Rattle.irtext_base.specs.declared.location.Location.{Location}
@@ -25,7 +25,7 @@ use Rattle.irtext_parse_spec.proofs.Kept.{there_still}
 use Rattle.irtext_parse_spec.proofs.Noted.{holds_wider, still_noted, came_noted, block_came_noted, became_noted}
 
 -- ---- children
--- what came last is among, and what was there
+-- the last element is a member of the list, and so are those before it
 among_last : {X : Type 0} (xs : List X) (x : X) → Among x (xs ++ x ∷ [])
 among_last xs x = among_right x xs (x ∷ []) (inl refl)
 
@@ -42,7 +42,7 @@ module _ {T A : Type 0} where
   operation_gained None p q i = i
   operation_gained (Some view) p q i = among_left q view.operations (p ∷ []) i
 
-  -- an object that is as it was has the children that it had
+  -- an unchanged object has the children that it had
   same_children : (old new : ContextView T A) (k o : Object) → IsAsItWas old new k → HasChild old k o → HasChild new k o
   same_children old new (TheOperation p) (TheRegion r) e i = subst (λ z. Among r (regions_in z)) (sym e.0) i
   same_children old new (TheOperation p) (TheOperation q) e i = absurd i
@@ -251,7 +251,7 @@ module _ {T A : Type 0} (L : ℕ → Location A → Type 0) (start old new : Con
           go (region_so_far bs last ∷ us) (k, l) = absurd k
           go (but_its_mark o rs ∷ us) (k, l) = absurd k
 
--- where nothing was read, nothing was made
+-- where nothing was parsed, nothing was made
 pub holds_nothing : {T A : Type 0} (L : ℕ → Location A → Type 0) (c : ContextView T A) → HoldsMade L c c [] [] [] None nothing_open
 holds_nothing L c = record {
   so_far = acts.holds_nothing (noted [] L) c;
@@ -266,63 +266,57 @@ holds_nothing L c = record {
 }
 
 -- ---- what ends in a context that does not change
+-- the innermost of what is open is whole: the same objects are held
+module _ {T A : Type 0} (whole : List Object) (k : Object) (ats nexts : List (OpenAt T A)) (e : open_objects ats ≡ k ∷ open_objects nexts) where
+  held_whole : (o : Object) → IsHeld whole ats o → IsHeld (k ∷ whole) nexts o
+  held_whole o (inl i) = inl (inr i)
+  held_whole o (inr i) = elim (subst (Among o) e i) [ inl same ↦ inl (inl same) | inr later ↦ inr later ]
+
+  held_open : (o : Object) → IsHeld (k ∷ whole) nexts o → IsHeld whole ats o
+  held_open o (inl (inl same)) = inr (subst (Among o) (sym e) (inl same))
+  held_open o (inl (inr i)) = inl i
+  held_open o (inr i) = inr (subst (Among o) (sym e) (inr i))
+
 module _ {T A : Type 0} (start c : ContextView T A) (items : Made) (whole : List Object) (root : Option (Ptr Operation)) where
-  -- the innermost of what is open is whole, and stands in something that is held
+  -- the innermost open object is complete, and its parent is complete or open
   ends : (k : Object) (ats nexts : List (OpenAt T A)) → open_objects ats ≡ k ∷ open_objects nexts → Tracks start c items whole ats root → (j : Object) → Among j (open_objects nexts) → HasChild c j k
       → Tracks start c items (k ∷ whole) nexts root
   ends k ats nexts e t j at child =
-      let moved = λ (o : Object) (h : IsHeld whole ats o). move o h in
-      let back = λ (o : Object) (h : IsHeld (k ∷ whole) nexts o). back_again o h in
+      let move : (o : Object) → IsHeld whole ats o → IsHeld (k ∷ whole) nexts o = held_whole whole k ats nexts e in
       record {
-        known = λ n o i. moved o (t.known n o i);
+        known = λ n o i. move o (t.known n o i);
         once = t.once;
-        all = λ o h. elim (t.all o h) [ inl first ↦ inl first | inr held ↦ inr (moved o held) ];
-        came = λ o h. t.came o (back o h);
+        all = λ o h. elim (t.all o h) [ inl first ↦ inl first | inr held ↦ inr (move o held) ];
+        came = λ o h. t.came o (held_open whole k ats nexts e o h);
         stays = t.stays;
         inside = λ o i. elim i [
           | inl same ↦ inr (j, inr at, subst (HasChild c j) (sym same) child)
-          | inr i ↦ elim (t.inside o i) [ inl f ↦ inl f | inr (m, held, inner) ↦ inr (m, moved m held, inner) ]
+          | inr i ↦ elim (t.inside o i) [ inl f ↦ inl f | inr (m, held, inner) ↦ inr (m, move m held, inner) ]
         ];
       }
-    where
-      move : (o : Object) → IsHeld whole ats o → IsHeld (k ∷ whole) nexts o
-      move o (inl i) = inl (inr i)
-      move o (inr i) = elim (subst (Among o) e i) [ inl same ↦ inl (inl same) | inr later ↦ inr later ]
-
-      back_again : (o : Object) → IsHeld (k ∷ whole) nexts o → IsHeld whole ats o
-      back_again o (inl (inl same)) = inr (subst (Among o) (sym e) (inl same))
-      back_again o (inl (inr i)) = inl i
-      back_again o (inr i) = inr (subst (Among o) (sym e) (inr i))
 
   -- the root is whole
   ends_root : (p : Ptr Operation) (ats : List (OpenAt T A)) → open_objects ats ≡ TheOperation p ∷ [] → root ≡ None → Tracks start c items whole ats root → Tracks start c items (TheOperation p ∷ whole) [] (Some p)
-  ends_root p ats e none t = record {
-    known = λ n o i. move o (t.known n o i);
-    once = t.once;
-    all = λ o h. elim (t.all o h) [ inl first ↦ inl first | inr held ↦ inr (move o held) ];
-    came = λ o h. t.came o (back_again o h);
-    stays = t.stays;
-    inside = λ o i. elim i [
-      | inl same ↦ inl (ap Some (sym same))
-      | inr i ↦ elim (t.inside o i) [ inl f ↦ absurd (no_root o f) | inr (m, held, inner) ↦ inr (m, move m held, inner) ]
-    ];
-  }
+  ends_root p ats e none t =
+      let move : (o : Object) → IsHeld whole ats o → IsHeld {T = T} {A = A} (TheOperation p ∷ whole) [] o = held_whole whole (TheOperation p) ats [] e in
+      record {
+        known = λ n o i. move o (t.known n o i);
+        once = t.once;
+        all = λ o h. elim (t.all o h) [ inl first ↦ inl first | inr held ↦ inr (move o held) ];
+        came = λ o h. t.came o (held_open whole (TheOperation p) ats [] e o h);
+        stays = t.stays;
+        inside = λ o i. elim i [
+          | inl same ↦ inl (ap Some (sym same))
+          | inr i ↦ elim (t.inside o i) [ inl f ↦ absurd (no_root o f) | inr (m, held, inner) ↦ inr (m, move m held, inner) ]
+        ];
+      }
     where
       no_root : (o : Object) → option_map TheOperation root ≡ Some o → ⊥
       no_root o f = let g : option_map TheOperation None ≡ Some o = subst (λ z. option_map TheOperation z ≡ Some o) none f in cc
 
-      move : (o : Object) → IsHeld whole ats o → IsHeld {T = T} {A = A} (TheOperation p ∷ whole) [] o
-      move o (inl i) = inl (inr i)
-      move o (inr i) = elim (subst (Among o) e i) [ inl same ↦ inl (inl same) | inr later ↦ absurd later ]
-
-      back_again : (o : Object) → IsHeld {T = T} {A = A} (TheOperation p ∷ whole) [] o → IsHeld whole ats o
-      back_again o (inl (inl same)) = inr (subst (Among o) (sym e) (inl same))
-      back_again o (inl (inr i)) = inl i
-      back_again o (inr i) = absurd i
-
--- ---- the children of what is open
+-- ---- the children of the open objects
 module _ {T A : Type 0} (I : Object → ℕ → Location A → Type 0) (c : ContextView T A) (whole : List Object) where
-  -- the block that is open in a region stands in it
+  -- the block that is open in a region is a child of the region
   block_in_region : (r : Ptr Region) (b : Ptr BasicBlock) (ats : List (OpenAt T A)) (us : List (Unfinished T A)) → AreOpenAt I c whole (region_under r (Some b) ∷ ats) us None → HasChild c (TheRegion r) (TheBlock b)
   block_in_region r b ats [] h = absurd h
   block_in_region r b ats (region_so_far bs None ∷ us) (f, h) = absurd f
@@ -330,7 +324,7 @@ module _ {T A : Type 0} (I : Object → ℕ → Location A → Type 0) (c : Cont
   block_in_region r b ats (but_its_mark o rs ∷ us) (f, h) = absurd f
   block_in_region r b ats (region_so_far bs (Some last) ∷ us) ((f, k), h) = subst (λ z. Among b (blocks_in z)) (sym f.is) (subst (Among b) (sym f.blocks) (among_last f.done b))
 
-  -- the region that is open in an operation stands in it
+  -- the region that is open in an operation is a child of the operation
   region_in_operation : (r : Ptr Region) (p : Ptr Operation) (own : OwnSoFar T A) (ats : List (OpenAt T A)) (us : List (Unfinished T A)) → AreOpenAt I c whole (region_under r None ∷ operation_under p own ∷ ats) us None → HasChild c (TheOperation p) (TheRegion r)
   region_in_operation r p own ats [] h = absurd h
   region_in_operation r p own ats (region_so_far bs (Some last) ∷ us) (f, h) = absurd f
@@ -342,7 +336,7 @@ module _ {T A : Type 0} (I : Object → ℕ → Location A → Type 0) (c : Cont
   region_in_operation r p own ats (region_so_far bs None ∷ operation_so_far at id rs ∷ us) (k, ((f, g, l), h)) =
       subst (λ z. Among r (regions_in z)) (sym l.is) (subst (Among r) (sym l.regions) (among_last l.done r))
 
-  -- the operation that waits for its mark in a block stands in it
+  -- the operation that waits for its mark in a block is a child of the block
   operation_in_block : (p : Ptr Operation) (r : Ptr Region) (b : Ptr BasicBlock) (ats : List (OpenAt T A)) (us : List (Unfinished T A)) → AreOpenAt I c whole (ended_under p ∷ region_under r (Some b) ∷ ats) us None → HasChild c (TheBlock b) (TheOperation p)
   operation_in_block p r b ats [] h = absurd h
   operation_in_block p r b ats (region_so_far bs last ∷ us) (f, h) = absurd f
@@ -407,7 +401,7 @@ module _ {T A : Type 0} (L : ℕ → Location A → Type 0) (start : ContextView
   abbrev builds : Actions T A (Building T A)
   builds = building {T = T} {A = A} formats
 
-  -- a block begins behind another, which ends
+  -- a block begins after another, which ends
   pub heads_next : (old new : ContextView T A) (r : Ptr Region) (before : Ptr BasicBlock) (ats : List (OpenAt T A)) (d : Ptr BasicBlock) (head : Head ℕ T A) (b : Building T A)
       → HoldsMade L start old items whole (region_under r (Some before) ∷ ats) root b → BlockCame old new L d head → RegionGains old new r d → ModifiesOnly (TheBlock d ∷ TheRegion r ∷ []) old new
       → HoldsMade L start new ((head.label.place, TheBlock d) ∷ items) (TheBlock before ∷ whole) (region_under r (Some d) ∷ ats) root (builds.heads head b)

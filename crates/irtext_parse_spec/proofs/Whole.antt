@@ -1,4 +1,4 @@
--- What is known of a tree that a text reads as: its braces are shown, its bodies have their formats, and each region has a place among
+-- What is known of a tree that a text parses as: its braces are shown, its bodies have their formats, and each region has a place among
 -- the parts of its operation.
 use Rattle.std.proofs.Common.{ℕ, Option}
 use Rattle.std.specs.Prelude.{⊤}
@@ -14,28 +14,28 @@ use Rattle.irtext_grammar.proofs.Grammar.ListReadings.{AllUsed, repeated_used, p
 use Rattle.irtext_parse_spec.specs.Naming.{HasFormat}
 
 module _ {T A : Type 0} (formats : Id → Option Format) where
-  -- the operation's body is one that its format reads, with a place for each of its regions
+  -- the operation's body is one that its format parses, with a place for each of its regions
   abbrev pub HasParts : Op ℕ T A → Regions (Op ℕ T A) (Head ℕ T A) (Brace ℕ) → Type 0
   HasParts o rs = HasFormat formats o × Enough (parts_of o.body) rs
 
   abbrev mutual
-    -- each region is shown, and what stands in it is whole
+    -- each region is shown, and what is nested in it is whole
     pub WholeRegions : Regions (Op ℕ T A) (Head ℕ T A) (Brace ℕ) → Type 0
     WholeRegions no_regions = ⊤
     WholeRegions (region elided bs rs) = ⊥
     WholeRegions (region (shown place) bs rs) = WholeBlocks bs × WholeRegions rs
 
-    -- what stands in each block is whole
+    -- what is nested in each block is whole
     pub WholeBlocks : Blocks (Op ℕ T A) (Head ℕ T A) (Brace ℕ) → Type 0
     WholeBlocks no_blocks = ⊤
     WholeBlocks (block h os bs) = WholeOperations os × WholeBlocks bs
 
-    -- each operation has its parts, and what stands in it is whole
+    -- each operation has its parts, and what is nested in it is whole
     pub WholeOperations : Operations (Op ℕ T A) (Head ℕ T A) (Brace ℕ) → Type 0
     WholeOperations no_operations = ⊤
     WholeOperations (operation o rs os) = HasParts o rs × WholeRegions rs × WholeOperations os
 
-  -- the root has its parts, and what stands in it is whole
+  -- the root has its parts, and what is nested in it is whole
   abbrev pub IsWhole : Tree ℕ T A → Type 0
   IsWhole t = HasParts t.own t.regions × WholeRegions t.regions
 
@@ -62,6 +62,6 @@ module _ {T A : Type 0} (types : Texts T) (owns : Texts A) (formats : Id → Opt
     operations_read no_operations a = tt
     operations_read (operation o rs os) ((t, u, a), d) = let f = operation_read o rs t u a in (f.0, regions_read rs f.1, operations_read os d)
 
-  -- a tree that a text reads as is whole
+  -- a tree that a text parses as is whole
   pub whole_read : (t : Tree ℕ T A) (text rest : Text) → reads.reads L t text rest → IsWhole formats t
   whole_read t text rest h = let f = operation_read t.own t.regions text rest h in (f.0, regions_read t.regions f.1)

@@ -1,12 +1,13 @@
 -- For callers: roots whose printed text is parsed back, and what is promised of each root that is parsed from it. Fillings are the given
 -- names, labels and positions that the text adds where the root has none.
-use Rattle.std.specs.Prelude.{◌≡◌, ◌<◌, ◌^◌, ℕ, Bool, true, List, [], length, Option, Some}
+use Rattle.std.specs.Prelude.{◌≡◌, ◌<◌, ◌^◌, ℕ, Bool, true, List, [], length, Option, Some, ⊤}
 use Rattle.irtext_base.specs.Answers.{Outcome}
 use Rattle.irtext_base.specs.Format.{Id}
 use Rattle.irtext_base.specs.Locations.{AttrView}
 use Rattle.irtext_base.specs.Own.{Texts, language, unplaced}
 use Rattle.irtext_base.specs.Paths.{Written}
 use Rattle.irtext_base.specs.Text.{Text, after_space}
+use Rattle.irtext_grammar.specs.Grammar.Forest.{Root}
 use Rattle.irtext_grammar.specs.Grammar.Marked.{reads_root}
 use Rattle.irtext_grammar.specs.Grammar.Section.{Entry}
 use Rattle.irtext_grammar.specs.Grammar.Tree.{Tree}
@@ -14,7 +15,7 @@ use Rattle.irtext_grammar.specs.Graphs.Build.{Built, build}
 use Rattle.irtext_grammar.specs.Graphs.Closed.{Closed, Fit}
 use Rattle.irtext_grammar.specs.Graphs.Graph.{Graph, Printing, Limit}
 use Rattle.irtext_grammar.specs.Graphs.Regained.{UpToPositions}
-use Rattle.irtext_grammar.specs.Graphs.Same.{Found, UpToFillings, stood}
+use Rattle.irtext_grammar.specs.Graphs.Same.{Found, StoodOp, StoodBlock, UpToFillings, stood}
 use Rattle.irtext_grammar.specs.Names.Acts.{failures_of}
 use Rattle.irtext_grammar.specs.Spelling.Section.{text}
 use Rattle.irtext_grammar.specs.Spelling.Writable.{has_region}
@@ -61,18 +62,18 @@ module _ {T A : Type 0} (types : Texts T) (owns : Texts A) (attr : Text → Outc
     pub resolves : failures_of isolated tree entries ≡ []
     pub builds : held ≡ Some (build isolated first entries tree)
 
-  -- `held` is equal to the root up to fillings, with the same uses inside; and only white space is left of the text.
-  pub record HeldBack (g : Graph T A) (rest : Text) (held : Option (Built T A (Written A))) : Type 0 where
+  -- `held` is equal to the root in the sense of `IsSame`, with the same uses inside; and only white space is left of the text.
+  pub record HeldAs (IsSame : Root (StoodOp T A) (StoodBlock T A) ⊤ → Built T A (Written A) → Type 0) (g : Graph T A) (rest : Text) (held : Option (Built T A (Written A))) : Type 0 where
     pub built : Built T A (Written A)
     pub is : held ≡ Some built
-    pub same : UpToFillings (locations owns.written) (stood C isolated g) built
+    pub same : IsSame (stood C isolated g) built
     pub uses : SameUses (stood C isolated g) built
     pub ends : after_space rest ≡ []
 
+  -- `held` is equal to the root up to fillings, with the same uses inside; and only white space is left of the text.
+  abbrev pub HeldBack : Graph T A → Text → Option (Built T A (Written A)) → Type 0
+  HeldBack g rest held = HeldAs (UpToFillings (locations owns.written)) g rest held
+
   -- The same, with nothing filled in but positions.
-  pub record HeldWhole (g : Graph T A) (rest : Text) (held : Option (Built T A (Written A))) : Type 0 where
-    pub built : Built T A (Written A)
-    pub is : held ≡ Some built
-    pub same : UpToPositions (locations owns.written) (stood C isolated g) built
-    pub uses : SameUses (stood C isolated g) built
-    pub ends : after_space rest ≡ []
+  abbrev pub HeldWhole : Graph T A → Text → Option (Built T A (Written A)) → Type 0
+  HeldWhole g rest held = HeldAs (UpToPositions (locations owns.written)) g rest held

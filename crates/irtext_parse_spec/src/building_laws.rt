@@ -4,15 +4,15 @@ ghost use Rattle.std.specs.Prelude.{◌≡◌, ℕ, Bool, List, Option, true};
 ghost use Rattle.irtext_base.specs.Text.{Text};
 ghost use Rattle.irtext_base.specs.Format.{Id};
 ghost use Rattle.irtext_base.specs.Own.{texts_of, language};
+ghost use Rattle.irtext_parse_spec.specs.Reached.{Advanced, Actions, do_tree, operation_at};
+ghost use Rattle.irtext_parse_spec.specs.Resume.{Open, rest_of, whole};
+ghost use Rattle.irtext_parse_spec.specs.Both.{both, AreBeside};
+ghost use Rattle.irtext_parse_spec.specs.Building.{Building, building, nothing_open, finished, operation_added};
 ghost use Rattle.irtext_context.specs.Dialects.{Table};
 ghost use Rattle.irtext_tokens.specs.AttrTexts.{attr_at};
 ghost use Rattle.irtext_grammar.specs.Contexts.Formats.{format_of, isolated, IsAccepted};
 ghost use Rattle.irtext_grammar.specs.Grammar.Reads.{reads};
 ghost use Rattle.irtext_grammar.specs.Grammar.Tree.{Tree};
-ghost use Rattle.irtext_parse_spec.specs.Reached.{Advanced, Actions, do_tree, operation_at};
-ghost use Rattle.irtext_parse_spec.specs.Resume.{Open, rest_of, whole};
-ghost use Rattle.irtext_parse_spec.specs.Both.{both, AreBeside};
-ghost use Rattle.irtext_parse_spec.specs.Building.{Building, building, nothing_open, finished, operation_added};
 
 use irtext_base::text::{AttrText, IrText};
 

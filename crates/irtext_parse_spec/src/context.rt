@@ -45,16 +45,6 @@ fn operation_kept_at<T: IrText<A>, A: AttrText<A>>(ctx: &Context<T, A>, place: u
     }
 }
 
-/// The same of all operations of a context.
-fn operations_kept<T: IrText<A>, A: AttrText<A>>(ctx: &Context<T, A>)
-    ensures { (place : ℕ) → place < length ctx.now.graph.operations.cells → KeepsOperationAt ctx.now place }
-{
-    let count = ctx.graph().operation_places();
-    for place in 0..count {
-        operation_kept_at(ctx, place);
-    }
-}
-
 /// The parts of a block have the properties that their types ensure.
 fn block_kept<T: IrText<A>, A: AttrText<A>>(ctx: &Context<T, A>, at: Ptr<BasicBlock>)
     requires live { IsSome (block ctx.now at) }
@@ -85,6 +75,16 @@ fn block_kept_at<T: IrText<A>, A: AttrText<A>>(ctx: &Context<T, A>, place: u32)
         if ctx.contains_block(at) {
             block_kept(ctx, at);
         }
+    }
+}
+
+/// The parts of all operations of a context have the properties that their types ensure.
+fn operations_kept<T: IrText<A>, A: AttrText<A>>(ctx: &Context<T, A>)
+    ensures { (place : ℕ) → place < length ctx.now.graph.operations.cells → KeepsOperationAt ctx.now place }
+{
+    let count = ctx.graph().operation_places();
+    for place in 0..count {
+        operation_kept_at(ctx, place);
     }
 }
 

@@ -6,12 +6,12 @@ ghost use Rattle.irtext_base.specs.Answers.{Read};
 ghost use Rattle.irtext_base.specs.Own.{texts_of, language};
 ghost use Rattle.irtext_base.specs.Paths.{Written};
 ghost use Rattle.irtext_context.specs.Dialects.{Table};
+ghost use Rattle.irtext_grammar.specs.Grammar.Section.{Entry, section};
 ghost use Rattle.irtext_tokens.specs.AttrTexts.{attr_at};
 ghost use Rattle.irtext_grammar.specs.Contexts.Formats.{format_of};
-ghost use Rattle.irtext_grammar.specs.Grammar.Section.{Entry, section};
+ghost use Rattle.irtext_parse_spec.specs.Agrees.{refused, ReadOrStops};
 ghost use Rattle.irtext_grammar.specs.Names.Acts.{Rule};
 ghost use Rattle.irtext_parse_spec.specs.Promises.Supported.{location_standing};
-ghost use Rattle.irtext_parse_spec.specs.Agrees.{refused, ReadOrStops};
 ghost use Rattle.irtext_parse_spec.specs.Entries.{section_at};
 
 use irtext_base::text::{AttrText, IrText};

@@ -1,4 +1,4 @@
--- Marks that count from 0 on with others behind them: look-up, one more, and the first ones.
+-- Marks that count from 0 on with others after them: look-up, one more, and the first ones.
 use Rattle.std.specs.Prelude.{◌≡◌, ℕ, zero, suc, ◌+◌, ◌-◌, ◌<◌, ◌≤◌, Bool, true, false, cond, List, [], ◌∷◌, ◌++◌, length, take, Some, None, slice_index_or, refl}
 use Rattle.std.specs.List.{enumerate_from}
 use Rattle.std.specs.Map.{lookup}
@@ -71,7 +71,7 @@ module _ {X : Type 0} where
       go true p deeper = absurd (true≢false (ap is_some p))
       go false p deeper = deeper p
 
-  -- a mark that isn't noted is none of the others
+  -- a mark that isn't recorded is none of the others
   pub not_other : (i : ℕ) (xs : List X) (es : List (ℕ × X)) → lookup (same_index i) (all_numbered xs es) ≡ None → lookup (same_index i) es ≡ None
   not_other i xs es h = none_of_others (same_index i) 0 xs es h
 

@@ -1,4 +1,4 @@
--- The digits of numbers below 10,000, as slices of the text of all pairs of digits.
+-- The digits of numbers below 1,000,000, as slices of the text of all pairs of digits.
 use Rattle.std.proofs.Common.{◌≡◌, ◌+◌, ◌-◌, ◌*◌, ◌/◌, ◌%◌, ◌<◌, ◌≤◌, ◌∷◌, [], ◌++◌, ◌∙◌, ℕ, zero, suc, List, take, drop, ap, sym, arith, append_assoc}
 use Rattle.std.specs.Fmt.{decimal}
 use Rattle.std.specs.List.{slice_range}
@@ -60,9 +60,21 @@ one-slice k h =
 pub decimal-two : (n : ℕ) → 10 ≤ n → n < 100 → decimal n ≡ pair n
 decimal-two n lo hi = rw (decimal_step n lo (omega (arith, hi)), decimal_digit (n / 10) (omega (arith, hi)))
 
-pub decimal-hundreds : (n : ℕ) → 100 ≤ n → n < 10000 → decimal n ≡ decimal (n / 100) ++ pair (n % 100)
+-- the last two digits of a number
+pub decimal-hundreds : (n : ℕ) → 100 ≤ n → n < 1000000 → decimal n ≡ decimal (n / 100) ++ pair (n % 100)
 decimal-hundreds n lo hi =
     let a : n / 10 / 10 ≡ n / 100 = omega arith in
     let b : n / 10 % 10 ≡ n % 100 / 10 = omega arith in
     let c : n % 10 ≡ n % 100 % 10 = omega arith in
     rw (decimal_step n (omega arith) (omega arith), decimal_step (n / 10) (omega arith) (omega arith), append_assoc, a, b, ← c)
+
+-- a number's digits before its last four, and these four
+pub digits-joined : (n : ℕ) (f0 f1 f2 : List ℕ) → 10000 ≤ n → n < 1000000 → f1 ≡ f0 ++ decimal (n / 100 / 100) → f2 ≡ f1 ++ (pair (n / 100 % 100) ++ pair (n % 100)) → f2 ≡ f0 ++ decimal n
+digits-joined n f0 f1 f2 lo hi p q =
+    let high : 100 ≤ n / 100 = omega (arith, lo) in
+    let few : n / 100 < 1000000 = omega (arith, hi) in
+    let some : 100 ≤ n = omega (arith, lo) in
+    let whole : decimal n ≡ (decimal (n / 100 / 100) ++ pair (n / 100 % 100)) ++ pair (n % 100) = decimal-hundreds n some hi ∙ ap (λ z. z ++ pair (n % 100)) (decimal-hundreds (n / 100) high few) in
+    q ∙ ap (λ z. z ++ (pair (n / 100 % 100) ++ pair (n % 100))) p
+    ∙ (append_assoc f0 (decimal (n / 100 / 100)) (pair (n / 100 % 100) ++ pair (n % 100))
+    ∙ ap (λ z. f0 ++ z) (sym (append_assoc (decimal (n / 100 / 100)) (pair (n / 100 % 100)) (pair (n % 100))) ∙ sym whole))

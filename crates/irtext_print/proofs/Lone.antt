@@ -73,7 +73,7 @@ module _ {T A : Type 0} (C : Printing T A) (L : Language ⊤ T A) where
   pub gone : (g : Option (Entry C)) (old : List ℕ) → g ≡ None → old ≡ old ++ encode_utf8_all (alone_of C L g)
   gone g old e = sym (append-nil old) ∙ ap (λ z. old ++ encode_utf8_all (alone_of C L z)) (sym e)
 
-  -- the mark, and the section behind it
+  -- the mark, and the section after it
   pub marked_alone : (g : Option (Entry C)) (l : Option Text) (es : List (Text × Attribute A)) (old mid new : List ℕ) → Some (record { location = l; attributes = es }) ≡ g → marks_given {A = A} Unknown es ≡ true →
       mid ≡ old ++ codes " !0" → new ≡ mid ++ encode_utf8_all (section_of C L (g ∷ [])) → new ≡ old ++ encode_utf8_all (alone_of C L g)
   marked_alone g l es old mid new e some w v =

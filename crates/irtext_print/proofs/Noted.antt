@@ -1,5 +1,5 @@
--- The attributes that a section writes once: those that are noted while items are written are those that printing shares, and the place of
--- each stays as more are noted.
+-- The attributes that a section writes once: those that are recorded while items are written are those that printing shares, and the place
+-- of each stays as more are recorded.
 use Rattle.std.proofs.Common.{◌≡◌, ℕ, suc, Bool, true, false, true≢false, not, cond, ◌||◌, List, [], ◌∷◌, ◌++◌, map, flat_map, Option, Some, None, ◌+◌, arith, refl, sym, ap, ◌∙◌}
 use Rattle.std.proofs.lemmas.List.{append_assoc, append-nil}
 use Rattle.std.specs.Borrow.{Bor}
@@ -12,7 +12,7 @@ use Rattle.irtext_grammar.specs.Graphs.Graph.{Printing, Entry, once, firsts, sha
 use Rattle.irtext_print.specs.Items.{there}
 use Rattle.irtext_print.specs.Mentions.{with_mention, noted, all_noted, one_noted, items_noted}
 
--- a list goes on
+-- a list is a prefix of the other
 abbrev pub GoesOn : {X : Type 0} → List X → List X → Type 0
 GoesOn {X} xs ys = (more : List X) × (ys ≡ xs ++ more)
 
@@ -22,7 +22,7 @@ same_on xs = ([], sym (append-nil xs))
 pub then_on : {X : Type 0} (xs ys zs : List X) → GoesOn xs ys → GoesOn ys zs → GoesOn xs zs
 then_on xs ys zs p q = (p.0 ++ q.0, q.1 ∙ ap (λ z. z ++ q.0) p.1 ∙ append_assoc xs p.0 q.0)
 
--- with more behind it
+-- with more after it
 pub on_with : {X : Type 0} (xs ys more : List X) (p : GoesOn xs ys) → ys ++ more ≡ xs ++ (p.0 ++ more)
 on_with xs ys more p = ap (λ z. z ++ more) p.1 ∙ append_assoc xs p.0 more
 
@@ -67,7 +67,7 @@ module _ {T A : Type 0} (C : Printing T A) where
       go true = refl
       go false = behind ks
 
-  -- the place of what is there stays, whatever comes behind
+  -- the place of an element that is present is unchanged, whatever follows
   pub place_stays : (a : A) (ks more : List A) → has C.same_own a ks ≡ true → place_in C (ks ++ more) a ≡ place_in C ks a
   place_stays a [] more h = absurd (true≢false (sym h))
   place_stays a (k ∷ ks) more h = go (C.same_own a k) h (place_stays a ks more)
@@ -112,7 +112,7 @@ module _ {T A : Type 0} (C : Printing T A) where
       go true h = h
       go false h = has_either C.same_own a known (a ∷ []) ∙ ap (λ b. has C.same_own a known || (b || false)) (reflexive a) ∙ or_true (has C.same_own a known)
 
-  -- the place that a set gives to a reference stays, as more come behind those that it then holds
+  -- the place that a set gives to a reference is unchanged when more are added after those in the set
   pub noted_place : (reflexive : (a : A) → C.same_own a a ≡ true) (k : Bor A) (ks new : List (Bor A)) (place : ℕ) → new ≡ insert_key (λ x y. C.same_own x.now y.now) ks k
       → place ≡ position_or_len (λ y. C.same_own k.now y.now) ks → (more : List A) → place ≡ place_in C (map (λ r. r.now) new ++ more) k.now
   noted_place reflexive k ks new place e p more =
@@ -120,7 +120,7 @@ module _ {T A : Type 0} (C : Printing T A) where
       p ∙ place_given reflexive k ks ∙ sym (place_stays k.now (with_mention C (map (λ r. r.now) ks) k.now) more (mentioned reflexive (map (λ r. r.now) ks) k.now))
       ∙ ap (λ z. place_in C (z ++ more) k.now) (sym known)
 
-  -- what is known stays, and more comes behind it
+  -- what is known stays, and more is added after it
   pub mention_on : (known : List A) (a : A) → GoesOn known (with_mention C known a)
   mention_on known a = go (has C.same_own a known)
     where
@@ -149,7 +149,7 @@ module _ {T A : Type 0} (C : Printing T A) where
   items_on known [] = same_on known
   items_on known (g ∷ gs) = then_on known (one_noted C known g) (items_noted C (one_noted C known g) gs) (one_on known g) (items_on (one_noted C known g) gs)
 
-  -- those that are known behind mentions
+  -- the attributes that are known after mentions
   abbrev behind_all : List A → List A → List A
   behind_all known [] = known
   behind_all known (m ∷ ms) = behind_all (with_mention C known m) ms
@@ -203,6 +203,6 @@ module _ {T A : Type 0} (C : Printing T A) where
       let ms = mentions (there C gs) in
       items_behind (all_noted C known e.attributes) gs ∙ ap (λ k. behind_all k ms) (all_behind known e.attributes) ∙ sym (behind_both known own_ms ms)
 
-  -- the attributes that are noted while all items are written are those that the section writes once
+  -- the attributes that are recorded while all items are written are those that the section writes once
   pub noted_shared : (gs : List (Option (Entry C))) → items_noted C [] gs ≡ shared C (there C gs)
   noted_shared gs = items_behind [] gs ∙ behind_firsts [] [] (mentions (there C gs)) (λ a. refl)

@@ -5,6 +5,7 @@ pub mod LocationParts
 pub mod PieceTexts
 pub mod OperationTexts
 pub mod FitsTests
+pub mod Indented
 pub mod AttrTexts
 pub mod RootParts
 pub mod FitFaults

@@ -1,4 +1,4 @@
--- The section of items of which some were erased: where none was, it is the section of the definition; its text is that of its entries, whose
+-- The section of items of which some were erased: if none was, it is the section of the definition; its text is that of its entries, whose
 -- indices ascend.
 use Rattle.std.proofs.Common.{◌≡◌, ℕ, suc, ◌+◌, Bool, true, false, cond, List, [], ◌∷◌, ◌++◌, map, flat_map, length, codes, decimal, Option, Some, None, arith, refl, sym, ap, ap₂, ◌∙◌}
 use Rattle.std.specs.Prelude.{⊤}
@@ -32,17 +32,17 @@ module _ {T A : Type 0} (C : Printing T A) where
   places_all n [] = refl
   places_all n (e ∷ es) = ap (λ z. n ∷ z) (places_all (suc n) es)
 
-  -- the indices of items, and then of what stands behind them
+  -- the indices of items, and then of what follows them
   indices_items : (items : ℕ) (once : List A) (n : ℕ) (gs : List (Option (Entry C))) (last : List (tree.Entry ⊤ A Text)) → map index_of (given_items C items once n gs ++ last) ≡ places_there C n gs ++ map index_of last
   indices_items items once n [] last = refl
   indices_items items once n (None ∷ gs) last = indices_items items once (suc n) gs last
   indices_items items once n (Some e ∷ gs) last = ap (λ z. n ∷ z) (indices_items items once (suc n) gs last)
 
-  -- an item keeps its place as its index, and what is written once is numbered on behind all items
+  -- the index of an item is its place, and print-once attributes are numbered on after all items
   pub indices_are : (gs : List (Option (Entry C))) → map index_of (given_section C gs) ≡ places_there C 0 gs ++ numbers (length gs) (length (shared_by C gs))
   indices_are gs = indices_items (length gs) (shared_by C gs) 0 gs (written_once (length gs) (shared_by C gs)) ∙ ap (λ z. places_there C 0 gs ++ z) (indices_once (length gs) (shared_by C gs))
 
-  -- where none was erased, the indices are the numbers from 0 on, without a gap
+  -- if none was erased, the indices are the numbers from 0 on, without a gap
   pub indices_without_gap : (es : List (Entry C)) → map index_of (given_section C (map (λ e. Some e) es)) ≡ numbers 0 (length es + length (shared C es))
   indices_without_gap es =
       let n = length es in

@@ -24,7 +24,7 @@ reference_appended index wanted f0 f1 f2 same p q = worded f0 f1 f2 (codes "!") 
 pub three_appended : (f a b c : List ℕ) → f ++ (a ++ (b ++ c)) ≡ ((f ++ a) ++ b) ++ c
 three_appended f a b c = simp (append_assoc)
 
--- an entry's head, and behind it the rest
+-- an entry's head, and after it the rest
 pub head_appended : (n : ℕ) (rest : Text) (f0 f1 f2 f3 f4 : List ℕ) → f1 ≡ f0 ++ codes "!" → f2 ≡ f1 ++ encode_utf8_all (decimal n) → f3 ≡ f2 ++ codes " = " → f4 ≡ f3 ++ encode_utf8_all rest
     → f4 ≡ f0 ++ encode_utf8_all (codes "!" ++ (decimal n ++ (codes " = " ++ rest)))
 head_appended n rest f0 f1 f2 f3 f4 p q r s =
@@ -69,7 +69,7 @@ module _ {T A : Type 0} (L : Language ⊤ T A) (C : Printing T A) where
       let place = framed (codes "@[") (codes "], ") l in
       entry_appended items once n l es f0 f1 f2 (f2 ++ codes " = ") ((f2 ++ codes " = ") ++ place) f3 f4 f5 a b refl refl (q ∙ three_appended f2 (codes " = ") place (codes "[")) s t
 
-  -- a key, ` = ` and what stands under it
+  -- a key, ` = ` and the attribute under it
   pub pair_appended : (items : ℕ) (once : List A) (e : Text × Attribute A) (f0 f1 f2 f3 : List ℕ) → f1 ≡ f0 ++ encode_utf8_all e.0 → f2 ≡ f1 ++ codes " = " → f3 ≡ f2 ++ encode_utf8_all (item L C items once e.1)
       → f3 ≡ f0 ++ encode_utf8_all (pair_text C items once L e)
   pair_appended items once e f0 f1 f2 f3 p q r = more f0 f1 f3 e.0 (codes " = " ++ item L C items once e.1) p (worded f1 f2 f3 (codes " = ") (item L C items once e.1) refl q r)
@@ -90,7 +90,7 @@ module _ {T A : Type 0} (L : Language ⊤ T A) (C : Printing T A) where
       go true h = sym (append-nil now) ∙ h
       go false h = sym (append-nil now) ∙ h
 
--- what references stand for
+-- what references refer to
 abbrev pub referred : {X : Type 0} → List (Bor X) → List X
 referred rs = map (λ r. r.now) rs
 

@@ -1,4 +1,4 @@
--- What is written of an item's attributes, and of items, step by step, while the attributes that are written once are noted.
+-- What is written of an item's attributes, and of items, step by step, while the attributes that are written once are recorded.
 use Rattle.std.proofs.Common.{◌≡◌, ℕ, Bool, true, false, true≢false, ◌+◌, ◌<◌, ◌==◌, cond, zero, suc, List, [], ◌∷◌, ◌++◌, map, drop, length, get_or, codes, arith, ◌≤◌, Option, Some, None, refl, sym, ap, ap₂, ◌∙◌}
 use Rattle.std.proofs.Math.Seq.{drop-cons}
 use Rattle.std.proofs.lemmas.List.{append-nil, drop_all, length-map}
@@ -25,7 +25,7 @@ not_empty zero h = absurd (true≢false (sym h))
 not_empty (suc n) h = omega arith
 
 module _ {T A : Type 0} (L : Language ⊤ T A) (C : Printing T A) (items : ℕ) (given : List (Text × Attribute A)) (first_known : List A) where
-  -- What was written of an item's attributes, and what is left: together they are all; the same of what is noted.
+  -- What was written of an item's attributes, and what is left: together they are all; the same of what is recorded.
   pub record PairsSoFar (known : List A) (left : List (Text × Attribute A)) (first : Bool) (old now : List ℕ) : Type 0 where
     pub known_all : all_noted C known left ≡ all_noted C first_known given
     pub text : (behind : List A) → now ++ encode_utf8_all (left_text first (map (pair_text C items (all_noted C first_known given ++ behind) L) left))
@@ -55,7 +55,7 @@ module _ {T A : Type 0} (L : Language ⊤ T A) (C : Printing T A) (items : ℕ) 
             (q (on.0 ++ behind) ∙ ap (λ z. between ++ encode_utf8_all (pair_text C items z L e)) (same behind)) (so.text behind);
       }
 
-  -- all were noted
+  -- all were recorded
   pub pairs_known : (known : List A) (left : List (Text × Attribute A)) (first : Bool) (old now : List ℕ) → left ≡ [] → PairsSoFar known left first old now → known ≡ all_noted C first_known given
   pairs_known known left first old now is so = ap (all_noted C known) (sym is) ∙ so.known_all
 
@@ -67,7 +67,7 @@ module _ {T A : Type 0} (L : Language ⊤ T A) (C : Printing T A) (items : ℕ) 
       ∙ ap (λ z. old ++ encode_utf8_all (pairs_text C items (z ++ behind) L given)) (sym (pairs_known known left first old now is so))
 
 module _ {T A : Type 0} (L : Language ⊤ T A) (C : Printing T A) where
-  -- what printing asks of the caller's attributes alone
+  -- what printing requires of the caller's attributes alone
   abbrev alone : Printing ⊤ A
   alone = asking C.own_once C.same_own
 
@@ -110,11 +110,11 @@ module _ {T A : Type 0} (L : Language ⊤ T A) (C : Printing T A) where
   once_alone n (a ∷ rest) = ap (λ z. codes "!" ++ (decimal n ++ (codes " = " ++ (L.owns.written a ++ (10 ∷ z))))) (once_alone (suc n) rest)
 
   module _ {X : Type 0} (gives : X → Option (Entry C)) (items : ℕ) (all : List X) (first_known : List A) where
-    -- what is known behind all items
+    -- what is known after all items
     abbrev last_known : List A
     last_known = items_noted C first_known (map gives all)
 
-    -- What was written of items, and what is left: together they are all; the same of what is noted.
+    -- What was written of items, and what is left: together they are all; the same of what is recorded.
     pub record ItemsSoFar (known : List A) (i : ℕ) (old now : List ℕ) : Type 0 where
       pub known_all : items_noted C known (map gives (drop i all)) ≡ items_noted C first_known (map gives all)
       pub text : (behind : List A) → now ++ encode_utf8_all (given_texts C L items (items_noted C first_known (map gives all) ++ behind) i (map gives (drop i all)))
@@ -151,7 +151,7 @@ module _ {T A : Type 0} (L : Language ⊤ T A) (C : Printing T A) where
     nothing_left : (i : ℕ) → length all ≤ i → map gives (drop i all) ≡ []
     nothing_left i h = ap (map gives) (drop_all i all h)
 
-    -- all were noted
+    -- all were recorded
     pub items_known : (known : List A) (i : ℕ) (old now : List ℕ) → length all ≤ i → ItemsSoFar known i old now → known ≡ last_known
     items_known known i old now h so = ap (items_noted C known) (sym (nothing_left i h)) ∙ so.known_all
 

@@ -1,6 +1,6 @@
 //! The entries of a section, piece by piece. An item is an operation or a block that carries a mark. Each of these calls fails only if
 //! out of memory; what was appended up to the error remains.
-ghost use Rattle.std.specs.Prelude.{◌≡◌, ◌++◌, ◌<◌, ◌^◌, List, [], OnOk, codes, cond, string_bytes, true, false};
+ghost use Rattle.std.specs.Prelude.{◌≡◌, ◌++◌, ◌<◌, ◌^◌, List, [], OnOk, codes, cond, decimal, string_bytes, true, false};
 ghost use Rattle.irtext_base.specs.declared.location.Source.TheVariants as source;
 ghost use Rattle.irtext_grammar.specs.Contexts.Held.{attribute_of};
 ghost use Rattle.irtext_grammar.specs.Grammar.Tree as tree;
@@ -15,15 +15,23 @@ ghost use Rattle.irtext_print.specs.Given.{given_pair, attributes_of};
 ghost use Rattle.irtext_print.specs.Mentions as mentions;
 
 use crate::given::{Given, GivenAttribute};
-use crate::location::print::{fmt_known, fmt_numbers};
+use crate::location::print::{fmt_known, fmt_numbers, fmt_place};
 use crate::mentions::{Mentions, note};
 use crate::printable::attributes::fmt_attr;
-use crate::printable::numbers::fmt_number;
+use crate::printable::numbers::fmt_led_number;
 use irtext_base::base::{AttrObj, Identifier};
 use irtext_base::location::{Location, Source};
 use irtext_base::text::{AttrText, IrText};
 use irtext_context::base::Context;
 use std::fmt;
+
+/// Appends `!` and an index.
+#[inline(never)]
+fn fmt_index(index: usize, f: &mut String) -> fmt::Result
+    ensures { OnOk result (AppendsText f.old (codes "!" ++ decimal index) f.new) }
+{
+    fmt_led_number("!", index as u64, f)
+}
 
 /// Appends the reference to a print-once attribute: `!` and its index, which comes after those of all items. The attribute is known
 /// from then on.
@@ -42,8 +50,7 @@ fn fmt_reference<'c, A: AttrText<A>>(
 {
     let place = note(known, attr)?;
     let index = items + place;
-    f.push_str("!")?;
-    fmt_number(index as u64, f)
+    fmt_index(index, f)
 }
 
 /// Appends an attribute of the caller, or the reference to a print-once one.
@@ -195,6 +202,10 @@ fn fmt_entry_location<T: IrText<A>, A: AttrText<A>>(
             f.push_str("], [")?;
             return Ok(());
         }
+        f.push_str(" = @[")?;
+        fmt_place(*src, pos, ctx, f)?;
+        f.push_str("], [")?;
+        return Ok(());
     }
     fmt_any_location(location, ctx, f)
 }
@@ -216,8 +227,7 @@ pub(crate) fn fmt_entry<'c, T: IrText<A>, A: AttrText<A>>(
         (words A.IrText.written) index
         (known_text A.written ctx.now.paths given.now.location.now) (attributes_of A.outlined given.now)) f.new) }
 {
-    f.push_str("!")?;
-    fmt_number(index as u64, f)?;
+    fmt_index(index, f)?;
     fmt_entry_location(given.location, ctx, f)?;
     fmt_pairs(given, items, known, f)?;
     f.push_str("]\n")?;

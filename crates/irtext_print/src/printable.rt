@@ -1,5 +1,5 @@
 //! The printing state with its guards, the items that it gathered, why a printing fails, and the texts of attributes and of new lines.
-ghost use Rattle.std.specs.Prelude.{◌≡◌, ◌≤◌, [], ◌∷◌, OnOk, ◌++◌, codes, cond, replicate, string_bytes};
+ghost use Rattle.std.specs.Prelude.{◌≡◌, ◌≤◌, ◌-◌, [], ◌∷◌, OnOk, ◌++◌, codes, cond, length, take, drop, replicate, string_bytes};
 ghost use Rattle.std.specs.Str.{IsAscii};
 ghost use Rattle.irtext_print.specs.Printers.Printing.{indent_of};
 ghost use Rattle.irtext_grammar.specs.Spelling.Spell.{newline};
@@ -42,6 +42,18 @@ const BRACE: &str = "{\n\
     \x20                                                                                                                               \
     \x20                                                                                                                               ";
 
+/// As many spaces as are appended before a brace, the brace, a newline, and as many spaces as are appended after it.
+const INNER: &str = "\
+    \x20                                                                                                                               \
+    \x20                                                                                                                               {\n\
+    \x20                                                                                                                               \
+    \x20                                                                                                                               ";
+
+/// As many spaces as are appended before a closing brace, and the brace.
+const CLOSING: &str = "\
+    \x20                                                                                                                               \
+    \x20                                                                                                                               }";
+
 /// A space, a brace on a line of its own, and as many spaces as are appended with it.
 const OPENING: &str = " \n{\n                                                                ";
 
@@ -60,6 +72,45 @@ fn fmt_outer_opening(joins: bool, inner: u16, f: &mut String) -> fmt::Result
     Ok(())
 }
 
+/// Appends so many spaces, and what `line` has after 256 spaces, up to an end.
+#[inline(always)]
+fn fmt_indented(indent: u16, line: &str, end: usize, f: &mut String) -> fmt::Result
+    requires few { indent ≤ 256 }
+    requires ends { (256 ≤ end) × (end ≤ length line.now) }
+    requires line { line.now ≡ replicate 256 32 ++ drop 256 line.now }
+    requires ascii { IsAscii line.now }
+    ensures { OnOk result (string_bytes f.new ≡ string_bytes f.old ++ (replicate indent 32 ++ take (end - 256) (drop 256 line.now))) }
+{
+    f.push_str(&line[256 - indent as usize..end])?;
+    Ok(())
+}
+
+/// Appends a newline, after a space unless what follows joins what is before it.
+#[inline(always)]
+fn fmt_line_end(joins: bool, f: &mut String) -> fmt::Result
+    ensures { OnOk result (string_bytes f.new ≡ string_bytes f.old ++ (cond joins [] (codes " ") ++ codes "\n")) }
+{
+    if joins {
+        f.push_str("\n")?;
+        return Ok(());
+    }
+    f.push_str(" \n")?;
+    Ok(())
+}
+
+/// Appends the opening brace of a region at any indentation, as [`fmt_opening`] does.
+#[cold]
+fn fmt_deep_opening(joins: bool, indent: u16, inner: u16, f: &mut String) -> fmt::Result
+    ensures { OnOk result (string_bytes f.new ≡ string_bytes f.old ++
+        (cond joins [] (codes " ") ++ (newline indent ++ (codes "{" ++ newline inner)))) }
+{
+    if !joins {
+        f.push_str(" ")?;
+    }
+    fmt_newline(indent, f)?;
+    fmt_brace_newline(inner, f)
+}
+
 /// Appends the opening brace of a region on a line of its own at this indentation, then a newline and the inner indentation, both in
 /// spaces. A space comes first, unless the region joins what is before it. Fails only if out of memory.
 pub fn fmt_opening(joins: bool, indent: u16, inner: u16, f: &mut String) -> fmt::Result
@@ -69,11 +120,24 @@ pub fn fmt_opening(joins: bool, indent: u16, inner: u16, f: &mut String) -> fmt:
     if indent == 0 && inner <= 64 {
         return fmt_outer_opening(joins, inner, f);
     }
-    if !joins {
-        f.push_str(" ")?;
+    if indent > 256 || inner > 256 {
+        return fmt_deep_opening(joins, indent, inner, f);
     }
-    fmt_newline(indent, f)?;
-    fmt_brace_newline(inner, f)
+    fmt_line_end(joins, f)?;
+    fmt_indented(indent, INNER, 258 + inner as usize, f)
+}
+
+/// Appends a newline, so many spaces and a closing brace. Fails only if out of memory.
+pub fn fmt_closing(indent: u16, f: &mut String) -> fmt::Result
+    ensures { OnOk result (string_bytes f.new ≡ string_bytes f.old ++ (newline indent ++ codes "}")) }
+{
+    if indent > 256 {
+        fmt_newline(indent, f)?;
+        f.push_str("}")?;
+        return Ok(());
+    }
+    f.push_str("\n")?;
+    fmt_indented(indent, CLOSING, 257, f)
 }
 
 /// Appends a text, a newline and so many spaces. `line` is the same with 256 spaces, of which a slice is appended if it is long enough.

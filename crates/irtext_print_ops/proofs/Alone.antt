@@ -1,4 +1,4 @@
--- A region and a block that are printed alone: what was written in front of what is open, and what is left then, are their texts.
+-- A region and a block that are printed alone: what was written before the open frames, with the text that is left, is their text.
 use Rattle.std.proofs.Common.{◌≡◌, ◌+◌, ◌∙◌, ◌⊎◌, inl, inr, ℕ, zero, suc, List, [], ◌∷◌, ◌++◌, length, map, true, false, true≢false, Option, Some, None, option_map, refl, sym, ap, subst, append_assoc, length-append}
 use Rattle.std.specs.Prelude.{⊤, cond, codes, ◌≤◌, ◌^◌, ◌≢◌, IsSome}
 use Rattle.std.specs.Str.{encode_utf8_all}
@@ -42,7 +42,7 @@ use Rattle.irtext_print_ops.specs.declared.frame.Frame.{Frame}
 use Rattle.irtext_print_ops.specs.declared.frame.Frame.TheVariants as frame
 use Rattle.irtext_grammar.specs.Contexts.Formats.{isolated}
 
--- two texts in a row, with one more in front
+-- two concatenated texts, with one more before them
 regroup_region : (a b c bs e f : Text) → (a ++ (b ++ c)) ++ (bs ++ (e ++ f)) ≡ a ++ (b ++ (c ++ (bs ++ (e ++ f))))
 regroup_region a b c bs e f = simp append_assoc
 
@@ -59,7 +59,7 @@ module _ {T A : Type 0} (C : Printing T A) (L : Language ⊤ T A) (ctx : Context
     abbrev shown_text : RegionPrintDepthLimit → ℕ → Text
     shown_text limit n = region_text L width i (shown tt) (block_texts L width (i + width) (tree_blocks C (inside C (levels limit)) n bs))
 
-    -- what is open of a region that is shown
+    -- the open frame of a region that is shown
     abbrev opens : RegionPrintDepthLimit → Open T A
     opens inner = a_region i (levels inner) true bs
 
@@ -68,7 +68,7 @@ module _ {T A : Type 0} (C : Printing T A) (L : Language ⊤ T A) (ctx : Context
         ap (λ z. opening width i ++ z) (alone C L width (opens inner) n)
         ∙ regroup_region (newline i) (codes "{") (newline (i + width)) (joined (10 ∷ newline (i + width)) (block_texts L width (i + width) (tree_blocks C (levels inner) n bs))) (newline i) (codes "}")
 
-    -- the text of a region: what stands in front of its blocks, and what is left then
+    -- the text of a region: what precedes its blocks, and the text that is left then
     pub region_left : (limit : RegionPrintDepthLimit) (n : ℕ) → region_front width i limit ++ open_rest C L width (map (open_of C L ctx) (region_frames r i limit)) n ≡ cond (is_elided C (levels limit)) (codes "{..}") (shown_text limit n)
     region_left Unlimited n = shown_left Unlimited n
     region_left (Max zero) n = refl
@@ -85,11 +85,11 @@ module _ {T A : Type 0} (C : Printing T A) (L : Language ⊤ T A) (ctx : Context
     region_fits (Max zero) stands = tt
     region_fits (Max (suc m)) stands = (stands, tt)
 
-    -- a reason to refuse it
+    -- a reason why it fails
     abbrev pub Fault : RegionPrintDepthLimit → Refusal → Type 0
     Fault limit e = RegionsFault C (isolated ctx.dialects) width e i (levels limit) (region tt bs no_regions)
 
-    -- what is open of it gives this reason
+    -- the open frame has this reason
     abbrev pub OpenFaults : RegionPrintDepthLimit → Refusal → Type 0
     OpenFaults limit e = AnyFault C (isolated ctx.dialects) width e (map (open_of C L ctx) (region_frames r i limit))
 
@@ -133,7 +133,7 @@ module _ {T A : Type 0} (C : Printing T A) (L : Language ⊤ T A) (ctx : Context
     abbrev pub whole_block : ℕ → Text
     whole_block n = block_text L width i (tree_head C n h) (operation_texts L width (i + width) (tree_operations C (levels limit) (n + own_marks C h.location (block_outlined C h)) os))
 
-    -- what stands in front of its operations, and what is left then
+    -- what precedes its operations, and the text that is left then
     pub block_written : (items items' : List Item) (inner : ℕ) (old f1 f2 new : List ℕ) → inner ≡ i + width →
         f1 ≡ old ++ encode_utf8_all (block_head L (tree_head C 0 h)) →
         f2 ≡ f1 ++ encode_utf8_all (mark_if L (mark_at C (length items) h.location (block_outlined C h))) →
@@ -160,7 +160,7 @@ module _ {T A : Type 0} (C : Printing T A) (L : Language ⊤ T A) (ctx : Context
         all ≡ items ++ (marked_block C L ctx b h ++ items_in_operations C L ctx (levels limit) (operations_left C L ctx b 0))
     block_gathered items items' all k e = e ∙ ap (λ z. z ++ items_left C L ctx (first_block ∷ [])) k ∙ append_assoc items (marked_block C L ctx b h) (items_in_operations C L ctx (levels limit) (operations_left C L ctx b 0))
 
-    -- a reason to refuse it
+    -- a reason why it fails
     abbrev pub BlockFault : Refusal → Type 0
     BlockFault e = IndentFault e (i + width) ⊎ OperationsFault C (isolated ctx.dialects) width e (i + width) (levels limit) os
 
@@ -171,7 +171,7 @@ module _ {T A : Type 0} (C : Printing T A) (L : Language ⊤ T A) (ctx : Context
     block_fault e (inl x) = x
     block_fault e (inr x) = absurd x
 
-    -- a block that is seen stands
+    -- a block with a view is live
     pub block_fits : IsSome (block ctx b) → AllFit C L ctx (first_block ∷ [])
     block_fits live = (go (get ctx.graph.blocks b) live, tt)
       where

@@ -1,4 +1,4 @@
--- What stands in front of a block's operations, as it is appended and as the definitions of printing have it.
+-- What precedes a block's operations, as it is appended and as the definitions of printing have it.
 use Rattle.std.proofs.Common.{◌≡◌, ◌∙◌, ◌++◌, ◌||◌, ℕ, refl, sym, ap, Bool, true, false, cond, not, IfSome, option_map, None, Some, List, [], ◌∷◌, map, filter, codes}
 use Rattle.std.proofs.lemmas.List.{append_assoc}
 use Rattle.std.specs.List.{list_any}
@@ -67,7 +67,7 @@ module _ {T A : Type 0} (L : Language ⊤ T A) (C : Printing T A) where
       go (e ∷ es) = refl
 
 module _ {T A : Type 0} (L : Language ⊤ T A) (outlined_own once : A → Bool) (same : A → A → Bool) (written : A → Text) (ctx : ContextView T A) (b : Ptr BasicBlock) where
-  -- what printing asks of this context
+  -- what printing requires of this context
   abbrev printing : Printing T A
   printing = printing_over ctx outlined_own once same
 

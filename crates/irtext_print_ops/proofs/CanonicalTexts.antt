@@ -1,4 +1,4 @@
--- The form that any operation has, as it is appended and as the definitions of printing have it.
+-- The canonical form, as it is appended and as the definitions of printing have it.
 use Rattle.std.proofs.Common.{◌≡◌, ◌∙◌, ◌++◌, ◌∷◌, ℕ, refl, sym, ap, Bool, true, IfSome, option_map, List, [], map, filter, codes, filter_map}
 use Rattle.std.proofs.lemmas.List.{append_assoc}
 use Rattle.std.specs.Prelude.{⊤, Some}
@@ -17,7 +17,7 @@ use Rattle.irtext_grammar.specs.Grammar.Tree.{Attribute, Name}
 use Rattle.irtext_grammar.specs.Graphs.Graph.{Printing, body_of, entries, inline}
 use Rattle.irtext_grammar.specs.Spelling.Spell as spell
 use Rattle.irtext_grammar.specs.Spelling.Spell.{entry, joined, comma}
-use Rattle.irtext_print.specs.Printers.PieceText.{entry_text, rows_text, dictionary_entries, dictionary_text}
+use Rattle.irtext_print.specs.Printers.PieceText.{entry_text, rows_text, dictionary_entries, listed_text}
 use Rattle.irtext_print.proofs.Printers.Locations.{more}
 use Rattle.irtext_print.proofs.Printers.OperationTexts.{seen}
 use Rattle.irtext_print_ops.specs.Opened.{body_front}
@@ -31,8 +31,8 @@ all_kept : {X : Type 0} (xs : List X) → filter (λ x. true) xs ≡ xs
 all_kept [] = refl
 all_kept (x ∷ xs) = ap (λ z. x ∷ z) (all_kept xs)
 
--- the parts, one behind the other
-together : (a b r t u : Text) → (codes " (" ++ (a ++ (codes ") [" ++ (b ++ codes "]")))) ++ ((codes " [" ++ (r ++ codes "]")) ++ (codes ": <(" ++ (t ++ (codes ") -> (" ++ (u ++ codes ")>")))))
+-- the parts, one after another
+together : (a b r t u : Text) → (codes " (" ++ (a ++ (codes ") [" ++ (b ++ codes "] [")))) ++ (r ++ (codes "]: <(" ++ (t ++ (codes ") -> (" ++ (u ++ codes ")>")))))
     ≡ codes " (" ++ (a ++ (codes ") [" ++ (b ++ (codes "] " ++ ((codes "[" ++ (r ++ codes "]")) ++ (codes ": <(" ++ (t ++ (codes ") -> (" ++ (u ++ codes ")>")))))))))
 together a b r t u = simp append_assoc
 
@@ -46,18 +46,18 @@ module _ {T A : Type 0} (L : Language ⊤ T A) (C : Printing T A) where
       go (e ∷ es) = ap (λ z. entry_text L.owns.written e ∷ z) (go es)
 
 module _ {T A : Type 0} (L : Language ⊤ T A) (outlined once : A → Bool) (same : A → A → Bool) (written : A → Text) (ctx : ContextView T A) (p : Ptr Operation) where
-  -- what printing asks of this context
+  -- what printing requires of this context
   abbrev printing : Printing T A
   printing = printing_over ctx outlined once same
 
   -- what is appended, with these entries
   abbrev appended : List (Text × AttrObj A) → Text
   appended es =
-      (codes " (" ++ (list_text L.types.written ctx (Operands p) 0 ++ (codes ") [" ++ (list_text L.types.written ctx (Successors p) 0 ++ codes "]"))))
-      ++ (dictionary_text L.owns.written outlined [] (entries_of es)
-      ++ (codes ": <(" ++ (list_text L.types.written ctx (OperandTypes p) 0 ++ (codes ") -> (" ++ (list_text L.types.written ctx (ResultTypes p) 0 ++ codes ")>")))))
+      (codes " (" ++ (list_text L.types.written ctx (Operands p) 0 ++ (codes ") [" ++ (list_text L.types.written ctx (Successors p) 0 ++ codes "] ["))))
+      ++ (listed_text L.owns.written outlined [] (entries_of es)
+      ++ (codes "]: <(" ++ (list_text L.types.written ctx (OperandTypes p) 0 ++ (codes ") -> (" ++ (list_text L.types.written ctx (ResultTypes p) 0 ++ codes ")>")))))
 
-  -- what stands behind the id, of these texts
+  -- what follows the id, of these texts
   abbrev whole : Text → Text → Text → Text → Text → Text
   whole a b r t u = codes " (" ++ (a ++ (codes ") [" ++ (b ++ (codes "] " ++ ((codes "[" ++ (r ++ codes "]")) ++ (codes ": <(" ++ (t ++ (codes ") -> (" ++ (u ++ codes ")>")))))))))
 
@@ -78,7 +78,7 @@ module _ {T A : Type 0} (L : Language ⊤ T A) (outlined once : A → Bool) (sam
       let u = list_text L.types.written ctx (ResultTypes p) 0 in
       let es = entries_of view.attributes in
       let r = joined comma (map (entry L) (entries printing (inline printing es))) in
-      ap (λ z. (codes " (" ++ (a ++ (codes ") [" ++ (b ++ codes "]")))) ++ ((codes " [" ++ (z ++ codes "]")) ++ (codes ": <(" ++ (t ++ (codes ") -> (" ++ (u ++ codes ")>")))))) (rows_are L printing es)
+      ap (λ z. (codes " (" ++ (a ++ (codes ") [" ++ (b ++ codes "] [")))) ++ (z ++ (codes "]: <(" ++ (t ++ (codes ") -> (" ++ (u ++ codes ")>")))))) (rows_are L printing es)
       ∙ together a b r t u
       ∙ ap (λ z. whole z b r t u) (ap (joined comma) (sym (texts_known (number_of ctx) (λ n. record { place = tt; text = name_of ctx n }) (λ (n : Name ⊤). n.text) (operands ctx.graph p))))
       ∙ ap (λ z. whole names z r t u) (ap (joined comma) (sym (all_texts (place_of ctx) (λ at. record { place = tt; text = block_text ctx at }) (spell.label L) (successors ctx.graph p) 0)))
@@ -87,14 +87,14 @@ module _ {T A : Type 0} (L : Language ⊤ T A) (outlined once : A → Bool) (sam
 
   -- it was appended in three steps
   pub front_appended : (es : List (Text × AttrObj A)) (old first second new : List ℕ) → option_map (λ op. op.attributes) (operation ctx p) ≡ Some es
-      → first ≡ old ++ encode_utf8_all (codes " (" ++ (list_text L.types.written ctx (Operands p) 0 ++ (codes ") [" ++ (list_text L.types.written ctx (Successors p) 0 ++ codes "]"))))
-      → second ≡ first ++ encode_utf8_all (dictionary_text L.owns.written outlined [] (entries_of es))
-      → new ≡ second ++ encode_utf8_all (codes ": <(" ++ (list_text L.types.written ctx (OperandTypes p) 0 ++ (codes ") -> (" ++ (list_text L.types.written ctx (ResultTypes p) 0 ++ codes ")>"))))
+      → first ≡ old ++ encode_utf8_all (codes " (" ++ (list_text L.types.written ctx (Operands p) 0 ++ (codes ") [" ++ (list_text L.types.written ctx (Successors p) 0 ++ codes "] ["))))
+      → second ≡ first ++ encode_utf8_all (listed_text L.owns.written outlined [] (entries_of es))
+      → new ≡ second ++ encode_utf8_all (codes "]: <(" ++ (list_text L.types.written ctx (OperandTypes p) 0 ++ (codes ") -> (" ++ (list_text L.types.written ctx (ResultTypes p) 0 ++ codes ")>"))))
       → IfSome (seen_own written ctx p) (λ o. new ≡ old ++ encode_utf8_all (body_front L (body_of printing o (Some format.canonical))))
   front_appended es old first second new has a b c =
-      let uses = codes " (" ++ (list_text L.types.written ctx (Operands p) 0 ++ (codes ") [" ++ (list_text L.types.written ctx (Successors p) 0 ++ codes "]"))) in
-      let types = codes ": <(" ++ (list_text L.types.written ctx (OperandTypes p) 0 ++ (codes ") -> (" ++ (list_text L.types.written ctx (ResultTypes p) 0 ++ codes ")>"))) in
-      let dictionary = dictionary_text L.owns.written outlined [] (entries_of es) in
+      let uses = codes " (" ++ (list_text L.types.written ctx (Operands p) 0 ++ (codes ") [" ++ (list_text L.types.written ctx (Successors p) 0 ++ codes "] ["))) in
+      let types = codes "]: <(" ++ (list_text L.types.written ctx (OperandTypes p) 0 ++ (codes ") -> (" ++ (list_text L.types.written ctx (ResultTypes p) 0 ++ codes ")>"))) in
+      let dictionary = listed_text L.owns.written outlined [] (entries_of es) in
       for_seen (operation ctx p) (seen_operation written ctx p) (λ o. new ≡ old ++ encode_utf8_all (body_front L (body_of printing o (Some format.canonical))))
       (λ view e. more old first new uses (dictionary ++ types) a (more first second new dictionary types b c)
       ∙ ap (λ z. old ++ encode_utf8_all z) (ap appended (sym (seen (λ op. op.attributes) (operation ctx p) view es e has)) ∙ front_is view))

@@ -1,7 +1,7 @@
--- Turns one behind the other are one turn: what the first leaves innermost is replaced by what the next leaves of it.
+-- Turns one after another are one turn: the innermost frame that the first leaves is replaced by what the next leaves of it.
 use Rattle.std.proofs.Common.{◌≡◌, ◌<◌, ◌+◌, ◌==◌, ℕ, zero, suc, List, [], ◌∷◌, ◌++◌, length, map, drop, Bool, true, false, cond, Option, Some, None, arith, refl, ap, sym, subst, ◌∙◌, append_assoc, append-nil, length-append, inl, inr, ◌⊎◌, true≢false}
 use Rattle.std.specs.Prelude.{⊤}
-use Rattle.std.proofs.lemmas.List.{append_cancel_left, map-append}
+use Rattle.std.proofs.lemmas.List.{map-append}
 use Rattle.std.specs.Str.{encode_utf8_all}
 use Rattle.irtext_base.specs.Own.{Language}
 use Rattle.irtext_context.specs.Context.{ContextView}
@@ -46,7 +46,7 @@ module _ {T A : Type 0} (C : Printing T A) (L : Language ⊤ T A) (ctx : Context
   }
 
   module _ (f g : Frame) (items items1 items2 : List Item) (pre post : List Frame) (old mid new : List ℕ) (s : Steps C L ctx width f items items1 [] (pre ++ g ∷ []) old mid) (t : Steps C L ctx width g items1 items2 [] post mid new) where
-    -- the second turn, of the frame that is innermost
+    -- the second turn, of the innermost frame
     then_inside : Steps C L ctx width g items1 items2 pre (pre ++ post) mid new
     then_inside = inside_others g items1 items2 pre post mid new t
 
@@ -119,7 +119,7 @@ module _ {T A : Type 0} (C : Printing T A) (L : Language ⊤ T A) (ctx : Context
   pub fewer_left : (f : Frame) (items items' : List Item) (pushed : List Frame) (old new : List ℕ) → Steps C L ctx width f items items' [] pushed old new → turns_left C L ctx pushed < turns_left C L ctx (f ∷ [])
   fewer_left f items items' pushed old new s = let a = s.fewer in let e = ap (turns_left C L ctx) s.stack in omega (arith, a, e)
 
-  -- a reason to refuse what a turn leaves is one to refuse what was open
+  -- a reason why what a turn leaves fails is one why what was open fails
   pub fault_left : (f : Frame) (items items' : List Item) (pushed : List Frame) (old new : List ℕ) → Steps C L ctx width f items items' [] pushed old new →
       (e : Refusal) → AnyFault C (isolated ctx.dialects) width e (map (open_of C L ctx) pushed) → OpenFault C (isolated ctx.dialects) width e (open_of C L ctx f)
   fault_left f items items' pushed old new s e x = s.faults e (subst (λ z. AnyFault C (isolated ctx.dialects) width e (map (open_of C L ctx) z)) s.stack x)
@@ -141,7 +141,7 @@ module _ {T A : Type 0} (C : Printing T A) (L : Language ⊤ T A) (ctx : Context
     fewer = s.fewer;
   }
 
-  -- ---- several turns of the same thing
+  -- ---- several turns of the same frame
 
   -- nothing was done so far
   pub record Untouched (first here : Frame) (items items' : List Item) (old now : List ℕ) : Type 0 where
@@ -159,7 +159,7 @@ module _ {T A : Type 0} (C : Printing T A) (L : Language ⊤ T A) (ctx : Context
     left_fits here items1 mid h (inl u) = subst (λ z. FrameFits C L ctx z) (sym u.same) h
     left_fits here items1 mid h (inr s) = let k = all_fit first items items1 (here ∷ []) old mid s in k.0
 
-    -- a reason to refuse what is left is one to refuse all of it
+    -- a reason why what is left fails is one why all of it fails
     pub left_fault : (here : Frame) (items1 : List Item) (mid : List ℕ) → Left here items1 mid →
         (e : Refusal) → OpenFault C (isolated ctx.dialects) width e (open_of C L ctx here) → OpenFault C (isolated ctx.dialects) width e (open_of C L ctx first)
     left_fault here items1 mid (inl u) e x = subst (λ z. OpenFault C (isolated ctx.dialects) width e (open_of C L ctx z)) u.same x
@@ -173,24 +173,3 @@ module _ {T A : Type 0} (C : Printing T A) (L : Language ⊤ T A) (ctx : Context
         (subst (λ z. Steps C L ctx width here z items2 [] pushed old new) u.marks
         (subst (λ z. Steps C L ctx width here items1 items2 [] pushed z new) u.bytes t))
     left_more here items1 items2 pushed mid new (inr s) t = chained first here items items1 items2 [] pushed old mid new s t
-
-    -- one turn more, inside of other frames
-    pub left_inside : (here : Frame) (items1 items2 : List Item) (gs gs' : List Frame) (mid new : List ℕ) → Left here items1 mid →
-        Steps C L ctx width here items1 items2 gs gs' mid new → Steps C L ctx width first items items2 gs gs' old new
-    left_inside here items1 items2 gs gs' mid new l t =
-        subst (λ z. Steps C L ctx width first items items2 gs z old new) (sym t.stack)
-        (inside_others first items items2 gs t.pushed old new (left_more here items1 items2 t.pushed mid new l (alone here items1 items2 gs gs' mid new t)))
-
-    -- one turn more, which leaves the same thing alone, and what is outside as it was
-    pub left_on : (here next : Frame) (items1 items2 : List Item) (gs gs' : List Frame) (mid new : List ℕ) → Left here items1 mid →
-        Steps C L ctx width here items1 items2 gs (gs' ++ next ∷ []) mid new → gs' ≡ gs → Steps C L ctx width first items items2 [] (next ∷ []) old new
-    left_on here next items1 items2 gs gs' mid new l t k =
-        let one : next ∷ [] ≡ t.pushed = append_cancel_left gs (next ∷ []) t.pushed (ap (λ z. z ++ next ∷ []) (sym k) ∙ t.stack) in
-        subst (λ z. Steps C L ctx width first items items2 [] z old new) (sym one) (left_more here items1 items2 t.pushed mid new l (alone here items1 items2 gs (gs' ++ next ∷ []) mid new t))
-
-    -- that leaves fewer turns
-    pub fewer_on : (here next : Frame) (items1 items2 : List Item) (gs gs' : List Frame) (mid new : List ℕ) →
-        Steps C L ctx width here items1 items2 gs (gs' ++ next ∷ []) mid new → gs' ≡ gs → turns_left C L ctx (next ∷ []) < turns_left C L ctx (here ∷ [])
-    fewer_on here next items1 items2 gs gs' mid new t k =
-        let one : next ∷ [] ≡ t.pushed = append_cancel_left gs (next ∷ []) t.pushed (ap (λ z. z ++ next ∷ []) (sym k) ∙ t.stack) in
-        let a = t.fewer in let e = ap (turns_left C L ctx) one in omega (arith, a, e)

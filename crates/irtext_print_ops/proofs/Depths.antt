@@ -1,4 +1,5 @@
--- As many operations stand in one another as there are places for them, at most: so one level more shows nothing more of what stands in an operation.
+-- At most as many operations are nested in one another as there are places for them: so one more level shows nothing more of what is nested
+-- in an operation.
 use Rattle.std.proofs.Common.{◌≡◌, ◌<◌, ◌≤◌, ◌+◌, ◌==◌, ℕ, zero, suc, Option, Some, None, refl, sym, ap, ◌∙◌, inl, inr, arith, Bool, true, false, cond, List, [], ◌∷◌, length, map, slice_get, eqb, ◌||◌}
 use Rattle.std.specs.Bool.{⊤}
 use Rattle.std.specs.List.{IsDistinct, AllByRecursion, list_any}
@@ -24,7 +25,7 @@ use Rattle.irtext_grammar.specs.Grammar.Forest as forest
 use Rattle.irtext_grammar.specs.Grammar.Forest.{Regions, no_regions, region}
 use Rattle.irtext_grammar.specs.Contexts.Nested.{operations_by, blocks_by, regions_by, within}
 
--- what stands under a pointer
+-- the object under a pointer
 module _ {X K : Type 0} (s : Store X) where
   stands_at : (p : Ptr K) (x : Entry X) → get s p ≡ Some x → (c : Cell X) × (slice_get s.cells p.index ≡ Some c) × (c.generation ≡ p.generation)
   stands_at p x e = go (slice_get s.cells p.index) refl e
@@ -66,7 +67,7 @@ module _ {O B T : Type 0} (g : GraphView O B T) where
     regions_same (r ∷ rs) e = ap (λ x. region r x (regions_by g f rs)) (blocks_same (blocks g r) (e 0 r refl)) ∙ ap (region r (blocks_by g h (blocks g r))) (regions_same rs (λ m s k. e (suc m) s k))
 
   module _ (nested : Nested (children g) (parent g)) where
-    -- an operation in a block of a region of another stands three levels deeper
+    -- an operation in a block of a region of another is three levels deeper
     region_up : (p : Ptr Operation) (r : Ptr Region) (m : ℕ) → slice_get (regions g p) m ≡ Some r → parent g (TheRegion r) ≡ Some (TheOperation p)
     region_up p r m e = nested.down (TheOperation p) m (TheRegion r) (slice_get-map TheRegion (regions g p) m ∙ ap (option_map TheRegion) e)
 
@@ -80,7 +81,7 @@ module _ {O B T : Type 0} (g : GraphView O B T) where
         parent g (TheOperation q) ≡ Some (TheBlock b) → climb (parent g) 3 (Some (TheOperation q)) ≡ Some (TheOperation p)
     three_up p r b q e f k = ap (climb (parent g) 2) k ∙ (ap (climb (parent g) 1) f ∙ e)
 
-    -- operations that stand, each of them round the one before
+    -- operations, each of them an ancestor of the one before
     abbrev AreRound : Ptr Operation → List (Ptr Operation) → Type 0
     AreRound p [] = ⊤
     AreRound p (a ∷ round) = ((k : ℕ) × (climb (parent g) (suc k) (Some (TheOperation p)) ≡ Some (TheOperation a))) × AreRound p round
@@ -149,7 +150,7 @@ module _ {O B T : Type 0} (g : GraphView O B T) where
           stable n q (p ∷ round) ((2, up), further_round p q up round r) (at, (r, c)) (omega (arith, low)))
     ]
 
-    -- what stands in an operation is what stands in the operations of its blocks
+    -- what is nested in an operation is what is nested in the operations of its blocks
     pub inside_is : (p : Ptr Operation) → within g (suc (length g.operations.cells)) p ≡ regions_by g (within g (suc (length g.operations.cells))) (regions g p)
     inside_is p = regions_same (within g (length g.operations.cells)) (within g (suc (length g.operations.cells))) (regions g p)
         (λ m s e j b f i q k. sym (stable (length g.operations.cells) q [] tt tt (omega arith)))

@@ -1,4 +1,4 @@
--- The directives of an operation that stands, and the parts that they write.
+-- The directives of a live operation, and the parts that they write.
 use Rattle.std.proofs.Common.{◌≡◌, ◌+◌, ℕ, zero, suc, List, [], ◌∷◌, ◌++◌, map, drop, Option, Some, None, Bool, true, false, true≢false, not, refl, sym, ap, ◌∙◌, filter_map, append-nil}
 use Rattle.std.specs.Borrow.{Bor}
 use Rattle.std.specs.Prelude.{⊤, option_map, is_some}
@@ -54,7 +54,7 @@ repeats_as C scoped o n found b e known fits = go (C.format_of o.id) found b e k
     go (Some (format.custom ds)) (Some es) false e known fits = refl
 
 module _ {T A : Type 0} (C : Printing T A) (o : GraphOp T A) (items : List code.Directive) where
-  -- the part of the next directive, and those behind
+  -- the part of the next directive, and those after it
   pub parts_step : (at : ℕ) (x : code.Directive) → directives_in (C.format_of o.id) ≡ directives_of items → drop at items ≡ x ∷ drop (at + 1) items →
       parts_left C o at ≡ cons_option (part_at C o (directive_of x)) (parts_left C o (at + 1))
   parts_step at x e d =
@@ -63,6 +63,6 @@ module _ {T A : Type 0} (C : Printing T A) (o : GraphOp T A) (items : List code.
       ∙ (ap (λ z. filter_map (part_at C o) (map directive_of z)) d
       ∙ ap (λ z. cons_option (part_at C o (directive_of x)) (filter_map (part_at C o) z)) (sym (ap (drop (at + 1)) e ∙ drop_mapped directive_of (at + 1) items))))
 
--- all pieces are written where none stands in front of what is left
+-- all pieces are written if no piece is left before the next region
 pub all_written : {T A : Type 0} (L : Language ⊤ T A) (ps qs : List (Part ⊤ T A)) (now whole : List ℕ) → ps ≡ qs → pieces_text L qs ≡ [] → now ++ encode_utf8_all (pieces_text L ps) ≡ whole → now ≡ whole
 all_written L ps qs now whole e n h = sym (append-nil now) ∙ (ap (λ z. now ++ encode_utf8_all z) (sym (ap (pieces_text L) e ∙ n)) ∙ h)

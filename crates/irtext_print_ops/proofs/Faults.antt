@@ -1,4 +1,4 @@
--- A reason to refuse what a turn leaves open is one to refuse what was open.
+-- A reason why what a turn leaves open fails is one why what was open fails.
 use Rattle.std.proofs.Common.{◌≡◌, ◌+◌, ◌⊎◌, ◌++◌, inl, inr, ℕ, zero, suc, List, [], ◌∷◌, Option, Some, None, Bool, true, false, refl, sym, subst, true≢false}
 use Rattle.std.specs.Prelude.{⊤}
 use Rattle.irtext_base.specs.Format as format
@@ -15,7 +15,7 @@ use Rattle.irtext_print.specs.declared.printable.state.RegionPrintDepthLimit.The
 use Rattle.irtext_print_ops.specs.Opened.{Open, an_operation, a_region, a_block, covers}
 use Rattle.irtext_print_ops.specs.Faults.{RegionsFault, OpenFault, AnyFault}
 
--- what is open of a region that was begun
+-- the open frames of a region that was begun
 abbrev pub region_opens : {T A : Type 0} → ℕ → RegionPrintDepthLimit → Blocks (GraphOp T A) (GraphBlock T A) ⊤ → List (Open T A)
 region_opens i limit bs = elim (lowered limit) [ None ↦ [] | Some inner ↦ a_region i (levels inner) true bs ∷ [] ]
 

@@ -22,7 +22,7 @@ use Rattle.irtext_print_ops.proofs.ListTexts.{none_left}
 
 -- ---- the first test that fails
 
--- a test that passes, and those behind it
+-- a test that passes, and those after it
 record Passing (b : Bool) (others : Type 0) : Type 0 where
   is : b ≡ true
   rest : others
@@ -114,7 +114,7 @@ module _ {A : Type 0} (is_outlined : A → Bool) (ds : List Directive) (counts :
 -- ---- what the definitions ask
 
 module _ {T A : Type 0} (C : Printing T A) (isolated : Id → Bool) (ds : List Directive) (o : GraphOp T A) (n : ℕ) where
-  -- all attributes are written where none is found that is not
+  -- all attributes are written if none is found that is not
   covered : (not (count is_dictionary ds == 0) || list_all (λ e. has same_text e.0 (written_keys C ds) || outlined C e.1) o.attributes) ≡ is_none (uncovered_key C.own_outlined ds o.attributes)
   covered =
       go (count is_dictionary ds == 0)
@@ -159,14 +159,14 @@ module _ {T A : Type 0} (C : Printing T A) (isolated : Id → Bool) (ds : List D
         others_outlined = covered ∙ p.rest.rest.rest.rest.rest.rest.is;
       }
 
--- ---- what a check answers
+-- ---- what a check returns
 
--- what holds of what is there
+-- what holds of a value that is present
 pub given : {X : Type 0} (P : X → Type 0) (o : Option X) (x : X) → o ≡ Some x → IfSome o P → P x
 given P o x e h = subst (λ z. IfSome z P) e h
 
 module _ {T A : Type 0} (C : Printing T A) (isolated : Id → Bool) (n : ℕ) where
-  -- what a check answers of an operation, where it is there
+  -- what a check returns for an operation, if it is live
   pub record Answers {X : Type 0} (seen : Option (GraphOp T A)) (r : Result X FitFault) : Type 0 where
     pub fits : OnOk r (IfSome seen (λ o. FitsOwn C isolated o n))
     pub fault : IfErr r (λ reason. IfSome seen (λ o. IsFirstReason C isolated o n reason))

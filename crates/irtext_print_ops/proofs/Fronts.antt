@@ -1,4 +1,4 @@
--- What stands in front of an operation's parts, and what a directive writes, as they are appended and as the walk has them.
+-- What precedes an operation's parts, and what a directive writes, as they are appended and as the walk has them.
 use Rattle.std.proofs.Common.{◌≡◌, ◌∙◌, ◌++◌, ℕ, refl, sym, ap, Bool, true, false, true≢false, not, List, [], map, option_map, Option, Some, None, is_none}
 use Rattle.std.proofs.lemmas.List.{append-nil}
 use Rattle.std.specs.Borrow.{Bor}
@@ -50,7 +50,7 @@ canonical_by form None e = ap is_canonical (sym e)
 canonical_by form (Some ds) e = ap is_canonical (sym e)
 
 module _ {T A : Type 0} (L : Language ⊤ T A) (C : Printing T A) (o : GraphOp T A) where
-  -- nothing stands in front of the parts in any other form
+  -- nothing precedes the parts in a form that is not canonical
   no_front : (form : Option Format) → is_canonical form ≡ false → body_front L (body_of C o form) ≡ []
   no_front None e = refl
   no_front (Some format.canonical) e = absurd (true≢false e)
@@ -79,7 +79,7 @@ module _ {T A : Type 0} (L : Language ⊤ T A) (C : Printing T A) (o : GraphOp T
         more old first second names (id_text id) defined called
         ∙ ap (λ z. old ++ encode_utf8_all (names ++ z)) (sym (append-nil (id_text id)) ∙ ap (λ i. spell.id L i ++ []) (sym named) ∙ ap (λ z. spell.id L o.id ++ z) (sym (no_front (C.format_of o.id) e)))
 
-    -- and what stands behind them in the form that any operation has
+    -- and what follows them in the canonical form
     pub front_canonical : (new : List ℕ) → is_canonical (C.format_of o.id) ≡ true → new ≡ second ++ encode_utf8_all (body_front L (body_of C o (Some format.canonical)))
         → new ≡ old ++ encode_utf8_all (operation_front L (tree_op C 0 o))
     front_canonical new e p =

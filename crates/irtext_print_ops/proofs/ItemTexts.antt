@@ -49,11 +49,11 @@ found_at {X = X} f xs i = go (slice_get xs i) ∙ ap (option_and_then (λ t. t))
     go None = refl
     go (Some x) = refl
 
--- what it has of an item that stands there
+-- the text that is kept of an item at an index
 pub found : {X : Type 0} (f : X → Option Text) (xs : List X) (i : ℕ) (x : X) → slice_get xs i ≡ Some x → f x ≡ option_and_then (λ t. t) (slice_get (map f xs) i)
 found f xs i x e = ap (option_and_then f) (sym e) ∙ found_at f xs i
 
--- a text was written behind a space
+-- a text was written after a space
 pub spaced_written : (o u : Option Text) → IsSome o → o ≡ u → (old mid new : List ℕ) → mid ≡ old ++ codes " " → new ≡ mid ++ encode_utf8_all (or_nothing o) → new ≡ old ++ encode_utf8_all (spaced_if u)
 spaced_written None u h e old mid new p q = absurd (cc)
 spaced_written (Some t) u h e old mid new p q = worded old mid new (codes " ") t refl p q ∙ ap (λ z. old ++ encode_utf8_all (spaced_if z)) e

@@ -4,6 +4,7 @@ pub mod CanonicalTexts
 pub mod Chained
 pub mod Counting
 pub mod Depths
+pub mod Descents
 pub mod Directives
 pub mod Faults
 pub mod FitTexts

@@ -6,11 +6,12 @@ use Rattle.std.specs.Str.{encode_utf8_all}
 use Rattle.std.proofs.lemmas.List.{append-nil}
 use Rattle.irtext_base.specs.Text.{Text}
 use Rattle.irtext_grammar.specs.Contexts.Held.{known_types}
+use Rattle.irtext_grammar.specs.Spelling.Spell.{comma, joined}
 use Rattle.irtext_print.proofs.Printers.Locations.{left_text}
 use Rattle.irtext_print.proofs.Printers.PieceTexts.{row_written}
 use Rattle.irtext_print_ops.specs.Listed.{next_text, are_none}
 
--- ---- items, one behind the other
+-- ---- items, one after another
 
 -- one item more
 left_next : (first left : Bool) (x : Option Text) (xs : List (Option Text)) (now next all : List ℕ) → next ≡ now ++ encode_utf8_all (next_text first x) → left ≡ (first && not (is_some x))
@@ -43,12 +44,17 @@ item_written texts i first left now next all less p l h =
     let after : i + 1 ≡ suc i = omega arith in
     ap (λ n. next ++ encode_utf8_all (left_text left (known_types (drop n texts)))) after ∙ step texts i first left now next all less p l h
 
--- nothing is left behind all
+-- past the end of a list nothing is left
 pub none_left : {X : Type 0} (xs : List X) (i : ℕ) → length xs ≤ i → drop i xs ≡ []
 none_left [] zero h = refl
 none_left [] (suc i) h = refl
 none_left (x ∷ xs) zero h = absurd (omega (arith, h))
 none_left (x ∷ xs) (suc i) h = none_left xs i (omega (arith, h))
+
+-- nothing is written where there is no item
+pub nothing_listed : (texts : List (Option Text)) → length texts ≡ 0 → joined comma (known_types (drop 0 texts)) ≡ []
+nothing_listed [] e = refl
+nothing_listed (x ∷ xs) e = absurd (omega (arith, e))
 
 -- all items were written
 pub all_written : (texts : List (Option Text)) (i : ℕ) (first : Bool) (now all : List ℕ) → length texts ≤ i → now ++ encode_utf8_all (left_text first (known_types (drop i texts))) ≡ all → now ≡ all
@@ -85,7 +91,7 @@ none_next texts i first left all less l h =
     let after : i + 1 ≡ suc i = omega arith in
     ap (λ n. left && are_none (known_types (drop n texts))) after ∙ none_step texts i first left all less l h
 
--- behind all items
+-- after all items
 pub none_at_all : (texts : List (Option Text)) (i : ℕ) (first all : Bool) → length texts ≤ i → (first && are_none (known_types (drop i texts))) ≡ all → first ≡ all
 none_at_all texts i first all past h = sym (plain first) ∙ ap (λ z. first && are_none (known_types z)) (sym (none_left texts i past)) ∙ h
   where
@@ -106,7 +112,7 @@ module _ {X Y Z : Type 0} (f : X → Option Y) (name : Y → Z) (text : Z → Te
       go None h = h
       go (Some y) h = ap (λ z. text (name y) ∷ z) h
 
-  -- the same behind an index, where nothing is left out
+  -- the same after an index, if nothing is left out
   pub texts_behind : (xs : List X) → ((i : ℕ) (x : X) → slice_get xs i ≡ Some x → IsSome (f x)) → (k : ℕ)
       → map text (map name (drop k (filter_map f xs))) ≡ known_types (drop k (map (λ x. option_map (λ y. text (name y)) (f x)) xs))
   texts_behind xs there zero = texts_known xs
@@ -118,7 +124,7 @@ module _ {X Y Z : Type 0} (f : X → Option Y) (name : Y → Z) (text : Z → Te
       go None s h = absurd (cc)
       go (Some y) s h = h
 
--- what stands at an index, where nothing is left out
+-- the element at an index, if nothing is left out
 pub at_index : {X Y : Type 0} (f : X → Option Y) (xs : List X) → ((i : ℕ) (x : X) → slice_get xs i ≡ Some x → IsSome (f x)) → (i : ℕ) → slice_get (filter_map f xs) i ≡ option_and_then f (slice_get xs i)
 at_index f [] there i = refl
 at_index {X = X} {Y = Y} f (x ∷ xs) there i = go i (f x) refl (there zero x refl) (λ j. at_index f xs (λ k y e. there (suc k) y e) j)

@@ -13,7 +13,7 @@ use Rattle.irtext_print_ops.specs.Heads.{or_no_block}
 use Rattle.irtext_print_ops.specs.Walk.{or_nothing}
 
 module _ {T A : Type 0} (C : Printing T A) (written : A → Text) (ctx : ContextView T A) where
-  -- an operation that stands
+  -- a live operation
   pub operation_marked : (p : Ptr Operation) → IsSome (operation ctx p)
       → is_marked_by C (option_map (operation_entry C) (seen_own written ctx p)) ≡ is_marked C (or_nothing (seen_own written ctx p)).location (op_outlined C (or_nothing (seen_own written ctx p)))
   operation_marked p live = go (operation ctx p) live
@@ -23,7 +23,7 @@ module _ {T A : Type 0} (C : Printing T A) (written : A → Text) (ctx : Context
       go None live = absurd (cc)
       go (Some view) live = refl
 
-  -- a block that stands
+  -- a live block
   pub block_marked : (b : Ptr BasicBlock) → IsSome (block ctx b)
       → is_marked_by C (option_map (block_entry C) (seen_head written ctx b)) ≡ is_marked C (or_no_block (seen_head written ctx b)).location (block_outlined C (or_no_block (seen_head written ctx b)))
   block_marked b live = go (block ctx b) live

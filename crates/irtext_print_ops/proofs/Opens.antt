@@ -16,7 +16,7 @@ module _ {T A : Type 0} (C : Printing T A) (L : Language ⊤ T A) (width : ℕ) 
   marks_behind [] hs = omega arith
   marks_behind (g ∷ gs) hs = let k = marks_behind gs hs in omega (arith, k)
 
-  -- what is open alone
+  -- only this frame is open
   pub alone : (f : Open T A) (n : ℕ) → open_rest C L width (f ∷ []) n ≡ rest C L width f n
   alone f n = ap (rest C L width f) (nothing_more n)
     where
@@ -33,7 +33,7 @@ module _ {T A : Type 0} (C : Printing T A) (L : Language ⊤ T A) (width : ℕ) 
       ∙ (ap (λ m. (text ++ open_rest C L width (gs ++ hs) (n + k)) ++ rest C L width g m) e
       ∙ append_assoc text (open_rest C L width (gs ++ hs) (n + k)) (rest C L width g ((n + k) + open_marks C (gs ++ hs))))
 
-  -- the marks that are left, behind a turn
+  -- the marks that are left, after a turn
   pub turned_marks : (gs : List (Open T A)) (f : Open T A) (n : ℕ) (text : Text) (k : ℕ) (hs : List (Open T A)) → Turns C L width f n text k hs →
       open_marks C (gs ++ f ∷ []) ≡ k + open_marks C (gs ++ hs)
   turned_marks gs f n text k hs t = let a = marks_pushed gs f in let b = marks_behind gs hs in let c = t.counted in omega (arith, a, b, c)

@@ -146,7 +146,7 @@ module _ {T A : Type 0} (L : Language ⊤ T A) (C : Printing T A) (ds : List Dir
   part_appended d text old new is written_so = for_seen (operation ctx p) (seen_operation written ctx p) (λ o. new ≡ old ++ encode_utf8_all (part_text L (part_of C ds o d)))
       (λ view e. written_so ∙ ap (λ t. old ++ encode_utf8_all t) (is view e))
 
-  -- the attributes of the operation are those that were asked for
+  -- the attributes of the operation are those that were looked up
   pub attributes_seen : (d : Directive) (es : List (Text × AttrObj A)) (view : OperationView T A) → operation ctx p ≡ Some view → option_map (λ op. op.attributes) (operation ctx p) ≡ Some es
       → directive_text L.owns.written C.own_outlined ds (entries_of es) [] 0 d ≡ directive_text L.owns.written C.own_outlined ds (seen_operation written ctx p view).attributes [] 0 d
   attributes_seen d es view e a = ap (λ z. directive_text L.owns.written C.own_outlined ds (entries_of z) [] 0 d) (sym (seen (λ op. op.attributes) (operation ctx p) view es e a))

@@ -1,4 +1,5 @@
--- The parts of an operation: those in front of a region are written in one turn, and where it fits its format they write all its regions.
+-- The parts of an operation: those before a region are written in one turn, and if the operation fits its format they write all its
+-- regions.
 use Rattle.std.proofs.Common.{◌≡◌, ◌+◌, ℕ, suc, List, [], ◌∷◌, ◌++◌, length, Option, Some, None, Bool, true, false, cond, arith, refl, ap, sym, ◌∙◌, append_assoc, true≢false, filter_map}
 use Rattle.std.specs.Prelude.{⊤, slice_get, option_map, option_and_then, ◌==◌, nat_lt, not}
 use Rattle.std.proofs.Common.{ap₂}
@@ -22,7 +23,7 @@ use Rattle.irtext_print_ops.proofs.Turns.{goes_on, piece_turns}
 use Rattle.irtext_print_ops.specs.Walk.{part_text, pieces_text, behind_pieces}
 
 module _ {T A : Type 0} (C : Printing T A) (L : Language ⊤ T A) (width : ℕ) where
-  -- one turn behind another
+  -- one turn after another
   pub and_then : (f g : Open T A) (n : ℕ) (t u : Text) (k : ℕ) (hs : List (Open T A)) → Turns C L width f n t 0 (g ∷ []) → Turns C L width g n u k hs → Turns C L width f n (t ++ u) k hs
   and_then f g n t u k hs a b = record {
     written = a.written ∙ (ap (λ z. t ++ z) (alone C L width g (n + 0) ∙ (ap (rest C L width g) (nothing n) ∙ b.written)) ∙ sym (append_assoc t u (open_rest C L width hs (n + k))));
@@ -35,7 +36,7 @@ module _ {T A : Type 0} (C : Printing T A) (L : Language ⊤ T A) (width : ℕ) 
       one : (a : ℕ) → 0 + (0 + a) ≡ a
       one a = omega arith
 
-  -- the pieces in front of a region
+  -- the pieces before a region
   pub pieces_turn : (i : ℕ) (l : Limit) (mine : Option (GraphOp T A)) (ps : List (Part ⊤ T A)) (rs : Regions (GraphOp T A) (GraphBlock T A) ⊤) (n : ℕ) →
       Turns C L width (an_operation i l mine false ps rs) n (pieces_text L ps) 0 (an_operation i l mine false (behind_pieces ps) rs ∷ [])
   pieces_turn i l mine [] rs n = goes_on C L width (an_operation i l mine false [] rs) n [] (an_operation i l mine false [] rs) refl refl
@@ -148,6 +149,6 @@ module _ {T A : Type 0} (C : Printing T A) (isolated : format.Id → Bool) (all 
       more now new (new ++ encode_utf8_all (pieces_text L qs)) (part_text L (part_of C all o d)) (pieces_text L qs) w refl
       ∙ (ap (λ z. now ++ encode_utf8_all z) (sym (pieces_more L (part_of C all o d) (is_piece d e) qs) ∙ ap (pieces_text L) (sym p)) ∙ h)
 
-  -- and the same is left behind the pieces
+  -- and the same is left after the pieces
   pub next_behind : (d : Directive) (ps qs all_left : List (Part ⊤ T A)) → is_any_region d ≡ false → ps ≡ cons_option (part_of C all o d) qs → behind_pieces ps ≡ all_left → behind_pieces qs ≡ all_left
   next_behind d ps qs all_left e p h = sym (behind_more (part_of C all o d) (is_piece d e) qs) ∙ (ap behind_pieces (sym p) ∙ h)

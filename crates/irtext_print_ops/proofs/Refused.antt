@@ -1,4 +1,4 @@
--- Why a turn is refused: the reason that a call gives is one that what was open gives.
+-- Why a turn fails: the reason that a call returns is a reason of what was open.
 use Rattle.std.proofs.Common.{◌≡◌, ◌≢◌, ◌≤◌, ◌+◌, ◌^◌, inl, inr, ℕ, zero, suc, List, length, drop, Some, None, IsSome, Bool, false, refl, ap, sym, subst, ◌∙◌, true≢false}
 use Rattle.std.specs.Prelude.{⊤, slice_get, option_map, Result, Err, IfErr, IsErrAnd}
 use Rattle.std.proofs.lemmas.Result.{err_from_is_err_and}
@@ -40,12 +40,12 @@ use Rattle.irtext_print_ops.specs.declared.frame.BlockFrame.{BlockFrame}
 use Rattle.irtext_print_ops.proofs.Tests.{is_there}
 use Rattle.irtext_print_ops.proofs.Turned.{seen_some, block_there, regions_seen}
 
--- what is known of an error that is handed on
+-- what holds of an error that is returned by `?`
 pub handed_on : {R E : Type 0} (P : E → Type 0) (r : Result R E) (e : E) → IsErrAnd r (λ y. y ≡ e) → P e → IfErr r P
 handed_on P r e h p = let q = err_from_is_err_and r h in subst (λ z. IfErr z P) (sym (q.1 ∙ ap Err q.2)) p
 
 module _ {T A : Type 0} (types : ir_text.Ghosts T A) (owns : ir_text.Ghosts A A) (attributes : attr_text.Ghosts A A) (same : A → A → Bool) (ctx : ContextView T A) where
-  -- what a refusal says, from the reason that it gives
+  -- what an error says, from the reason that it has
   pub under_refuses : {U : Type 0} (p : Ptr Operation) (s : Shown U) (e : Refusal) → (e ≢ Memory → heads.FaultUnder types owns attributes same ctx p s e) → heads.RefusesUnder types owns attributes same ctx p s e
   under_refuses p s Memory h = tt
   under_refuses p s Depth h = elim (h (λ k. cc)) [ inl x ↦ absurd x | inr x ↦ x ]
@@ -65,7 +65,7 @@ module _ {T A : Type 0} (C : Printing T A) (L : Language ⊤ T A) (ctx : Context
       let here = λ (z : List (Ptr Region)). seen_regions L.owns.written ctx (regions_by ctx.graph (inside_of C L ctx) z) in
       subst (λ z. RegionsFault C (isolated ctx.dialects) width Depth f.indent (levels f.limit) (here z)) (sym (one_left (regions ctx.graph f.op) f.region r.0 (sym r.1))) (inl (shown f.limit h.1.0, inl h.1.1))
 
-  -- the refusal of a turn that writes a region
+  -- the error of a turn that writes a region
   pub region_turn_refused : (f : OperationFrame) (e : Refusal) → (e ≢ Memory → (e ≡ Depth) × NextTooDeep ctx width f) → e ≢ Memory → OpenFault C (isolated ctx.dialects) width e (open_of C L ctx (frame.Operation f))
   region_turn_refused f e h other = let is = h other in subst (λ z. OpenFault C (isolated ctx.dialects) width z (open_of C L ctx (frame.Operation f))) (sym is.0) (next_too_deep f is.1)
 
@@ -83,7 +83,7 @@ module _ {T A : Type 0} (C : Printing T A) (L : Language ⊤ T A) (ctx : Context
       ∙ ap (λ x. elim x [ Some view ↦ forest.block (seen_block L.owns.written ctx b view) sos sbs | None ↦ sbs ]) (ap (option_map block_of) at.1) in
       subst (λ z. BlocksFault C (isolated ctx.dialects) width Depth (f.indent + width) l z) (sym shows) (inl (inl deep))
 
-  -- the refusal of a turn that writes a block's head
+  -- the error of a turn that writes a block's head
   pub block_refused : (f : RegionFrame) (b : Ptr BasicBlock) (e : Refusal) → Nested (children ctx.graph) (parent ctx.graph) → slice_get (blocks ctx.graph f.region) f.block ≡ Some b →
       e ≡ Depth → 2 ^ 16 ≤ (f.indent + width) + width → e ≢ Memory → OpenFault C (isolated ctx.dialects) width e (open_of C L ctx (frame.Region f))
   block_refused f b e nested got is deep other = subst (λ z. OpenFault C (isolated ctx.dialects) width z (open_of C L ctx (frame.Region f))) (sym is) (block_too_deep f b nested got deep)

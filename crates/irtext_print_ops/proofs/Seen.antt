@@ -1,4 +1,4 @@
--- What holds of what printing sees under a pointer, where something stands there.
+-- What holds of what printing sees under a pointer, if the object is live.
 use Rattle.std.proofs.Common.{Option, Some, None, IsSome, IfSome}
 use Rattle.std.specs.Option.{option_map}
 use Rattle.irtext_base.specs.Text.{Text}

@@ -1,4 +1,4 @@
--- What stands in a context, and what is seen of it.
+-- Objects that are live in a context, and the views of them.
 use Rattle.std.proofs.Common.{◌≡◌, refl, Option, Some, None, IsSome, IfSome}
 use Rattle.std.specs.Option.{option_map}
 use Rattle.irtext_context.specs.Context.{ContextView, block, block_of}
@@ -26,7 +26,7 @@ module _ {T A : Type 0} (ctx : ContextView T A) (b : Ptr BasicBlock) where
       go None h = absurd (cc)
       go (Some e) h = refl
 
-  -- a block that is seen stands in the graph
+  -- a block with a view is live in the graph
   pub block_stands : IsSome (block ctx b) → IsLive ctx.graph (TheBlock b)
   block_stands h = go (get ctx.graph.blocks b) h
     where

@@ -74,7 +74,7 @@ module _ {T A : Type 0} (C : Printing T A) (L : Language ⊤ T A) (ctx : Context
   regions_seen f [] = refl
   regions_seen f (r ∷ rs) = ap suc (regions_seen f rs)
 
-  -- of an operation nothing is written but what stands in front of its parts
+  -- of an operation nothing is written but what precedes its parts
   pub opened_is : (i : ℕ) (l : Limit) (own : Option (GraphOp T A)) (form : Option Format) (o : GraphOp T A) (rs : Regions (GraphOp T A) (GraphBlock T A) ⊤) →
       opened i l own (body_of C o form) rs ≡ an_operation i l own (is_canonical form) (filter_map (part_of C (directives_in form) o) (directives_in form)) rs
   opened_is i l own None o rs = refl
@@ -211,7 +211,7 @@ module _ {T A : Type 0} (C : Printing T A) (L : Language ⊤ T A) (ctx : Context
 
   -- ---- a region
 
-  -- what stands in something is there
+  -- a child of an object is live
   pub block_there : Nested (children ctx.graph) (parent ctx.graph) → (r : Ptr Region) (b : Ptr BasicBlock) (i : ℕ) → slice_get (blocks ctx.graph r) i ≡ Some b → (e : _) × (get ctx.graph.blocks b ≡ Some e)
   block_there nested r b i h = elim (seen (get ctx.graph.blocks b)) [
     | inl none ↦ absurd (let k : option_map TheRegion (parent_of (get ctx.graph.blocks b)) ≡ None = ap (λ o. option_map TheRegion (parent_of o)) none in

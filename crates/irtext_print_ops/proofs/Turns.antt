@@ -1,5 +1,5 @@
--- What each turn writes: of an operation a piece, a region or its mark; of a region a block's head or the brace behind the last; of a block an
--- operation's results and id.
+-- What each turn writes: of an operation a piece, a region or its mark; of a region a block's head or the brace after the last; of a block
+-- an operation's results and id.
 use Rattle.std.proofs.Common.{◌≡◌, ℕ, ◌+◌, List, [], ◌∷◌, ◌++◌, Option, Some, None, Bool, true, false, arith, refl, ap, sym, ◌∙◌, append_assoc, append-nil}
 use Rattle.std.specs.Prelude.{cond, ⊤, codes, map}
 use Rattle.irtext_base.specs.Text.{Text}
@@ -16,11 +16,11 @@ module _ {T A : Type 0} (C : Printing T A) (L : Language ⊤ T A) (width : ℕ) 
   nothing : (n : ℕ) → n + 0 ≡ n
   nothing n = omega arith
 
-  -- nothing else is open behind it
+  -- no other frame is open after it
   pub ends : (f : Open T A) (n : ℕ) (text : Text) (k : ℕ) → rest C L width f n ≡ text → marks C f ≡ k → Turns C L width f n text k []
   ends f n text k e m = record { written = e ∙ sym (append-nil text); counted = m ∙ sym (nothing k) }
 
-  -- one is open behind it, without a mark
+  -- one frame is open after it, without a mark
   pub goes_on : (f : Open T A) (n : ℕ) (text : Text) (g : Open T A) → rest C L width f n ≡ text ++ rest C L width g n → marks C f ≡ marks C g → Turns C L width f n text 0 (g ∷ [])
   goes_on f n text g e m = record {
     written = e ∙ (ap (λ k. text ++ rest C L width g k) (sym (nothing n)) ∙ ap (λ z. text ++ z) (sym (alone C L width g (n + 0))));
@@ -30,7 +30,7 @@ module _ {T A : Type 0} (C : Printing T A) (L : Language ⊤ T A) (width : ℕ) 
       one : (a : ℕ) → a ≡ 0 + (0 + a)
       one a = omega arith
 
-  -- two are open behind it: the inner one comes first
+  -- two frames are open after it: the inner one comes first
   pub enters : (f : Open T A) (n : ℕ) (text : Text) (k : ℕ) (g h : Open T A) → rest C L width f n ≡ text ++ (rest C L width h (n + k) ++ rest C L width g ((n + k) + marks C h)) →
       marks C f ≡ k + (marks C h + marks C g) → Turns C L width f n text k (g ∷ h ∷ [])
   enters f n text k g h e m = record {
@@ -127,7 +127,7 @@ module _ {T A : Type 0} (C : Printing T A) (L : Language ⊤ T A) (width : ℕ) 
         ∙ append_assoc (codes "{..}") (joined [] ts) (tail ++ mark_text C L width (n + marks_in_regions C l rs) own))))
         (ap (λ m. m + mark_count C own) (elided_marks r bs rs e))
 
-    -- two are open behind it, and no mark was written
+    -- two frames are open after it, and no mark was written
     pub enters_plain : (f : Open T A) (n : ℕ) (text : Text) (g h : Open T A) → rest C L width f n ≡ text ++ (rest C L width h n ++ rest C L width g (n + marks C h)) →
         marks C f ≡ marks C h + marks C g → Turns C L width f n text 0 (g ∷ h ∷ [])
     enters_plain f n text g h e m = enters f n text 0 g h

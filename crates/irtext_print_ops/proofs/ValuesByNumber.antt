@@ -89,7 +89,7 @@ module _ {T A : Type 0} where
       inl (ap (λ z. named attributes j z) same ∙ ap (λ n. named attributes n v) here)
   named_among attributes i (v ∷ vs) j (suc k) t p e = inr (named_among attributes (suc i) vs j k t (omega (arith, p)) e)
 
--- what stands at a place is there under the generation of the place
+-- the object at a place is live under the generation of the place
 at_cell : {X : Type 0} (s : Store X) (i : ℕ) (c : Cell X) → slice_get s.cells i ≡ Some c → object_in (slice_get s.cells i) c.generation ≡ c.object
 at_cell s i c e = ap (λ o. object_in o c.generation) e ∙ ap (λ b. if b then c.object else None) (eq-eqb c.generation c.generation refl)
 
@@ -105,7 +105,7 @@ module _ {T A : Type 0} (ctx : ContextView T A) where
       go None = refl
       go (Some held) = refl
 
-  -- a value as what stands under its pointer has it
+  -- a value as the object under its pointer has it
   as_result : (p : Ptr Operation) (k : ℕ) (e : OperationEntry T A) (t : Typed (Option T)) → get ctx.graph.operations p ≡ Some e → its (Result p k) t ≡ named (attributes_in e.content.content.data_of) k t
   as_result p k e t there = ap (λ g. record { number = t.number; of_type = t.of_type; given = g }) (ap (λ o. option_and_then (λ (op : OperationView T A). unique.given_at k op.attributes) (option_and_then operation_of o)) there ∙ given_in k e)
 

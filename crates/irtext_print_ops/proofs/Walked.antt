@@ -33,7 +33,7 @@ use Rattle.irtext_context.specs.declared.base.item.Item.{Item}
 use Rattle.irtext_print_ops.proofs.Turned.{opened_is, same_mark, fits_covered, regions_counted}
 
 module _ {T A : Type 0} (C : Printing T A) (L : Language ⊤ T A) (ctx : ContextView T A) (width : ℕ) where
-  -- the text that is left of frames, behind so many marks
+  -- the text that is left of frames, after this many marks
   abbrev pub frames_text : List Frame → List Item → List ℕ
   frames_text frames items = encode_utf8_all (open_rest C L width (map (open_of C L ctx) frames) (length items))
 
@@ -53,11 +53,11 @@ module _ {T A : Type 0} (C : Printing T A) (L : Language ⊤ T A) (ctx : Context
   items_both [] hs = sym (append-nil (items_left C L ctx hs))
   items_both (g ∷ gs) hs = ap (λ z. z ++ items_of C L ctx g) (items_both gs hs) ∙ append_assoc (items_left C L ctx hs) (items_left C L ctx gs) (items_of C L ctx g)
 
-  turns_both : (gs hs : List Frame) → turns_left C L ctx (gs ++ hs) ≡ turns_left C L ctx gs + turns_left C L ctx hs
+  pub turns_both : (gs hs : List Frame) → turns_left C L ctx (gs ++ hs) ≡ turns_left C L ctx gs + turns_left C L ctx hs
   turns_both [] hs = omega arith
   turns_both (g ∷ gs) hs = let k = turns_both gs hs in omega (arith, k)
 
-  -- something of what frames leave open gives a reason to refuse
+  -- some part of what frames leave open has a reason to fail
   abbrev pub FramesFault : Refusal → List Frame → Type 0
   FramesFault e frames = AnyFault C (isolated ctx.dialects) width e (map (open_of C L ctx) frames)
 
@@ -69,7 +69,7 @@ module _ {T A : Type 0} (C : Printing T A) (L : Language ⊤ T A) (ctx : Context
   frames_both : (e : Refusal) (gs hs : List Frame) → FramesFault e (gs ++ hs) → FramesFault e gs ⊎ FramesFault e hs
   frames_both e gs hs x = any_both C (isolated ctx.dialects) width e (map (open_of C L ctx) gs) (map (open_of C L ctx) hs) (subst (AnyFault C (isolated ctx.dialects) width e) (map-append (open_of C L ctx) gs hs) x)
 
-  -- the innermost frame gives a reason to refuse
+  -- the innermost frame has a reason to fail
   pub last_fault : (e : Refusal) (gs : List Frame) (f : Frame) → OpenFault C (isolated ctx.dialects) width e (open_of C L ctx f) → FramesFault e (gs ++ f ∷ [])
   last_fault e gs f x = subst (AnyFault C (isolated ctx.dialects) width e) (sym (map-append (open_of C L ctx) gs (f ∷ []))) (any_back C (isolated ctx.dialects) width e (map (open_of C L ctx) gs) (open_of C L ctx f ∷ []) (inl x))
 
@@ -134,7 +134,7 @@ module _ {T A : Type 0} (C : Printing T A) (L : Language ⊤ T A) (ctx : Context
     abbrev first_frame : Frame
     first_frame = frame.Operation (record { op = p; directives = known; directive = 0; region = 0; repeats = is_canonical (C.format_of (seen_at C L ctx p).id); marked = marked; indent = i; limit = limit })
 
-    -- what stands in front of the parts of the outermost operation, and what is left then
+    -- what precedes the parts of the outermost operation, and the text that is left then
     pub first_text : (items : List Item) (old new : List ℕ) → n ≡ length items → new ≡ old ++ encode_utf8_all (operation_front L (tree_op C 0 (seen_at C L ctx p))) →
         new ++ frames_text (first_frame ∷ []) items
         ≡ old ++ encode_utf8_all (concrete L (tree_op C (n + marks_in_regions C (levels limit) (seen_regions L.owns.written ctx (regions_left C L ctx p 0))) (seen_at C L ctx p))

@@ -29,7 +29,7 @@ use Rattle.irtext_print.specs.declared.printable.refusal.Refusal.TheVariants.{Me
 use Rattle.irtext_print.specs.declared.printable.state.RegionPrintDepthLimit.{RegionPrintDepthLimit}
 use Rattle.irtext_print_ops.specs.Opened.{operation_front, block_head, mark_text, open_rest}
 use Rattle.irtext_print_ops.specs.Faults.{IndentFault, OperationFault, RegionsFault, OperationsFault, OpenFault, AnyFault}
-use Rattle.irtext_print_ops.specs.Walk.{is_canonical, directives_in, AreDirectives, part_text, pieces_text, part_at, parts_left, seen_at, regions_left, blocks_left, operations_left, marked_own, open_of, FrameFits, AllFit, marked_operation, marked_block, items_in_regions, items_in_blocks, items_in_operations, items_left, Steps, StopsBefore}
+use Rattle.irtext_print_ops.specs.Walk.{is_canonical, directives_in, AreDirectives, part_text, pieces_text, part_at, parts_left, seen_at, regions_left, blocks_left, operations_left, marked_own, open_of, FrameFits, AllFit, marked_operation, marked_block, items_in_regions, items_in_blocks, items_in_operations, items_left, Leads, Reaches, Steps, StopsBefore}
 use Rattle.irtext_print_ops.specs.declared.frame.Frame.{Frame}
 use Rattle.irtext_context.specs.declared.base.item.Item.{Item}
 use Rattle.irtext_print_ops.specs.declared.frame.OperationFrame.{OperationFrame}
@@ -135,6 +135,14 @@ module _ {T A : Type 0} (types : ir_text.Ghosts T A) (owns : ir_text.Ghosts A A)
   -- a step from a frame
   abbrev pub StepsAt : ℕ → Frame → List Item → List Item → List Frame → List Frame → String Global → String Global → Type 0
   StepsAt width f items items' frames frames' old new = Steps printing_of language_of ctx width f items items' frames frames' (string_bytes old) (string_bytes new)
+
+  -- where steps from a frame lead: to one inside of it, or to its end
+  abbrev pub LeadsAt : ℕ → Frame → Option Frame → List Item → List Item → List Frame → List Frame → String Global → String Global → Type 0
+  LeadsAt width f inner items items' frames frames' old new = Leads printing_of language_of ctx width f inner items items' frames frames' (string_bytes old) (string_bytes new)
+
+  -- which frame is reached from another, if one is; otherwise steps lead to the end of the other
+  abbrev pub ReachesAt : ℕ → Frame → Option Frame → List Item → List Item → List Frame → List Frame → String Global → String Global → Type 0
+  ReachesAt width f inner items items' frames frames' old new = Reaches printing_of language_of ctx width f inner items items' frames frames' (string_bytes old) (string_bytes new)
 
   -- the reason of an error in a frame: out of memory is possible at any time; any other only if the rest of the frame gives it
   abbrev pub RefusesFrame : ℕ → Frame → Refusal → Type 0

@@ -1,5 +1,5 @@
 -- What single steps of the walk print, and which frames they leave.
-use Rattle.std.specs.Prelude.{◌+◌, ◌≤◌, ◌^◌, ◌==◌, ℕ, Bool, IsSome, true, false, cond, List, [], ◌∷◌, ◌++◌, length, slice_get, Option, Some, None, codes}
+use Rattle.std.specs.Prelude.{◌+◌, ◌≤◌, ◌^◌, ◌==◌, ℕ, IsSome, true, false, cond, List, [], ◌∷◌, ◌++◌, length, slice_get, Option, Some, None, codes}
 use Rattle.irtext_base.specs.Format as format
 use Rattle.irtext_base.specs.Format.{Format, Directive}
 use Rattle.irtext_base.specs.Text.{Text}
@@ -10,6 +10,8 @@ use Rattle.irtext_graph.specs.Parts.{regions, blocks}
 use Rattle.irtext_print.specs.Printers.Printing.{lowered}
 use Rattle.irtext_print.specs.declared.printable.state.RegionPrintDepthLimit.{RegionPrintDepthLimit}
 use Rattle.irtext_print_ops.specs.Opened.{opening, closing}
+use Rattle.irtext_print_ops.specs.declared.frame.BlockTurn.{BlockTurn}
+use Rattle.irtext_print_ops.specs.declared.frame.BlockTurn.TheVariants as block_turn
 use Rattle.irtext_print_ops.specs.declared.frame.Frame.{Frame}
 use Rattle.irtext_print_ops.specs.declared.frame.Frame.TheVariants as frame
 use Rattle.irtext_print_ops.specs.declared.frame.OperationFrame.{OperationFrame}
@@ -36,10 +38,11 @@ abbrev pub listed : Option Frame → List Frame
 listed None = []
 listed (Some f) = f ∷ []
 
--- the innermost open frame is that of a block
-abbrev pub is_in_block : Option Frame → Bool
-is_in_block (Some (frame.Block f)) = true
-is_in_block _ = false
+-- the frame that is innermost after a step of a block, if there is one
+abbrev pub block_left : BlockTurn → Option Frame
+block_left (block_turn.Stays f) = Some (frame.Block f)
+block_left (block_turn.Enters g) = Some (frame.Region g)
+block_left block_turn.Ends = None
 
 -- the frames that a step of an operation leaves
 abbrev pub turn_frames : OperationFrame → Turn → List Frame

@@ -1,6 +1,6 @@
 -- For callers: what a frame of the printing loop means: what it leaves open, which items inside are still to be marked, and how much is
 -- left of it. An item is an operation or a block that carries a mark.
-use Rattle.std.specs.Prelude.{◌≡◌, ◌<◌, ◌≤◌, ◌+◌, ◌*◌, ◌-◌, ◌||◌, ◌++◌, ◌∷◌, ℕ, suc, Bool, true, false, cond, List, [], length, map, drop, filter_map, Option, Some, None, IsSome, option_map, ⊤}
+use Rattle.std.specs.Prelude.{◌≡◌, ◌<◌, ◌≤◌, ◌+◌, ◌*◌, ◌-◌, ◌||◌, ◌⊎◌, ◌++◌, ◌∷◌, ℕ, suc, Bool, true, false, cond, List, [], length, map, drop, filter_map, Option, Some, None, IsSome, option_map, ⊤}
 use Rattle.std.specs.Borrow.{Bor}
 use Rattle.std.specs.Str.{encode_utf8_all}
 use Rattle.irtext_base.specs.Format as format
@@ -56,6 +56,13 @@ nothing_seen = record { id = record { dialect = []; name = [] }; results = []; o
 abbrev pub or_nothing : {T A : Type 0} → Option (GraphOp T A) → GraphOp T A
 or_nothing None = nothing_seen
 or_nothing (Some o) = o
+
+-- no step was made so far
+pub record Unmoved (first here : Frame) (items items' : List Item) (frames frames' : List Frame) (old now : List ℕ) : Type 0 where
+  pub same : here ≡ first
+  pub marks : items' ≡ items
+  pub stack : frames' ≡ frames
+  pub bytes : now ≡ old
 
 module _ {T A : Type 0} (L : Language ⊤ T A) where
   -- what a part prints, if it is no region
@@ -235,3 +242,24 @@ module _ {T A : Type 0} (C : Printing T A) where
     -- a step from a frame
     abbrev pub Steps : ℕ → Frame → List Item → List Item → List Frame → List Frame → List ℕ → List ℕ → Type 0
     Steps width f items items' frames frames' old new = Replaces width (open_of f) (items_of f) (turns_of f) items items' frames frames' old new
+
+    -- Steps from a frame lead to one inside of it, which is innermost after them. The frames between the two were opened inside of
+    -- those that are open.
+    pub record Descends (width : ℕ) (first here : Frame) (items items' : List Item) (frames frames' : List Frame) (old new : List ℕ) : Type 0 where
+      pub opened : List Frame
+      pub stack : frames' ≡ frames ++ opened
+      pub steps : Steps width first items items' [] (opened ++ here ∷ []) old new
+
+    -- where steps from a frame lead: to one inside of it, or to its end
+    abbrev pub Leads : ℕ → Frame → Option Frame → List Item → List Item → List Frame → List Frame → List ℕ → List ℕ → Type 0
+    Leads width f None items items' frames frames' old new = Steps width f items items' frames frames' old new
+    Leads width f (Some here) items items' frames frames' old new = Descends width f here items items' frames frames' old new
+
+    -- a frame is reached from another by steps, or is the other itself
+    abbrev pub Arrives : ℕ → Frame → Frame → List Item → List Item → List Frame → List Frame → List ℕ → List ℕ → Type 0
+    Arrives width f here items items' frames frames' old new = Unmoved f here items items' frames frames' old new ⊎ Descends width f here items items' frames frames' old new
+
+    -- which frame is reached from another, if one is; otherwise steps lead to the end of the other
+    abbrev pub Reaches : ℕ → Frame → Option Frame → List Item → List Item → List Frame → List Frame → List ℕ → List ℕ → Type 0
+    Reaches width f None items items' frames frames' old new = Steps width f items items' frames frames' old new
+    Reaches width f (Some here) items items' frames frames' old new = Arrives width f here items items' frames frames' old new

@@ -15,7 +15,7 @@ ghost use Rattle.irtext_print_ops.specs.Listed.{list_text};
 ghost use Rattle.irtext_print_ops.specs.Names.{printing_by};
 ghost use Rattle.irtext_print_ops.specs.declared.lists.Listed.TheVariants.{Arguments};
 
-use crate::lists::{Listed, fmt_listed};
+use crate::lists::{Listed, count, fmt_listed};
 use crate::names::fmt_block_label;
 use irtext_base::text::{AttrText, IrText};
 use irtext_context::base::{BasicBlock, BlockAccess, Context, Ptr};
@@ -56,6 +56,10 @@ fn fmt_arguments<T: IrText<A>, A: AttrText<A>>(
     requires { IsLive ctx.now.graph (TheBlock block) }
     ensures { OnOk result (AppendsText f.old (codes "(" ++ (list_text T.IrText.written ctx.now (Arguments block) 0 ++ codes ")")) f.new) }
 {
+    if count(ctx, Listed::Arguments(block)) == 0 {
+        f.push_str("()")?;
+        return Ok(());
+    }
     f.push_str("(")?;
     fmt_listed(ctx, Listed::Arguments(block), 0, f)?;
     f.push_str(")")?;

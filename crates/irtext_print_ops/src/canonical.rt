@@ -14,15 +14,16 @@ ghost use Rattle.irtext_print_ops.specs.Listed.{list_text};
 ghost use Rattle.irtext_print_ops.specs.Names.{printing_by};
 ghost use Rattle.irtext_print_ops.specs.declared.lists.Listed.TheVariants.{Operands, Successors, OperandTypes, ResultTypes};
 
-use crate::lists::{Listed, fmt_listed};
+use crate::lists::{Listed, count, fmt_listed};
 use irtext_base::text::{AttrText, IrText};
 use irtext_context::base::{Context, Operation, OperationAccess, Ptr};
-use irtext_print::ir::print::pieces::fmt_dictionary;
+use irtext_print::ir::print::pieces::fmt_entries;
 use irtext_print::printable::Refusal;
 use irtext_print::printable::refusal::memory_alone;
 use std::fmt;
 
-/// Appends the names of the operands in parentheses and the labels of the successors in brackets: ` (x_v1) [^a_block1v1]`.
+/// Appends the names of the operands in parentheses and the labels of the successors in brackets, and opens the dictionary's bracket:
+/// ` (x_v1) [^a_block1v1] [`.
 fn fmt_uses<T: IrText<A>, A: AttrText<A>>(
     ctx: &Context<T, A>,
     op: Ptr<Operation>,
@@ -30,27 +31,31 @@ fn fmt_uses<T: IrText<A>, A: AttrText<A>>(
 ) -> fmt::Result
     requires { IsLive ctx.now.graph (TheOperation op) }
     ensures { OnOk result (AppendsText f.old (codes " (" ++ (list_text T.IrText.written ctx.now (Operands op) 0
-        ++ (codes ") [" ++ (list_text T.IrText.written ctx.now (Successors op) 0 ++ codes "]")))) f.new) }
+        ++ (codes ") [" ++ (list_text T.IrText.written ctx.now (Successors op) 0 ++ codes "] [")))) f.new) }
 {
     f.push_str(" (")?;
     fmt_listed(ctx, Listed::Operands(op), 0, f)?;
+    if count(ctx, Listed::Successors(op)) == 0 {
+        f.push_str(") [] [")?;
+        return Ok(());
+    }
     f.push_str(") [")?;
     fmt_listed(ctx, Listed::Successors(op), 0, f)?;
-    f.push_str("]")?;
+    f.push_str("] [")?;
     Ok(())
 }
 
-/// Appends the types of the operands and of the results: `: <(test.ptr ) -> ()>`.
+/// Closes the dictionary's bracket, and appends the types of the operands and of the results: `]: <(test.ptr ) -> ()>`.
 fn fmt_types<T: IrText<A>, A: AttrText<A>>(
     ctx: &Context<T, A>,
     op: Ptr<Operation>,
     f: &mut String,
 ) -> fmt::Result
     requires { IsLive ctx.now.graph (TheOperation op) }
-    ensures { OnOk result (AppendsText f.old (codes ": <(" ++ (list_text T.IrText.written ctx.now (OperandTypes op) 0
+    ensures { OnOk result (AppendsText f.old (codes "]: <(" ++ (list_text T.IrText.written ctx.now (OperandTypes op) 0
         ++ (codes ") -> (" ++ (list_text T.IrText.written ctx.now (ResultTypes op) 0 ++ codes ")>")))) f.new) }
 {
-    f.push_str(": <(")?;
+    f.push_str("]: <(")?;
     fmt_listed(ctx, Listed::OperandTypes(op), 0, f)?;
     f.push_str(") -> (")?;
     fmt_listed(ctx, Listed::ResultTypes(op), 0, f)?;
@@ -70,7 +75,7 @@ fn fmt_front<T: IrText<A>, A: AttrText<A>>(
         (body_of (printing_by A.AttrText.own A.eq ctx.now) o (Some format.canonical))) f.new)) }
 {
     fmt_uses(ctx, op, f)?;
-    fmt_dictionary(op.attributes(ctx), &[], f)?;
+    fmt_entries(op.attributes(ctx), &[], f)?;
     fmt_types(ctx, op, f)
 }
 

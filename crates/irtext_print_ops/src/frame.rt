@@ -80,6 +80,17 @@ pub(crate) enum Turn {
     Ends,
 }
 
+/// What is open after a step of a block.
+#[derive(Clone, Copy)]
+pub(crate) enum BlockTurn {
+    /// The block, and nothing inside of it.
+    Stays(BlockFrame),
+    /// The block, an operation inside of it, and a region inside of that.
+    Enters(RegionFrame),
+    /// Nothing.
+    Ends,
+}
+
 /// Opens a frame inside the open ones.
 #[inline(always)]
 pub(crate) fn open<'c>(frames: &mut Vec<Frame<'c>>, frame: Frame<'c>) -> Result<(), Refusal>

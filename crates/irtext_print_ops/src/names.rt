@@ -1,5 +1,5 @@
 //! The names of values and the labels of blocks, as they are printed.
-ghost use Rattle.std.specs.Prelude.{◌≡◌, ◌++◌, Some, IsSome, OnOk, IfSome, option_copied, codes};
+ghost use Rattle.std.specs.Prelude.{◌≡◌, ◌++◌, Some, IsSome, OnOk, IfSome, option_copied, codes, decimal};
 ghost use Rattle.irtext_graph.specs.Parts.{value_at, ValueStands};
 ghost use Rattle.irtext_context.specs.Context.{block};
 ghost use Rattle.irtext_grammar.specs.Contexts.Nested.{given_to, type_of};
@@ -13,7 +13,7 @@ use irtext_base::text::{AttrText, IrText};
 use irtext_context::base::{BasicBlock, BlockAccess, Context, Ptr, Value};
 use irtext_grammar::name::given_name;
 use irtext_graph::held::HasGraph;
-use irtext_print::printable::numbers::fmt_number;
+use irtext_print::printable::numbers::{fmt_led_number, fmt_number};
 use std::fmt;
 
 /// What printing finds in a context by a value's number belongs to that value: its given name, and its type. Does nothing: the contract
@@ -25,6 +25,14 @@ pub(crate) fn keeps_values<T: IrText<A>, A: AttrText<A>>(ctx: &Context<T, A>, va
     ctx.graph().keeps_numbers();
 }
 
+/// Appends what follows a given name in the name of a value with this number: `_v1`.
+#[inline(never)]
+fn fmt_suffix(number: u64, f: &mut String) -> fmt::Result
+    ensures { OnOk result (AppendsText f.old (codes "_v" ++ decimal number) f.new) }
+{
+    fmt_led_number("_v", number, f)
+}
+
 /// Appends the name of a value with this given name or none, and this number: `x_v1` or `v1`.
 #[inline(always)]
 fn fmt_numbered(given: Option<&Identifier>, number: u64, f: &mut String) -> fmt::Result
@@ -33,13 +41,9 @@ fn fmt_numbered(given: Option<&Identifier>, number: u64, f: &mut String) -> fmt:
     match given {
         Some(name) => {
             f.push_str(name.as_str())?;
-            f.push_str("_v")?;
-            fmt_number(number, f)
+            fmt_suffix(number, f)
         }
-        None => {
-            f.push_str("v")?;
-            fmt_number(number, f)
-        }
+        None => fmt_led_number("v", number, f),
     }
 }
 
@@ -74,6 +78,10 @@ fn fmt_placed(
 {
     fmt_block_front(label, f)?;
     fmt_number(place, f)?;
+    if generation == 1 {
+        f.push_str("v1")?;
+        return Ok(());
+    }
     f.push_str("v")?;
     fmt_number(generation as u64, f)
 }

@@ -9,7 +9,8 @@ ghost use Rattle.irtext_print_ops.specs.Steps.{IsTooDeep, begun_frames, region_f
 
 use crate::frame::RegionFrame;
 use irtext_context::base::{Ptr, Region};
-use irtext_print::printable::numbers::fmt_number;
+use irtext_print::printable;
+use irtext_print::printable::numbers::fmt_led_number;
 use irtext_print::printable::refusal::memory_alone;
 use irtext_print::printable::{
     Refusal, RegionPrintDepthLimit, fmt_colon_newline, fmt_newline, fmt_opening,
@@ -96,23 +97,16 @@ pub(crate) fn fmt_closing(indent: u16, f: &mut String) -> Result<(), Refusal>
     ensures text { OnOk result (AppendsText f.old (closing indent) f.new) }
     ensures refused { IfErr result (λ e. e ≡ refusal.Memory) }
 {
-    if indent == 0 {
-        f.push_str("\n}")?;
-        return Ok(());
-    }
-    fmt_line(indent, f)?;
-    f.push_str("}")?;
-    Ok(())
+    memory_alone(printable::fmt_closing(indent, f))
 }
 
 /// Appends a mark with this index.
-#[inline(always)]
+#[inline(never)]
 pub(crate) fn fmt_index(index: usize, f: &mut String) -> Result<(), Refusal>
     ensures text { OnOk result (AppendsText f.old (codes " !" ++ decimal index) f.new) }
     ensures refused { IfErr result (λ e. e ≡ refusal.Memory) }
 {
-    f.push_str(" !")?;
-    match fmt_number(index as u64, f) {
+    match fmt_led_number(" !", index as u64, f) {
         Ok(()) => Ok(()),
         Err(_) => Err(Refusal::Memory),
     }

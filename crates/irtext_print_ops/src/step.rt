@@ -1,5 +1,5 @@
 //! The steps of the walk: what is printed next of the innermost open frame, and what is open after that.
-ghost use Rattle.std.specs.Prelude.{◌≡◌, ◌≢◌, ◌++◌, ◌∷◌, [], OnOk, IfOk, IfErr, IsSome, length, true};
+ghost use Rattle.std.specs.Prelude.{◌≡◌, ◌≢◌, ◌++◌, ◌∷◌, [], OnOk, IfOk, IfErr, IsSome, length, option_map};
 ghost use Rattle.irtext_context.specs.Context.{operation};
 ghost use Rattle.irtext_context.specs.Context as context;
 ghost use Rattle.irtext_graph.specs.Graph.{IsLive};
@@ -10,7 +10,7 @@ ghost use Rattle.irtext_print_ops.specs.Heads as heads;
 ghost use Rattle.irtext_print_ops.specs.Steps as steps;
 ghost use Rattle.irtext_print_ops.specs.declared.frame.Frame.TheVariants as framed;
 
-use crate::frame::{BlockFrame, Frame, OperationFrame, RegionFrame, Turn, gather, open};
+use crate::frame::{BlockFrame, BlockTurn, Frame, OperationFrame, RegionFrame, Turn, gather, open};
 use crate::heads::WritesHeads;
 use crate::opening::{
     begin_region, deeper, fmt_between_blocks, fmt_between_operations, fmt_closing, fmt_colon,
@@ -65,6 +65,7 @@ fn fmt_pieces<H: WritesHeads<T, A>, T: IrText<A>, A: AttrText<A>>(
 }
 
 /// Checks that an operation fits its format, and appends what comes before its parts. Returns the frame with its parts open.
+#[inline(always)]
 pub(crate) fn begin_operation<'c, H: WritesHeads<T, A>, T: IrText<A>, A: AttrText<A>>(
     ctx: &'c Context<T, A>,
     op: Ptr<Operation>,
@@ -255,7 +256,8 @@ pub(crate) fn operation_turns<'c, H: WritesHeads<T, A>, T: IrText<A>, A: AttrTex
     }
 }
 
-/// Prints what comes next of an operation.
+/// Prints what comes next of an operation. Returns the region that was begun, if it has blocks.
+#[inline(always)]
 fn operation_step<'c, H: WritesHeads<T, A>, T: IrText<A>, A: AttrText<A>>(
     ctx: &'c Context<T, A>,
     width: u16,
@@ -263,11 +265,11 @@ fn operation_step<'c, H: WritesHeads<T, A>, T: IrText<A>, A: AttrText<A>>(
     frames: &mut Vec<Frame<'c>>,
     items: &mut Vec<Item>,
     f: &mut String,
-) -> Result<Option<Frame<'c>>, Refusal>
+) -> Result<Option<RegionFrame>, Refusal>
     requires fits { heads.FrameFitsAt T.IrText.own A.IrText.own A.AttrText.own A.eq ctx.now (framed.Operation frame) }
-    ensures steps { IfOk result (λ inner.
-        heads.StepsAt T.IrText.own A.IrText.own A.AttrText.own A.eq ctx.now width (framed.Operation frame.entry)
-        items.old.items items.new.items frames.old.items (frames.new.items ++ steps.listed inner) f.old f.new) }
+    ensures steps { IfOk result (λ inside.
+        heads.LeadsAt T.IrText.own A.IrText.own A.AttrText.own A.eq ctx.now width (framed.Operation frame.entry)
+        (option_map framed.Region inside) items.old.items items.new.items frames.old.items frames.new.items f.old f.new) }
     ensures refused { IfErr result (heads.RefusesFrame T.IrText.own A.IrText.own A.AttrText.own A.eq ctx.now width
         (framed.Operation frame.entry)) }
 {
@@ -276,10 +278,11 @@ fn operation_step<'c, H: WritesHeads<T, A>, T: IrText<A>, A: AttrText<A>>(
         return Ok(None);
     };
     open(frames, Frame::Operation(left))?;
-    Ok(Some(Frame::Region(inside)))
+    Ok(Some(inside))
 }
 
-/// Prints what comes next of a region: the head of its next block, or its closing brace.
+/// Prints what comes next of a region: the head of its next block, or its closing brace. Returns the block, if there is one.
+#[inline(always)]
 fn region_step<'c, H: WritesHeads<T, A>, T: IrText<A>, A: AttrText<A>>(
     ctx: &'c Context<T, A>,
     width: u16,
@@ -287,11 +290,11 @@ fn region_step<'c, H: WritesHeads<T, A>, T: IrText<A>, A: AttrText<A>>(
     frames: &mut Vec<Frame<'c>>,
     items: &mut Vec<Item>,
     f: &mut String,
-) -> Result<Option<Frame<'c>>, Refusal>
+) -> Result<Option<BlockFrame>, Refusal>
     requires fits { heads.FrameFitsAt T.IrText.own A.IrText.own A.AttrText.own A.eq ctx.now (framed.Region frame) }
     ensures steps { IfOk result (λ inner.
-        heads.StepsAt T.IrText.own A.IrText.own A.AttrText.own A.eq ctx.now width (framed.Region frame)
-        items.old.items items.new.items frames.old.items (frames.new.items ++ steps.listed inner) f.old f.new) }
+        heads.LeadsAt T.IrText.own A.IrText.own A.AttrText.own A.eq ctx.now width (framed.Region frame)
+        (option_map framed.Block inner) items.old.items items.new.items frames.old.items frames.new.items f.old f.new) }
     ensures refused { IfErr result (heads.RefusesFrame T.IrText.own A.IrText.own A.AttrText.own A.eq ctx.now width (framed.Region frame)) }
 {
     ctx.graph().keeps_nesting();
@@ -314,13 +317,13 @@ fn region_step<'c, H: WritesHeads<T, A>, T: IrText<A>, A: AttrText<A>>(
             ..frame
         }),
     )?;
-    Ok(Some(Frame::Block(BlockFrame {
+    Ok(Some(BlockFrame {
         block,
         operation: 0,
         first: true,
         indent,
         limit: frame.limit,
-    })))
+    }))
 }
 
 /// Prints what comes next of a block: its next operation, up to the first region of that one that has blocks, or nothing after the
@@ -333,42 +336,67 @@ fn block_turn<'c, H: WritesHeads<T, A>, T: IrText<A>, A: AttrText<A>>(
     frames: &mut Vec<Frame<'c>>,
     items: &mut Vec<Item>,
     f: &mut String,
-) -> Result<Option<Frame<'c>>, Refusal>
+) -> Result<BlockTurn, Refusal>
     requires fits { heads.FrameFitsAt T.IrText.own A.IrText.own A.AttrText.own A.eq ctx.now (framed.Block frame) }
-    ensures steps { IfOk result (λ inner.
-        heads.StepsAt T.IrText.own A.IrText.own A.AttrText.own A.eq ctx.now width (framed.Block frame)
-        items.old.items items.new.items frames.old.items (frames.new.items ++ steps.listed inner) f.old f.new) }
-    ensures kept { IfOk result (λ inner. steps.is_in_block inner ≡ true → frames.new.items ≡ frames.old.items) }
+    ensures steps { IfOk result (λ turn.
+        heads.LeadsAt T.IrText.own A.IrText.own A.AttrText.own A.eq ctx.now width (framed.Block frame)
+        (steps.block_left turn) items.old.items items.new.items frames.old.items frames.new.items f.old f.new) }
     ensures refused { IfErr result (heads.RefusesFrame T.IrText.own A.IrText.own A.AttrText.own A.eq ctx.now width (framed.Block frame)) }
 {
     ctx.graph().keeps_nesting();
     if frame.operation >= frame.block.num_operations(ctx) {
-        return Ok(None);
+        return Ok(BlockTurn::Ends);
     }
     let op = frame.block.get_operation(ctx, frame.operation);
     if !ctx.contains_operation(op) {
-        return Ok(Some(Frame::Block(BlockFrame {
+        return Ok(BlockTurn::Stays(BlockFrame {
             operation: frame.operation + 1,
             ..frame
-        })));
+        }));
     }
     let indent = deeper(frame.indent, width)?;
     fmt_between_operations(frame.first, indent, f)?;
     let mut begun = begin_operation::<H, T, A>(ctx, op, true, indent, frame.limit, f)?;
-    let behind = Frame::Block(BlockFrame {
+    let next = BlockFrame {
         operation: frame.operation + 1,
         first: false,
         ..frame
-    });
-    let Some(inside) = operation_turns::<H, T, A>(ctx, width, &mut begun, items, f)? else {
-        return Ok(Some(behind));
     };
-    open(frames, behind)?;
+    let Some(inside) = operation_turns::<H, T, A>(ctx, width, &mut begun, items, f)? else {
+        return Ok(BlockTurn::Stays(next));
+    };
+    open(frames, Frame::Block(next))?;
     open(frames, Frame::Operation(begun))?;
-    Ok(Some(Frame::Region(inside)))
+    Ok(BlockTurn::Enters(inside))
 }
 
-/// Prints what comes next of a block: its operations, up to the first region that has blocks, or to the last operation.
+/// Prints what comes next of a block, and the head of the first block of a region that begins there. Returns the block that is innermost
+/// after that, if there is one.
+#[inline(always)]
+fn next_block<'c, H: WritesHeads<T, A>, T: IrText<A>, A: AttrText<A>>(
+    ctx: &'c Context<T, A>,
+    width: u16,
+    frame: BlockFrame,
+    frames: &mut Vec<Frame<'c>>,
+    items: &mut Vec<Item>,
+    f: &mut String,
+) -> Result<Option<BlockFrame>, Refusal>
+    requires fits { heads.FrameFitsAt T.IrText.own A.IrText.own A.AttrText.own A.eq ctx.now (framed.Block frame) }
+    ensures steps { IfOk result (λ inner.
+        heads.LeadsAt T.IrText.own A.IrText.own A.AttrText.own A.eq ctx.now width (framed.Block frame)
+        (option_map framed.Block inner) items.old.items items.new.items frames.old.items frames.new.items f.old f.new) }
+    ensures refused { IfErr result (heads.RefusesFrame T.IrText.own A.IrText.own A.AttrText.own A.eq ctx.now width (framed.Block frame)) }
+{
+    match block_turn::<H, T, A>(ctx, width, frame, frames, items, f)? {
+        BlockTurn::Ends => Ok(None),
+        BlockTurn::Stays(next) => Ok(Some(next)),
+        BlockTurn::Enters(inside) => {
+            region_step::<H, T, A>(ctx, width, inside, frames, items, f)
+        }
+    }
+}
+
+/// Prints what comes next of a block, and of the blocks that begin inside of it, up to the last operation of the innermost one.
 fn block_step<'c, H: WritesHeads<T, A>, T: IrText<A>, A: AttrText<A>>(
     ctx: &'c Context<T, A>,
     width: u16,
@@ -376,27 +404,54 @@ fn block_step<'c, H: WritesHeads<T, A>, T: IrText<A>, A: AttrText<A>>(
     frames: &mut Vec<Frame<'c>>,
     items: &mut Vec<Item>,
     f: &mut String,
-) -> Result<Option<Frame<'c>>, Refusal>
+) -> Result<(), Refusal>
     requires fits { heads.FrameFitsAt T.IrText.own A.IrText.own A.AttrText.own A.eq ctx.now (framed.Block frame) }
-    ensures steps { IfOk result (λ inner.
+    ensures steps { OnOk result (
         heads.StepsAt T.IrText.own A.IrText.own A.AttrText.own A.eq ctx.now width (framed.Block frame)
-        items.old.items items.new.items frames.old.items (frames.new.items ++ steps.listed inner) f.old f.new) }
+        items.old.items items.new.items frames.old.items frames.new.items f.old f.new) }
     ensures refused { IfErr result (heads.RefusesFrame T.IrText.own A.IrText.own A.AttrText.own A.eq ctx.now width (framed.Block frame)) }
 {
     let mut left = frame;
     loop {
-        let inner = block_turn::<H, T, A>(ctx, width, left, frames, items, f)?;
-        let Some(innermost) = inner else {
-            return Ok(inner);
-        };
-        let Frame::Block(next) = innermost else {
-            return Ok(inner);
+        let Some(next) = next_block::<H, T, A>(ctx, width, left, frames, items, f)? else {
+            return Ok(());
         };
         left = next;
     }
 }
 
-/// Prints what comes next of the innermost open frame. Returns the frame that is innermost after that, if one was opened.
+/// Returns the block that is innermost after a step of a frame, if there is one. A block is innermost itself, and no step is made.
+#[inline(always)]
+fn innermost_block<'c, H: WritesHeads<T, A>, T: IrText<A>, A: AttrText<A>>(
+    ctx: &'c Context<T, A>,
+    width: u16,
+    frame: Frame<'c>,
+    frames: &mut Vec<Frame<'c>>,
+    items: &mut Vec<Item>,
+    f: &mut String,
+) -> Result<Option<BlockFrame>, Refusal>
+    requires fits { heads.FrameFitsAt T.IrText.own A.IrText.own A.AttrText.own A.eq ctx.now frame }
+    ensures steps { IfOk result (λ inner.
+        heads.ReachesAt T.IrText.own A.IrText.own A.AttrText.own A.eq ctx.now width frame.entry
+        (option_map framed.Block inner) items.old.items items.new.items frames.old.items frames.new.items f.old f.new) }
+    ensures refused { IfErr result (heads.RefusesFrame T.IrText.own A.IrText.own A.AttrText.own A.eq ctx.now width frame.entry) }
+{
+    match frame {
+        Frame::Operation(frame) => {
+            let Some(inside) = operation_step::<H, T, A>(ctx, width, frame, frames, items, f)?
+            else {
+                return Ok(None);
+            };
+            region_step::<H, T, A>(ctx, width, inside, frames, items, f)
+        }
+        Frame::Region(frame) => region_step::<H, T, A>(ctx, width, frame, frames, items, f),
+        Frame::Block(frame) => Ok(Some(frame)),
+    }
+}
+
+/// Prints what comes next of the innermost open frame, which was popped from the open ones, and of the blocks that begin inside of it.
+/// What is still open after that was pushed.
+#[inline(always)]
 pub(crate) fn step<'c, H: WritesHeads<T, A>, T: IrText<A>, A: AttrText<A>>(
     ctx: &'c Context<T, A>,
     width: u16,
@@ -404,16 +459,15 @@ pub(crate) fn step<'c, H: WritesHeads<T, A>, T: IrText<A>, A: AttrText<A>>(
     frames: &mut Vec<Frame<'c>>,
     items: &mut Vec<Item>,
     f: &mut String,
-) -> Result<Option<Frame<'c>>, Refusal>
+) -> Result<(), Refusal>
     requires fits { heads.FrameFitsAt T.IrText.own A.IrText.own A.AttrText.own A.eq ctx.now frame }
-    ensures steps { IfOk result (λ inner.
+    ensures steps { OnOk result (
         heads.StepsAt T.IrText.own A.IrText.own A.AttrText.own A.eq ctx.now width frame.entry
-        items.old.items items.new.items frames.old.items (frames.new.items ++ steps.listed inner) f.old f.new) }
+        items.old.items items.new.items frames.old.items frames.new.items f.old f.new) }
     ensures refused { IfErr result (heads.RefusesFrame T.IrText.own A.IrText.own A.AttrText.own A.eq ctx.now width frame.entry) }
 {
-    match frame {
-        Frame::Operation(frame) => operation_step::<H, T, A>(ctx, width, frame, frames, items, f),
-        Frame::Region(frame) => region_step::<H, T, A>(ctx, width, frame, frames, items, f),
-        Frame::Block(frame) => block_step::<H, T, A>(ctx, width, frame, frames, items, f),
-    }
+    let Some(block) = innermost_block::<H, T, A>(ctx, width, frame, frames, items, f)? else {
+        return Ok(());
+    };
+    block_step::<H, T, A>(ctx, width, block, frames, items, f)
 }

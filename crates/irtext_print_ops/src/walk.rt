@@ -14,15 +14,25 @@ use irtext_base::text::{AttrText, IrText};
 use irtext_context::base::{Context, Item, Operation, Ptr};
 use irtext_print::printable::{Refusal, State};
 
-/// Returns the innermost open frame. It is popped from the frames if nothing was opened inside them.
-fn innermost<'c>(inner: Option<Frame<'c>>, frames: &mut Vec<Frame<'c>>) -> Option<Frame<'c>>
-    ensures all { frames.new.items ++ listed result ≡ frames.old.items ++ listed inner.entry }
-    ensures none { IfNone result (frames.new.items ≡ []) }
+/// Opens the first frame inside the open ones, if there is one.
+#[inline(always)]
+fn open_first<'c>(first: Option<Frame<'c>>, frames: &mut Vec<Frame<'c>>) -> Result<(), Refusal>
+    ensures ok { OnOk result (frames.new.items ≡ frames.old.items ++ listed first.entry) }
+    ensures refused { IfErr result (λ e. e ≡ refusal.Memory) }
 {
-    match inner {
-        Some(frame) => Some(frame),
-        None => frames.pop(),
+    match first {
+        Some(frame) => open(frames, frame),
+        None => Ok(()),
     }
+}
+
+/// Closes the innermost open frame, and returns it; `None` if none is open.
+#[inline(always)]
+fn close<'c>(frames: &mut Vec<Frame<'c>>) -> Option<Frame<'c>>
+    ensures all { frames.old.items ≡ frames.new.items ++ listed result }
+    ensures none { IfNone result (frames.old.items ≡ []) }
+{
+    frames.pop()
 }
 
 /// Appends the text that is left of the open frames, the innermost first, until nothing is open. Items in it are added to `items`, in
@@ -48,10 +58,9 @@ pub(crate) fn print_frames<'c, H: WritesHeads<T, A>, T: IrText<A>, A: AttrText<A
     ensures refused { IfErr result (λ e. e ≢ refusal.Memory →
         heads.FramesFault T.IrText.own A.IrText.own A.AttrText.own A.eq ctx.now width e (frames.old.items ++ listed first.entry)) }
 {
-    let mut next = first;
-    while let Some(frame) = next {
-        let inner = step::<H, T, A>(ctx, width, frame, frames, items, f)?;
-        next = innermost(inner, frames);
+    open_first(first, frames)?;
+    while let Some(frame) = close(frames) {
+        step::<H, T, A>(ctx, width, frame, frames, items, f)?;
     }
     Ok(())
 }

@@ -1,4 +1,4 @@
--- What is older than a mark stands as it stood, where all that stood then was older; and what is no older was not there.
+-- What is older than a mark is unchanged, if all objects that were live then were older; and what is no older was not there.
 use Rattle.std.proofs.Common.{◌≡◌, ◌∙◌, ◌⊎◌, ℕ, Bool, true, false, cond, Option, Some, None, IsSome, option_map, refl, sym, ap, subst, inl, inr}
 use Rattle.std.specs.Prelude.{nat_lt}
 use Rattle.irtext_graph.specs.declared.arena.Entry.{Entry}
@@ -27,7 +27,7 @@ module _ {X : Type 0} where
   older_there : (m : ℕ) (x : Entry X) → nat_lt x.born m ≡ true → older m (Some x) ≡ Some x
   older_there m x h = ap (λ b. cond b (Some x) None) h
 
-  -- what stood then stands as it stood
+  -- what was live then is unchanged
   module _ {K : Type 0} (m : ℕ) (old new : Store X) (p : Ptr K) (kept : before m new p ≡ before m old p) where
     stays_same : before m old p ≡ get old p → IsSome (get old p) → get new p ≡ get old p
     stays_same all h = go (get old p) refl h
@@ -36,7 +36,7 @@ module _ {X : Type 0} where
         go None e s = absurd (cc)
         go (Some x) e s = older_is m (get new p) x (kept ∙ (all ∙ e)) ∙ sym e
 
-    -- what is older stood then
+    -- an older object was live then
     stood_older : (x : Entry X) → get new p ≡ Some x → nat_lt x.born m ≡ true → get old p ≡ Some x
     stood_older x e h = older_is m (get old p) x (sym kept ∙ (ap (older m) e ∙ older_there m x h))
 
@@ -51,7 +51,7 @@ module _ {O B T : Type 0} (m : ℕ) (g k : GraphView O B T) (all : AllOlder m g)
   region_stays r = stays_same m g.regions k.regions r (kept.regions r) (all.regions r)
 
 module _ {O B T : Type 0} (m : ℕ) (g k : GraphView O B T) (kept : KeepsOlder m g k) where
-  -- what stands is new, or stood as it stands
+  -- a live object is new, or was live then
   stood_operation : (x : Option (Entry (Node BasicBlock Region (OperationContent O T)))) (p : Ptr Operation) → get k.operations p ≡ x → is_older {O = O} {B = B} {T = T} m (option_map (λ d. AnOperation d.0 d.1) (content_of x)) ≡ true → IsSome (get g.operations p)
   stood_operation None p e h = absurd (cc)
   stood_operation (Some x) p e h = let w = stood_older m g.operations k.operations p (kept.operations p) x e h in subst IsSome (sym w) refl
@@ -115,7 +115,7 @@ module _ {O B T : Type 0} where
       go None h = absurd (cc)
       go (Some x) h = refl
 
-  -- what stands stood, or is new
+  -- a live object was live then, or is new
   pub stood_or_new : (m : ℕ) (g k : GraphView O B T) → KeepsOlder m g k → (q : Object) → IsLive k q → IsLive g q ⊎ IsNew m k q
   stood_or_new m g k kept q s = go (is_older m (content k q)) refl
     where
@@ -128,7 +128,7 @@ module _ {O B T : Type 0} where
       go true e = inl (here_stands g q (older_here q e))
       go false e = inr e
 
-  -- what stood has the parent that it had
+  -- an object that was live has the parent that it had
   pub same_parent : (m : ℕ) (g k : GraphView O B T) → AllOlder m g → KeepsOlder m g k → (q : Object) → IsLive g q → parent k q ≡ parent g q
   same_parent m g k all kept q s = go q (stands_here g q s)
     where

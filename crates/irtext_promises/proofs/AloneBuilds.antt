@@ -1,5 +1,5 @@
--- What stands in a region that was read alone is what its blocks build: names, graph and structure stand where the machine of names and the
--- reading came to, and nothing is open any more.
+-- The contents of a region that was parsed alone are what its blocks build: names, graph and structure agree with the state of the machine
+-- of names and with the result of the parse, and nothing is open.
 use Rattle.std.proofs.Common.{◌≡◌, ◌∙◌, ◌⊎◌, ℕ, Bool, true, List, [], ◌∷◌, Option, Some, None, append-nil, refl, sym, ap, subst, inl, inr}
 use Rattle.std.specs.Prelude.{⊤}
 use Rattle.irtext_base.specs.Format as format
@@ -75,7 +75,7 @@ module _ {T A : Type 0} (first : ℕ → Written A) (isolated : Id → Bool) (id
   formed_round : Formed round
   formed_round = (record { format = format.custom (format.region 0 ∷ []); accepted = refl; is_of = refl; enough = tt }, (formed, tt))
 
-  -- what such a tree does is what the region does, in the one region as in the other
+  -- a tree with this region does what the region does alone
   abbrev of_round : Bool → Script
   of_round iso = script.within iso place (blocks_script isolated (0 ∷ []) 0 bs) (script.does (script.claim true (record { cause = script.ResultCount 0 0; at = Some 0 })) done)
 
@@ -136,7 +136,7 @@ module _ {T A : Type 0} (L : ℕ → Location A → Type 0) (c : ContextView T A
           (u.0, same_uses (AtSuccessor o i) ∙ u.1, u.2);
     }
 
-    -- what stands in the region is what the blocks build
+    -- the contents of the region are what the blocks build
     pub region_builds : ((n : ℕ) (l : Location A) → L n l → location_over c.paths l ≡ first n) → held_region c r ≡ built_regions isolated first [] [] [] 0 true (forest.region (shown place) bs no_regions)
     region_builds tells =
         let linked = linked_round first isolated id closed place bs formed st ran in

@@ -1,5 +1,5 @@
--- Behind a tree that was read no scope is open, so no placeholder is left; and a location that is a place of the text is told over any
--- paths.
+-- After a tree was parsed no scope is open, so no placeholder is left; and a location that is a place of the text is printed the same over
+-- any paths.
 use Rattle.std.proofs.Common.{◌≡◌, ◌∙◌, ◌-◌, ℕ, zero, suc, List, [], ◌∷◌, length, take, Option, Some, refl, ap, subst}
 use Rattle.irtext_base.specs.Text.{Text}
 use Rattle.irtext_base.specs.Paths.{written_with}
@@ -52,6 +52,6 @@ module _ {O B T : Type 0} where
     labels = λ k d blank n own. let x = (none_waits m [] OfBlock labels g b w.label_waits).known k d blank n own in nothing_there x.0 x.1 k x.2;
   }
 
--- a location that is a place of the text is told over any paths
+-- a location that is a place of the text is printed the same over any paths
 pub place_told : {A : Type 0} (paths : List (List ℕ)) (source : Source) (text : Text) (n : ℕ) (loc : Location A) → loc ≡ SrcPos source (position_behind (take (length text - n) text)) → location_over paths loc ≡ location_of paths source text n
 place_told paths source text n loc e = ap (location_over paths) e ∙ ap (written_with paths) (seen-src_pos source (position_behind (take (length text - n) text)))

@@ -1,5 +1,5 @@
--- What stands under the pointer of a tree that was read is what the tree builds, with no section: names, graph and structure stand where
--- the machine of names and the reading came to, and nothing is open any more.
+-- What is under the pointer of a tree that was parsed is what the tree builds, with no section: names, graph and structure agree with the
+-- state of the machine of names and with the result of the parse, and nothing is open.
 use Rattle.std.proofs.Common.{◌≡◌, ℕ, Bool, List, [], ◌∷◌, Some, sym, subst, inl, inr}
 use Rattle.irtext_base.specs.Format.{Id}
 use Rattle.irtext_base.specs.Paths.{Written}
@@ -90,6 +90,6 @@ module _ {T A : Type 0} (L : ℕ → Location A → Type 0) (start c : ContextVi
   pub linked : Linked (build isolated first [] x)
   linked = all_there isolated first [] x formed done resolves
 
-  -- and what stands under the pointer is what the tree builds
+  -- and what is under the pointer is what the tree builds
   pub builds : ((n : ℕ) (l : Location A) → L n l → location_over c.paths l ≡ first n) → held_root c p ≡ Some (build isolated first [] x)
   builds tells = root_same c first [] isolated (pointers c.graph p) x (root_has L c items first tells (pointers c.graph p) x is_tree) linked (keeps [])

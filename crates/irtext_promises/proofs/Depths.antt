@@ -75,7 +75,7 @@ module _ {X K : Type 0} (s : Store X) where
       go others true e h = subst (λ i. i < length s.cells) (sym (eqb-true q p.index e)) (index_low p (there p (inl refl)))
       go others false e h = others h
 
--- ---- what is seen of an object says what stands in it
+-- ---- the view of an object has the children of the object
 module _ {T A : Type 0} (c : ContextView T A) where
   pub regions_seen : (p : Ptr Operation) (view : OperationView T A) → operation c p ≡ Some view → view.regions ≡ regions c.graph p
   regions_seen p view e = go (get c.graph.operations p) e
@@ -102,7 +102,7 @@ module _ {T A : Type 0} (c : ContextView T A) where
       go None e = absurd (cc)
       go (Some x) e = let f = some_eq e in ap (λ (v : RegionView). v.blocks) (sym f)
 
-  -- what is seen stands
+  -- an operation with a view is live
   pub seen_there : (p : Ptr Operation) (view : OperationView T A) → operation c p ≡ Some view → IsSome (get c.graph.operations p)
   seen_there p view e = go (get c.graph.operations p) e
     where
@@ -134,7 +134,7 @@ module _ {T A : Type 0} (L : ℕ → Location A → Type 0) (c : ContextView T A
   Said xs = Each (λ item. path item.0 ≡ item.1) xs
 
   module _ (once : (n m : ℕ) (o : Object) → Among (n, o) items → Among (m, o) items → n ≡ m) where
-    -- operations that stand in one another: each stands, and its path is shorter than this
+    -- operations nested in one another: each is live, and its path is shorter than this
     record Chain (above : List (Ptr Operation)) (d : ℕ) : Type 0 where
       distinct : IsDistinct eqb (map (λ p. p.index) above)
       live : (q : Ptr Operation) → Among q above → IsSome (get c.graph.operations q)

@@ -38,7 +38,7 @@ use Rattle.irtext_promises.specs.Held.{PtrRegions, PtrBlocks, PtrOperations, pla
 use Rattle.irtext_promises.specs.Given.{OperationHas, BlockHas, RegionsHave, BlocksHave, OperationsHave, RootHas}
 
 -- ---- lists of places
--- what is there is what is told of each index
+-- lists of equal length that agree at each index are equal
 lists_same : {X : Type 0} (xs ys : List (Option X)) → length xs ≡ length ys → list_all is_some ys ≡ true → ((i : ℕ) (q : X) → slice_get ys i ≡ Some (Some q) → slice_get xs i ≡ Some (Some q)) → xs ≡ ys
 lists_same [] [] l a h = refl
 lists_same [] (y ∷ ys) l a h = absurd (omega (arith, l))
@@ -49,7 +49,7 @@ lists_same {X} (x ∷ xs) (Some q ∷ ys) l a h = ap₂ (λ u v. u ∷ v) (first
     first : Some x ≡ Some (Some q) → x ≡ Some q
     first e = cc
 
--- what stands at an index is among the links from there
+-- a place at an index is among the links from there
 link_there : (user : ℕ → User) (k i : ℕ) (q : Place) (os : List (Option Place)) → slice_get os i ≡ Some (Some q) → In (user (k + i), q) (links_from user k os)
 link_there user k zero q [] e = absurd (cc)
 link_there user k (suc i) q [] e = absurd (cc)

@@ -1,5 +1,5 @@
--- A forest of pointers that is that of a tree has what the tree gives its items, with no section; and with one, where each item came to
--- have what the entry of its mark gives it.
+-- A forest of pointers that is that of a tree has what the tree gives its items, with no section; and with one, if each item has what the
+-- entry of its mark gives it.
 use Rattle.std.proofs.Common.{◌≡◌, ◌∙◌, ℕ, List, [], Option, Some, None, refl, sym, ap}
 use Rattle.std.specs.Prelude.{is_some, unwrap_or}
 use Rattle.irtext_base.specs.Text.{Text}

@@ -1,4 +1,4 @@
--- The promise of an operation that was read with all that nests in it, with no section, from what its reader leaves.
+-- The promise of an operation that was parsed with all that nests in it, with no section, from what its parser leaves.
 use Rattle.std.proofs.Common.{◌≡◌, ◌∙◌, ℕ, List, [], Option, Some, None, sym, ap, subst}
 use Rattle.std.specs.Prelude.{IfSome}
 use Rattle.irtext_base.specs.Text.{Text}
@@ -61,7 +61,7 @@ accepts (Some g) f h e = let same : g ≡ f = cc in subst Accepted same h
 module _ {T A : Type 0} (types_at : Text → Outcome T) (types_written : T → Text) (reading : Text → Outcome A) (written : A → Text) (dialects : List (Text × Table)) (types_split : Splits types_at) (splits : Splits reading) (words : NeedsWord reading)
     (short_types : Shortens (texts_of types_at types_written)) (short_owns : Shortens (texts_of reading written)) (accepted : (id : Id) → IsAccepted dialects id)
     (L : ℕ → Location A → Type 0) (op : Ptr Operation) (marks : List ℕ) (old new : ContextView T A) (text rest : Text) (leaves : LeavesTree types_at (attr_at reading) dialects L op marks old new text rest) where
-  -- the text reads as the tree
+  -- the text parses as the tree
   pub reads_tree : grammar.reads (knot.L types_at types_written reading written dialects) leaves.tree text rest
   reads_tree =
       let types = texts_of types_at types_written in
@@ -80,7 +80,7 @@ module _ {T A : Type 0} (types_at : Text → Outcome T) (types_written : T → T
   pub behind : StandsBehind types_at (attr_at reading) dialects leaves.items marks new text rest named.0
   behind = leaves.machine named.0
 
-  -- the machine came through the tree's script
+  -- the machine ran the tree's script without failure
   pub ran : run (going start) (events (tree_script (isolated dialects) leaves.tree done)) ≡ going behind.state
   ran =
       let found = knot.tree_found types_at types_written reading written dialects types_split splits (naming (format_of dialects) named.0) words leaves.tree text rest (going start) reads_tree in
@@ -91,12 +91,12 @@ module _ {T A : Type 0} (types_at : Text → Outcome T) (types_written : T → T
   pub tree_resolves : failures_of {X = Written A} (isolated dialects) leaves.tree [] ≡ []
   tree_resolves = (ran_through (tree_script (isolated dialects) leaves.tree done) behind.state ran).0
 
-  -- its marks are noted
+  -- its marks are recorded
   pub marks_are : marks ≡ tree_marks dialects leaves.tree
   marks_are = sym behind.marked ∙ ap (λ (z : history.State). z.marks) (ran_through (tree_script (isolated dialects) leaves.tree done) behind.state ran).1
 
   module _ (closed : LeavesClosed old new) (first : ℕ → Written A) (tells : (n : ℕ) (l : Location A) → L n l → location_over new.paths l ≡ first n) where
-    -- what it builds stands under the pointer
+    -- what it builds is under the pointer
     pub tree_builds : held_root new op ≡ Some (build (isolated dialects) first [] leaves.tree)
     tree_builds = builds.builds L old new leaves.items leaves.whole op leaves.tree leaves.held closed.nest named.0 named.1 first (isolated dialects) formed behind.names behind.known behind.are behind.state behind.stands ran tells
 
@@ -108,7 +108,7 @@ module _ {T A : Type 0} (types_at : Text → Outcome T) (types_written : T → T
         (builds.linked L old new leaves.items leaves.whole op leaves.tree leaves.held closed.nest named.0 named.1 first (isolated dialects) formed behind.names behind.known behind.are behind.state behind.stands ran)
         closed.mark closed.older closed.kept closed.none closed.blanks closed.holders named.0 named.1
 
--- an operation that was read with all that nests in it keeps the promise
+-- an operation that was parsed with all that nests in it keeps the promise
 pub builds_tree : {T A U : Type 0} (types_at : Text → Outcome T) (types_written : T → Text) (reading : Text → Outcome A) (written : A → Text) → Splits types_at → Splits reading → NeedsWord reading → Shortens (texts_of types_at types_written) → Shortens (texts_of reading written)
     → (L : ℕ → Location A → Type 0) (op : Ptr Operation) (old new : StateStream T A U) → ((id : Id) → IsAccepted old.state.ctx.now.dialects id)
     → LeavesTree types_at (attr_at reading) old.state.ctx.now.dialects L op (indices_of (marks_of new.state)) old.state.ctx.now new.state.ctx.now old.stream.rest new.stream.rest → LeavesClosed old.state.ctx.now new.state.ctx.now

@@ -1,5 +1,5 @@
--- Where a forest of pointers is that of a tree, each item stands at its path, and what a reading has made stands for the places that
--- pointers show.
+-- If a forest of pointers is that of a tree, each item is at its path, and what a parse created corresponds to the places that pointers
+-- show.
 use Rattle.std.proofs.Common.{◌≡◌, ◌∙◌, ℕ, suc, List, [], ◌∷◌, ◌++◌, Option, Some, option_map, sym, ap, subst, inl, inr}
 use Rattle.std.specs.Prelude.{⊤}
 use Rattle.irtext_base.specs.declared.location.Location.{Location}
@@ -35,6 +35,15 @@ use Rattle.irtext_names.proofs.Linked.Moving.{among_split}
 use Rattle.irtext_promises.specs.Held.{PtrRegions, PtrBlocks, PtrOperations, placed_regions, placed_blocks, placed_operations, placed_under, path_of, value_place, block_place, defined_place}
 use Rattle.irtext_promises.specs.Placed.{RegionsAre, BlocksAre, OperationsAre, RootIs}
 use Rattle.irtext_promises.proofs.Paths.{Once, path_found}
+
+-- the path of the operation that uses, and the number of the use in it
+abbrev user_path : User → Path
+user_path (operand p i) = p
+user_path (successor p i) = p
+
+abbrev user_number : User → ℕ
+user_number (operand p i) = i
+user_number (successor p i) = i
 
 module _ {T A : Type 0} (L : ℕ → Location A → Type 0) (c : ContextView T A) (items : Made) (path : ℕ → Path) where
   -- an operation or a block is an item whose path this is
@@ -89,12 +98,12 @@ module _ {T A : Type 0} (L : ℕ → Location A → Type 0) (c : ContextView T A
         (regions_placed (j ∷ p) 0 qs rs (each_left Q (paths_in_regions (j ∷ p) 0 rs) (paths_in_operations p (suc j) os) s.1) k)
         (operations_placed p (suc j) ps os (each_right Q (paths_in_regions (j ∷ p) 0 rs) (paths_in_operations p (suc j) os) s.1) h)
 
-  -- what stands under a root is placed
+  -- what is under a root is an item at its path
   pub located : (ps : Root (Ptr Operation) (Ptr BasicBlock) (Ptr Region)) (t : Tree ℕ T A) → Names path t → RootIs L c items ps t → (o : Object) (q : Path) → Among (o, q) (placed_under ps) → IsPlaced o q
   located ps t names is o q (inl e) = subst (λ (z : Object × Path). IsPlaced z.0 z.1) (sym e) (t.own.place, is.0.item, names.0)
   located ps t names is o q (inr i) = (regions_placed [] 0 ps.regions t.regions names.1 is.1).each o q i
 
-  -- and so is what stands in regions
+  -- and so is what is in regions
   pub located_in : (ps : PtrRegions) (rs : Regions (Op ℕ T A) (Head ℕ T A) (Brace ℕ)) → Said (paths_in_regions [] 0 rs) → RegionsAre L c items ps rs → (o : Object) (q : Path) → Among (o, q) (placed_regions [] 0 ps) → IsPlaced o q
   located_in ps rs names is o q i = (regions_placed [] 0 ps rs names is).each o q i
 
@@ -116,7 +125,7 @@ module _ {T A : Type 0} (L : ℕ → Location A → Type 0) (c : ContextView T A
         let l = each_placed (TheBlock b) f.0 f.2 in
         f.1 ∙ ap Some (sym l.2 ∙ ap path (once l.0 n (TheBlock b) l.1 i))
 
-    -- an operation that is an item stands at its path
+    -- an operation that is an item is at its path
     operation_there : (n : ℕ) (p : Ptr Operation) → Among (n, TheOperation p) items → Among (TheOperation p, path n) all
     operation_there n p i =
         let x = occurs n (TheOperation p) i in
@@ -135,7 +144,7 @@ module _ {T A : Type 0} (L : ℕ → Location A → Type 0) (c : ContextView T A
 
       -- what a use of the script is bound to is what the operand or successor of its operation names
       module _ {O B X : Type 0} (names_at : NameTracker Value (Ptr BasicBlock)) (g : GraphView (Option O) B X) (st : State) (stands : StandsAt names_at g known [] st) where
-        -- the user's place names something that stands at the place
+        -- the operand or successor of this user refers to what is defined at the place
         pub record Uses (u : User) (q : Place) : Type 0 where
           pub site : Site
           pub of_item : IsSiteOf path items u site
@@ -155,26 +164,10 @@ module _ {T A : Type 0} (L : ℕ → Location A → Type 0) (c : ContextView T A
             go d b (inr i) = absurd i
 
         operand_eq : (p q : Path) (i j : ℕ) → operand p i ≡ operand q j → (p ≡ q) × (i ≡ j)
-        operand_eq p q i j e = (ap path_in e, ap number_in e)
-          where
-            path_in : User → Path
-            path_in (operand p i) = p
-            path_in (successor p i) = p
-
-            number_in : User → ℕ
-            number_in (operand p i) = i
-            number_in (successor p i) = i
+        operand_eq p q i j e = (ap user_path e, ap user_number e)
 
         successor_eq : (p q : Path) (i j : ℕ) → successor p i ≡ successor q j → (p ≡ q) × (i ≡ j)
-        successor_eq p q i j e = (ap path_in e, ap number_in e)
-          where
-            path_in : User → Path
-            path_in (operand p i) = p
-            path_in (successor p i) = p
-
-            number_in : User → ℕ
-            number_in (operand p i) = i
-            number_in (successor p i) = i
+        successor_eq p q i j e = (ap user_path e, ap user_number e)
 
         -- an operation at a path is one
         operation_one : (p q : Ptr Operation) (r : Path) (n : ℕ) → Among (TheOperation p, r) all → Among (n, TheOperation q) items → r ≡ path n → q ≡ p

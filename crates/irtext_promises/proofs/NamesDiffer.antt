@@ -1,5 +1,5 @@
 -- The names under which values and blocks of a context are printed are all different.
-use Rattle.std.proofs.Common.{◌≡◌, ◌∙◌, ◌+◌, ◌<◌, ◌^◌, ℕ, Option, Some, None, option_map, refl, sym, arith}
+use Rattle.std.proofs.Common.{◌≡◌, ◌∙◌, ◌+◌, ℕ, Option, Some, None, option_map, refl, sym, arith}
 use Rattle.irtext_base.specs.Text.{Text}
 use Rattle.irtext_context.specs.Context.{ContextView, BlockView, block}
 use Rattle.irtext_graph.specs.declared.arena.Ptr.{Ptr}
@@ -12,20 +12,10 @@ use Rattle.irtext_graph.proofs.Same.{ptr_same}
 use Rattle.irtext_grammar.specs.Spelling.PrintedNames as printed
 use Rattle.irtext_grammar.proofs.Names.Injective.{values_differ, blocks_differ, value_no_block}
 use Rattle.irtext_parse_spec.specs.ContextParts.{KeepsAll}
+use Rattle.irtext_parse_spec.proofs.Roots.{number_below, place_small}
 use Rattle.irtext_grammar.specs.UniqueNames.{given_name, value_name, block_name}
 
 module _ {T A : Type 0} (ctx : ContextView T A) (kept : KeepsAll ctx) where
-  number_small : (v : Value) (t : Typed (Option T)) → value_at ctx.graph v ≡ Some t → t.number < 2 ^ 64
-  number_small v t e = let a = kept.counters.below v t e in let b = kept.counters.values in omega (arith, a, b)
-
-  place_small : (b : Ptr BasicBlock) (view : BlockView T A) → block ctx b ≡ Some view → (ctx.graph.first_place + b.index < 2 ^ 64) × (b.generation < 2 ^ 64)
-  place_small b view e =
-      let p = kept.places b view e in
-      let i = p.0 in
-      let g = p.1 in
-      let f = kept.counters.first_place in
-      (omega (arith, i, f), omega (arith, g))
-
   -- of one name is one value
   pub one_value : (v w : Value) (name : Text) → value_name ctx v ≡ Some name → value_name ctx w ≡ Some name → v ≡ w
   one_value v w name e f = go (value_at ctx.graph v) refl (value_at ctx.graph w) refl e f
@@ -35,7 +25,7 @@ module _ {T A : Type 0} (ctx : ContextView T A) (kept : KeepsAll ctx) where
       go None q b r e f = absurd (cc)
       go (Some t) q None r e f = absurd (cc)
       go (Some t) q (Some u) r e f =
-          kept.counters.differ v w t u q r (values_differ (given_name ctx v) (given_name ctx w) t.number u.number (number_small v t q) (number_small w u r) (some_eq e ∙ sym (some_eq f)))
+          kept.counters.differ v w t u q r (values_differ (given_name ctx v) (given_name ctx w) t.number u.number (number_below ctx kept v t q) (number_below ctx kept w u r) (some_eq e ∙ sym (some_eq f)))
 
   -- and one block
   pub one_block : (b d : Ptr BasicBlock) (name : Text) → block_name ctx b ≡ Some name → block_name ctx d ≡ Some name → b ≡ d
@@ -47,8 +37,8 @@ module _ {T A : Type 0} (ctx : ContextView T A) (kept : KeepsAll ctx) where
       go None q y r e f = absurd (cc)
       go (Some x) q None r e f = absurd (cc)
       go (Some x) q (Some y) r e f =
-          let s = place_small b x q in
-          let t = place_small d y r in
+          let s = place_small ctx kept b x q in
+          let t = place_small ctx kept d y r in
           let same = blocks_differ x.label y.label (ctx.graph.first_place + b.index, b.generation) (ctx.graph.first_place + d.index, d.generation) s.0 s.1 t.0 t.1 (some_eq e ∙ sym (some_eq f)) in
           let index = same.0 in
           ptr_same b d (omega (arith, index)) same.1
@@ -63,5 +53,5 @@ module _ {T A : Type 0} (ctx : ContextView T A) (kept : KeepsAll ctx) where
       go None q y r e f = cc
       go (Some t) q None r e f = cc
       go (Some t) q (Some y) r e f =
-          let s = place_small b y r in
-          value_no_block (given_name ctx v) y.label t.number (ctx.graph.first_place + b.index, b.generation) (number_small v t q) s.0 s.1 (some_eq e ∙ sym (some_eq f))
+          let s = place_small ctx kept b y r in
+          value_no_block (given_name ctx v) y.label t.number (ctx.graph.first_place + b.index, b.generation) (number_below ctx kept v t q) s.0 s.1 (some_eq e ∙ sym (some_eq f))

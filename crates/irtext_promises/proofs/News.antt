@@ -1,4 +1,4 @@
--- Only the operation and what stands in it came to the context, where nothing is open any more and no placeholder is left.
+-- Only the operation and what is nested in it were created, if nothing is open and no placeholder is left.
 use Rattle.std.proofs.Common.{◌≡◌, ◌∙◌, ◌⊎◌, ℕ, zero, suc, Bool, true, false, cond, ◌&&◌, List, [], ◌∷◌, ◌++◌, map, Option, Some, None, IsSome, option_map, is_some, slice_get, refl, sym, ap, subst, inl, inr}
 use Rattle.std.specs.Prelude.{option_and_then, ⊤}
 use Rattle.std.specs.List.{list_all}
@@ -70,13 +70,13 @@ all_at {Y = Y} f (y ∷ ys) i x a e = go (λ j b s. all_at f ys j x b s) (f y) r
     go later (Some w) e zero a s = let same : y ≡ x = cc in subst (λ z. IsSome (f z)) same (subst IsSome (sym e) refl)
     go later (Some w) e (suc i) a s = later i a s
 
--- ---- each operand and successor of an operation that stands there names something that stands there
+-- ---- each operand and successor of an operation there refers to something there
 module _ {T A : Type 0} (L : ℕ → Location A → Type 0) (c : ContextView T A) (items : Made) (all : List (Object × Path)) where
   -- each of an operation's operands and successors has a place
   abbrev AreNamed : Ptr Operation → Type 0
   AreNamed p = (list_all is_some (map (value_place all) (operands c.graph p)) ≡ true) × (list_all is_some (map (block_place all) (successors c.graph p)) ≡ true)
 
-  -- so it is of each operation of a list
+  -- it holds of each operation of a list
   record AllNamed (xs : List (Object × Path)) : Type 0 where
     each : (p : Ptr Operation) (q : Path) → Among (TheOperation p, q) xs → AreNamed p
 
@@ -112,14 +112,23 @@ module _ {T A : Type 0} (L : ℕ → Location A → Type 0) (c : ContextView T A
         let m = subst (λ z. AllOperations OpLinked (λ b. ⊤) (λ r. ⊤) (elim z [ Some view ↦ forest.operation (held_op c all p view) (held_regions c all rs) (held_operations c all ps) | None ↦ held_operations c all ps ])) at.is l in
         named_node (TheOperation p) (j ∷ q) (placed_regions (j ∷ q) 0 rs) (placed_operations q (suc j) ps) (λ r e. subst AreNamed (operation_inj p r e) m.0) (regions_named (j ∷ q) 0 rs hs k m.1) (operations_named q (suc j) ps os h m.2)
 
--- ---- what was there, what is there now and is new, and what uses what
+-- ---- objects that were live, objects that are live and new, and uses
 owner_kind : (d : Defined) (r : Ptr Region) → owner d ≡ TheRegion r → ⊥
 owner_kind (OfValue (Result o i)) r e = cc
 owner_kind (OfValue (Argument k i)) r e = cc
 owner_kind (OfBlock k) r e = cc
 
+-- something is there if it has a part, since nothing has none
+none_there : {Y : Type 0} (o : Option Y) → o ≡ None → IsSome o → ⊥
+none_there None e h = cc
+none_there (Some y) e h = cc
+
+has_none : {X Y : Type 0} (part : Option X → Option Y) (o : Option X) → part None ≡ None → IsSome (part o) → IsSome o
+has_none part None e h = absurd (none_there (part None) e h)
+has_none part (Some x) e h = refl
+
 module _ {T A : Type 0} (c : ContextView T A) where
-  -- what is there stands
+  -- an object that is present is live
   there_stands : (q : Object) → IsThere c q → IsLive c.graph q
   there_stands (TheOperation o) t = here_stands c.graph (TheOperation o) (operation_here (get c.graph.operations o) t)
     where
@@ -129,27 +138,19 @@ module _ {T A : Type 0} (c : ContextView T A) where
   there_stands (TheBlock d) t = here_stands c.graph (TheBlock d) (some_of block_of (get c.graph.blocks d) t.0)
   there_stands (TheRegion r) t = here_stands c.graph (TheRegion r) (some_of region_of (get c.graph.regions r) t)
 
-  -- what defines something stands
+  -- the owner of a definition is live
   result_stands : (o : Ptr Operation) (i : ℕ) → IsSome (slice_get (results_of (operation_at c.graph o)) i) → IsSome (get c.graph.operations o)
-  result_stands o i h = go (get c.graph.operations o) h
-    where
-      go : (y : Option (OperationEntry T A)) → IsSome (slice_get (results_of (option_map (λ e. e.content.content) y)) i) → IsSome y
-      go None h = absurd (cc)
-      go (Some e) h = refl
+  result_stands o i h = has_none (λ y. slice_get (results_of (option_map (λ e. e.content.content) y)) i) (get c.graph.operations o) refl h
 
   argument_stands : (k : Ptr BasicBlock) (i : ℕ) → IsSome (slice_get (arguments_of (block_at c.graph k)) i) → IsSome (get c.graph.blocks k)
-  argument_stands k i h = go (get c.graph.blocks k) h
-    where
-      go : (y : Option (BlockEntry T A)) → IsSome (slice_get (arguments_of (option_map (λ e. e.content.content) y)) i) → IsSome y
-      go None h = absurd (cc)
-      go (Some e) h = refl
+  argument_stands k i h = has_none (λ y. slice_get (arguments_of (option_map (λ e. e.content.content) y)) i) (get c.graph.blocks k) refl h
 
   owner_stands : (d : Defined) → IsDefined c.graph d → IsLive c.graph (owner d)
   owner_stands (OfValue (Result o i)) h = here_stands c.graph (TheOperation o) (result_stands o i h)
   owner_stands (OfValue (Argument k i)) h = here_stands c.graph (TheBlock k) (argument_stands k i h)
   owner_stands (OfBlock k) h = h
 
-  -- an operation that uses something stands
+  -- an operation that uses something is live
   user_stands : (s : Site) (d : Defined) → IsUse c.graph d s → IsSome (get c.graph.operations (user s))
   user_stands (AtOperand o i) d e = go (get c.graph.operations o) e
     where
@@ -171,13 +172,13 @@ module _ {T A : Type 0} (m : ℕ) (start c : ContextView T A) (older : AllOlder 
       (subst (λ z. IsSome (option_map block_of z)) e t.0, subst (λ z. IsSome (option_map TheRegion (parent_of z))) e t.1)
   there_then (TheRegion r) h t = subst (λ z. IsSome (option_map region_of z)) (region_stays m start.graph c.graph older kept.graph r h) t
 
-  -- one that stood uses what it used
+  -- an operation that was live has the same uses
   used_then : (s : Site) (d : Defined) → IsSome (get start.graph.operations (user s)) → IsUse c.graph d s → IsUse start.graph d s
   used_then (AtOperand o i) d h e = sym (ap (λ y. option_map OfValue (slice_get (operands_of (option_map (λ e. e.content.content) y)) i)) (operation_stays m start.graph c.graph older kept.graph o h)) ∙ e
   used_then (AtSuccessor o i) d h e = sym (ap (λ y. option_map OfBlock (slice_get (successors_of (option_map (λ e. e.content.content) y)) i)) (operation_stays m start.graph c.graph older kept.graph o h)) ∙ e
 
 module _ {T A : Type 0} (m : ℕ) (c : ContextView T A) (none : NoneIsLeft m [] c.graph) (blanks : BlanksDefine m c) where
-  -- what stands and is new is there
+  -- a live object that is new is present
   new_there : (q : Object) → IsLive c.graph q → IsNew m c.graph q → IsThere c q
   new_there (TheOperation o) s n = go (operation c o) refl
     where
@@ -202,7 +203,7 @@ module _ {T A : Type 0} (m : ℕ) (c : ContextView T A) (none : NoneIsLeft m [] 
       go None e = absurd (none.labels d s e n (λ i. i))
   new_there (TheRegion r) s n = of_some region_of (get c.graph.regions r) (stands_here c.graph (TheRegion r) s)
 
--- ---- what stands under a path and was not there uses nothing that was there
+-- ---- what is under a path and was not live uses nothing that was live
 module _ {T A : Type 0} (L : ℕ → Location A → Type 0) (start c : ContextView T A) (items : Made) (all : List (Object × Path)) (named : AllNamed L c items all all)
     (placed_new : (d : Defined) (q : Path) → Among (owner d, q) all → IsDefined start.graph d → ⊥) where
   value_new : (v : Value) → IsSome (value_place all v) → IsDefined start.graph (OfValue v) → ⊥
@@ -304,7 +305,7 @@ module _ {T A : Type 0} (L : ℕ → Location A → Type 0) (start c : ContextVi
         ];
       }
 
-  -- what stands there is whole, where it is an operation or a block
+  -- an operation or a block there is complete
   placed_whole : (o : Object) (q : Path) → IsPlaced L c items path o q → ((r : Ptr Region) → o ≡ TheRegion r → ⊥) → Among o whole
   placed_whole (TheOperation o) q (n, i, e) apart = elim (held.tracks.known n (TheOperation o) i) [ inl w ↦ w | inr never ↦ absurd never ]
   placed_whole (TheBlock d) q (n, i, e) apart = elim (held.tracks.known n (TheBlock d) i) [ inl w ↦ w | inr never ↦ absurd never ]
@@ -331,7 +332,7 @@ module _ {T A : Type 0} (L : ℕ → Location A → Type 0) (start c : ContextVi
         | inr n ↦ elim (new_whole o stands n) [ inl was ↦ used_then m start c older kept s d (stands_here start.graph o was) e | inr w ↦ absurd (whole_uses s d w e there) ]
       ]
 
-  -- only the operation and what stands in it came to the context
+  -- only the operation and what is nested in it were created
   pub only_new : OnlyNew p start c
   only_new = record {
     live = live;
@@ -344,7 +345,7 @@ module _ {T A : Type 0} (L : ℕ → Location A → Type 0) (start c : ContextVi
     dialects = kept.dialects;
   }
 
--- ---- a region that came last into an operation that stood
+-- ---- a region that was appended to an operation that was live
 module _ {T A : Type 0} where
   held_same : (x y : Option (OperationEntry T A)) → content_of x ≡ content_of y → option_map (λ e. e.content.content) x ≡ option_map (λ e. e.content.content) y
   held_same None None e = refl
@@ -399,7 +400,7 @@ module _ {T A : Type 0} (L : ℕ → Location A → Type 0) (start mid c : Conte
   new_is_whole : (q : Object) → IsLive mid.graph q → IsNew m mid.graph q → IsLive start.graph q ⊎ Among q whole
   new_is_whole q s n = elim (all_that q (new_there m mid none blanks q s n)) [ inl first ↦ inl (there_stands start q first) | inr i ↦ inr i ]
 
-  -- whatever stands stood, or is inside the region, and none of that stood
+  -- a live object was live, or is inside the region, and no object inside the region was live
   pub region_live : (q : Object) → IsLive c.graph q → IsLive start.graph q ⊎ IsInside c.graph (TheRegion r) q
   region_live q s = elim (stood_or_new m start.graph mid.graph kept.graph q (stood_before q s)) [
     | inl was ↦ inl was
@@ -432,7 +433,7 @@ module _ {T A : Type 0} (L : ℕ → Location A → Type 0) (start mid c : Conte
     whole_uses_new : (s : Site) (d : Defined) → Among (TheOperation (user s)) whole → IsUse c.graph d s → IsDefined start.graph d → ⊥
     whole_uses_new s d w = let at = occurs (TheOperation (user s)) w in uses_placed L start c items here_all here_named placed_is_new s d at.0 at.1
 
-    -- nothing else uses what stood than before
+    -- what was live has no more uses than before
     pub region_uses : (d : Defined) (s : Site) → IsDefined start.graph d → IsUse c.graph d s → IsUse start.graph d s
     region_uses d s stood e =
         let o = TheOperation (user s) in

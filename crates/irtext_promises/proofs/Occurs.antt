@@ -1,4 +1,4 @@
--- Whatever is whole stands under the root, where nothing is open any more: its way upwards ends, and leads through what is whole.
+-- Each complete object is under the root, once nothing is open: its chain of parents ends, and consists of complete objects.
 use Rattle.std.proofs.Common.{◌≡◌, ◌⊎◌, ℕ, zero, suc, List, [], ◌∷◌, ◌++◌, map, Option, Some, None, slice_get, refl, sym, ap, subst, inl, inr}
 use Rattle.irtext_base.specs.declared.location.Location.{Location}
 use Rattle.irtext_context.specs.Context.{ContextView, OperationView, BlockView, RegionView, operation, block, region, regions_in}
@@ -38,36 +38,29 @@ among_map f x [] a = absurd a
 among_map f x (y ∷ ys) (inl e) = inl (ap f e)
 among_map f x (y ∷ ys) (inr a) = inr (among_map f x ys a)
 
+-- what is among what a view lists, if there is one, is among what the view is known to list
+among_seen : {V X : Type 0} (x : X) (xs : List X) (listed : Option V → List X) (o : Option V) → listed None ≡ [] → ((view : V) → o ≡ Some view → listed (Some view) ≡ xs) → Among x (listed o) → Among x xs
+among_seen x xs listed None none known a = absurd (subst (Among x) none a)
+among_seen x xs listed (Some view) none known a = subst (Among x) (known view refl) a
+
 module _ {T A : Type 0} (c : ContextView T A) (nest : Nested (children c.graph) (parent c.graph)) where
   listed_parent : (k o : Object) → Among o (children c.graph k) → parent c.graph o ≡ Some k
   listed_parent k o a = let r = among_at o (children c.graph k) a in nest.down k r.0 o r.1
 
-  -- what stands directly in an object has it as its parent
+  -- the parent of a child of an object is that object
   pub child_parent : (k o : Object) → HasChild c k o → parent c.graph o ≡ Some k
-  child_parent (TheOperation p) (TheRegion r) h = go (operation c p) refl h
-    where
-      go : (x : Option (OperationView T A)) → operation c p ≡ x → Among r (regions_in x) → parent c.graph (TheRegion r) ≡ Some (TheOperation p)
-      go None e a = absurd a
-      go (Some view) e a = listed_parent (TheOperation p) (TheRegion r) (among_map TheRegion r (regions c.graph p) (subst (Among r) (regions_seen c p view e) a))
+  child_parent (TheOperation p) (TheRegion r) h = listed_parent (TheOperation p) (TheRegion r) (among_map TheRegion r (regions c.graph p) (among_seen r (regions c.graph p) regions_in (operation c p) refl (regions_seen c p) h))
   child_parent (TheOperation p) (TheOperation q) h = absurd h
   child_parent (TheOperation p) (TheBlock b) h = absurd h
-  child_parent (TheRegion r) (TheBlock b) h = go (region c r) refl h
-    where
-      go : (x : Option RegionView) → region c r ≡ x → Among b (blocks_in x) → parent c.graph (TheBlock b) ≡ Some (TheRegion r)
-      go None e a = absurd a
-      go (Some view) e a = listed_parent (TheRegion r) (TheBlock b) (among_map TheBlock b (blocks c.graph r) (subst (Among b) (blocks_seen c r view e) a))
+  child_parent (TheRegion r) (TheBlock b) h = listed_parent (TheRegion r) (TheBlock b) (among_map TheBlock b (blocks c.graph r) (among_seen b (blocks c.graph r) blocks_in (region c r) refl (blocks_seen c r) h))
   child_parent (TheRegion r) (TheOperation q) h = absurd h
   child_parent (TheRegion r) (TheRegion q) h = absurd h
-  child_parent (TheBlock b) (TheOperation p) h = go (block c b) refl h
-    where
-      go : (x : Option (BlockView T A)) → block c b ≡ x → Among p (tracks.operations_in x) → parent c.graph (TheOperation p) ≡ Some (TheBlock b)
-      go None e a = absurd a
-      go (Some view) e a = listed_parent (TheBlock b) (TheOperation p) (among_map TheOperation p (operations_in c.graph b) (subst (Among p) (operations_seen c b view e) a))
+  child_parent (TheBlock b) (TheOperation p) h = listed_parent (TheBlock b) (TheOperation p) (among_map TheOperation p (operations_in c.graph b) (among_seen p (operations_in c.graph b) tracks.operations_in (block c b) refl (operations_seen c b) h))
   child_parent (TheBlock b) (TheBlock d) h = absurd h
   child_parent (TheBlock b) (TheRegion r) h = absurd h
 
--- ---- what stands in what stands there stands there
--- the object stands there, at some path
+-- ---- a child of an object in the list is in the list
+-- the object is in the list, with some path
 abbrev IsIn : Object → List (Object × Path) → Type 0
 IsIn o xs = (q : Path) × Among (o, q) xs
 
@@ -87,7 +80,7 @@ operation_listed q p j (forest.operation o rs os) (inl e) = (j ∷ p, inl (ap (�
 operation_listed q p j (forest.operation o rs os) (inr a) = let x = operation_listed q p (suc j) os a in (x.0, inr (among_right (TheOperation q, x.0) (placed_regions (j ∷ p) 0 rs) (placed_operations p (suc j) os) x.1))
 
 module _ {T A : Type 0} (L : ℕ → Location A → Type 0) (c : ContextView T A) (items : Made) where
-  -- what stands in an object of the list is in the list
+  -- a child of an object in the list is in the list
   record IsClosed (xs : List (Object × Path)) : Type 0 where
     closed : (k o : Object) (q : Path) → Among (k, q) xs → HasChild c k o → IsIn o xs
 
@@ -162,7 +155,7 @@ module _ {T A : Type 0} (L : ℕ → Location A → Type 0) (c : ContextView T A
       ]
     ]
 
-    -- whatever is whole stands under the root
+    -- each complete object is under the root
     pub whole_occurs : (o : Object) → Among o whole → (q : Path) × Among (o, q) (placed_under (pointers c.graph p))
     whole_occurs o i = let n = nest.ends o in occurs_within n.0 o i n.1
 
@@ -183,6 +176,6 @@ module _ {T A : Type 0} (L : ℕ → Location A → Type 0) (c : ContextView T A
           (regions_closed [] 0 (pointers_in c r) rs is).closed k o z.0 z.1 child
     ]
 
-    -- whatever is whole stands in it
+    -- each complete object is in the region
     pub region_whole_occurs : (o : Object) → Among o whole → (q : Path) × Among (o, q) (placed_regions [] 0 (pointers_in c r))
     region_whole_occurs o i = let n = nest.ends o in occurs_in_region n.0 o i n.1

@@ -171,7 +171,7 @@ once_under t = record { one = go }
     go k m q (inr a) (inl f) = absurd (mixed m k q f a)
     go k m q (inr a) (inr b) = (once_regions [] 0 t.regions).one k m q a b
 
--- ---- an object that stands there is found
+-- ---- an object in the list is found
 pub path_found : (all : List (Object × Path)) (o : Object) (q : Path) → Among (o, q) all → (p : Path) × (path_of all o ≡ Some p) × Among (o, p) all
 path_found [] o q i = absurd i
 path_found (e ∷ es) o q i = go (λ j. path_found es o q j) (eq_object e.0 o) refl i

@@ -55,7 +55,7 @@ module _ {T A : Type 0} (types : Texts T) (reading : Text → Outcome A) (text_o
         record { kept = printed.kept; fits = printed.fits; is = sym is; few = omega (arith, few, same, size, low) }
 
     module _ {U : Type 0} (old : StateStream T A U) (stands : old.stream.rest ≡ chars bytes) (same_dialects : old.state.ctx.now.dialects ≡ ctx.dialects) where
-      -- what was read of it
+      -- what was parsed from it
       read_as : (q : Ptr Operation) (new : StateStream T A U) → BuildsRoot types owns attr q old new
           → ReadsAs types owns attr C (isolated ctx.dialects) (location_of new.state.ctx.now.paths old.state.src (whole old.stream)) (chars bytes) new.stream.rest (held_root new.state.ctx.now q)
       read_as q new b =
@@ -69,7 +69,7 @@ module _ {T A : Type 0} (types : Texts T) (reading : Text → Outcome A) (text_o
             builds = b.builds ∙ ap (λ d. Some (build (isolated d) first b.entries b.tree)) same_dialects;
           }
 
-      -- nothing is read of it where a region was left out
+      -- nothing is parsed from it if a region was left out
       pub none_read : (AllShown (written C limit g) → ⊥) → (q : Ptr Operation) (new : StateStream T A U) → BuildsRoot types owns attr q old new → ⊥
       none_read left q new b =
           let r = read_as q new b in

@@ -1,4 +1,4 @@
--- A root that was read is closed where its operations fit their formats, and all that can have a name has one.
+-- A root that was parsed is closed where its operations fit their formats, and all that can have a name has one.
 use Rattle.std.proofs.Common.{◌≡◌, ℕ, Bool, [], Some, refl, sym, subst}
 use Rattle.irtext_base.specs.Answers.{Outcome}
 use Rattle.irtext_base.specs.Format.{Id}
@@ -60,7 +60,7 @@ module _ {T A U : Type 0} (types : Texts T) (reading : Text → Outcome A) (text
     pub builds_there : held_root after.state.ctx.now p ≡ Some (build iso first built.entries built.tree)
     builds_there = subst (λ d. held_root after.state.ctx.now p ≡ Some (build (isolated d) first built.entries built.tree)) (sym built.only.dialects) built.builds
 
-    -- what printing sees stands for it
+    -- what printing sees represents it
     pub stands_there : StandsFor (stood C iso g) (build iso first built.entries built.tree)
     stands_there =
         let t = built.tree in

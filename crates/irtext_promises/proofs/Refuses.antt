@@ -1,5 +1,5 @@
--- Where the readers refuse a text for a failure of names, it is the first failure of every tree that the text reads as, whatever section
--- stands behind it; and where they are stuck at the text, no tree reads.
+-- If the parsers reject a text for a failure of names, it is the first failure of every tree that the text parses as, whatever section
+-- follows; and if they are stuck at the text, it parses as no tree.
 use Rattle.std.proofs.Common.{◌≡◌, ◌∙◌, ℕ, List, [], ◌∷◌, refl, sym, ap, subst}
 use Rattle.irtext_base.specs.Text.{Text}
 use Rattle.irtext_base.specs.Answers.{Outcome}
@@ -44,7 +44,7 @@ first_is text f fs gs fault e h = subst (λ z. IsFirst text z fault) (sym e) h
 
 module _ {T A : Type 0} (types_at : Text → Outcome T) (types_written : T → Text) (reading : Text → Outcome A) (written : A → Text) (dialects : List (Text × Table)) (types_split : Splits types_at) (splits : Splits reading) (words : NeedsWord reading)
     (short_types : Shortens (texts_of types_at types_written)) (short_owns : Shortens (texts_of reading written)) where
-  -- a fault of the text, or of a name, is the first failure of each tree that the text reads as, and of what is read behind it
+  -- a fault of the text, or of a name, is the first failure of each tree that the text parses as, whatever script follows
   pub refuses_first : (text rest : Text) (fault : ParseFault A) → HasFault {T = T} types_at (attr_at reading) dialects text rest fault → (x : Tree ℕ T A) (left : Text) → grammar.reads (knot.L types_at types_written reading written dialects) x rest left → (then : Script)
       → IsFirst text (failures no_scope (tree_script (isolated dialects) x then)) fault
   refuses_first text rest fault (at_text cause place because at stuck) x left r then =
@@ -62,11 +62,11 @@ module _ {T A : Type 0} (types_at : Text → Outcome T) (types_written : T → T
       let all = ran_into (tree_script (isolated dialects) x then) f ran in
       first_is text f (failures no_scope (tree_script (isolated dialects) x then)) all.0 fault all.1 is
 
-  -- so the promise of a refusal is kept, with no section
+  -- so the promise of an error is kept, with no section
   pub refuses_tree : (old : StreamView) (fault : ParseFault A) → HasFault {T = T} types_at (attr_at reading) dialects (whole old) old.rest fault → RefusesTree (texts_of types_at types_written) (texts_of reading written) types_at (attr_at reading) dialects old fault
   refuses_tree old fault h = record { first = λ tree rest r. refuses_first (whole old) old.rest fault h tree rest r done; at_fault = h }
 
-  -- and with one, where the operation itself is refused
+  -- and with one, if the operation itself is an error
   pub refuses_root : (old : StreamView) (fault : ParseFault A) → HasFault {T = T} types_at (attr_at reading) dialects (whole old) old.rest fault → (tree : Tree ℕ T A) (entries : List (Entry ℕ A (Written A))) (mid : Text)
       → grammar.reads (knot.L types_at types_written reading written dialects) tree old.rest mid → IsFirst (whole old) (failures_of (isolated dialects) tree entries) fault
   refuses_root old fault h tree entries mid r = refuses_first (whole old) old.rest fault h tree mid r (does_all (section_acts (rule_of tree) entries) done)

@@ -1,4 +1,4 @@
--- What is wrong with a root and its section, from what the readers of the operation and of the section leave or refuse.
+-- The failures of a root and its section, from what the parsers of the operation and of the section leave, or from their errors.
 use Rattle.std.proofs.Common.{◌≡◌, ◌∙◌, ℕ, List, sym, ap, subst}
 use Rattle.irtext_base.specs.Text.{Text}
 use Rattle.irtext_base.specs.Format.{Id}
@@ -43,7 +43,7 @@ came_with x y s t a b e = (cc, cc)
 
 module _ {T A : Type 0} (types_at : Text → Outcome T) (types_written : T → Text) (reading : Text → Outcome A) (written : A → Text) (dialects : List (Text × Table)) (types_split : Splits types_at) (splits : Splits reading) (words : NeedsWord reading)
     (short_types : Shortens (texts_of types_at types_written)) (short_owns : Shortens (texts_of reading written)) (accepted : (id : Id) → IsAccepted dialects id) where
-  -- the tree that a text reads as is one, and so is what it leaves
+  -- the tree that a text parses as is one, and so is what it leaves
   pub one_tree : (x y : Tree ℕ T A) (text a b : Text) → grammar.reads (knot.L types_at types_written reading written dialects) x text a → grammar.reads (knot.L types_at types_written reading written dialects) y text b → (x ≡ y) × (a ≡ b)
   one_tree x y text a b r q =
       let types = texts_of types_at types_written in
@@ -58,20 +58,20 @@ module _ {T A : Type 0} (types_at : Text → Outcome T) (types_written : T → T
     abbrev reads_it : grammar.reads (knot.L types_at types_written reading written dialects) leaves.tree text rest
     reads_it = kept.reads_tree types_at types_written reading written dialects types_split splits words short_types short_owns accepted L op marks old mid text rest leaves
 
-    -- whether its section is looked for is whether a mark was noted
+    -- whether its section is looked for is whether a mark was recorded
     pub marked_noted : is_noted marks ≡ marked leaves.tree
     marked_noted =
         ap is_noted (kept.marks_are types_at types_written reading written dialects types_split splits words short_types short_owns accepted L op marks old mid text rest leaves)
         ∙ tree_noted (isolated dialects) leaves.tree (trees.whole (knot.L types_at types_written reading written dialects) (λ p q h. h) leaves.tree text rest reads_it)
 
-    -- what is wrong with a section behind it is what is wrong with both
+    -- the failures of a section after it are the failures of both
     pub section_failures : (es : List (Entry ℕ A (Written A))) → failures_of (isolated dialects) leaves.tree es ≡ refused marks (rule_of leaves.tree) es
     section_failures es =
         section_alone (isolated dialects) leaves.tree es (trees.whole (knot.L types_at types_written reading written dialects) (λ p q h. h) leaves.tree text rest reads_it)
         (kept.tree_resolves types_at types_written reading written dialects types_split splits words short_types short_owns accepted L op marks old mid text rest leaves)
         ∙ ap (λ ms. refused ms (rule_of leaves.tree) es) (sym (kept.marks_are types_at types_written reading written dialects types_split splits words short_types short_owns accepted L op marks old mid text rest leaves))
 
-    -- a fault of the section is the first failure of whatever the text reads as
+    -- a fault of the section is the first failure of whatever the text parses as
     pub section_refuses : (all : Text) (fault : ParseFault A)
         → ((es : List (Entry ℕ A (Written A))) (left : Text) → section_if (knot.L types_at types_written reading written dialects) (location_standing (attr_at reading)) (marked leaves.tree) es rest left → IsFirst all (refused marks (rule_of leaves.tree) es) fault)
         → (x : Tree ℕ T A) (es : List (Entry ℕ A (Written A))) (left : Text) → reads_root (knot.L types_at types_written reading written dialects) (location_standing (attr_at reading)) x es text left → IsFirst all (failures_of (isolated dialects) x es) fault
@@ -83,13 +83,13 @@ module _ {T A : Type 0} (types_at : Text → Outcome T) (types_written : T → T
 
 module _ {T A : Type 0} (types_at : Text → Outcome T) (types_written : T → Text) (reading : Text → Outcome A) (written : A → Text) (dialects : List (Text × Table)) (types_split : Splits types_at) (splits : Splits reading) (words : NeedsWord reading)
     (short_types : Shortens (texts_of types_at types_written)) (short_owns : Shortens (texts_of reading written)) where
-  -- where the operation itself is refused, whatever root the text reads as is refused so
+  -- if the operation itself is an error, whatever root the text parses as has this failure first
   pub root_refused : (old : StreamView) (fault : ParseFault A) → HasFault {T = T} types_at (attr_at reading) dialects (whole old) old.rest fault → RefusesRoot (texts_of types_at types_written) (texts_of reading written) types_at (attr_at reading) dialects old fault
   root_refused old fault h = record {
     first = λ tree es rest (between, r, s). refuses_root types_at types_written reading written dialects types_split splits words short_types short_owns old fault h tree es between r;
   }
 
-  -- and where it was read, and the section behind it is refused
+  -- and if it was parsed, and the section after it is an error
   pub root_refused_behind : ((id : Id) → IsAccepted dialects id) → (L : ℕ → Location A → Type 0) (op : Ptr Operation) (marks : List ℕ) (before mid : ContextView T A) (old : StreamView) (rest : Text) (leaves : LeavesTree types_at (attr_at reading) dialects L op marks before mid old.rest rest) (fault : ParseFault A)
       → ((es : List (Entry ℕ A (Written A))) (left : Text) → section_if (knot.L types_at types_written reading written dialects) (location_standing (attr_at reading)) (marked leaves.tree) es rest left → IsFirst (whole old) (refused marks (rule_of leaves.tree) es) fault)
       → RefusesRoot (texts_of types_at types_written) (texts_of reading written) types_at (attr_at reading) dialects old fault

@@ -1,12 +1,9 @@
--- Worked rows: a context by hand in which an operation with one region of one block holds two operations; the second uses the result of
--- the first, and its own block as a successor. What stands under the pointer of the outermost says where each of these stands.
+-- Worked rows: a context by hand in which an operation with one region of one block has two operations in it; the second uses the result of
+-- the first, and its own block as a successor. The view of the outermost pointer shows at which path each of these is.
 use Rattle.std.proofs.Common.{◌≡◌, ℕ, List, [], ◌∷◌, Some, None, codes, refl}
 use Rattle.irtext_base.specs.Format.{Id}
 use Rattle.irtext_base.specs.Paths.{Written}
-use Rattle.irtext_base.specs.Stream.{cut}
 use Rattle.irtext_base.specs.declared.base.attributes.AttrObj.TheVariants.{Own}
-use Rattle.irtext_base.specs.declared.location.Location.{Location, SrcPos}
-use Rattle.irtext_base.specs.declared.location.Source.TheVariants.{InMemory}
 use Rattle.irtext_context.specs.Context.{ContextView}
 use Rattle.irtext_graph.specs.declared.arena.Ptr.{Ptr}
 use Rattle.irtext_graph.specs.declared.object.Value.TheVariants.{Result}
@@ -16,6 +13,7 @@ use Rattle.irtext_grammar.specs.Grammar.Forest.{no_regions, region, no_blocks, b
 use Rattle.irtext_grammar.specs.Grammar.Tree as tree
 use Rattle.irtext_grammar.specs.Graphs.Build.{Built}
 use Rattle.irtext_grammar.specs.Names.Script.{result, block_at}
+use Rattle.irtext_parse_spec.proofs.Rows.{cell, loc_at}
 use Rattle.irtext_promises.specs.Held.{held_root}
 
 abbrev id_of : List ℕ → Id
@@ -24,11 +22,7 @@ id_of name = record { dialect = codes "t"; name = name }
 abbrev pointer : {K : Type 0} → ℕ → Ptr K
 pointer i = record { index = i; generation = 1; of = record {} }
 
--- the location of a place, by hand: its column is the place
-abbrev loc_at : ℕ → Location ℕ
-loc_at place = SrcPos InMemory (record { line = cut 1; column = cut place })
-
--- the outermost stands at 0, the one with a result at 1, the one that uses it at 2
+-- the outermost operation is at index 0, the one with a result at 1, the one that uses it at 2
 abbrev context : ContextView ℕ ℕ
 context = record {
   graph = record {
@@ -37,67 +31,31 @@ context = record {
     first_place = 1;
     operations = record {
       cells =
-          record {
-            generation = 1;
-            object = Some (record {
-              born = 0;
-              content = record {
-                parent = None;
-                children = pointer 0 ∷ [];
-                content = record { data_of = Some (record { id = op_id (id_of (codes "h")); attributes = []; loc = loc_at 25 }); operands = []; successors = []; results = [] };
-              };
-            });
-          }
-          ∷ record {
-            generation = 1;
-            object = Some (record {
-              born = 3;
-              content = record {
-                parent = Some (pointer 0);
-                children = [];
-                content = record {
-                  data_of = Some (record { id = op_id (id_of (codes "n")); attributes = (codes "k", Own 7) ∷ []; loc = loc_at 9 });
-                  operands = [];
-                  successors = [];
-                  results = record { of_type = Some 5; number = 0 } ∷ [];
-                };
-              };
-            });
-          }
-          ∷ record {
-            generation = 1;
-            object = Some (record {
-              born = 4;
-              content = record {
-                parent = Some (pointer 0);
-                children = [];
-                content = record { data_of = Some (record { id = op_id (id_of (codes "u")); attributes = []; loc = loc_at 5 }); operands = Result (pointer 1) 0 ∷ []; successors = pointer 0 ∷ []; results = [] };
-              };
-            });
-          }
+          cell 0 (record { parent = None; children = pointer 0 ∷ []; content = record { data_of = Some (record { id = op_id (id_of (codes "h")); attributes = []; loc = loc_at 25 }); operands = []; successors = []; results = [] } })
+          ∷ cell 3 (record {
+            parent = Some (pointer 0);
+            children = [];
+            content = record { data_of = Some (record { id = op_id (id_of (codes "n")); attributes = (codes "k", Own 7) ∷ []; loc = loc_at 9 }); operands = []; successors = []; results = record { of_type = Some 5; number = 0 } ∷ [] };
+          })
+          ∷ cell 4 (record {
+            parent = Some (pointer 0);
+            children = [];
+            content = record { data_of = Some (record { id = op_id (id_of (codes "u")); attributes = []; loc = loc_at 5 }); operands = Result (pointer 1) 0 ∷ []; successors = pointer 0 ∷ []; results = [] };
+          })
           ∷ [];
       free = None;
     };
     blocks = record {
-      cells = record {
-        generation = 1;
-        object = Some (record {
-          born = 2;
-          content = record { parent = Some (pointer 0); children = pointer 1 ∷ pointer 2 ∷ []; content = record { data_of = record { label = Some (codes "b"); attributes = []; loc = loc_at 15 }; arguments = [] } };
-        });
-      } ∷ [];
+      cells = cell 2 (record { parent = Some (pointer 0); children = pointer 1 ∷ pointer 2 ∷ []; content = record { data_of = record { label = Some (codes "b"); attributes = []; loc = loc_at 15 }; arguments = [] } }) ∷ [];
       free = None;
     };
-    regions = record {
-      cells = record { generation = 1; object = Some (record { born = 1; content = record { parent = Some (pointer 0); children = pointer 0 ∷ []; content = record {} } }) } ∷ [];
-      free = None;
-    };
+    regions = record { cells = cell 1 (record { parent = Some (pointer 0); children = pointer 0 ∷ []; content = record {} }) ∷ []; free = None };
   };
   paths = [];
   dialects = [];
 }
 
--- what a location is told as there
+-- the location of this place, as it is written
 abbrev told_at : ℕ → Written ℕ
 told_at place = location_over [] (loc_at place)
 
@@ -112,7 +70,7 @@ built = record {
       no_regions;
 }
 
--- the second operation's operand is the first result of the first, and its successor is the block round it
+-- the second operation's operand is the first result of the first, and its successor is the block around it
 held_row : held_root context (pointer 0) ≡ Some built
 held_row = refl
 

@@ -1,4 +1,4 @@
--- Where the data of one operation or of one block changed, nothing else did; so it is of one change behind another.
+-- If the data of one operation or of one block changed, nothing else did; the same holds for one change after another.
 use Rattle.std.proofs.Common.{◌≡◌, ◌∙◌, ℕ, Option, Some, None, IsSome, is_some, option_map, slice_get, length, refl, sym, ap, subst, inl, inr}
 use Rattle.irtext_graph.specs.declared.arena.Entry.{Entry}
 use Rattle.irtext_graph.specs.declared.arena.Ptr.{Ptr}
@@ -30,7 +30,7 @@ module _ {O B T : Type 0} where
   pub shape_self : (g : GraphView O B T) → SameShape g g
   shape_self g = record { places = refl; same_regions = λ p. refl; same_blocks = λ r. refl; same_operations = λ b. refl; same_parents = λ q. refl; same_uses = λ s. refl; stood = λ q s. s }
 
-  -- one change behind another
+  -- one change after another
   pub shape_then : (g h k : GraphView O B T) → SameShape g h → SameShape h k → SameShape g k
   shape_then g h k s t = record {
     places = t.places ∙ s.places;

@@ -81,7 +81,7 @@ module _ {T A : Type 0} (c : ContextView T A) where
       pub whole : BlockWhole c b
       pub sees : d ≡ seen_block text_of c b whole.view
 
-    -- an operation is there, and so it is held
+    -- an operation is present, and this is what the context has of it
     pub record HeldOp (p : Ptr Operation) (b : BuiltOp T A (Written A)) : Type 0 where
       pub view : OperationView T A
       pub is : operation c p ≡ Some view

@@ -28,7 +28,7 @@ spots_both [] gs = refl
 spots_both (uses n u ∷ fs) gs = spots_both fs gs
 spots_both (defines n p ∷ fs) gs = ap (λ z. p ∷ z) (spots_both fs gs)
 
--- a script defines values and blocks at these places, for the scopes round it
+-- a script defines values and blocks at these places, for the scopes around it
 pub record Says {N P : Type 0} (eq : N → N → Bool) (x : Script N P) (vs ls : List Place) : Type 0 where
   pub values : spots (facts eq x).values ≡ vs
   pub labels : spots (facts eq x).labels ≡ ls
@@ -95,7 +95,7 @@ module _ {N P : Type 0} (eq : N → N → Bool) where
   within_says true place body b h = record { values = h.values; labels = h.labels }
   within_says false place body {x = x} b h = record { values = spots_both (facts eq body).values (facts eq x).values ∙ ap₂ ◌++◌ b.values h.values; labels = h.labels }
 
-  -- each of these, whatever comes behind it, says these values
+  -- each of these scripts, whatever script follows it, defines these values
   abbrev pub AllSay : List (Script N P → Script N P) → List (List Place) → Type 0
   AllSay [] [] = ⊤
   AllSay (s ∷ ss) (o ∷ os) = ((x : Script N P) (vs ls : List Place) → Says eq x vs ls → Says eq (s x) (o ++ vs) ls) × AllSay ss os

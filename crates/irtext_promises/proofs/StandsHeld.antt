@@ -1,4 +1,5 @@
--- What printing sees of a root that was read stands for what the tree built: each number that is used means what the name meant.
+-- What printing sees of a root that was parsed represents what the tree built: each number that is used refers to what the name referred
+-- to.
 use Rattle.std.proofs.Common.{◌≡◌, ◌∙◌, ◌+◌, ◌-◌, ◌&&◌, ℕ, suc, Bool, true, false, cond, List, [], ◌∷◌, map, filter_map, length, Option, Some, None, is_some, option_map, eqb-true, eq-eqb, refl, sym, ap, ap₂, subst, inl, inr, true≢false, arith}
 use Rattle.std.specs.Prelude.{⊤, unwrap_or, option_and_then}
 use Rattle.std.specs.List.{list_all, cons_option}
@@ -48,7 +49,7 @@ thing_itself : (x : Thing) → same_thing x x ≡ true
 thing_itself (a_value v) = eq-eqb v v refl
 thing_itself (a_block b) = ap₂ ◌&&◌ (eq-eqb b.0 b.0 refl) (eq-eqb b.1 b.1 refl)
 
--- a definition that is found stands among the places of the scope
+-- a definition that is found is among the places of the scope
 lookup_spot : (n : Text) (v : List (Fact Text)) (q : Place) → lookup same_text n v ≡ Some q → Among q (spots v)
 lookup_spot n [] q e = absurd (cc)
 lookup_spot n (uses m u ∷ v) q e = lookup_spot n v q e
@@ -61,7 +62,7 @@ lookup_spot n (defines m p ∷ v) q e = go (same_text m n) e (λ f. lookup_spot 
 -- ---- what has a name by number, and a place
 module _ {D : Type 0} (name : D → Option Thing) (place : D → Option Place)
     (one_name : (d e : D) (x : Thing) → name d ≡ Some x → name e ≡ Some x → d ≡ e) (one_place : (d e : D) (q : Place) → place d ≡ Some q → place e ≡ Some q → d ≡ e) where
-  -- something of this name stands at this place
+  -- a definition with this name is at this place
   abbrev Is : Fact Thing → Type 0
   Is (uses n u) = ⊤
   Is (defines x q) = (d : D) × (name d ≡ Some x) × (place d ≡ Some q)
@@ -87,7 +88,7 @@ module _ {D : Type 0} (name : D → Option Thing) (place : D → Option Place)
       go false e (inr j) later = later j
 
   module _ (v : List (Fact Text)) (w : List (Fact Thing)) (same : spots v ≡ spots w) (true_all : Each Is w) where
-    -- what a name of the text means is what the number of the same thing means
+    -- a name of the text refers to what the number of the same value or block refers to
     looked : (n : Name ℕ) (d : D) → place d ≡ lookup same_text n.text v → is_some (lookup same_text n.text v) ≡ true → (x : Thing) × (name d ≡ Some x) × (lookup same_thing x w ≡ lookup same_text n.text v)
     looked n d e some = go (lookup same_text n.text v) refl e some
       where
@@ -106,6 +107,32 @@ rest_of x y xs ys e = cc
 
 unlike : {X : Type 0} (x : X) (xs : List X) → x ∷ xs ≡ [] → ⊥
 unlike x xs e = cc
+
+-- what has a name by number each
+kept_all : {X Y : Type 0} (f : X → Y) (xs : List X) → filter_map (λ x. Some (f x)) xs ≡ map f xs
+kept_all f [] = refl
+kept_all f (x ∷ xs) = ap (λ ys. f x ∷ ys) (kept_all f xs)
+
+-- the numbers of things are looked up as the names of a text are that mean the same places
+all_looked : {D K : Type 0} (place : D → Option Place) (number : D → Option K) (thing : K → Thing) (v : List (Fact Text)) (w : List (Fact Thing))
+    → ((n : Name ℕ) (d : D) → place d ≡ lookup same_text n.text v → is_some (lookup same_text n.text v) ≡ true → (x : Thing) × (option_map thing (number d) ≡ Some x) × (lookup same_thing x w ≡ lookup same_text n.text v))
+    → (ds : List D) (ns : List (Name ℕ)) → map place ds ≡ map (λ n. lookup same_text n.text v) ns → list_all is_some (map (λ (n : Name ℕ). lookup same_text n.text v) ns) ≡ true
+    → map (λ k. lookup same_thing (thing k) w) (filter_map number ds) ≡ map (λ n. lookup same_text n.text v) ns
+all_looked place number thing v w one [] [] e h = refl
+all_looked place number thing v w one [] (n ∷ ns) e h = absurd (unlike _ _ (sym e))
+all_looked place number thing v w one (d ∷ ds) [] e h = absurd (unlike _ _ e)
+all_looked {K = K} place number thing v w one (d ∷ ds) (n ∷ ns) e h =
+    let here = first_of (place d) (lookup same_text n.text v) (map place ds) (map (λ n. lookup same_text n.text v) ns) e in
+    let later = rest_of (place d) (lookup same_text n.text v) (map place ds) (map (λ n. lookup same_text n.text v) ns) e in
+    let some = and_left (is_some (lookup same_text n.text v)) (list_all is_some (map (λ (n : Name ℕ). lookup same_text n.text v) ns)) h in
+    let others = and_right (is_some (lookup same_text n.text v)) (list_all is_some (map (λ (n : Name ℕ). lookup same_text n.text v) ns)) h in
+    let found = one n d here some in
+    go (number d) found.0 found.1 found.2 (all_looked place number thing v w one ds ns later others)
+  where
+    go : (o : Option K) (y : Thing) → option_map thing o ≡ Some y → lookup same_thing y w ≡ lookup same_text n.text v → map (λ k. lookup same_thing (thing k) w) (filter_map number ds) ≡ map (λ n. lookup same_text n.text v) ns
+        → map (λ k. lookup same_thing (thing k) w) (cons_option o (filter_map number ds)) ≡ lookup same_text n.text v ∷ map (λ n. lookup same_text n.text v) ns
+    go None y e f r = absurd (cc)
+    go (Some m) y e f r = let same : thing m ≡ y = some_eq e in ap₂ (λ a b. a ∷ b) (ap (λ z. lookup same_thing z w) same ∙ f) r
 
 many_same : {X Y : Type 0} (f : X → Y) (xs : List X) → length (map f xs) ≡ length xs
 many_same f [] = refl
@@ -160,7 +187,8 @@ module _ {T A : Type 0} (c : ContextView T A) (counters : KeepsCounters c.graph)
   are_blocks (defines (a_value n) q ∷ w) t = absurd t.0
   are_blocks (defines (a_block at) q ∷ w) t = ((t.0.0, ap (λ z. Some (a_block z)) t.0.1, t.0.2), are_blocks w t.1)
 
-  -- the names of a text and the numbers of what printing sees are defined at the same places, and these are those of what stands there
+  -- the names of a text and the numbers of what printing sees are defined at the same places, and these are the places of the definitions
+  -- there
   record Scoped (v : List (Fact Text)) (w : List (Fact Thing)) : Type 0 where
     same : spots v ≡ spots w
     are : Each IsValue w
@@ -171,34 +199,13 @@ module _ {T A : Type 0} (c : ContextView T A) (counters : KeepsCounters c.graph)
 
   operands_look : (v : List (Fact Text)) (w : List (Fact Thing)) → Scoped v w → (vs : List Value) (ns : List (Name ℕ)) → map (value_place all) vs ≡ map (λ n. lookup same_text n.text v) ns → list_all is_some (map (λ (n : Name ℕ). lookup same_text n.text v) ns) ≡ true
       → map (λ x. lookup same_thing (a_value x) w) (filter_map (number_of c) vs) ≡ map (λ n. lookup same_text n.text v) ns
-  operands_look v w s [] [] e h = refl
-  operands_look v w s [] (n ∷ ns) e h = absurd (unlike _ _ (sym e))
-  operands_look v w s (x ∷ vs) [] e h = absurd (unlike _ _ e)
-  operands_look v w s (x ∷ vs) (n ∷ ns) e h =
-      let here = first_of (value_place all x) (lookup same_text n.text v) (map (value_place all) vs) (map (λ n. lookup same_text n.text v) ns) e in
-      let later = rest_of (value_place all x) (lookup same_text n.text v) (map (value_place all) vs) (map (λ n. lookup same_text n.text v) ns) e in
-      let some = and_left (is_some (lookup same_text n.text v)) (list_all is_some (map (λ (n : Name ℕ). lookup same_text n.text v) ns)) h in
-      let others = and_right (is_some (lookup same_text n.text v)) (list_all is_some (map (λ (n : Name ℕ). lookup same_text n.text v) ns)) h in
-      let found = looked value_name (value_place all) one_number (one_value c.graph counters.nested p) v w s.same s.are n x here some in
-      go (number_of c x) found.0 found.1 found.2 (operands_look v w s vs ns later others)
-    where
-      go : (o : Option ℕ) (y : Thing) → option_map a_value o ≡ Some y → lookup same_thing y w ≡ lookup same_text n.text v → map (λ x. lookup same_thing (a_value x) w) (filter_map (number_of c) vs) ≡ map (λ n. lookup same_text n.text v) ns
-          → map (λ x. lookup same_thing (a_value x) w) (cons_option o (filter_map (number_of c) vs)) ≡ lookup same_text n.text v ∷ map (λ n. lookup same_text n.text v) ns
-      go None y e f r = absurd (cc)
-      go (Some m) y e f r = let same : a_value m ≡ y = some_eq e in ap₂ (λ a b. a ∷ b) (ap (λ z. lookup same_thing z w) same ∙ f) r
+  operands_look v w s = all_looked (value_place all) (number_of c) a_value v w (looked value_name (value_place all) one_number (one_value c.graph counters.nested p) v w s.same s.are)
 
   successors_look : (v : List (Fact Text)) (w : List (Fact Thing)) → Labelled v w → (bs : List (Ptr BasicBlock)) (ns : List (Name ℕ)) → map (block_place all) bs ≡ map (λ n. lookup same_text n.text v) ns → list_all is_some (map (λ (n : Name ℕ). lookup same_text n.text v) ns) ≡ true
       → map (λ b. lookup same_thing (a_block b) w) (map (place_of c) bs) ≡ map (λ n. lookup same_text n.text v) ns
-  successors_look v w s [] [] e h = refl
-  successors_look v w s [] (n ∷ ns) e h = absurd (unlike _ _ (sym e))
-  successors_look v w s (b ∷ bs) [] e h = absurd (unlike _ _ e)
-  successors_look v w s (b ∷ bs) (n ∷ ns) e h =
-      let here = first_of (block_place all b) (lookup same_text n.text v) (map (block_place all) bs) (map (λ n. lookup same_text n.text v) ns) e in
-      let later = rest_of (block_place all b) (lookup same_text n.text v) (map (block_place all) bs) (map (λ n. lookup same_text n.text v) ns) e in
-      let some = and_left (is_some (lookup same_text n.text v)) (list_all is_some (map (λ (n : Name ℕ). lookup same_text n.text v) ns)) h in
-      let others = and_right (is_some (lookup same_text n.text v)) (list_all is_some (map (λ (n : Name ℕ). lookup same_text n.text v) ns)) h in
-      let found = looked block_name (block_place all) one_ptr (one_block c.graph counters.nested p) v w s.same s.are n b here some in
-      ap₂ (λ a b. a ∷ b) (ap (λ z. lookup same_thing z w) (some_eq found.1) ∙ found.2) (successors_look v w s bs ns later others)
+  successors_look v w s bs ns e h =
+      ap (map (λ b. lookup same_thing (a_block b) w)) (sym (kept_all (place_of c) bs))
+      ∙ all_looked (block_place all) (λ b. Some (place_of c b)) a_block v w (looked block_name (block_place all) one_ptr (one_block c.graph counters.nested p) v w s.same s.are) bs ns e h
 
   module _ (C : Printing T A) (label_seen : (b : Ptr BasicBlock) (view : BlockView T A) → block c b ≡ Some view → C.label (place_of c b) ≡ view.label) (isolated : Id → Bool) (first : ℕ → Written A) (es : List (Entry ℕ A (Written A))) where
     -- ---- an operation's own
@@ -314,7 +321,7 @@ module _ {T A : Type 0} (c : ContextView T A) (counters : KeepsCounters c.graph)
       )
 
     -- ---- the whole
-    -- each object has the path under which it stands here
+    -- each object has the path that this list gives it
     abbrev Into : List (Object × Path) → Type 0
     Into xs = (o : Object) (q : Path) → Among (o, q) xs → path_of all o ≡ Some q
 
@@ -420,7 +427,7 @@ module _ {T A : Type 0} (c : ContextView T A) (counters : KeepsCounters c.graph)
                 (ap isolated (sym (id_is p o (built_op isolated first es [] [] t.own) own_seen own_held))) inner,
           )
 
-      -- what printing sees stands for what the tree built
+      -- what printing sees represents what the tree built
       pub stands_held : Linked (build isolated first es t) → (g : Graph T A) → seen_root text_of c p ≡ Some g → Fit C isolated g → StandsFor (stood C isolated g) (build isolated first es t)
       stands_held linked g sees fit = subst (λ z. StandsFor (stood C isolated z) (build isolated first es t)) (seen_is g sees) (stands_seen linked (subst (Fit C isolated) (sym (seen_is g sees)) fit))
 

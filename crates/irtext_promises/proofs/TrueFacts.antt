@@ -1,5 +1,5 @@
--- What the script of a graph that printing sees says of values and blocks is true of the context: each place that it says is that of what
--- stands there.
+-- What the script of a graph that printing sees states of values and blocks is true of the context: each place that it states is that of
+-- the definition there.
 use Rattle.std.proofs.Common.{◌≡◌, ◌∙◌, ◌+◌, ℕ, suc, Bool, true, false, List, [], ◌∷◌, map, filter_map, drop, length, slice_get, Option, Some, None, option_map, refl, sym, ap, subst, inl, inr, arith}
 use Rattle.std.specs.Prelude.{⊤}
 use Rattle.std.specs.List.{cons_option}
@@ -24,14 +24,14 @@ use Rattle.irtext_grammar.specs.Graphs.Closed.{Thing, a_value, a_block, same_thi
 use Rattle.irtext_grammar.specs.Graphs.Graph.{GraphOp, GraphBlock, Printing}
 use Rattle.irtext_grammar.specs.Names.Acts.{all_of}
 use Rattle.irtext_grammar.specs.Names.Scopes.{Fact, uses, defines, facts}
-use Rattle.irtext_grammar.specs.Names.Script.{Path, result, argument, block_at, define_label, Script, does, within, does_all}
+use Rattle.irtext_grammar.specs.Names.Script.{Path, Place, result, argument, block_at, Act, define_value, define_label, Script, does, within, does_all}
 use Rattle.irtext_grammar.specs.Spelling.Spellable.{Each}
 use Rattle.irtext_grammar.proofs.Lists.Each.{each_both}
 use Rattle.irtext_promises.specs.Held.{PtrRegions, PtrBlocks, PtrOperations, placed_regions, placed_blocks, placed_operations, path_of, value_place, block_place}
 use Rattle.irtext_promises.proofs.Shown.{SeenRegions, SeenBlocks, SeenOperations, results_seen, arguments_seen, unlike, first_is, rest_is}
 
 module _ {T A : Type 0} (c : ContextView T A) (all : List (Object × Path)) where
-  -- a value of this number stands at the place that is said
+  -- a value with this number is at the place that is stated
   abbrev pub TrueValue : Fact Thing → Type 0
   TrueValue (uses n u) = ⊤
   TrueValue (defines (a_value n) q) = (v : Value) × (number_of c v ≡ Some n) × (value_place all v ≡ Some q)
@@ -66,29 +66,28 @@ module _ {T A : Type 0} (c : ContextView T A) (all : List (Object × Path)) wher
   block_used p i (Some b) h = record { values = h.values; labels = (tt, h.labels) }
 
   -- ---- definitions
+  -- values of these types, each at its place
+  module _ (at : ℕ → Place) (acts : ℕ → List (ℕ × T) → List (Act Thing ⊤)) (no_acts : (k : ℕ) → acts k [] ≡ []) (next_acts : (k : ℕ) (r : ℕ × T) (rs : List (ℕ × T)) → acts k (r ∷ rs) ≡ define_value (spot (a_value r.0)) (at k) ∷ acts (suc k) rs) where
+    typed_true : (k : ℕ) (vs : List (Typed (Option T))) (types : List T) → map (λ (v : Typed (Option T)). v.of_type) vs ≡ known types
+        → ((i : ℕ) (t : Typed (Option T)) → slice_get vs i ≡ Some t → TrueValue (defines (a_value t.number) (at (k + i)))) → {x : Script Thing ⊤} → Trues x → Trues (does_all (acts k (filter_map typed_number vs)) x)
+    typed_true k [] types e true_at {x = x} h = subst (λ a. Trues (does_all a x)) (sym (no_acts k)) h
+    typed_true k (v ∷ vs) [] e true_at h = absurd (unlike v.of_type (map (λ v. v.of_type) vs) e)
+    typed_true k (v ∷ vs) (t ∷ types) e true_at {x = x} h =
+        let here : v.of_type ≡ Some t = first_is v.of_type (Some t) (map (λ (v : Typed (Option T)). v.of_type) vs) (known types) e in
+        let rest = rest_is v.of_type (Some t) (map (λ (v : Typed (Option T)). v.of_type) vs) (known types) e in
+        let r = typed_true (suc k) vs types rest (λ i u f. let n : k + suc i ≡ suc k + i = omega arith in subst (λ (m : ℕ). TrueValue (defines (a_value u.number) (at m))) n (true_at (suc i) u f)) h in
+        let z : k + 0 ≡ k = omega arith in
+        let first : Trues (does_all (acts k ((v.number, t) ∷ filter_map typed_number vs)) x) = subst (λ a. Trues (does_all a x)) (sym (next_acts k (v.number, t) (filter_map typed_number vs)))
+        (record { values = (subst (λ (m : ℕ). TrueValue (defines (a_value v.number) (at m))) z (true_at 0 v refl), r.values); labels = r.labels }) in
+        subst (λ (o : Option T). Trues (does_all (acts k (cons_option (option_map (λ (t : T). (v.number, t)) o) (filter_map typed_number vs))) x)) (sym here) first
+
   results_true : (q : Path) (k : ℕ) (vs : List (Typed (Option T))) (types : List T) → map (λ (v : Typed (Option T)). v.of_type) vs ≡ known types
       → ((i : ℕ) (t : Typed (Option T)) → slice_get vs i ≡ Some t → TrueValue (defines (a_value t.number) (result q (k + i)))) → {x : Script Thing ⊤} → Trues x → Trues (does_all (defined_results q k (filter_map typed_number vs)) x)
-  results_true q k [] types e at h = h
-  results_true q k (v ∷ vs) [] e at h = absurd (unlike v.of_type (map (λ v. v.of_type) vs) e)
-  results_true q k (v ∷ vs) (t ∷ types) e at {x = x} h =
-      let here : v.of_type ≡ Some t = first_is v.of_type (Some t) (map (λ (v : Typed (Option T)). v.of_type) vs) (known types) e in
-      let rest = rest_is v.of_type (Some t) (map (λ (v : Typed (Option T)). v.of_type) vs) (known types) e in
-      let r = results_true q (suc k) vs types rest (λ i u f. let n : k + suc i ≡ suc k + i = omega arith in subst (λ (m : ℕ). TrueValue (defines (a_value u.number) (result q m))) n (at (suc i) u f)) h in
-      let z : k + 0 ≡ k = omega arith in
-      subst (λ (o : Option T). Trues (does_all (defined_results q k (cons_option (option_map (λ (t : T). (v.number, t)) o) (filter_map typed_number vs))) x)) (sym here)
-      (record { values = (subst (λ (m : ℕ). TrueValue (defines (a_value v.number) (result q m))) z (at 0 v refl), r.values); labels = r.labels })
+  results_true q = typed_true (result q) (defined_results q) (λ k. refl) (λ k r rs. refl)
 
   arguments_true : (q : Path) (k : ℕ) (vs : List (Typed (Option T))) (types : List T) → map (λ (v : Typed (Option T)). v.of_type) vs ≡ known types
       → ((i : ℕ) (t : Typed (Option T)) → slice_get vs i ≡ Some t → TrueValue (defines (a_value t.number) (argument q (k + i)))) → {x : Script Thing ⊤} → Trues x → Trues (does_all (defined_arguments q k (filter_map typed_number vs)) x)
-  arguments_true q k [] types e at h = h
-  arguments_true q k (v ∷ vs) [] e at h = absurd (unlike v.of_type (map (λ v. v.of_type) vs) e)
-  arguments_true q k (v ∷ vs) (t ∷ types) e at {x = x} h =
-      let here : v.of_type ≡ Some t = first_is v.of_type (Some t) (map (λ (v : Typed (Option T)). v.of_type) vs) (known types) e in
-      let rest = rest_is v.of_type (Some t) (map (λ (v : Typed (Option T)). v.of_type) vs) (known types) e in
-      let r = arguments_true q (suc k) vs types rest (λ i u f. let n : k + suc i ≡ suc k + i = omega arith in subst (λ (m : ℕ). TrueValue (defines (a_value u.number) (argument q m))) n (at (suc i) u f)) h in
-      let z : k + 0 ≡ k = omega arith in
-      subst (λ (o : Option T). Trues (does_all (defined_arguments q k (cons_option (option_map (λ (t : T). (v.number, t)) o) (filter_map typed_number vs))) x)) (sym here)
-      (record { values = (subst (λ (m : ℕ). TrueValue (defines (a_value v.number) (argument q m))) z (at 0 v refl), r.values); labels = r.labels })
+  arguments_true q = typed_true (argument q) (defined_arguments q) (λ k. refl) (λ k r rs. refl)
 
   -- ---- regions
   within_true : (iso : Bool) (body : Script Thing ⊤) {x : Script Thing ⊤} → Trues body → Trues x → Trues (within iso tt body x)
@@ -121,7 +120,7 @@ module _ {T A : Type 0} (c : ContextView T A) (all : List (Object × Path)) wher
   body_true (Some (format.custom ds)) p o ss a h = directives_true ds p o h ds ss a
 
   -- ---- the forest
-  -- each object has the path under which it stands here
+  -- each object has the path that this list gives it
   abbrev Into : List (Object × Path) → Type 0
   Into xs = (o : Object) (q : Path) → Among (o, q) xs → path_of all o ≡ Some q
 

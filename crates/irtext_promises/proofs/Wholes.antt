@@ -1,4 +1,4 @@
--- All that stands under an operation is there, where it has what a tree gives it.
+-- All that is nested in an operation is present, if the operation has what a tree gives it.
 use Rattle.std.proofs.Common.{ℕ, List}
 use Rattle.std.specs.Prelude.{⊤}
 use Rattle.irtext_base.specs.Paths.{Written}

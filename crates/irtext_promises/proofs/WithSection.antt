@@ -1,5 +1,5 @@
--- A root with its section: what is wrong in both is what is wrong in the tree, and then what is wrong in the section; and what the section
--- gives the items of the tree that stands is what both build.
+-- A root with its section: the failures of both are the failures of the tree, and then those of the section; and the items of the tree,
+-- with what the section gives them, are what both build.
 use Rattle.std.proofs.Common.{◌≡◌, ◌∙◌, ℕ, zero, suc, Bool, true, false, ◌||◌, List, [], ◌∷◌, ◌++◌, length, Option, Some, None, IsSome, option_map, is_some, refl, sym, ap, ap₂, inl, inr}
 use Rattle.irtext_base.specs.Text.{Text}
 use Rattle.irtext_base.specs.Format.{same_text, Id}
@@ -62,7 +62,7 @@ module _ {P T A X : Type 0} (isolated : Id → Bool) (t : Tree P T A) (es : List
   root_parts : root_script isolated t es ≡ follow of_tree of_section
   root_parts = operation_follow [] t.own (region_scripts isolated [] 0 (isolated t.own.id) t.regions) done of_section (regions_follow isolated [] 0 (isolated t.own.id) t.regions)
 
-  -- what is wrong in a root and its section is what is wrong in the tree, and then in the section behind its marks
+  -- the failures of a root and its section are those of the tree, and then those of the section after the tree's marks
   pub section_failures : failures_of isolated t es ≡ failures same_text no_scope of_tree ++ refused (facts same_text of_tree).marks (rule_of t) es
   section_failures =
       ap (failures same_text no_scope) root_parts
@@ -119,7 +119,7 @@ module _ {P T A : Type 0} (isolated : Id → Bool) where
         noted_both (inside ++ of_op o) later
         ∙ ap₂ ◌||◌ (noted_both inside (of_op o) ∙ (ap₂ ◌||◌ (regions_noted (isolated o.id) rs) (noted_mark o.mark) ∙ or_flip (regions_marked rs) (is_some o.mark))) (operations_noted os)
 
-  -- a tree has a mark exactly where one is noted of it
+  -- a tree has a mark exactly where one is recorded of it
   pub tree_noted : (t : Tree P T A) → WholeOperations (forest.operation t.own t.regions no_operations) → is_noted (facts same_text (tree_script isolated t done)).marks ≡ marked t
   tree_noted t w =
       let inside = all_in_regions isolated of_op of_head everywhere (isolated t.own.id) t.regions in
@@ -147,7 +147,7 @@ module _ {O B T : Type 0} (g k : GraphView O B T) (s : SameShape g k) where
   pub pointers_same : (p : Ptr Operation) → pointers k p ≡ pointers g p
   pointers_same p = ap (λ rs. record { own = p; regions = rs }) (ap (λ n. within k (suc n) p) s.places ∙ inside_same (suc (length g.operations.cells)) p)
 
-  -- what stands inside is the same
+  -- what is nested inside is the same
   climb_same : (n : ℕ) (o : Option Object) → climb (parent k) n o ≡ climb (parent g) n o
   climb_same zero o = refl
   climb_same (suc n) None = refl
@@ -161,14 +161,14 @@ module _ {T A : Type 0} (mid new : ContextView T A) (shape : SameShape mid.graph
     successors_keep = λ p r i q at l. let x = k.successors_keep p r i q at l in (x.0, shape.same_uses (AtSuccessor p i) ∙ x.1, x.2);
   }
 
-  -- what stands under the pointer is what the tree builds with its section
+  -- what is under the pointer is what the tree builds with its section
   pub builds_given : Linked (build isolated first es t) → Keeps mid first es isolated (placed_under (pointers mid.graph op)) (links (build isolated first es t)) → RootHas new first es (pointers mid.graph op) t
       → held_root new op ≡ Some (build isolated first es t)
   builds_given linked keeps has =
       ap (λ ps. option_map (λ view. record { own = held_op new (placed_under ps) op view; regions = held_regions new (placed_under ps) ps.regions }) (operation new op)) (pointers_same mid.graph new.graph shape op)
       ∙ root_same new first es isolated (pointers mid.graph op) t has linked (keeps_still keeps)
 
--- only the operation and what stands in it is new still
+-- still only the operation and what is nested in it is new
 pub only_still : {T A : Type 0} (op : Ptr Operation) (old mid new : ContextView T A) → OnlyNew op old mid → SameShape mid.graph new.graph
     → ((p : Ptr Operation) → IsSome (get old.graph.operations p) → get new.graph.operations p ≡ get mid.graph.operations p)
     → ((b : Ptr BasicBlock) → IsSome (get old.graph.blocks b) → get new.graph.blocks b ≡ get mid.graph.blocks b)

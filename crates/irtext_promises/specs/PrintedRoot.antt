@@ -16,6 +16,8 @@ use Rattle.irtext_grammar.specs.Graphs.Graph.{Graph, Limit, Printing}
 use Rattle.irtext_grammar.specs.Spelling.Section.{text}
 use Rattle.irtext_parse_state.specs.declared.parsable.state.StateStream.{StateStream}
 use Rattle.irtext_promises.specs.Held.{held_root}
+use Rattle.irtext_promises.specs.Promises.{BuildsRoot}
+use Rattle.irtext_parse_spec.specs.ContextParts.{KeepsCounters}
 use Rattle.irtext_parse_spec.specs.Back.{HeldBack, HeldWhole}
 use Rattle.irtext_parse_spec.specs.RootParts.{KeptRoot}
 
@@ -29,6 +31,12 @@ module _ {T A : Type 0} (types : Texts T) (owns : Texts A) (attr : Text → Outc
     pub utf8 : IsUtf8 bytes
     pub few : length bytes < 2 ^ 64
     pub printed : bytes ≡ encode_utf8_all (text (unplaced types owns C.format_of) C g indentation width limit)
+
+  -- A root that was parsed is printed in the context that contains it, whose counters fit their types.
+  pub record IsReadAndPrinted {U : Type 0} (p : Ptr Operation) (before after : StateStream T A U) (g : Graph T A) (width indentation : ℕ) (limit : Limit) (bytes : List ℕ) : Type 0 where
+    pub read : BuildsRoot types owns attr p before after
+    pub counters : KeepsCounters after.state.ctx.now.graph
+    pub printed : PrintedRoot after.state.ctx.now p g width indentation limit bytes
 
   module _ {U : Type 0} (dialects : List (Text × Table)) (g : Graph T A) (q : Ptr Operation) (new : StateStream T A U) where
     -- the returned root, with everything nested in it, is equal to the graph up to fillings, with the same uses inside, and only white

@@ -3,30 +3,29 @@
 ghost use Rattle.std.specs.Prelude.{◌≡◌, ℕ, List, None, Option, Some};
 ghost use Rattle.std.specs.Str.{chars};
 ghost use Rattle.irtext_base.specs.Answers.{Outcome};
+ghost use Rattle.irtext_grammar.specs.Graphs.Graph.{Graph, Limit, written};
 ghost use Rattle.irtext_base.specs.Own.{texts_of};
 ghost use Rattle.irtext_base.specs.Paths.{Written};
+ghost use Rattle.irtext_promises.specs.Promises.{BuildsRoot, RefusesRoot};
 ghost use Rattle.irtext_base.specs.declared.parsable.fault.ParseFault.{ParseFault};
 ghost use Rattle.irtext_context.specs.Context.{ContextView};
+ghost use Rattle.irtext_promises.specs.PrintedRoot.{PrintedRoot, IsReadAndPrinted, StandsBack, StandsWhole};
 ghost use Rattle.irtext_graph.specs.declared.arena.Ptr.{Ptr};
 ghost use Rattle.irtext_graph.specs.declared.object.BasicBlock.{BasicBlock};
+ghost use Rattle.irtext_grammar.specs.UniqueNames.{value_name, block_name};
 ghost use Rattle.irtext_graph.specs.declared.object.Operation.{Operation};
 ghost use Rattle.irtext_graph.specs.declared.object.Value.{Value};
 ghost use Rattle.irtext_grammar.specs.Contexts.Formats.{isolated};
 ghost use Rattle.irtext_grammar.specs.Contexts.Nested.{printing_over};
 ghost use Rattle.irtext_grammar.specs.Grammar.Marked.{AllShown};
 ghost use Rattle.irtext_grammar.specs.Graphs.Build.{Built};
-ghost use Rattle.irtext_grammar.specs.Graphs.Graph.{Graph, Limit, written};
 ghost use Rattle.irtext_grammar.specs.Graphs.Regained.{Named};
 ghost use Rattle.irtext_grammar.specs.Graphs.Same.{stood};
 ghost use Rattle.irtext_grammar.specs.Graphs.StandsFor.{StandsFor};
-ghost use Rattle.irtext_parse_spec.specs.ContextParts.{KeepsCounters};
 ghost use Rattle.irtext_promises.specs.Held.{held_root};
-ghost use Rattle.irtext_promises.specs.Promises.{BuildsRoot, RefusesRoot};
 ghost use Rattle.irtext_tokens.specs.AttrTexts.{attr_at};
 ghost use Rattle.irtext_parse_spec.specs.Back.{ClosedRoot};
 ghost use Rattle.irtext_parse_state.specs.declared.parsable.state.StateStream.{StateStream};
-ghost use Rattle.irtext_promises.specs.PrintedRoot.{PrintedRoot, StandsBack, StandsWhole};
-ghost use Rattle.irtext_grammar.specs.UniqueNames.{value_name, block_name};
 
 use irtext_base::text::{AttrText, IrText};
 use irtext_context::base::Context;
@@ -46,9 +45,9 @@ pub fn printed_root_comes_back<T: IrText<A>, A: AttrText<A>, U>()
         (q : Ptr Operation) (old new : StateStream T A U) → old.stream.rest ≡ chars bytes → old.state.ctx.now.dialects ≡ ctx.dialects →
         BuildsRoot types owns (attr_at A.reading) q old new → StandsBack types owns (attr_at A.reading) C ctx.dialects g q new }
     ensures whole { (ctx : ContextView T A) (p : Ptr Operation) (g : Graph T A) (width n : ℕ) (bytes : List ℕ) →
+        let C = printing_over ctx A.outlined A.print_once A.eq in
         let types = texts_of T.reading T.written in
         let owns = texts_of A.reading A.written in
-        let C = printing_over ctx A.outlined A.print_once A.eq in
         PrintedRoot types owns (attr_at A.reading) C ctx p g width n None bytes → ClosedRoot C (isolated ctx.dialects) g → Named C g →
         (q : Ptr Operation) (old new : StateStream T A U) → old.stream.rest ≡ chars bytes → old.state.ctx.now.dialects ≡ ctx.dialects →
         BuildsRoot types owns (attr_at A.reading) q old new → StandsWhole types owns (attr_at A.reading) C ctx.dialects g q new }
@@ -69,26 +68,21 @@ pub fn read_root_comes_back<T: IrText<A>, A: AttrText<A>, U, V>()
     ensures closed { (p : Ptr Operation) (before after : StateStream T A U) (g : Graph T A) (width n : ℕ) (limit : Limit) (bytes : List ℕ) →
         let types = texts_of T.reading T.written in
         let owns = texts_of A.reading A.written in
-        let ctx = after.state.ctx.now in
-        let C = printing_over ctx A.outlined A.print_once A.eq in
-        BuildsRoot types owns (attr_at A.reading) p before after → KeepsCounters ctx.graph →
-        PrintedRoot types owns (attr_at A.reading) C ctx p g width n limit bytes →
-        ClosedRoot C (isolated ctx.dialects) g × Named C g }
+        let C = printing_over after.state.ctx.now A.outlined A.print_once A.eq in
+        IsReadAndPrinted types owns (attr_at A.reading) C p before after g width n limit bytes →
+        ClosedRoot C (isolated after.state.ctx.now.dialects) g × Named C g }
     ensures stands { (p : Ptr Operation) (before after : StateStream T A U) (g : Graph T A) (width n : ℕ) (limit : Limit) (bytes : List ℕ) →
         let types = texts_of T.reading T.written in
         let owns = texts_of A.reading A.written in
-        let ctx = after.state.ctx.now in
-        let C = printing_over ctx A.outlined A.print_once A.eq in
-        BuildsRoot types owns (attr_at A.reading) p before after → KeepsCounters ctx.graph →
-        PrintedRoot types owns (attr_at A.reading) C ctx p g width n limit bytes →
-        (b : Built T A (Written A)) × (held_root ctx p ≡ Some b) × StandsFor (stood C (isolated ctx.dialects) g) b }
+        let C = printing_over after.state.ctx.now A.outlined A.print_once A.eq in
+        IsReadAndPrinted types owns (attr_at A.reading) C p before after g width n limit bytes →
+        (b : Built T A (Written A)) × (held_root after.state.ctx.now p ≡ Some b) × StandsFor (stood C (isolated after.state.ctx.now.dialects) g) b }
     ensures whole { (p : Ptr Operation) (before after : StateStream T A U) (g : Graph T A) (width n : ℕ) (bytes : List ℕ) →
         let types = texts_of T.reading T.written in
         let owns = texts_of A.reading A.written in
         let ctx = after.state.ctx.now in
         let C = printing_over ctx A.outlined A.print_once A.eq in
-        BuildsRoot types owns (attr_at A.reading) p before after → KeepsCounters ctx.graph →
-        PrintedRoot types owns (attr_at A.reading) C ctx p g width n None bytes →
+        IsReadAndPrinted types owns (attr_at A.reading) C p before after g width n None bytes →
         (q : Ptr Operation) (old new : StateStream T A V) → old.stream.rest ≡ chars bytes → old.state.ctx.now.dialects ≡ ctx.dialects →
         BuildsRoot types owns (attr_at A.reading) q old new → StandsWhole types owns (attr_at A.reading) C ctx.dialects g q new }
 {}

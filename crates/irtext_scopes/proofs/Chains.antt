@@ -69,7 +69,7 @@ module _ {V : Type 0} where
     maps = ap are_maps (added_scopes heads marks bs b s) ∙ mentioned_maps b.name b.entry (scopes_at marks bs) s.maps none;
   }
 
-  -- ---- the last binding taken away
+  -- ---- the last binding removed
   pub taken_chained : (heads heads' : List (Option ℕ)) (bs : List (Binding V)) (b : Binding V) → Chained heads (bs ++ b ∷ [])
       → ((n : ℕ) → head_at heads' n ≡ cond (nat_eq b.name n) b.hidden (head_at heads n)) → Chained heads' bs
   taken_chained heads heads' bs b c put = record {
@@ -97,7 +97,7 @@ module _ {V : Type 0} where
       go [] h = refl
       go (m ∷ ms) h = cc
 
-  -- no name stands twice in the innermost scope
+  -- no name occurs twice in the innermost scope
   pub mark_apart : (heads : List (Option ℕ)) (marks : List ℕ) (bs : List (Binding V)) (m : ℕ) → IsSound heads bs marks → first (reverse marks) ≡ Some m → are_apart (entries_of (drop m bs)) ≡ true
   mark_apart heads marks bs m s e = sym (ap are_apart (innermost_at (reverse marks) bs m e)) ∙ innermost_apart (scopes_at marks bs) s.maps
 

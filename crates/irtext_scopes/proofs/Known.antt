@@ -74,7 +74,7 @@ module _ {V : Type 0} where
   known_left k true ss h = known_outer k ss h
   known_left k false ss h = h
 
-  -- ---- the same behind a call that changes scopes or names, or is refused and changes nothing
+  -- ---- the same after a call that changes scopes or names, or is an error and changes nothing
   pub known_kept : {E : Type 0} (r : Result ℕ E) (old new : List (List ℕ)) (text : List ℕ) (ss : List (Scope V)) → OnOk r (new ≡ with_name old text) → OnErr r (new ≡ old)
       → are_known (length old) ss ≡ true → are_known (length new) ss ≡ true
   known_kept (Ok i) old new text ss k e h = subst (λ z. are_known (length z) ss ≡ true) (sym k) (known_higher (length old) (length (with_name old text)) ss (grown old text) h)

@@ -1,4 +1,4 @@
--- Places in lists: where an element stands, and what one more behind a list, or another in its place, leaves as it was.
+-- Places in lists: the index of an element, and what is unchanged when one more is appended, or another put in its place.
 use Rattle.std.proofs.Common.{◌≡◌, ℕ, zero, suc, ◌<◌, ◌≤◌, List, [], ◌∷◌, ◌++◌, length, take, drop, set, get_or, Some, refl, ap, arith, inl, inr, ◌⊎◌, ⊎_elim}
 use Rattle.std.proofs.lemmas.List.{take-append-le}
 use Rattle.std.specs.List.{slice_get}

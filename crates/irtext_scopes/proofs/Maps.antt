@@ -1,4 +1,4 @@
--- Scopes in which no name stands twice: what keeps them so.
+-- Scopes in which no name occurs twice: which changes preserve this.
 use Rattle.std.proofs.Common.{◌≡◌, ℕ, Bool, true, false, cond, List, [], ◌∷◌, is_some, Option, Some, None, nat_eq, refl, sym, ap, ◌∙◌, eqb-true, eq-eqb, ne_eqb}
 use Rattle.std.specs.Option.{option_or}
 use Rattle.irtext_scopes.specs.declared.scopes.Entry.{Entry}
@@ -21,7 +21,7 @@ module _ {V : Type 0} where
       go true k = cc
       go false k = k
 
-  -- a name that stands further on is not the first one
+  -- a name of a later entry is not that of the first
   pub not_again : (e : ℕ × Entry V) (s : Scope V) (n : ℕ) (x : Entry V) → are_apart (e ∷ s) ≡ true → find n s ≡ Some x → nat_eq e.0 n ≡ false
   not_again e s n x h f = go (nat_eq e.0 n) refl
     where
@@ -50,7 +50,7 @@ module _ {V : Type 0} where
   innermost_apart [] h = refl
   innermost_apart (s ∷ ss) h = maps_head s ss h
 
-  -- the innermost scope changed into one in which no name stands twice
+  -- the innermost scope changed into one in which no name occurs twice
   changed_maps : (f : Scope V → Scope V) (ss : List (Scope V)) → are_maps ss ≡ true → are_apart (f (innermost ss)) ≡ true → are_maps (in_innermost f ss) ≡ true
   changed_maps f [] h k = refl
   changed_maps f (s ∷ ss) h k = ap (λ c. cond c (are_maps ss) false) k ∙ maps_tail s ss h

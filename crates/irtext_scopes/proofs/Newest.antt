@@ -11,7 +11,7 @@ use Rattle.irtext_scopes.proofs.Lists.{get_or_there}
 use Rattle.irtext_scopes.proofs.Maps.{not_again, apart_tail, resolved_unknown}
 
 module _ {V : Type 0} where
-  -- at this place stands a binding of the name
+  -- a binding of the name is at this place
   abbrev pub Stands : ℕ → List (Binding V) → Option ℕ → Type 0
   Stands n bs None = Unit {0}
   Stands n bs (Some i) = (b : Binding V) × (slice_get bs i ≡ Some b) × (b.name ≡ n)

@@ -1,4 +1,4 @@
--- A name that comes to be kept stands under its number, and no name comes to stand under two.
+-- A name that is interned is under its number, and no name has two numbers.
 use Rattle.std.proofs.Common.{◌≡◌, ◌∙◌, ap, refl, sym, subst, ℕ, ◌<◌, ◌≤◌, Bool, true, false, cond, nat_lt, Option, Some, None, Result, Ok, Err, List, [], length, position, get_or, arith, true≢false, ltb-false, ⊎_elim}
 use Rattle.std.proofs.lemmas.List.Quantifiers.{position-Some}
 use Rattle.std.proofs.lemmas.List.Sums.{fails_before_first}
@@ -10,7 +10,7 @@ use Rattle.std.specs.Str.{bytes_eq}
 use Rattle.irtext_scopes.specs.Names.{number_or_next, found_or_last, number_of, with_name, KeepsNames, AreDistinct}
 use Rattle.irtext_scopes.proofs.Lists.{get_within, get_or_there, get_snoc, get_last, get_front}
 
--- a name that is not found stands nowhere
+-- a name that is not found is not in the list
 absent : (names : List (List ℕ)) (text : List ℕ) (i : ℕ) → position (bytes_eq text) names ≡ None → slice_get names i ≡ Some text → ⊥
 absent names text i e h =
     let l = get_within names i text h in
@@ -49,7 +49,7 @@ distinct names text d = by (position (bytes_eq text) names) refl
         (λ a. ⊎_elim (λ b. absurd (absent names text j e (b.0 ∙ ap Some (sym a.1)))) (λ b. a.0 ∙ sym b.0) (get_snoc names text j t hj))
         (get_snoc names text i t hi)
 
--- ---- the same of a call that keeps a name, or is refused and changes nothing
+-- ---- the same for a call that interns a name, or is an error and changes nothing
 module _ {E : Type 0} (old new : List (List ℕ)) (text : List ℕ) where
   pub named_after : (r : Result ℕ E) → IfOk r (λ i. i ≡ number_of old text) → OnOk r (new ≡ with_name old text) → IfOk r (λ i. slice_get new i ≡ Some text)
   named_after (Ok i) n k = (λ q. slice_get (k q) (n q)) ∙ named old text

@@ -1,4 +1,4 @@
--- A text in bytes, and its characters before and behind a place of it.
+-- A text in bytes, and its characters before and after a place of it.
 use Rattle.std.proofs.Common.{◌≡◌, ℕ, ◌+◌, ◌-◌, ◌<◌, ◌≤◌, Bool, true, Some, None, List, [], ◌∷◌, ◌++◌, length, get_or, take, drop, refl, sym, ◌∙◌, ap, arith, length-drop, length-append, append_assoc}
 use Rattle.std.proofs.lemmas.Str.{IsCharBoundary-from_drop, encodes-chars, encodes-append, scalars-chars, chars-nil, chars-append, chars-encodes, char_from_byte, IsUtf8-append}
 use Rattle.std.proofs.Math.Seq.{take-append-add, drop-append_seam, take-append_seam}
@@ -15,7 +15,7 @@ pub first_some : (text : Text) (c : ℕ) → Some c ≡ first_of text → (rest 
 first_some [] c e = absurd (cc)
 first_some (d ∷ text) c e = (text, cc)
 
--- two texts of such characters make one
+-- two texts of scalar values make one
 pub scalars_more : (xs ys : Text) → all_scalars xs ≡ true → all_scalars ys ≡ true → all_scalars (xs ++ ys) ≡ true
 scalars_more [] ys e f = f
 scalars_more (c ∷ xs) ys e f = rw (and_left (scalar c) (all_scalars xs) e, scalars_more xs ys (and_right (scalar c) (all_scalars xs) e) f) refl
@@ -46,7 +46,7 @@ next_at_end bs o l =
     let e : drop o bs ≡ [] = drop_all o bs l in
     rw (e, chars-nil) refl
 
--- the place behind one more character, which takes this many bytes
+-- the place after one more character, which takes this many bytes
 pub record OneMore (bs : List ℕ) (o n c : ℕ) : Type 0 where
   pub within : o + n ≤ length bs
   pub passed_utf8 : IsUtf8 (take (o + n) bs)
@@ -54,7 +54,7 @@ pub record OneMore (bs : List ℕ) (o n c : ℕ) : Type 0 where
   pub passed : chars (take (o + n) bs) ≡ chars (take o bs) ++ (c ∷ [])
   pub advances : (b : Bool) → ◌≡◌ {A = StreamView} (record { passed = chars (take (o + n) bs); rest = chars (drop (o + n) bs); failed = b }) (advanced_by (chars (take o bs)) (chars (drop o bs)) b)
 
--- the place behind the next character
+-- the place after the next character
 pub one_more : (bs : List ℕ) (o n c : ℕ) → o ≤ length bs → IsUtf8 (take o bs) → IsUtf8 (drop o bs) → Some c ≡ first_of (chars (drop o bs)) → n ≡ length (encode_utf8 c) → OneMore bs o n c
 one_more bs o n c l f u e m =
     let s = first_some (chars (drop o bs)) c e in

@@ -26,7 +26,7 @@ goes_on b h k = grind (arith, nat_tests)
 next_on : (b : ℕ) → begins_character (next b) ≡ false
 next_on b = goes_on (next b) (omega arith) (omega arith)
 
--- one character begins here, and none behind it
+-- one character begins here, and none after it
 begun : (b : ℕ) (bs : List ℕ) → begins_character b ≡ true → count_by begins_character bs ≡ 0 → count_by begins_character (b ∷ bs) ≡ 1
 begun b bs e h = sum_by-cons (λ b. cond (begins_character b) 1 0) b bs ∙ rw (e, h) refl
 
@@ -114,7 +114,7 @@ not_counted c cs e =
     let h : count_by is_newline (c ∷ cs) ≡ 0 + count_by is_newline cs = sum_by-cons (λ c. cond (is_newline c) 1 0) c cs ∙ ap (λ b. cond b 1 0 + count_by is_newline cs) e in
     omega (arith, h)
 
--- the first byte 10 of a text stands where its first newline does
+-- the first byte 10 of a text is where its first newline is
 pub split_newline : (cs : Text) (i : ℕ) → i < length (encode_utf8_all cs) → get_or (encode_utf8_all cs) i 0 ≡ 10 → ((j : ℕ) → j < i → get_or (encode_utf8_all cs) j 0 ≡ 10 → ⊥) → Split cs i
 split_newline [] i l e b = absurd (omega (arith, l))
 split_newline (c ∷ cs) i l e b = go (is_newline c) refl (split_newline cs (i - length (encode_utf8 c)))
@@ -147,7 +147,7 @@ split_newline (c ∷ cs) i l e b = go (is_newline c) refl (split_newline cs (i -
         beyond : (i n : ℕ) → (i < n → ⊥) → n ≤ i
         beyond i n f = grind (arith)
 
--- a text without such a byte has no newline
+-- a text without a byte 10 has no newline
 pub no_newlines : (cs : Text) → ((j : ℕ) → j < length (encode_utf8_all cs) → get_or (encode_utf8_all cs) j 0 ≡ 10 → ⊥) → count_by is_newline cs ≡ 0
 no_newlines [] b = refl
 no_newlines (c ∷ cs) b = go (is_newline c) refl (no_newlines cs)

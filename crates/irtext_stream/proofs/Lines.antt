@@ -37,7 +37,7 @@ column_more xs c e =
     let h : column_behind (xs ++ (c ∷ [])) ≡ 1 + suc (length (take_while (λ c. not (is_newline c)) (reverse xs))) = column_step xs c ∙ ap (λ b. 1 + length (cond (not b) (c ∷ take_while (λ c. not (is_newline c)) (reverse xs)) [])) e in
     omega (arith, h)
 
--- behind a newline stands column 1
+-- after a newline the column is 1
 pub column_fresh : (xs : Text) → column_behind (xs ++ (10 ∷ [])) ≡ 1
 column_fresh xs = column_step xs 10
 
@@ -74,7 +74,7 @@ newline_size : length (encode_utf8_all (10 ∷ [])) ≡ 1
 unfolding lib.Utf8.encode
 newline_size = refl
 
--- the next line begins behind the next newline
+-- the next line begins after the next newline
 pub next_line : (text : Text) (o n i : ℕ) (l : BeginsLine text o n) → Split l.behind i → BeginsLine text (o + (i + 1)) (suc n)
 next_line text o n i l s =
     let more : length (encode_utf8_all (s.line ++ (10 ∷ []))) ≡ length (encode_utf8_all s.line) + 1 = ap length (encodes-append s.line (10 ∷ [])) ∙ (length-append (encode_utf8_all s.line) (encode_utf8_all (10 ∷ [])) ∙ ap (λ n. length (encode_utf8_all s.line) + n) newline_size) in
@@ -97,7 +97,7 @@ pub record OnLine (passed : Text) (start line : ℕ) : Type 0 where
   pub is_line : line_behind passed ≡ 1 + line
   pub is_column : column_behind passed ≡ 1 + length between
 
--- behind the beginning of a line, with as many newlines before
+-- after the beginning of a line, with as many newlines before
 on_line : (text passed rest : Text) (start line : ℕ) → passed ++ rest ≡ text → (l : BeginsLine text start line) → start ≤ length (encode_utf8_all passed) → count_by is_newline passed ≤ line → OnLine passed start line
 on_line text passed rest start line e l h c =
     let z = front_between l.before l.behind passed rest (l.same ∙ sym e) (omega (arith, l.at)) in
@@ -112,7 +112,7 @@ on_line text passed rest start line e l h c =
       is_column = ap column_behind z.1 ∙ (columns l.before z.0 none ∙ omega (arith, l.fresh));
     }
 
--- fewer newlines stand before a place in front of a line's beginning
+-- fewer newlines are before a place that precedes a line's beginning
 fewer : (text passed rest : Text) (start line : ℕ) → passed ++ rest ≡ text → (l : BeginsLine text start (suc line)) → length (encode_utf8_all passed) < start → count_by is_newline passed ≤ line
 fewer text passed rest start line e l h =
     let z = front_between passed rest l.before l.behind (e ∙ sym l.same) (omega (arith, l.at)) in
@@ -125,14 +125,14 @@ fewer text passed rest start line e l h =
     go [] zero e n b s = absurd (omega (arith, s, h))
     go (c ∷ t) zero e n b s = absurd (omega (arith, sym l.fresh ∙ (ap column_behind b ∙ columns passed (c ∷ t) e), l.fresh))
 
--- as few, where no line begins behind it
+-- as few, if no line begins after it
 last : (text passed rest : Text) (line : ℕ) → passed ++ rest ≡ text → count_by is_newline text ≡ line → count_by is_newline passed ≤ line
 last text passed rest line e n = omega (arith, n, ap (count_by is_newline) e, newlines_of passed rest)
 
 few : (text passed rest : Text) (starts : List ℕ) (k : ℕ) → AreStarts text starts → passed ++ rest ≡ text → k ≤ length starts → (k < length starts → length (encode_utf8_all passed) < get_or starts k 0) → count_by is_newline passed ≤ k
 few text passed rest starts k a e w f = ⊎_elim (λ (h : k ≡ length starts). last text passed rest k e (a.all ∙ sym h)) (λ (h : k < length starts). fewer text passed rest (get_or starts k 0) k e (a.each k h) (f h)) (eq-or-lt_of_le w)
 
--- a place is on the line between whose beginning and the next it stands
+-- a place is on the line if it is between the beginning of the line and that of the next
 pub stands_on : (text passed rest : Text) (starts : List ℕ) (k : ℕ) → AreStarts text starts → passed ++ rest ≡ text → k ≤ length starts → (0 < k → get_or starts (k - 1) 0 ≤ length (encode_utf8_all passed)) → (k < length starts → length (encode_utf8_all passed) < get_or starts k 0) → OnLine passed (entry_before starts k) k
 stands_on text passed rest starts zero a e w b f = on_line text passed rest 0 0 e (no_line text) (omega arith) (few text passed rest starts zero a e w f)
 stands_on text passed rest starts (suc k) a e w b f =
@@ -148,12 +148,12 @@ entries_more P xs x a p k h =
     (λ (l : k < length xs). subst (λ y. P y k) (sym (get_or_append_left xs (x ∷ []) 0 k l)) (a k l))
     (eq-or-lt_of_le (le_of_suc-le-suc (omega (arith, h, length-append xs (x ∷ [])))))
 
--- the bytes behind the beginning of a line
+-- the bytes after the beginning of a line
 pub record Coming (bs : List ℕ) (o : ℕ) (behind : Text) : Type 0 where
   pub within : o ≤ length bs
   pub bytes : drop o bs ≡ encode_utf8_all behind
 
--- what is behind the beginning of a line, in bytes
+-- what follows the beginning of a line, in bytes
 pub coming : (bs : List ℕ) (o n : ℕ) → IsUtf8 bs → (l : BeginsLine (chars bs) o n) → Coming bs o l.behind
 coming bs o n u l =
     let b : encode_utf8_all l.before ++ encode_utf8_all l.behind ≡ bs = sym (encodes-append l.before l.behind) ∙ (ap encode_utf8_all l.same ∙ encodes-chars bs u) in
@@ -162,14 +162,14 @@ coming bs o n u l =
       bytes = rw (l.at, ← b) (drop-append_seam (encode_utf8_all l.before) (encode_utf8_all l.behind));
     }
 
--- behind the first newline of what is coming a line begins
+-- after the first newline of what follows a line begins
 pub line_found : (bs part : List ℕ) (o n i : ℕ) → IsUtf8 bs → (l : BeginsLine (chars bs) o n) → part ≡ drop o bs → IsFirstByte (is_byte 10) part (Some i) → BeginsLine (chars bs) (o + (i + 1)) (suc n)
 line_found bs part o n i u l p f =
     let e : part ≡ encode_utf8_all l.behind = p ∙ (coming bs o n u l).bytes in
     let g = subst (λ z. IsFirstByte (is_byte 10) z (Some i)) e f in
     next_line (chars bs) o n i l (split_newline l.behind i g.0.high (eqb-true _ _ g.1) (λ j h q. g.0.before j (omega arith) h (true-eqb q)))
 
--- no line begins behind the last newline
+-- no line begins after the last newline
 pub lines_end : (bs part starts : List ℕ) (o : ℕ) → IsUtf8 bs → (l : BeginsLine (chars bs) o (length starts)) → part ≡ drop o bs → IsFirstByte (is_byte 10) part None → ((k : ℕ) → k < length starts → BeginsLine (chars bs) (get_or starts k 0) (suc k)) → AreStarts (chars bs) starts
 lines_end bs part starts o u l p f a =
     let e : part ≡ encode_utf8_all l.behind = p ∙ (coming bs o (length starts) u l).bytes in

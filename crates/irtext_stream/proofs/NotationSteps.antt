@@ -60,7 +60,7 @@ past_otherwise (c ∷ word) (d ∷ text) h = go (c == d) refl (past_otherwise wo
     go true e more = more (λ rest q. h rest (ap₂ (λ x y. x ∷ y) (same_is c d e) q))
     go false e more = refl
 
--- a word that came next is passed, and one that didn't leaves the stream as it was
+-- a word that comes next is consumed, and one that does not leaves the stream unchanged
 pub past_is : (word : List ℕ) (r : Bool) (old new : StreamView) → IsUtf8 word → MatchBool r (Comes (chars word) old (λ v. new ≡ v)) (BeginsOtherwise (chars word) old.rest × (new ≡ old))
     → MatchBool r ((past (characters word) old.rest ≡ Some new.rest) × (whole new ≡ whole old)) ((past (characters word) old.rest ≡ None) × (new ≡ old))
 past_is word true old new u h = (
@@ -127,7 +127,7 @@ no_index expected text h = go (begins is_ascii_digit text) (nat_lt (index_of tex
     go true false e f = refl
     go false d e f = refl
 
--- the index was parsed of the digits that come next
+-- the index was parsed from the digits that come next
 pub index_ok : (E : Type 0) (expected : NotationPart) (old : StreamView) (bytes : List ℕ) (i : ℕ) → bytes ≡ encode_utf8_all (front is_ascii_digit old.rest) → ParsesUnsigned {E = E} 64 10 bytes (Ok i) → index_at expected old.rest ≡ means i (after is_ascii_digit old.rest)
 index_ok E expected old bytes i e h =
     let k = digits_parsed {E = E} old.rest bytes (Ok i) e h in index_there expected old.rest k.0.0 k.0.1 ∙ ap (λ z. means z (after is_ascii_digit old.rest)) (sym k.1)
@@ -145,7 +145,7 @@ passed_front test old mid e = (ap (λ v. v.rest) e, ap whole e ∙ (append_assoc
 pub since_is : (test : ℕ → Bool) (old mid : StreamView) (place : Place) (bytes : List ℕ) → mid ≡ behind old (front test old.rest) (after test old.rest) → StandsBehind place old.passed → SincePlace place mid (λ passed taken. bytes ≡ encode_utf8_all taken) → bytes ≡ encode_utf8_all (front test old.rest)
 since_is test old mid place bytes e p h = h old.passed (front test old.rest) (sym (ap (λ v. v.passed) e)) p
 
--- the error at the place from which the stream came
+-- the error at the place where the parse began
 pub lacks_back : {X : Type 0} (old mid : StreamView) (place : Place) (expected : NotationPart) (m : Meaning X) (e : NotationFault) → m ≡ lacks expected old.rest → whole mid ≡ whole old → StandsBehind place old.passed → AtPlace place mid (λ passed rest. Lacks (whole mid) expected rest e) → Faults (whole old) m e
 lacks_back old mid place expected m e q w p h = lacks_so (whole old) old.rest expected m e q (subst (λ z. Lacks z expected old.rest e) w (h old.passed old.rest (sym w) p))
 

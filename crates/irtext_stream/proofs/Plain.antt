@@ -33,7 +33,7 @@ record FirstMark (bytes : List ℕ) (i : ℕ) : Type 0 where
   pub before : (j : ℕ) → j < i → is_plain (get_or bytes j 0) ≡ true
   pub here : i < length bytes → is_plain (get_or bytes i 0) ≡ false
 
--- the first byte that is not plain stands behind the front of plain characters
+-- the first byte that is not plain is right after the longest prefix of plain characters
 front_size : (cs : Text) (i : ℕ) → FirstMark (encode_utf8_all cs) i → i ≡ length (encode_utf8_all (front is_plain cs))
 front_size [] i m = omega (arith, m.within)
 front_size (c ∷ cs) i m = go (is_plain c) refl (front_size cs (i - length (encode_utf8 c)))
@@ -87,7 +87,7 @@ plain_found bytes part from i l f u p first =
     let g = subst (λ z. IsFirstByte (is_byte2 34 92) z (Some i)) p first in
     plain_ends bytes from i l f u (record { within = omega (arith, g.0.high); before = λ j s. plain_is (get_or (drop from bytes) j 0) (g.0.before j (omega arith) s); here = λ s. mark_is (get_or (drop from bytes) i 0) g.1 })
 
--- where none was found
+-- if none was found
 pub plain_to_end : (bytes part : List ℕ) (from : ℕ) → from ≤ length bytes → IsUtf8 (take from bytes) → IsUtf8 (drop from bytes) → part ≡ drop from bytes → IsFirstByte (is_byte2 34 92) part None → Ends bytes from is_plain (length bytes)
 plain_to_end bytes part from l f u p first =
     let g = subst (λ z. IsFirstByte (is_byte2 34 92) z None) p first in

@@ -91,7 +91,7 @@ ahead_ends bytes from kind at a e =
       rest = sym s.1 ∙ a.after_is;
     }
 
--- the front that goes on where it has come so far ends where the whole does
+-- the longest prefix, continued from a position inside it, ends where the whole does
 pub ends_behind : (bytes : List ℕ) (from : ℕ) (kind : ℕ → Bool) (at to : ℕ) → Ahead bytes from kind at → Ends bytes at kind to → Ends bytes from kind to
 ends_behind bytes from kind at to a e =
     let old = chars (take from bytes) in
@@ -113,7 +113,7 @@ width_none kind [] e = refl
 width_none kind (c ∷ text) e = absurd (cc)
 
 -- ---- a text that comes next
--- what is left of UTF-8 behind UTF-8
+-- the rest of UTF-8 after UTF-8 is UTF-8
 utf8_behind : (xs : Text) (b : List ℕ) (zs : Text) → all_scalars zs ≡ true → encode_utf8_all xs ++ b ≡ encode_utf8_all zs → IsUtf8 b
 utf8_behind [] b zs s e = (zs, (s, sym e))
 utf8_behind (c ∷ xs) b [] s e = absurd (omega (arith, ap length e, encode_some c, length-append (encode_utf8 c ++ encode_utf8_all xs) b, length-append (encode_utf8 c) (encode_utf8_all xs)))
@@ -123,7 +123,7 @@ utf8_behind (c ∷ xs) b (d ∷ zs) s e = utf8_behind xs b zs (more (scalar d) (
     more true b e = e
     more false b e = absurd (cc)
 
--- the place behind a text whose bytes come next
+-- the place after a text whose bytes come next
 pub behind_text : (bytes : List ℕ) (o : ℕ) (text : List ℕ) → o ≤ length bytes → IsUtf8 (take o bytes) → IsUtf8 (drop o bytes) → IsUtf8 text → drop o bytes ≡ text ++ drop (length text) (drop o bytes) → ComesAt bytes o text
 behind_text bytes o text l f u t e =
     let d : drop (length text) (drop o bytes) ≡ drop (o + length text) bytes = drop-drop (length text) o bytes in
@@ -171,7 +171,7 @@ comes bs cs text word o r same w e =
     let f : r ≡ pointwise eqb text (take (length text) (drop o bs)) = e ∙ (ap (λ z. pointwise eqb z (take (length z) (take (length cs - o) (drop o cs)))) w ∙ ap (λ z. pointwise eqb text (take (length text) z)) (rest_of bs cs o same)) in
     starts_is (λ a b. Decides-eqb a b) (drop o bs) text r f
 
--- what an answer about the bytes says of the text
+-- what a result about the bytes says of the text
 pub comes_where : (bs word : List ℕ) (o : ℕ) (r : Bool) → o ≤ length bs → IsUtf8 (take o bs) → IsUtf8 (drop o bs) → IsUtf8 word → (r ≡ true → drop o bs ≡ word ++ drop (length word) (drop o bs)) × ((rest : List ℕ) → drop o bs ≡ word ++ rest → r ≡ true) → MatchBool r (ComesAt bs o word) ((rest : List ℕ) → chars (drop o bs) ≡ chars word ++ rest → ⊥)
 comes_where bs word o true l f u t p = behind_text bs o word l f u t (p.0 refl)
 comes_where bs word o false l f u t p = λ rest e. true≢false (sym (p.1 (encode_utf8_all rest) (comes_next bs o word rest u t e)))

@@ -52,7 +52,7 @@ nothing_marked k n e = ap (λ n. not (nat_eq (bit_and n (bit_of k)) 0)) e ∙ no
     none class.Dotted = refl
     none class.Plain = refl
 
--- what the table answers at a byte
+-- what the table returns for a byte
 pub table_answers : (k : Class) (b : ℕ) → b < 256 → MatchBool (marked k b) ((b < 128) × (has k b ≡ true)) (b < 128 → has k b ≡ false)
 table_answers k b l = go (marked k b) refl
   where

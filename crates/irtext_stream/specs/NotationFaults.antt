@@ -55,7 +55,7 @@ IsNoLetter old new = (begins is_ascii_graphic old.rest ≡ false) × (new ≡ ol
 abbrev pub TakesLetter : ℕ → StreamView → StreamView → Type 0
 TakesLetter c old new = (old.rest ≡ c ∷ new.rest) × (is_ascii_graphic c ≡ true) × (whole new ≡ whole old)
 
--- what was parsed is the value of the meaning, and the stream is in front of the text after it, in the same whole text
+-- what was parsed is the value of the meaning, and the stream is at the text after it, in the same whole text
 abbrev pub Reads : {X Y : Type 0} → (Y → X) → Text → Meaning X → Result Y NotationFault → StreamView → Type 0
 Reads see text m (Ok y) new = (m ≡ means (see y) new.rest) × (whole new ≡ text)
 Reads see text m (Err e) new = Faults text m e

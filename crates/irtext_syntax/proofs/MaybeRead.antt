@@ -1,4 +1,4 @@
--- A part that may be left out is read as nothing where none begins.
+-- An optional part is parsed as nothing if none begins.
 use Rattle.std.proofs.Common.{◌≡◌, inl, inr, Bool, true, false, Option, None, Ok, Err, [], refl, sym, ◌∙◌, subst, true≢false}
 use Rattle.irtext_base.specs.Text.{Text}
 use Rattle.irtext_base.specs.Stream.{StreamView}
@@ -11,7 +11,7 @@ use Rattle.irtext_syntax.specs.Maybes.{or_none, maybe_at}
 committed_not : {A : Type 0} (fault : ParseFault A) → fault.committed ≡ true → fault.committed ≡ false → ⊥
 committed_not fault e f = true≢false (sym e ∙ f)
 
--- an error that is not committed is one where none begins
+-- for an uncommitted error, none begins here
 left_out : {X A : Type 0} (old new : StreamView) (b : Bool) (o : Outcome X) (fault : ParseFault A) → fault.committed ≡ false → Answers (λ s. s) (λ s v. v) {A = A} {Y = X} (λ x. x) (unless_failed b o) old (Err fault) new
     → Answers (λ s. s) (λ s v. v) {A = A} {Y = Option X} (λ x. x) (unless_failed b (or_none o old.rest)) old (Ok None) new
 left_out old new b o fault f (inl h) = absurd (committed_not fault h.committed f)

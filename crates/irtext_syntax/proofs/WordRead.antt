@@ -45,7 +45,7 @@ module _ {A : Type 0} (word given : Text) (old mid : StreamView) (fine : old.fai
       let h2 = subst (λ s. Passes (λ s. s) (λ s v. v) (Unexpected (first_of s.rest) (Word (characters word))) s fault mid) same h1 in
       inr (subst (λ o. Refuses (λ s. s) (λ s v. v) o old fault mid) (sym (next_missed word old.rest old.failed fine (subst (λ w. is_next w old.rest ≡ false) is e))) h2)
 
-  -- memory was refused for the error
+  -- out of memory for the error
   pub word_starves : (fault : ParseFault A) (new : StreamView) → StarvesHere (λ s. s) (λ s v. v) mid fault new
       → Starves (λ s. s) (λ s v. v) old fault new ⊎ Refuses (λ s. s) (λ s v. v) (unless_failed old.failed (keyword_at word old.rest)) old fault new
   word_starves fault new h = inl (starves_behind (λ s. s) (λ s v. v) (λ s v. refl) (λ s v w. refl) old old new [] old.rest fault fine (none old) (subst (λ s. StarvesHere (λ s. s) (λ s v. v) s fault new) same h))

@@ -1,6 +1,7 @@
 -- What callers rely on, in reading order
 pub mod PartLaws
 pub mod FixedTexts
+pub mod TestedTexts
 pub mod ScalarTexts
 pub mod QuotedParts
 pub mod QuotedLaws

@@ -44,12 +44,12 @@ ascii_word (c ∷ text) e = ascii_more c text (in_word_small c (and_left (in_wor
 
 module _ (w : WordText) (rest : Text) (stop : begins in_word rest ≡ false) where
   every : list_all in_word w.characters ≡ true
-  every = identifier_every w.characters w.is_word
+  every = identifier_every w.characters w.passes
 
   word-here : identifier_at (w.characters ++ rest) ≡ Read w.characters w.characters rest
   unfolding word_at
   word-here =
-      ap (λ b. let o : Outcome Text = cond b (Read (front in_word (w.characters ++ rest)) (front in_word (w.characters ++ rest)) (after in_word (w.characters ++ rest))) (Missing (Unexpected (first_of (w.characters ++ rest)) AnIdentifier)) in o) (identifier_begins w.characters rest w.is_word)
+      ap (λ b. let o : Outcome Text = cond b (Read (front in_word (w.characters ++ rest)) (front in_word (w.characters ++ rest)) (after in_word (w.characters ++ rest))) (Missing (Unexpected (first_of (w.characters ++ rest)) AnIdentifier)) in o) (identifier_begins w.characters rest w.passes)
       ∙ ap₂ (λ f a. let o : Outcome Text = Read f f a in o) (front_all in_word w.characters rest every stop) (after_all in_word w.characters rest every stop)
 
   name-here : name_at (name_text w ++ rest) ≡ Read w (name_text w) rest
@@ -61,15 +61,15 @@ of_word text = of_either text (begins begins_word text) _ _ (of_read text (front
 
 pub name_law : PartLaw name_at name_text ends_word
 name_law = record {
-  back = λ w rest e. read_here name_at w (name_text w ++ rest) (name_text w) rest (no_space_in_word (w.characters ++ rest) (identifier_begins w.characters rest w.is_word)) (name-here w rest (not_true (begins in_word rest) e));
+  back = λ w rest e. read_here name_at w (name_text w ++ rest) (name_text w) rest (no_space_in_word (w.characters ++ rest) (identifier_begins w.characters rest w.passes)) (name-here w rest (not_true (begins in_word rest) e));
   closed = λ rest e. ap not (follows_word rest (and_left (begins can_follow rest) _ e));
-  scalars = λ w. scalars_ascii w.characters (ascii_word w.characters (identifier_every w.characters w.is_word));
+  scalars = λ w. scalars_ascii w.characters (ascii_word w.characters (identifier_every w.characters w.passes));
   sincere = sincere_of name_at (λ text. of_mapped text word_text (identifier_at text) (of_word text));
 }
 
 -- the bytes of an identifier are its characters
 pub encodes_name : (w : WordText) → encode_utf8_all w.characters ≡ w.characters
-encodes_name w = encodes-IsAscii w.characters (ascii_word w.characters (identifier_every w.characters w.is_word))
+encodes_name w = encodes-IsAscii w.characters (ascii_word w.characters (identifier_every w.characters w.passes))
 
 no_beginning : (c : ℕ) → in_word c ≡ false → begins_word c ≡ false
 no_beginning c e = is_false (begins_word c) (λ f. true≢false (sym (begins_in c f) ∙ e))

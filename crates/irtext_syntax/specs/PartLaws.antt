@@ -1,4 +1,4 @@
--- The law of a part: how its text is parsed back, whatever it stands in.
+-- The law of a part: how its text is parsed back, whatever precedes and follows it.
 use Rattle.std.specs.Prelude.{◌≡◌, ℕ, Bool, true, ◌&&◌, ◌==◌, ◌∷◌, ◌++◌, codes}
 use Rattle.std.specs.Str.{all_scalars}
 use Rattle.irtext_base.specs.Text.{Text, begins, after_space}

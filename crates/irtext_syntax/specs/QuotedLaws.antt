@@ -27,7 +27,7 @@ pub characters_law : PartLaw characters_at characters_text (λ rest. true)
 characters_law = record {
   back = λ s rest e. read_here characters_at s (characters_text s ++ rest) (characters_text s) rest refl (characters-here s rest);
   closed = λ rest e. refl;
-  scalars = λ s. scalars_quoted s.characters s.scalars;
+  scalars = λ s. scalars_quoted s.characters s.passes;
   sincere = sincere_of characters_at (λ text. of_mapped text scalar_text (quoted_at text) (of_quoted text));
 }
 
@@ -44,7 +44,7 @@ characters_last = record { anywhere = λ rest e. refl }
 characters_same : (s t : ScalarText) → bytes_eq (encode_utf8_all s.characters) (encode_utf8_all t.characters) ≡ true → s ≡ t
 characters_same s t e =
     let f = (bytes_decides (encode_utf8_all s.characters) (encode_utf8_all t.characters)).0 e in
-    scalar_text_same s t (sym (chars-encodes s.characters s.scalars) ∙ (ap chars f ∙ chars-encodes t.characters t.scalars))
+    scalar_text_same s t (sym (chars-encodes s.characters s.passes) ∙ (ap chars f ∙ chars-encodes t.characters t.passes))
 
 pub characters_decides : (s t : ScalarText) → IsTrue (bytes_eq (encode_utf8_all s.characters) (encode_utf8_all t.characters)) ↔ (s ≡ t)
 characters_decides s t = (characters_same s t, λ e. (bytes_decides (encode_utf8_all s.characters) (encode_utf8_all t.characters)).1 (ap (λ (u : ScalarText). encode_utf8_all u.characters) e))

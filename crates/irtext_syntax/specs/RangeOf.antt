@@ -1,14 +1,9 @@
 -- The part of a number of a range.
-use Rattle.std.proofs.Common.{◌≡◌, ◌∙◌, ℕ, Bool, true, false, cond, Option, Some, None, refl, sym, ap, true≢false}
+use Rattle.std.proofs.Common.{◌≡◌, ◌∙◌, ℕ, Bool, true, false, Option, Some, None, refl, sym, ap, true≢false}
 use Rattle.std.proofs.Math.Bool.{Bool-set}
-use Rattle.std.specs.Char.{is_ascii_digit}
-use Rattle.irtext_base.specs.Text.{Text, begins, front, after}
-use Rattle.irtext_base.specs.Stream.{first_of}
-use Rattle.irtext_base.specs.Faults.{ADigit, Unexpected}
-use Rattle.irtext_base.specs.Answers.{Outcome, Missing}
-use Rattle.irtext_tokens.specs.Integers.{ranged}
-use Rattle.irtext_tokens.specs.Tokens.{value_of}
-use Rattle.irtext_syntax.specs.Ranges.{is_between}
+use Rattle.irtext_base.specs.Text.{Text}
+use Rattle.irtext_base.specs.Answers.{Outcome}
+use Rattle.irtext_syntax.specs.Ranges.{is_between, digits_at}
 use Rattle.irtext_syntax.specs.declared.range.Range as range
 use Rattle.irtext_syntax.specs.declared.range.Ranged.{Ranged}
 
@@ -28,7 +23,7 @@ ranged_if g (Some n) = ranged_of g n
 
 -- decimal digits, as many as come next; a number that is not in the range is the error `NumberRange` at its beginning
 abbrev pub ranged_at : {R : Type 0} (g : range.Ghosts R) → Text → Outcome (Ranged R g)
-ranged_at g text = cond (begins is_ascii_digit text) (ranged (front is_ascii_digit text) (after is_ascii_digit text) (ranged_if g (value_of (front is_ascii_digit text)))) (Missing (Unexpected (first_of text) ADigit))
+ranged_at g = digits_at (ranged_if g)
 
 module _ {R : Type 0} (g : range.Ghosts R) where
   found_by : (n : Ranged R g) (b : Bool) (e : is_between g.low g.high n.value ≡ b) → ranged_by g n.value b e ≡ Some n

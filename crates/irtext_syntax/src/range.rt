@@ -1,10 +1,11 @@
-//! Numbers with a range, in decimal digits without a sign.
-ghost use Rattle.std.specs.Prelude.{◌≡◌, ◌^◌, ℕ, true, nat_lt, nat_eq, OnOk, ◌++◌, string_bytes, decimal};
+//! Numbers in decimal digits without a sign: those of a range, and values of any type that are made of such numbers.
+ghost use Rattle.std.specs.Prelude.{◌≡◌, ◌^◌, ℕ, true, nat_lt, nat_eq, Option, OnOk, ◌++◌, string_bytes, decimal};
 ghost use Rattle.std.specs.Cmp.{on_equiv, on_per, partial_equiv_from_equiv, nat_eq_equiv};
 ghost use Rattle.std.specs.Hash as fed;
 ghost use Rattle.std.proofs.Common.{rules};
 ghost use Rattle.std.specs.Cmp.Rules.{hashing};
-ghost use Rattle.irtext_syntax.specs.Ranges.{is_between};
+ghost use Rattle.irtext_tokens.specs.MustRead.{MayRead};
+ghost use Rattle.irtext_syntax.specs.Ranges.{is_between, digits_at};
 
 use crate::part::{Item, Last, Part, TryClone};
 use irtext_base::parsable::{CharStream, ParseResult, TextStream};
@@ -35,6 +36,35 @@ pub trait Range {
     ghost fits: { nat_lt high (2 ^ 64) ≡ true };
 }
 
+/// A type whose values are made of numbers in decimal digits without a sign.
+pub trait FromDigits: Sized {
+    // the value that is made of a number, if there is one; `None` is a number that does not fit 64 bits
+    ghost made: { Option ℕ → Option Self };
+
+    /// Returns the value that is made of a number, if there is one. `None` is a number that does not fit 64 bits.
+    fn from_digits(number: Option<u64>) -> Option<Self>
+        ensures { result ≡ made number };
+}
+
+/// Parses as many decimal digits as come next, and makes a value of their number. If no digit comes next, the error is `Unexpected`,
+/// uncommitted. A number of which no value is made is `NumberRange` at its beginning, committed.
+pub fn digits_parse<N: FromDigits, A>(stream: &mut TextStream) -> ParseResult<N, A>
+    ensures { MayRead (λ s. s) (λ s v. v) (λ n. n) (digits_at N.made) stream.old result stream.new }
+{
+    if stream.has_failed() {
+        return Err(refuse(stream, Cause::StreamFailed));
+    }
+    if !begins(stream, Class::Digit) {
+        return Err(unexpected(stream, Expected::Digit));
+    }
+    let place = stream.position();
+    let number = take_digits(stream, Radix::Decimal);
+    match N::from_digits(number) {
+        Some(value) => Ok(value),
+        None => Err(out_of_range(stream, place)),
+    }
+}
+
 /// A number of a range, as a part of a text such as `12`: as many decimal digits as come next, without a sign. It is printed in decimal. If
 /// no digit comes next, parsing fails with `Unexpected`, uncommitted. A number that is not in the range is `NumberRange` at its beginning,
 /// committed.
@@ -61,7 +91,7 @@ impl<R: Range> TryClone for Ranged<R> {
 }
 
 impl<R: Range> Ranged<R> {
-    ghost use Rattle.irtext_syntax.specs.RangeOf.{ranged_if, ranged_of};
+    ghost use Rattle.irtext_syntax.specs.RangeOf.{ranged_of};
 
     /// Returns the part of the number, or `None` if it is not in the range.
     pub fn new(value: u64) -> Option<Ranged<R>>
@@ -82,11 +112,14 @@ impl<R: Range> Ranged<R> {
     {
         self.value
     }
+}
 
-    /// Returns the part of the number, if it is in the range. `None` is a number that does not fit 64 bits.
-    fn from_digits(number: Option<u64>) -> Option<Ranged<R>>
-        ensures { result ≡ ranged_if R.Range.own number }
-    {
+impl<R: Range> FromDigits for Ranged<R> {
+    ghost use Rattle.irtext_syntax.specs.RangeOf.{ranged_if};
+
+    ghost made = { ranged_if R.Range.own };
+
+    fn from_digits(number: Option<u64>) -> Option<Ranged<R>> {
         Ranged::new(number?)
     }
 }
@@ -145,18 +178,7 @@ impl<A, R: Range> Part<A> for Ranged<R> {
     ghost decides = { ranged_decides R.Range.own };
 
     fn read(stream: &mut TextStream) -> ParseResult<Ranged<R>, A> {
-        if stream.has_failed() {
-            return Err(refuse(stream, Cause::StreamFailed));
-        }
-        if !begins(stream, Class::Digit) {
-            return Err(unexpected(stream, Expected::Digit));
-        }
-        let place = stream.position();
-        let number = take_digits(stream, Radix::Decimal);
-        match Ranged::from_digits(number) {
-            Some(value) => Ok(value),
-            None => Err(out_of_range(stream, place)),
-        }
+        digits_parse(stream)
     }
 
     fn write_text(&self, f: &mut String) -> fmt::Result {

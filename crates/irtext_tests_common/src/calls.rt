@@ -57,3 +57,28 @@ pub fn next_call(random: &mut Random) -> (Call, usize) {
         None => (ExitIsolated, name),
     }
 }
+
+/// The call on a name that a word denotes, and the name: `x` uses a value and `x=` defines it, `^b` and `^b=` do so with a label.
+fn named_call(word: &str) -> (Call, &str) {
+    let (is_label, rest) = match word.strip_prefix('^') {
+        Some(rest) => (true, rest),
+        None => (false, word),
+    };
+    match (is_label, rest.strip_suffix('=')) {
+        (false, None) => (Use, rest),
+        (false, Some(name)) => (Define, name),
+        (true, None) => (UseLabel, rest),
+        (true, Some(name)) => (DefineLabel, name),
+    }
+}
+
+/// The call that a word denotes, and its name: `[` and `]` enter and leave the region of an isolated operation, `{` and `}` another.
+pub fn call_of(word: &str) -> (Call, &str) {
+    match word {
+        "[" => (EnterIsolated, ""),
+        "]" => (ExitIsolated, ""),
+        "{" => (Enter, ""),
+        "}" => (Exit, ""),
+        _ => named_call(word),
+    }
+}

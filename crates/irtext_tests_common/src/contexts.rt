@@ -50,8 +50,7 @@ pub fn with_demo<X, F: FnOnce(Global, &mut Ctx) -> Result<X, Fail> + Drop>(
 ) -> Result<X, Fail>
     requires { F.IsAlwaysCallable call }
 {
-    let mut ctx: Ctx = Context::new(alloc);
-    registered(alloc, &mut ctx, call)
+    registered(alloc, &mut Context::new(alloc), call)
 }
 
 /// Registers the demo dialects with this context, and returns the result of the call with it.

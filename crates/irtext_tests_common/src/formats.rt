@@ -59,6 +59,14 @@ fn directive(alloc: Global, letter: char) -> Result<Directive, Fail> {
     }
 }
 
+/// The canonical format for `-`, else the format with one directive for each character.
+pub fn format_or_canonical(alloc: Global, letters: &str) -> Result<OpFormat, Fail> {
+    if letters == "-" {
+        return Ok(OpFormat::Canonical);
+    }
+    format_of(alloc, letters)
+}
+
 /// The format with one directive for each character.
 pub fn format_of(alloc: Global, letters: &str) -> Result<OpFormat, Fail> {
     let mut directives = Vec::new(alloc);

@@ -1,8 +1,9 @@
-//! What the tests share: results as texts, tables of such texts, formats, and deeply nested locations; contexts of the demo types and
+//! What the tests share: results as texts, tables of such texts, formats, deeply nested locations, and operations and blocks; contexts of the demo types and
 //! streams over them; and for random scripts pseudo-random numbers, the calls of a script on names, and which names were mentioned.
 #![tactic(auto)]
 
 pub mod answers;
+pub mod building;
 pub mod calls;
 pub mod contexts;
 pub mod formats;

@@ -26,13 +26,6 @@ pub const NESTINGS: &[Nesting] = &[
     Nesting::Last,
 ];
 
-fn named<A: Drop>(alloc: Global, child: Location<A>) -> Result<Location<A>, AllocError> {
-    Ok(Location::Named {
-        name: Box::new(alloc, String::from_str(alloc, "a")?)?,
-        child_loc: Box::new(alloc, child)?,
-    })
-}
-
 fn called<A: Drop>(
     alloc: Global,
     callee: Location<A>,
@@ -41,6 +34,13 @@ fn called<A: Drop>(
     Ok(Location::CallSite {
         callee: Box::new(alloc, callee)?,
         caller: Box::new(alloc, caller)?,
+    })
+}
+
+fn named<A: Drop>(alloc: Global, child: Location<A>) -> Result<Location<A>, AllocError> {
+    Ok(Location::Named {
+        name: Box::new(alloc, String::from_str(alloc, "a")?)?,
+        child_loc: Box::new(alloc, child)?,
     })
 }
 

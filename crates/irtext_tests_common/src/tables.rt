@@ -33,3 +33,19 @@ pub fn differing<X, F: Fn(Global, &mut X, usize) -> Result<String, Fail>>(
     }
     Ok(None)
 }
+
+/// The number of the first row of a table that does not hold, with one value for all rows.
+pub fn failing<X, R, F: Fn(&mut X, &R) -> Result<bool, Fail>>(
+    rows: &[R],
+    on: &mut X,
+    holds: F,
+) -> Result<Option<usize>, Fail>
+    requires { F.IsAlwaysCallable holds }
+{
+    for (number, row) in rows.iter().enumerate() {
+        if !holds(on, row)? {
+            return Ok(Some(number));
+        }
+    }
+    Ok(None)
+}

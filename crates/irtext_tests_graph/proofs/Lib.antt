@@ -1,1 +1,2 @@
 mod AllNew
+mod Kept

@@ -4,32 +4,4 @@
 #![tactic(auto)]
 
 #[cfg(test)]
-mod back;
-#[cfg(test)]
-mod compared;
-#[cfg(test)]
-mod counters;
-#[cfg(test)]
-mod held;
-#[cfg(test)]
-mod lists;
-#[cfg(test)]
-mod model;
-#[cfg(test)]
-mod nesting;
-#[cfg(test)]
-mod orders;
-#[cfg(test)]
-mod parts;
-#[cfg(test)]
-mod places;
-#[cfg(test)]
-mod results;
-#[cfg(test)]
-mod script;
-#[cfg(test)]
-mod used;
-#[cfg(test)]
-mod using;
-#[cfg(test)]
-mod walks;
+mod tests;

@@ -8,6 +8,7 @@ use irtext_graph::object::{BasicBlock, Value};
 use irtext_names::labels::block_opd;
 use irtext_names::regions::{enter_region, exit_region, no_names};
 use irtext_names::values::ssa_opd;
+use std::alloc::Global;
 use std::test::Fail;
 
 /// The observable state of a name and of the graph: what the name refers to as a value and as a label, and the number of objects.
@@ -17,28 +18,69 @@ fn seen(names: &Names, graph: &Tested, name: usize) -> Seen {
     (names.ssa_use(name), names.block_use(name), graph.num_live())
 }
 
-/// Whether a use of a name fails and leaves the observable state unchanged.
-fn refuses_value(names: &mut Names, graph: &mut Tested, name: usize) -> bool
-    requires { MatchesGraph names.old.values names.old.labels graph.old }
-    ensures { MatchesGraph names.new.values names.new.labels graph.new }
-{
-    if !names.has_value_scope() || name >= names.num_names() {
-        return false;
-    }
-    let before = seen(names, graph, name);
-    ssa_opd(names, graph, name).is_err() && seen(names, graph, name) == before
+/// What a name stands for.
+#[derive(Clone, Copy)]
+enum Sort {
+    Value,
+    Label,
 }
 
-/// Whether a use of a label fails and leaves the observable state unchanged.
-fn refuses_label(names: &mut Names, graph: &mut Tested, name: usize) -> bool
+/// Uses a name, and returns whether that succeeded.
+fn is_used(names: &mut Names, graph: &mut Tested, name: usize, sort: Sort) -> bool
     requires { MatchesGraph names.old.values names.old.labels graph.old }
     ensures { MatchesGraph names.new.values names.new.labels graph.new }
 {
-    if !names.has_label_scope() || name >= names.num_names() {
+    if name >= names.num_names() {
         return false;
     }
+    match sort {
+        Sort::Value => names.has_value_scope() && ssa_opd(names, graph, name).is_ok(),
+        Sort::Label => names.has_label_scope() && block_opd(names, graph, name, 0).is_ok(),
+    }
+}
+
+/// Defines a name, and returns whether that succeeded.
+fn is_defined(names: &mut Names, graph: &mut Tested, name: usize, sort: Sort) -> bool
+    requires { MatchesGraph names.old.values names.old.labels graph.old }
+    ensures { MatchesGraph names.new.values names.new.labels graph.new }
+{
+    match sort {
+        Sort::Value => defines(names, graph, name).is_ok(),
+        Sort::Label => labels(names, graph, name).is_ok(),
+    }
+}
+
+/// Whether a use of a name fails and leaves the observable state unchanged.
+fn refuses(names: &mut Names, graph: &mut Tested, name: usize, sort: Sort) -> bool
+    requires { MatchesGraph names.old.values names.old.labels graph.old }
+    ensures { MatchesGraph names.new.values names.new.labels graph.new }
+{
     let before = seen(names, graph, name);
-    block_opd(names, graph, name, 0).is_err() && seen(names, graph, name) == before
+    !is_used(names, graph, name, sort) && seen(names, graph, name) == before
+}
+
+/// Whether a use of a name succeeds, at once or after an error that leaves the observable state unchanged.
+fn uses_name(names: &mut Names, graph: &mut Tested, name: usize, sort: Sort) -> bool
+    requires { MatchesGraph names.old.values names.old.labels graph.old }
+    ensures { MatchesGraph names.new.values names.new.labels graph.new }
+{
+    let before = seen(names, graph, name);
+    if is_used(names, graph, name, sort) {
+        return true;
+    }
+    seen(names, graph, name) == before && is_used(names, graph, name, sort)
+}
+
+/// Whether the definition of a name succeeds, at once or after an error that leaves the name unchanged.
+fn defines_name(names: &mut Names, graph: &mut Tested, name: usize, sort: Sort) -> bool
+    requires { MatchesGraph names.old.values names.old.labels graph.old }
+    ensures { MatchesGraph names.new.values names.new.labels graph.new }
+{
+    let before = (names.ssa_use(name), names.block_use(name));
+    if is_defined(names, graph, name, sort) {
+        return true;
+    }
+    (names.ssa_use(name), names.block_use(name)) == before && is_defined(names, graph, name, sort)
 }
 
 /// The number of a name, interned a second time if an allocation fails.
@@ -51,60 +93,6 @@ fn known(names: &mut Names, graph: &Tested, text: &str) -> Option<usize>
         Ok(name) => Some(name),
         Err(_) => names.intern(text).ok(),
     }
-}
-
-/// Whether a use of a value succeeds, at once or after an error that leaves the observable state unchanged.
-fn uses_value(names: &mut Names, graph: &mut Tested, name: usize) -> bool
-    requires { MatchesGraph names.old.values names.old.labels graph.old }
-    ensures { MatchesGraph names.new.values names.new.labels graph.new }
-{
-    if !names.has_value_scope() || name >= names.num_names() {
-        return false;
-    }
-    let before = seen(names, graph, name);
-    if ssa_opd(names, graph, name).is_ok() {
-        return true;
-    }
-    seen(names, graph, name) == before && ssa_opd(names, graph, name).is_ok()
-}
-
-/// Whether a use of a label succeeds, at once or after an error that leaves the observable state unchanged.
-fn uses_label(names: &mut Names, graph: &mut Tested, name: usize) -> bool
-    requires { MatchesGraph names.old.values names.old.labels graph.old }
-    ensures { MatchesGraph names.new.values names.new.labels graph.new }
-{
-    if !names.has_label_scope() || name >= names.num_names() {
-        return false;
-    }
-    let before = seen(names, graph, name);
-    if block_opd(names, graph, name, 0).is_ok() {
-        return true;
-    }
-    seen(names, graph, name) == before && block_opd(names, graph, name, 0).is_ok()
-}
-
-/// Whether the definition of a value succeeds, at once or after an error that leaves the name unchanged.
-fn defines_value(names: &mut Names, graph: &mut Tested, name: usize) -> bool
-    requires { MatchesGraph names.old.values names.old.labels graph.old }
-    ensures { MatchesGraph names.new.values names.new.labels graph.new }
-{
-    let before = names.ssa_use(name);
-    if defines(names, graph, name).is_ok() {
-        return true;
-    }
-    names.ssa_use(name) == before && defines(names, graph, name).is_ok()
-}
-
-/// Whether the definition of a label succeeds, at once or after an error that leaves the label unchanged.
-fn defines_label(names: &mut Names, graph: &mut Tested, name: usize) -> bool
-    requires { MatchesGraph names.old.values names.old.labels graph.old }
-    ensures { MatchesGraph names.new.values names.new.labels graph.new }
-{
-    let before = names.block_use(name);
-    if labels(names, graph, name).is_ok() {
-        return true;
-    }
-    names.block_use(name) == before && labels(names, graph, name).is_ok()
 }
 
 /// Whether a region is entered, at once or after an error that leaves the scopes unchanged.
@@ -127,9 +115,11 @@ fn accepts_all(names: &mut Names, graph: &mut Tested) -> Option<bool>
     let entered = enters(names, graph, true) && enters(names, graph, false);
     let x = known(names, graph, "x")?;
     let y = known(names, graph, "y")?;
-    let used = uses_value(names, graph, x) && uses_label(names, graph, x);
-    let defined = defines_value(names, graph, x) && defines_label(names, graph, x);
-    let new = defines_value(names, graph, y) && defines_label(names, graph, y);
+    let used = uses_name(names, graph, x, Sort::Value) && uses_name(names, graph, x, Sort::Label);
+    let defined = defines_name(names, graph, x, Sort::Value)
+        && defines_name(names, graph, x, Sort::Label);
+    let new = defines_name(names, graph, y, Sort::Value)
+        && defines_name(names, graph, y, Sort::Label);
     let inner = exit_region(names, graph, false).is_none();
     let outer = exit_region(names, graph, true).is_none();
     Some(entered && used && defined && new && inner && outer)
@@ -141,8 +131,8 @@ fn numbers_end(names: &mut Names, graph: &mut Tested) -> Option<bool>
 {
     enter_region(names, graph, true).ok()?;
     let x = names.intern("x").ok()?;
-    let refused = refuses_value(names, graph, x) && refuses_value(names, graph, x);
-    let label = !refuses_label(names, graph, x);
+    let refused = refuses(names, graph, x, Sort::Value) && refuses(names, graph, x, Sort::Value);
+    let label = is_used(names, graph, x, Sort::Label);
     Some(refused && label && graph.num_live() == 1 && graph.made() == 1)
 }
 
@@ -153,38 +143,37 @@ fn places_end(names: &mut Names, graph: &mut Tested) -> Option<bool>
     enter_region(names, graph, true).ok()?;
     let a = names.intern("a").ok()?;
     let b = names.intern("b").ok()?;
-    let first = !refuses_label(names, graph, a);
-    let second = refuses_label(names, graph, b);
-    let again = !refuses_label(names, graph, a);
+    let first = is_used(names, graph, a, Sort::Label);
+    let second = refuses(names, graph, b, Sort::Label);
+    let again = is_used(names, graph, a, Sort::Label);
     Some(first && second && again && exit_region(names, graph, true) == Some(a))
 }
 
-#[test]
-fn refused_memory(rt: HostRuntime) -> Result<(), Fail> {
-    let alloc = rt.alloc();
+/// The result of the first check with an empty graph.
+fn with_memory(alloc: Global) -> Option<bool> {
     let mut graph = Graph::new(alloc);
     let mut names = no_names(alloc, &graph);
-    let done = accepts_all(&mut names, &mut graph) == Some(true);
-    assert!(rt; done);
-    Ok(())
+    accepts_all(&mut names, &mut graph)
 }
 
-#[test]
-fn numbers_are_used_up(rt: HostRuntime) -> Result<(), Fail> {
-    let alloc = rt.alloc();
+/// The result of the second with a graph that has no number left.
+fn without_numbers(alloc: Global) -> Option<bool> {
     let mut graph = Graph::with_counters(alloc, u64::MAX, 1);
     let mut names = no_names(alloc, &graph);
-    let done = numbers_end(&mut names, &mut graph) == Some(true);
-    assert!(rt; done);
-    Ok(())
+    numbers_end(&mut names, &mut graph)
+}
+
+/// The result of the third with a graph that has one place left.
+fn without_places(alloc: Global) -> Option<bool> {
+    let mut graph = Graph::with_counters(alloc, 0, u32::MAX - 1);
+    let mut names = no_names(alloc, &graph);
+    places_end(&mut names, &mut graph)
 }
 
 #[test]
-fn places_are_used_up(rt: HostRuntime) -> Result<(), Fail> {
-    let alloc = rt.alloc();
-    let mut graph = Graph::with_counters(alloc, 0, u32::MAX - 1);
-    let mut names = no_names(alloc, &graph);
-    let done = places_end(&mut names, &mut graph) == Some(true);
-    assert!(rt; done);
+fn memory_numbers_and_places_are_used_up(rt: HostRuntime) -> Result<(), Fail> {
+    assert!(rt; with_memory(rt.alloc()) == Some(true));
+    assert!(rt; without_numbers(rt.alloc()) == Some(true));
+    assert!(rt; without_places(rt.alloc()) == Some(true));
     Ok(())
 }

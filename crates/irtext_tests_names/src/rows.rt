@@ -1,4 +1,4 @@
-//! Worked rows: calls in a row with their results, what each use holds in the end, and the number of objects.
+//! Scripts of calls with their results, what each use holds in the end, and the number of objects.
 ghost use Rattle.irtext_names.specs.Tied.{MatchesGraph};
 
 use crate::held::Held::{Definition, Waits};
@@ -8,152 +8,112 @@ use crate::steps::{Answer, Made, Names, Tested, step};
 use irtext_graph::graph::Graph;
 use irtext_graph::object::Defined;
 use irtext_names::regions::no_names;
-use irtext_tests_common::calls::Call;
-use irtext_tests_common::calls::Call::{
-    Define, DefineLabel, Enter, EnterIsolated, Exit, ExitIsolated, Use, UseLabel,
-};
+use irtext_tests_common::calls::{Call, call_of};
 use std::alloc::{AllocError, Global};
 use std::test::Fail;
 
-/// A call, its name, and the result.
-type Row = (Call, &'static str, Answer);
-
 // a value is used twice before its definition, and once after it: no placeholder is left
-const EARLY_USES: &[Row] = &[
-    (EnterIsolated, "", Done),
-    (Use, "x", Done),
-    (Use, "x", Done),
-    (Define, "x", Done),
-    (Use, "x", Done),
-    (ExitIsolated, "", Done),
+const EARLY_USES: &str = "[ x x x= x ]";
+
+/// Scripts, what each use of a value and of a label has to hold in the end, and the number of objects.
+const WORKED: &[(&str, &[Held], &[Held], u64)] = &[
+    (
+        EARLY_USES,
+        &[Definition(0), Definition(0), Definition(0)],
+        &[],
+        4,
+    ),
+    // two blocks that branch to one another: one of them is used twice before it is defined, and once after that
+    (
+        "[ ^a= ^b ^b ^b= ^a ^b ]",
+        &[],
+        &[Definition(1), Definition(1), Definition(0), Definition(1)],
+        6,
+    ),
+    // a region that is not isolated defines what is used around it, and its labels are its own
+    (
+        "[ x ^b { x= ^b ^b= } ^b= ]",
+        &[Definition(0)],
+        &[Definition(1), Definition(0)],
+        6,
+    ),
+    // two regions that share the scope of values define one name
+    (
+        "[ { x= ^b= ^b=!twice } { x=!twice ^b= } x ]",
+        &[Definition(0)],
+        &[],
+        6,
+    ),
+    // a region uses a label of the one around it: the label is undefined, and both scopes of the region are closed all the same
+    (
+        "[ x= ^a= [ x= ^a ^c ]!a x ^a ] x=!closed ^a=!closed",
+        &[Definition(0)],
+        &[Waits(0), Waits(1), Definition(0)],
+        9,
+    ),
+    // outside of every region nothing can be used or defined, and the first region has to be isolated
+    (
+        "x!closed x=!closed ^b!closed ^b=!closed {!shared [ { } ] {!shared x=!closed",
+        &[],
+        &[],
+        0,
+    ),
+    // the name that was mentioned first is returned first, values before labels
+    (
+        "[ ^b x y ]!x [ ^c ^b ]!c",
+        &[Waits(0), Waits(1)],
+        &[Waits(0), Waits(1), Waits(2)],
+        10,
+    ),
+    // an early use in an isolated region does not see the definition around it, which is visible again after the region
+    (
+        "[ x= x [ x x= x ] x x=!twice ]",
+        &[Definition(0), Definition(1), Definition(1), Definition(0)],
+        &[],
+        7,
+    ),
 ];
 
-// two blocks that branch to one another: one of them is used twice before it is defined, and once after that
-const EARLY_BRANCHES: &[Row] = &[
-    (EnterIsolated, "", Done),
-    (DefineLabel, "a", Done),
-    (UseLabel, "b", Done),
-    (UseLabel, "b", Done),
-    (DefineLabel, "b", Done),
-    (UseLabel, "a", Done),
-    (UseLabel, "b", Done),
-    (ExitIsolated, "", Done),
-];
+/// The call of a word of a script, its name, and its result: success, or what comes after `!`, which is an error or the name that a
+/// region lacks.
+fn row_of(word: &str) -> (Call, &str, Answer) {
+    let Some((called, answer)) = word.split_once('!') else {
+        let (call, name) = call_of(word);
+        return (call, name, Done);
+    };
+    let (call, name) = call_of(called);
+    match answer {
+        "twice" => (call, name, Twice),
+        "closed" => (call, name, NoScope),
+        "shared" => (call, name, NotIsolated),
+        lacking => (call, lacking, Lacks),
+    }
+}
 
-// a region that is not isolated defines what is used around it, and its labels are its own
-const SHARED: &[Row] = &[
-    (EnterIsolated, "", Done),
-    (Use, "x", Done),
-    (UseLabel, "b", Done),
-    (Enter, "", Done),
-    (Define, "x", Done),
-    (UseLabel, "b", Done),
-    (DefineLabel, "b", Done),
-    (Exit, "", Done),
-    (DefineLabel, "b", Done),
-    (ExitIsolated, "", Done),
-];
-
-// two regions that share the scope of values define one name
-const DEFINED_TWICE: &[Row] = &[
-    (EnterIsolated, "", Done),
-    (Enter, "", Done),
-    (Define, "x", Done),
-    (DefineLabel, "b", Done),
-    (DefineLabel, "b", Twice),
-    (Exit, "", Done),
-    (Enter, "", Done),
-    (Define, "x", Twice),
-    (DefineLabel, "b", Done),
-    (Exit, "", Done),
-    (Use, "x", Done),
-    (ExitIsolated, "", Done),
-];
-
-// a region uses a label of the one around it: the label is undefined, and both scopes of the region are closed all the same
-const OUTER_LABEL: &[Row] = &[
-    (EnterIsolated, "", Done),
-    (Define, "x", Done),
-    (DefineLabel, "a", Done),
-    (EnterIsolated, "", Done),
-    (Define, "x", Done),
-    (UseLabel, "a", Done),
-    (UseLabel, "c", Done),
-    (ExitIsolated, "a", Lacks),
-    (Use, "x", Done),
-    (UseLabel, "a", Done),
-    (ExitIsolated, "", Done),
-    (Define, "x", NoScope),
-    (DefineLabel, "a", NoScope),
-];
-
-// outside of every region nothing can be used or defined, and the first region has to be isolated
-const OUTSIDE: &[Row] = &[
-    (Use, "x", NoScope),
-    (Define, "x", NoScope),
-    (UseLabel, "b", NoScope),
-    (DefineLabel, "b", NoScope),
-    (Enter, "", NotIsolated),
-    (EnterIsolated, "", Done),
-    (Enter, "", Done),
-    (Exit, "", Done),
-    (ExitIsolated, "", Done),
-    (Enter, "", NotIsolated),
-    (Define, "x", NoScope),
-];
-
-// the name that was mentioned first is returned first, values before labels
-const PENDING: &[Row] = &[
-    (EnterIsolated, "", Done),
-    (UseLabel, "b", Done),
-    (Use, "x", Done),
-    (Use, "y", Done),
-    (ExitIsolated, "x", Lacks),
-    (EnterIsolated, "", Done),
-    (UseLabel, "c", Done),
-    (UseLabel, "b", Done),
-    (ExitIsolated, "c", Lacks),
-];
-
-// an early use in an isolated region does not see the definition around it, which is visible again after the region
-const HIDDEN: &[Row] = &[
-    (EnterIsolated, "", Done),
-    (Define, "x", Done),
-    (Use, "x", Done),
-    (EnterIsolated, "", Done),
-    (Use, "x", Done),
-    (Define, "x", Done),
-    (Use, "x", Done),
-    (ExitIsolated, "", Done),
-    (Use, "x", Done),
-    (Define, "x", Twice),
-    (ExitIsolated, "", Done),
-];
-
-/// The number of the first row with another result.
-fn differing(
+/// Whether each call of a script has its result.
+fn answers(
     names: &mut Names,
     graph: &mut Tested,
     made: &mut Made,
-    rows: &[Row],
-) -> Result<Option<usize>, AllocError>
+    script: &str,
+) -> Result<bool, AllocError>
     requires { MatchesGraph names.old.values names.old.labels graph.old }
 {
-    for (number, row) in rows.iter().enumerate() {
-        let name = names.intern(row.1)?;
-        if step(names, graph, made, row.0, name)? != row.2 {
-            return Ok(Some(number));
-        }
+    let mut all = true;
+    for word in script.split(' ') {
+        let (call, text, answer) = row_of(word);
+        let name = names.intern(text)?;
+        all = step(names, graph, made, call, name)? == answer && all;
     }
-    Ok(None)
+    Ok(all)
 }
 
-/// Whether the rows have their results, and then each use of a value and of a label holds this, and there are so many objects.
-fn works(alloc: Global, rows: &[Row], values: &[Held], labels: &[Held], objects: u64) -> bool {
+/// Whether each call of a script has its result, and then each use of a value and of a label holds this, and there are so many objects.
+fn works(alloc: Global, script: &str, values: &[Held], labels: &[Held], objects: u64) -> bool {
     let mut graph = Graph::new(alloc);
     let mut names = no_names(alloc, &graph);
     let mut made = Made::new(alloc);
-    differing(&mut names, &mut graph, &mut made, rows).ok() == Some(None)
+    answers(&mut names, &mut graph, &mut made, script).ok() == Some(true)
         && holds_all(&graph, &made.values, values)
         && holds_all(&graph, &made.labels, labels)
         && graph.num_live() == objects
@@ -170,74 +130,23 @@ fn first_number(graph: &Tested, made: &Made) -> Option<u64> {
     Some(graph.number_of(*value))
 }
 
-/// The number of the first value that the rows define.
-fn first_number_of(alloc: Global, rows: &[Row]) -> Option<u64> {
+/// The number of the first value that a script defines.
+fn first_number_of(alloc: Global, script: &str) -> Option<u64> {
     let mut graph = Graph::new(alloc);
     let mut names = no_names(alloc, &graph);
     let mut made = Made::new(alloc);
-    if differing(&mut names, &mut graph, &mut made, rows).is_err() {
+    if answers(&mut names, &mut graph, &mut made, script).is_err() {
         return None;
     }
     first_number(&graph, &made)
 }
 
 #[test]
-fn early_uses(rt: HostRuntime) -> Result<(), Fail> {
-    let values = [Definition(0), Definition(0), Definition(0)];
-    assert!(rt; works(rt.alloc(), EARLY_USES, &values, &[], 4));
-    Ok(())
-}
-
-#[test]
-fn placeholders_draw_numbers(rt: HostRuntime) -> Result<(), Fail> {
+fn scripts_have_their_results(rt: HostRuntime) -> Result<(), Fail> {
+    for row in WORKED {
+        assert!(rt; works(rt.alloc(), row.0, row.1, row.2, row.3), "{}", row.0);
+    }
+    // a placeholder takes a number
     assert!(rt; first_number_of(rt.alloc(), EARLY_USES) == Some(1));
-    Ok(())
-}
-
-#[test]
-fn early_branches(rt: HostRuntime) -> Result<(), Fail> {
-    let labels = [Definition(1), Definition(1), Definition(0), Definition(1)];
-    assert!(rt; works(rt.alloc(), EARLY_BRANCHES, &[], &labels, 6));
-    Ok(())
-}
-
-#[test]
-fn shared_values_and_own_labels(rt: HostRuntime) -> Result<(), Fail> {
-    let labels = [Definition(1), Definition(0)];
-    assert!(rt; works(rt.alloc(), SHARED, &[Definition(0)], &labels, 6));
-    Ok(())
-}
-
-#[test]
-fn second_definitions(rt: HostRuntime) -> Result<(), Fail> {
-    assert!(rt; works(rt.alloc(), DEFINED_TWICE, &[Definition(0)], &[], 6));
-    Ok(())
-}
-
-#[test]
-fn outer_labels(rt: HostRuntime) -> Result<(), Fail> {
-    let labels = [Waits(0), Waits(1), Definition(0)];
-    assert!(rt; works(rt.alloc(), OUTER_LABEL, &[Definition(0)], &labels, 9));
-    Ok(())
-}
-
-#[test]
-fn outside_of_regions(rt: HostRuntime) -> Result<(), Fail> {
-    assert!(rt; works(rt.alloc(), OUTSIDE, &[], &[], 0));
-    Ok(())
-}
-
-#[test]
-fn first_pending_names(rt: HostRuntime) -> Result<(), Fail> {
-    let values = [Waits(0), Waits(1)];
-    let labels = [Waits(0), Waits(1), Waits(2)];
-    assert!(rt; works(rt.alloc(), PENDING, &values, &labels, 10));
-    Ok(())
-}
-
-#[test]
-fn hidden_definitions(rt: HostRuntime) -> Result<(), Fail> {
-    let values = [Definition(0), Definition(1), Definition(1), Definition(0)];
-    assert!(rt; works(rt.alloc(), HIDDEN, &values, &[], 7));
     Ok(())
 }

@@ -17,6 +17,9 @@ pub(crate) type Names = NameTracker<Value, Ptr<BasicBlock>>;
 
 pub(crate) type Tested = Graph<Option<u32>, u32, Option<u8>>;
 
+/// What a name is defined as, or why it is not.
+pub(crate) type Definition = Result<Defined, DefineFault>;
+
 /// The result: success, no scope is open for the call, a region is not isolated where it has to be, a name is
 /// defined already, a region lacks a definition of this name or of another one, or out of memory.
 #[derive(Clone, Copy, PartialEq, Eq)]
@@ -60,10 +63,7 @@ impl Kind {
         Ok(Answer::Done)
     }
 
-    fn add_definition(
-        &mut self,
-        definition: Result<Defined, DefineFault>,
-    ) -> Result<Answer, AllocError> {
+    fn add_definition(&mut self, definition: Definition) -> Result<Answer, AllocError> {
         match definition {
             Ok(definition) => {
                 self.definitions.push(definition)?;
@@ -93,20 +93,28 @@ fn uses(names: &mut Names, graph: &mut Tested, name: usize) -> Option<Ptr<Operat
     if !names.has_value_scope() || name >= names.num_names() {
         return None;
     }
-    let Ok(value) = ssa_opd(names, graph, name) else {
-        return None;
-    };
+    let value = ssa_opd(names, graph, name).ok()?;
     graph
         .make_operation(Some(1), Few::none(), &[value], &[])
         .ok()
 }
 
+/// Makes an operation that branches to the block of a label.
+fn branches(names: &mut Names, graph: &mut Tested, name: usize) -> Option<Ptr<Operation>>
+    requires { MatchesGraph names.old.values names.old.labels graph.old }
+    ensures { MatchesGraph names.new.values names.new.labels graph.new }
+{
+    if !names.has_label_scope() || name >= names.num_names() {
+        return None;
+    }
+    let block = block_opd(names, graph, name, 0).ok()?;
+    graph
+        .make_operation(Some(1), Few::none(), &[], &[block])
+        .ok()
+}
+
 /// Makes an operation with one result, and defines a name as this result.
-pub(crate) fn defines(
-    names: &mut Names,
-    graph: &mut Tested,
-    name: usize,
-) -> Result<Defined, DefineFault>
+pub(crate) fn defines(names: &mut Names, graph: &mut Tested, name: usize) -> Definition
     requires { MatchesGraph names.old.values names.old.labels graph.old }
     ensures { MatchesGraph names.new.values names.new.labels graph.new }
 {
@@ -126,28 +134,8 @@ pub(crate) fn defines(
     }
 }
 
-/// Makes an operation that branches to the block of a label.
-fn branches(names: &mut Names, graph: &mut Tested, name: usize) -> Option<Ptr<Operation>>
-    requires { MatchesGraph names.old.values names.old.labels graph.old }
-    ensures { MatchesGraph names.new.values names.new.labels graph.new }
-{
-    if !names.has_label_scope() || name >= names.num_names() {
-        return None;
-    }
-    let Ok(block) = block_opd(names, graph, name, 0) else {
-        return None;
-    };
-    graph
-        .make_operation(Some(1), Few::none(), &[], &[block])
-        .ok()
-}
-
 /// Makes a block with one argument, and defines a label as this block.
-pub(crate) fn labels(
-    names: &mut Names,
-    graph: &mut Tested,
-    name: usize,
-) -> Result<Defined, DefineFault>
+pub(crate) fn labels(names: &mut Names, graph: &mut Tested, name: usize) -> Definition
     requires { MatchesGraph names.old.values names.old.labels graph.old }
     ensures { MatchesGraph names.new.values names.new.labels graph.new }
 {
@@ -193,45 +181,11 @@ fn left(names: &mut Names, graph: &Tested, isolated: bool, name: usize) -> Answe
     }
 }
 
-/// Makes a call on a value's name, and records what was made for it.
-fn step_value(
-    names: &mut Names,
-    graph: &mut Tested,
-    made: &mut Kind,
-    name: usize,
-    is_use: bool,
-) -> Result<Answer, AllocError>
-    requires { MatchesGraph names.old.values names.old.labels graph.old }
-    ensures { MatchesGraph names.new.values names.new.labels graph.new }
-{
-    if !names.has_value_scope() {
-        return Ok(Answer::NoScope);
-    }
-    if is_use {
-        made.add_user(uses(names, graph, name))
-    } else {
-        made.add_definition(defines(names, graph, name))
-    }
-}
-
-/// Makes a call on a label, and records what was made for it.
-fn step_label(
-    names: &mut Names,
-    graph: &mut Tested,
-    made: &mut Kind,
-    name: usize,
-    is_use: bool,
-) -> Result<Answer, AllocError>
-    requires { MatchesGraph names.old.values names.old.labels graph.old }
-    ensures { MatchesGraph names.new.values names.new.labels graph.new }
-{
-    if !names.has_label_scope() {
-        return Ok(Answer::NoScope);
-    }
-    if is_use {
-        made.add_user(branches(names, graph, name))
-    } else {
-        made.add_definition(labels(names, graph, name))
+/// Whether a scope is open for a call on a name.
+fn has_scope(names: &Names, call: Call) -> bool {
+    match call {
+        Call::Use | Call::Define => names.has_value_scope(),
+        _ => names.has_label_scope(),
     }
 }
 
@@ -251,9 +205,10 @@ pub(crate) fn step(
         Call::EnterIsolated => Ok(entered(names, graph, true)),
         Call::Exit => Ok(left(names, graph, false, name)),
         Call::ExitIsolated => Ok(left(names, graph, true, name)),
-        Call::Use => step_value(names, graph, &mut made.values, name, true),
-        Call::Define => step_value(names, graph, &mut made.values, name, false),
-        Call::UseLabel => step_label(names, graph, &mut made.labels, name, true),
-        Call::DefineLabel => step_label(names, graph, &mut made.labels, name, false),
+        _ if !has_scope(names, call) => Ok(Answer::NoScope),
+        Call::Use => made.values.add_user(uses(names, graph, name)),
+        Call::Define => made.values.add_definition(defines(names, graph, name)),
+        Call::UseLabel => made.labels.add_user(branches(names, graph, name)),
+        Call::DefineLabel => made.labels.add_definition(labels(names, graph, name)),
     }
 }

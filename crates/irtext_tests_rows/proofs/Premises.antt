@@ -1,5 +1,5 @@
--- What the round trip asks of worked roots: of locations on line 1, and of a module with one block of two operations, from what it
--- asks of the two.
+-- What the round trip requires of worked roots: of locations on line 1, and of a module with one block of two operations, from what it
+-- requires of the two.
 use Rattle.std.specs.Prelude.{◌≡◌, ℕ, ◌+◌, ◌<◌, ◌^◌, true, false, not, ◌==◌, [], ◌∷◌, ◌++◌, codes, refl, Some, None}
 use Rattle.std.proofs.Common.{arith, ap, ap₂}
 use Rattle.std.specs.Char.{is_whitespace}
@@ -26,7 +26,7 @@ stops (c ∷ rest) e = ap not e
 located : (l : Text) → begins is_whitespace l ≡ false → list_all (λ c. not (c == 93)) l ≡ true → LocationReads up_to_bracket text_locations (Some l)
 located l w h = (w, (λ rest e. (l, rest, ap₂ found (front_all (λ c. not (c == 93)) l rest h (stops rest e)) (after_all (λ c. not (c == 93)) l rest h (stops rest e)), refl, refl)))
 
--- a location on line 1 whose column has no bracket is read up to the bracket
+-- a location on line 1 whose column has no bracket is parsed up to the bracket
 pub on : (c : Text) → list_all (λ c. not (c == 93)) (codes "<in-memory>: line: 1, column: " ++ c) ≡ true → LocationReads up_to_bracket text_locations (on_line_one c)
 on c h = located (codes "<in-memory>: line: 1, column: " ++ c) refl h
 
@@ -39,7 +39,7 @@ module _ (x y : GraphOp Text Text) where
   abbrev pub module_of : Graph Text Text
   module_of = record { own = module_m None; regions = region tt (block first_block (operation x no_regions (operation y no_regions no_operations)) no_blocks) no_regions }
 
-  -- its dictionaries hold what may stand in them
+  -- its dictionaries contain only entries that are allowed
   pub keeps : OpKeepsKeys x → OpKeepsKeys y → GraphKeepsKeys module_of
   keeps a b = (refl, (tt, (refl, (a, tt, (b, tt, tt)), tt), tt))
 

@@ -1,4 +1,4 @@
--- Readers whose outcomes are of their texts, put together: a term of the shape of the reader's definition.
+-- Parsers whose outcomes are of their texts, put together: a term of the shape of the parser's definition.
 use Rattle.std.proofs.Common.{◌≡◌, ℕ, zero, suc, ◌≤◌, Bool, Some, List, [], ◌∷◌, ◌++◌, codes, length, length-append, refl, ap, subst, arith}
 use Rattle.std.specs.Prelude.{pos}
 use Rattle.std.specs.Char.{is_whitespace}
@@ -19,7 +19,7 @@ use Rattle.irtext_tokens.specs.Tokens.{space_at, word_at, word, number_at, integ
 use Rattle.irtext_tokens.proofs.Numbers.{number_is, integer_is}
 use Rattle.irtext_tokens.proofs.SincereTokens.{of_text, of_int, of_quoted}
 
--- a reader whose outcomes are of their texts
+-- a parser whose outcomes are of their texts
 pub record Honest {X : Type 0} (f : Reader X) : Type 0 where
   pub of : (text : Text) → Of text (f text)
 
@@ -51,7 +51,7 @@ of_word : (demand : Demand) (text : Text) → Of text (word_at demand text)
 unfolding word_at
 of_word demand text = of_either text (begins begins_word text) _ _ (of_read text (front in_word text) (front in_word text) (after in_word text) (front_after in_word text)) (of_missing text _ refl)
 
--- a word that the demand asks for
+-- a word of the kind that is required
 pub honest_name : (demand : Demand) → Honest (word_at demand)
 honest_name demand = record { of = of_word demand }
 
@@ -90,7 +90,7 @@ module _ {X : Type 0} (separator : ℕ) (item : Reader X) (h : Honest item) wher
   pub honest_separated : Honest (separated_at separator item)
   honest_separated = record { of = λ text. of_or_empty _ text (of_followed text (item_after separator item [] text) (λ found t. items_after separator item (length t) found t) ((honest_item []).of text) (λ found t. (honest_items (length t) found).of t)) }
 
--- ---- tokens that must stand one behind the other
+-- ---- required tokens that follow one another
 pub honest_spaced : (w : Text) → Honest (spaced_at w)
 honest_spaced w = ◌then◌ honest_space (◌then◌ (honest_word w) honest_space)
 
@@ -116,24 +116,24 @@ pub honest_attr : {A : Type 0} {reading : Reader A} → Honest reading → Hones
 unfolding attr_at
 honest_attr h = honest_either (leads (codes "builtin.given_names")) (seen given_names honest_given_names) (honest_either (leads (codes "builtin.identifier")) (seen ident honest_ident) (seen own h))
 
--- ---- what follows of it for any reader
--- what is said of a cause holds of the cause of an outcome that has one
-abbrev pub ModifiesOnly : (Fault → Type 0) → {X : Type 0} → Outcome X → Type 0
-ModifiesOnly P (Read x taken rest) = Unit {0}
-ModifiesOnly P (Missing cause) = P cause
-ModifiesOnly P (Bad cause upto) = P cause
+-- ---- what follows of it for any parser
+-- what holds of a cause holds of the cause of an outcome that has one
+abbrev pub CauseIs : (Fault → Type 0) → {X : Type 0} → Outcome X → Type 0
+CauseIs P (Read x taken rest) = Unit {0}
+CauseIs P (Missing cause) = P cause
+CauseIs P (Bad cause upto) = P cause
 
 -- the cause does not say that the stream had failed
 abbrev pub NotFailed : Fault → Type 0
 NotFailed cause = cause ≡ Failed → ⊥
 
-spares : {X : Type 0} (text : Text) (o : Outcome X) → Of text o → ModifiesOnly NotFailed o
+spares : {X : Type 0} (text : Text) (o : Outcome X) → Of text o → CauseIs NotFailed o
 spares text (Read x taken left) h = tt
 spares text (Missing cause) h = not_failed cause (first_of_text cause h.says)
 spares text (Bad cause upto) h = not_failed cause h.says.0
 
 -- no cause says that the stream had failed
-pub never_failed : {X : Type 0} {f : Reader X} → Honest f → (text : Text) → ModifiesOnly NotFailed (f text)
+pub never_failed : {X : Type 0} {f : Reader X} → Honest f → (text : Text) → CauseIs NotFailed (f text)
 never_failed {f} h text = spares text (f text) (h.of text)
 
 -- no more is left than the text

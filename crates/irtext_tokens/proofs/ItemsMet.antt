@@ -1,4 +1,4 @@
--- Where each call of an item answers what a relation says of a text, so does the list of items.
+-- If each call of an item returns what a relation says of a text, so does the list of items.
 use Rattle.std.proofs.Common.{◌≡◌, Result, Ok, Err, sym, ap, ◌⊎◌, subst}
 use Rattle.irtext_base.specs.Text.{Text}
 use Rattle.irtext_base.specs.Stream.{StreamView}
@@ -8,7 +8,7 @@ use Rattle.irtext_base.specs.declared.parsable.fault.ParseFault.{ParseFault}
 use Rattle.irtext_base.proofs.Compose.{seen_after}
 
 module _ {S X Y A : Type 0} (view : S → StreamView) (at : S → StreamView → S) (see : X → Y) (R : Text → Outcome Y → Type 0) where
-  -- what a call on a stream that has not failed answers
+  -- what a call on a stream that has not failed returns
   abbrev pub Each : S → Result X (ParseFault A) → S → Type 0
   Each s (Ok x) t = (k : Text) × (q : Text) × R (view s).rest (Read (see x) k q) × Takes view at k q s t
   Each s (Err f) t = Starves view at s f t ⊎ (((c : Fault) × R (view s).rest (Missing c) × Passes view at c s f t) ⊎ ((c : Fault) × (u : Text) × R (view s).rest (Bad c u) × Commits view at c u s f t))

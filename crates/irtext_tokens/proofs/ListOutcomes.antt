@@ -1,4 +1,4 @@
--- How far a reader of a list with a separator has come.
+-- How far a parser of a list with a separator has come.
 use Rattle.std.proofs.Common.{◌≡◌, ℕ, zero, suc, ◌<◌, ◌≤◌, Bool, true, false, Result, Ok, Err, List, [], ◌∷◌, length, length-append, refl, sym, ◌∙◌, ap, subst, arith, ◌⊎◌, inl, inr, true≢false}
 use Rattle.std.specs.Char.{is_whitespace}
 use Rattle.irtext_base.specs.Text.{Text, begins, front, after}
@@ -20,20 +20,20 @@ module _ {X : Type 0} (sep : ℕ) (item : Text → Outcome X) where
   items_stop zero found text e = refl
   items_stop (suc n) found text e = rw e refl
 
-  -- what stands behind a separator
+  -- what follows a separator
   abbrev pub behind_separator : ℕ → List X → Unit {0} → Text → Outcome (List X)
   behind_separator n found u t = followed (space_at t) (λ _ u. followed (item_after sep item found u) (λ more v. items_after sep item n more v))
 
-  -- an item behind a separator and white space
+  -- an item after a separator and white space
   abbrev pub behind_space : ℕ → List X → Unit {0} → Text → Outcome (List X)
   behind_space n found u t = followed (item_after sep item found t) (λ more v. items_after sep item n more v)
 
-  -- a separator, and what stands behind it
+  -- a separator, and what follows it
   items_go_on : (n : ℕ) (found : List X) (text : Text) → begins (the sep) text ≡ true → items_after sep item (suc n) found text ≡ followed (text_at (sep ∷ []) text) (behind_separator n found)
   items_go_on n found text e = rw e refl
 
   module _ {S : Type 0} (l : Lens S) where
-    -- the items found so far, of those behind the first ones
+    -- the items found so far, of those after the first ones
     pub record Found (first : List X) (old now : S) (found : List X) : Type 0 where
       pub room : ℕ
       pub enough : length (l.view now).rest ≤ room
@@ -52,7 +52,7 @@ module _ {X : Type 0} (sep : ℕ) (item : Text → Outcome X) where
     has_one zero text e h = let b = begins_the sep text e in absurd (omega (arith, h, ap length b.1))
     has_one (suc n) text e h = (n, refl)
 
-    -- where one follows, more is to be read
+    -- where one follows, more is to be parsed
     pub goes_on : {first found : List X} {old now : S} → begins (the sep) (l.view now).rest ≡ true → (f : Found first old now found)
         → (n : ℕ) × (f.room ≡ suc n) × Passed l (λ t. items_after sep item (length t) first t) (λ t. followed (text_at (sep ∷ []) t) (behind_separator n found)) old now
     goes_on {found = found} {now = now} e f =
@@ -70,7 +70,7 @@ module _ {S : Type 0} (l : Lens S) where
   given_le (Missing cause) old new x h = absurd h
   given_le (Bad cause upto) old new x h = absurd h
 
-  -- less is left behind a character, white space and something more
+  -- less text is left after a character, white space and a value
   pub falls_behind : {X Y A : Type 0} {see : Y → X} {f : Text → Outcome X} {now mid later new : S} {y : Y} (c : ℕ) → begins (the c) (l.view now).rest ≡ true → mid ≡ l.at now (advanced (l.view now)) → Takes l.view l.at (front is_whitespace (l.view mid).rest) (after is_whitespace (l.view mid).rest) mid later → MustRead {A = A} l.view l.at see f later (Ok y) new → length (l.view new).rest < length (l.view now).rest
   falls_behind {see = see} {f = f} {now = now} {mid = mid} {later = later} {new = new} {y = y} c b n k h =
       let first = begins_the c (l.view now).rest b in
@@ -109,7 +109,7 @@ module _ {S X : Type 0} (l : Lens S) (k : List X → Text → Outcome (List X)) 
   missing_first false (Bad cause upto) s new fault e (inr h) = absurd (true≢false (sym h.committed ∙ e))
 
   module _ {W Y A : Type 0} {see : Y → List X} {sees : W → List X} {f : Text → Outcome (List X)} where
-    -- where the first item is read, what follows answers for the list
+    -- if the first item is parsed, the result of what follows is that of the list
     pub list_begun : {old mid new : S} {y : Y} {r : Result W (ParseFault A)} → MayRead {A = A} l.view l.at see f old (Ok y) mid → ((l.view mid).failed ≡ false → MustRead l.view l.at sees (k (see y)) mid r new) → MayRead l.view l.at sees (λ t. or_empty (followed (f t) k) t) old r new
     list_begun {old = old} {mid = mid} {new = new} {y = y} {r = r} h m =
         let p = begins_with l {Y = Y} {A = A} {see = see} {f = f} {old = old} {mid = mid} {y = y} k h in

@@ -1,4 +1,4 @@
--- Where each call of an item reads what a function says, a list with a separator reads what another says of it.
+-- Where each call of an item parses what a function says, a list with a separator parses what another says of it.
 use Rattle.std.proofs.Common.{◌≡◌, ℕ, Bool, true, false, Result, Ok, Err, List, map, refl, sym, subst, inl, inr, Vec}
 use Rattle.std.specs.Fn.{CalledAtMut, Mut}
 use Rattle.std.specs.Borrow.{MutBor}
@@ -15,7 +15,7 @@ use Rattle.irtext_tokens.proofs.Steps.{Lens}
 use Rattle.irtext_tokens.proofs.ListsAsOutcomes.{Says, separated_is}
 
 module _ {S X Y A : Type 0} (l : Lens S) (see : X → Y) (item : Text → Outcome Y) where
-  -- one answer, as the relation has it
+  -- one result, as the relation has it
   each_says : (sep : ℕ) (s : S) (o : Outcome Y) (r : Result X (ParseFault A)) (t : S) → item (l.view s).rest ≡ o → Answers l.view l.at see o s r t → Each {A = A} l.view l.at see (Says sep item) s r t
   each_says sep s (Read y k q) (Ok x) t e h = (k, q, record { is = subst (λ z. item (l.view s).rest ≡ Read z k q) (sym h.0) e; fits = h.1.same }, h.1)
   each_says sep s (Missing cause) (Ok x) t e h = absurd h
@@ -26,7 +26,7 @@ module _ {S X Y A : Type 0} (l : Lens S) (see : X → Y) (item : Text → Outcom
   each_says sep s (Bad cause upto) (Err fault) t e (inr h) = inr (inr (cause, upto, record { is = e; fits = tt }, h))
 
 module _ {S F R X Y A : Type 0} (l : Lens S) (see : X → Y) (sep : ℕ) (item : Text → Outcome Y) (seen : R → Result X (ParseFault A)) (call : Mut F (MutBor S × Unit {0}) (R × (MutBor S × Unit {0}))) where
-  -- each call of the item reads what the function says
+  -- each call of the item parses what the function says
   abbrev pub AlwaysReads : Type 0
   AlwaysReads = (f : F) (s : S) (answer : R) (g : F) (t : S) → CalledAtMut call f s answer g t → MayRead l.view l.at see item s (seen answer) t
 
@@ -53,7 +53,7 @@ module _ {S F R X Y A : Type 0} (l : Lens S) (see : X → Y) (sep : ℕ) (item :
     shown_so sees e o s (Ok v) u h = subst (λ z. Gives l.view l.at o s z u) (sym (e v)) h
     shown_so sees e o s (Err fault) u h = h
 
-    -- what the list's reader answers, in the words of outcomes
+    -- what the list's parser returns, in the words of outcomes
     pub list_reads : (sees : Vec X Z → List Y) → ((v : Vec X Z) → sees v ≡ map see v.items) → (f : F) (s : S) (q : Result (Vec X Z) (ParseFault A)) (u : S) → AlwaysReads → UnlessFailed l.view l.at (Separated l.view l.at (Calls seen call) sep f) (l.view s).failed s (listed q) u
         → MayRead l.view l.at sees (separated_at sep item) s q u
     list_reads sees e f s q u always h = record { answers = shown_so sees e (unless_failed (l.view s).failed (separated_at sep item (l.view s).rest)) s q u (by_failed (l.view s).failed f s q u refl always h) }

@@ -21,7 +21,7 @@ module _ {S : Type 0} (view : S → StreamView) (at : S → StreamView → S) wh
   hands_none : (s : S) → HandsOn view at s s
   hands_none s = record { taken = []; same = refl; passed = sym (append-nil (view s).passed); fails = refl }
 
-  -- one reader behind another hands on
+  -- one item after another leaves the old text or a suffix of it
   pub hands_more : (s t u : S) → HandsOn view at s t → HandsOn view at t u → HandsOn view at s u
   hands_more s t u h k = record {
     taken = h.taken ++ k.taken;
@@ -30,7 +30,7 @@ module _ {S : Type 0} (view : S → StreamView) (at : S → StreamView → S) wh
     fails = k.fails ∙ h.fails;
   }
 
-  -- a value hands on, and a fault is committed and leaves the stream failed
+  -- a value leaves the old text or a suffix of it, and an error is committed and leaves the stream failed
   abbrev pub Settles : {Y A : Type 0} → S → Result Y (ParseFault A) → S → Type 0
   Settles old (Ok y) new = HandsOn view at old new
   Settles old (Err fault) new = (fault.committed ≡ true) × ((view new).failed ≡ true)
@@ -47,7 +47,7 @@ module _ {S : Type 0} (view : S → StreamView) (at : S → StreamView → S) wh
   settles_prepended xs s (Ok ys) q u e h = rw e h
   settles_prepended xs s (Err fault) q u e h = rw e h
 
-  -- what is kept does not depend on where items lie in memory
+  -- what is promised of a result does not depend on the allocator of the items
   pub keeps_listed : {X A Z : Type 0} (s : S) (r : Result (Vec X Z) (ParseFault A)) (u : S) → KeepsRules view at s (listed r) u → KeepsRules view at s r u
   keeps_listed s (Ok found) u h = h
   keeps_listed s (Err fault) u h = h
@@ -71,7 +71,7 @@ module _ {S : Type 0} (view : S → StreamView) (at : S → StreamView → S) wh
     stands_failed s u k = ap (λ z. (view z).failed) k.is ∙ (ap (λ w. w.failed) (view_at s k.seen) ∙ k.fails)
 
     module _ {A : Type 0} where
-      -- a fault of an item that must stand is committed, and the stream has failed
+      -- an error of a required item is committed, and the stream has failed
       insisted_settles : (X : Type 0) (b : Bool) (fault last : ParseFault A) (s t u : S) → fault.committed ≡ b → KeepsRules view at {Y = X} s (Err fault) t → Insisted view at fault t last u → (last.committed ≡ true) × ((view u).failed ≡ true)
       insisted_settles X true fault last s t u e k i = (i.committed, ap (λ z. (view z).failed) (i.already e) ∙ k.1 e)
       insisted_settles X false fault last s t u e k i = (i.committed, ap (λ z. (view z).failed) (i.failing e) ∙ ap (λ w. w.failed) (view_at t (after_failure (view t))))

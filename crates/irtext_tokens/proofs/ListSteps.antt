@@ -19,11 +19,11 @@ use Rattle.irtext_tokens.specs.Lists.{Calls, AlwaysKeepsRules, KeepsRules, Insis
 not_zero : (n : ℕ) → 0 < n → (n == 0) ≡ false
 not_zero n h = grind (arith, nat_tests)
 
--- a call at the references that a body lends, seen as a result
+-- a call with the references that a body passes, seen as a result
 pub called_at : {F S R X A : Type 0} {seen : R → Result X (ParseFault A)} {item : Mut F (MutBor S × Unit {0}) (R × (MutBor S × Unit {0}))} {f h : F} {p q : MutBor S} {answer : R} {r : Result X (ParseFault A)} → Called item f (p, tt) (answer, (q, tt)) h → r ≡ seen answer → Calls seen item f p.now r h q.now
 called_at {p} {q} {answer} k i = record { answer = answer; called = record { shown = p; shows = refl; left = q; called = k; leaves = refl }; is = sym i }
 
--- where every call keeps the rules, so does one whose answer is seen as a result
+-- if every call keeps the rules, so does one whose result is seen
 pub rules_at : {F S R X A : Type 0} (view : S → StreamView) (at : S → StreamView → S) {seen : R → Result X (ParseFault A)} {item : Mut F (MutBor S × Unit {0}) (R × (MutBor S × Unit {0}))} → AlwaysKeepsRules view at seen item → (f : F) (s : S) (r : Result X (ParseFault A)) (g : F) (t : S) → Calls seen item f s r g t → KeepsRules view at s r t
 rules_at view at keeps f s r g t k = subst (λ z. KeepsRules view at s z t) k.is (keeps f s k.answer g t k.called)
 
@@ -77,7 +77,7 @@ module _ {S : Type 0} (view : S → StreamView) (at : S → StreamView → S) (v
       let r : (view u).rest ≡ after_space (view t).rest = ap (λ z. (view z).rest) e ∙ ap (λ v. v.rest) (view_at t (skipped (view t))) in
       omega (arith, ap length r, after_le view at is_whitespace (view t).rest)
 
-  -- the rest behind white space is shorter too
+  -- the rest after white space is shorter, too
   pub skipped_lt : (s t u : S) → length (view t).rest < length (view s).rest → Skips view at t u → length (view u).rest < length (view s).rest
   skipped_lt s t u a e = let k = skip_le t u e in omega (arith, a, k)
 
@@ -99,12 +99,12 @@ front_none p [] e = refl
 front_none p (c ∷ text) e = rw e refl
 
 module _ {S : Type 0} (view : S → StreamView) (at : S → StreamView → S) where
-  -- on a stream that has not failed the relation says what is answered
+  -- on a stream that has not failed the relation says what is parsed
   pub unless_met : {Y A : Type 0} (R : S → Result Y (ParseFault A) → S → Type 0) (b : Bool) (s : S) (r : Result Y (ParseFault A)) (u : S) → b ≡ false → R s r u → UnlessFailed view at R b s r u
   unless_met R true s r u e h = absurd (cc)
   unless_met R false s r u e h = h
 
-  -- the fault of an item that must stand, committed
+  -- the error of a required item, committed
   pub commits_item : {A : Type 0} {t u : S} {fault last : ParseFault A} → ((s : S) → at s (view s) ≡ s) → (fault.committed ≡ true → (view t).failed ≡ true) → Demands view at fault t last u → Insisted view at fault t last u
   commits_item {t = t} at_view k d = record {
     cause = d.cause;
@@ -114,6 +114,6 @@ module _ {S : Type 0} (view : S → StreamView) (at : S → StreamView → S) wh
     failing = λ e. d.left;
   }
 
-  -- where no white space stands the stream stays
+  -- where the text does not begin with white space, the stream is unchanged
   pub no_space : (view_at : (s : S) (v : StreamView) → view (at s v) ≡ v) (at_view : (s : S) → at s (view s) ≡ s) (at_at : (s : S) (v w : StreamView) → at (at s v) w ≡ at s w) (s b : S) → begins is_whitespace (view s).rest ≡ false → Takes view at (front is_whitespace (view s).rest) (after_space (view s).rest) s b → b ≡ s
   no_space view_at at_view at_at s b e k = takes_none_is view at view_at at_view at_at s b (after_space (view s).rest) (subst (λ z. Takes view at z (after_space (view s).rest) s b) (front_none is_whitespace (view s).rest e) k)

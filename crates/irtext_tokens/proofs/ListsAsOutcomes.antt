@@ -10,7 +10,7 @@ use Rattle.irtext_tokens.specs.Lists.{spaces}
 use Rattle.irtext_tokens.specs.ListTexts.{item_before, TailAt, ended, none_behind, bad_behind, one_behind, SeparatedAt, none_first, bad_first, one_first}
 use Rattle.irtext_tokens.specs.ListOutcomes.{item_after, items_after, or_empty, separated_at}
 
--- the items found in front
+-- the items found before
 abbrev found_before : {X : Type 0} → List X → Outcome (List X) → Outcome (List X)
 found_before found (Read xs taken rest) = Read (found ++ xs) taken rest
 found_before found (Missing cause) = Missing cause
@@ -19,7 +19,7 @@ found_before found (Bad cause upto) = Bad cause upto
 shift : (a k b t : Text) → a ++ ((k ++ b) ++ t) ≡ ((a ++ k) ++ b) ++ t
 shift a k b t = ap (λ z. a ++ z) (append_assoc k b t) ∙ (sym (append_assoc a k (b ++ t)) ∙ sym (append_assoc (a ++ k) b t))
 
--- what was read behind the items found goes in front of them
+-- what was parsed after the items found is put after them
 moved : {X : Type 0} (found : List X) (x : X) (sep : ℕ) (a k b : Text) (o : Outcome (List X)) → demanded o ≡ o
     → prefixed (sep ∷ []) (prefixed a (prefixed (k ++ b) (found_before (found ++ (x ∷ [])) o))) ≡ found_before found (item_before x (((sep ∷ a) ++ k) ++ b) o)
 moved found x sep a k b (Read xs taken rest) e = ap (λ z. Read z (sep ∷ (a ++ ((k ++ b) ++ taken))) rest) (append_assoc found (x ∷ []) xs) ∙ ap (λ z. Read (found ++ (x ∷ xs)) (sep ∷ z) rest) (shift a k b taken)
@@ -41,7 +41,7 @@ the-same : (c : ℕ) → the c c ≡ true
 the-same c = grind (arith, nat_tests)
 
 module _ {X : Type 0} (sep : ℕ) (item : Text → Outcome X) where
-  -- what is read is a front of the text
+  -- what is parsed is a front of the text
   abbrev pub Fits : Text → Outcome X → Type 0
   Fits text (Read x taken rest) = taken ++ rest ≡ text
   Fits text (Missing cause) = Unit {0}

@@ -1,4 +1,4 @@
--- A number grows by one digit after another; the numbers that are read of any type are those of the grammar.
+-- A number grows by one digit after another; the numbers that are parsed, of any type, are those of the grammar.
 use Rattle.std.proofs.Common.{◌≡◌, ℕ, ℤ, pos, ◌+◌, ◌*◌, ◌^◌, Bool, true, false, cond, nat_lt, ltb, Option, Some, None, Result, Ok, Err, [], ◌∷◌, ◌++◌, length, get_or, take, drop, append-nil, append_assoc, refl, sym, ◌∙◌, ap, subst, arith, inl, inr, ◌<◌}
 use Rattle.std.proofs.lemmas.Bool.Decides.{nat_tests}
 use Rattle.std.proofs.lemmas.Int.Digits.{digits_value_push}
@@ -38,7 +38,7 @@ appended-fitting r n d =
 pub value_in-push : (r : Radix) (digits : Text) (c : ℕ) → appended (base r) (value_in (base r) digits) (digit_value c) ≡ value_in (base r) (digits ++ (c ∷ []))
 value_in-push r digits c = appended-fitting r (digits_value (base r) digits) (digit_value c) ∙ ap fitting (sym (digits_value_push (base r) digits c))
 
--- digits behind a number that doesn't fit are passed over
+-- further digits after a number that doesn't fit are consumed, and it still doesn't fit
 value_in-none : (r : Radix) (digits more : Text) → value_in (base r) digits ≡ None → value_in (base r) (digits ++ more) ≡ None
 value_in-none r digits [] e = ap (value_in (base r)) (append-nil digits) ∙ e
 value_in-none r digits (c ∷ more) e =
@@ -141,7 +141,7 @@ mapped_unless false (Missing cause) = refl
 mapped_unless false (Bad cause upto) = refl
 
 module _ {S A : Type 0} (view : S → StreamView) (at : S → StreamView → S) where
-  -- a number that is answered as an integer is answered
+  -- a number that is parsed as an integer is parsed
   pub as_number : (o : Outcome ℕ) (old new : S) (r : Result ℕ (ParseFault A)) → Answers view at pos (mapped pos o) old r new → Answers view at (λ n. n) o old r new
   as_number (Read n taken rest) old new (Ok m) h = let e : m ≡ n = cc in (e, h.1)
   as_number (Missing cause) old new (Ok m) h = absurd h
@@ -152,20 +152,20 @@ module _ {S A : Type 0} (view : S → StreamView) (at : S → StreamView → S) 
   as_number (Bad cause upto) old new (Err fault) (inr h) = inr h
 
   module _ (view_at : (s : S) (v : StreamView) → view (at s v) ≡ v) (at_at : (s : S) (v w : StreamView) → at (at s v) w ≡ at s w) (old mid new : S) where
-    -- an unsigned number of 64 bits that must stand there is the grammar's
+    -- a required unsigned number of 64 bits is the grammar's
     pub number_must : (a r : Result ℕ (ParseFault A)) → Answers view at pos (unless_failed (view old).failed (int_at (unsigned_below 64) (view old).rest)) old a mid → DemandsOf view at a mid r new → MustRead view at (λ n. n) number_at old r new
     number_must a r h d =
         let e = ap (λ o. demanded (unless_failed (view old).failed o)) (number_is (view old).rest) ∙ mapped_unless (view old).failed (number_at (view old).rest) in
         let k = answers_demanded view at view_at at_at pos (unless_failed (view old).failed (int_at (unsigned_below 64) (view old).rest)) old mid new a r h d in
         record { answers = as_number (demanded (unless_failed (view old).failed (number_at (view old).rest))) old new r (rw e at k) }
 
-    -- a signed number of 32 bits that must stand there is the grammar's
+    -- a required signed number of 32 bits is the grammar's
     pub integer_must : (a r : Result ℤ (ParseFault A)) → Answers view at (λ z. z) (unless_failed (view old).failed (int_at (signed_below 32) (view old).rest)) old a mid → DemandsOf view at a mid r new → MustRead view at (λ z. z) integer_at old r new
     integer_must a r h d =
         let k = answers_demanded view at view_at at_at (λ z. z) (unless_failed (view old).failed (int_at (signed_below 32) (view old).rest)) old mid new a r h d in
         record { answers = rw (integer_is (view old).rest) at k }
 
-    -- where it stands, no memory is asked for
+    -- if it is there, no memory is needed
     pub number_spares : (a r : Result ℕ (ParseFault A)) → SparesMemory view (int_at (unsigned_below 64)) old a → DemandsOf view at a mid r new → SparesMemory view number_at old r
     number_spares a r h d =
         let k = demanded_spares view at mid new (unless_failed (view old).failed (int_at (unsigned_below 64) (view old).rest)) a r h d in

@@ -1,4 +1,4 @@
--- Digits behind what stands in front of them, and what is made of both.
+-- Digits after a lead, and what is made of both.
 use Rattle.std.proofs.Common.{◌≡◌, ℕ, ℤ, ◌^◌, ◌≤◌, Bool, true, false, cond, eqb, ltb, Option, Some, None, Err, List, [], ◌∷◌, ◌++◌, refl, sym, ◌∙◌, ap, subst, append-nil, arith, ◌⊎◌, inl, inr, codes}
 use Rattle.std.proofs.lemmas.Bool.Decides.{nat_tests}
 use Rattle.std.proofs.lemmas.Str.{encode_ascii, encodes-append}
@@ -46,19 +46,19 @@ signed_made below narrow sign digits negative m v e n f =
 pub hexadecimal_made : (below : Bool → ℕ) (narrow : (negative : Bool) → below negative ≤ 2 ^ 64) (mark : Unit {0}) (digits : Text) (m : Option ℕ) (v : Option ℤ) → v ≡ within_of below false m → m ≡ fitting (digits_value 16 digits) → hexadecimal_integer below mark digits ≡ v
 hexadecimal_made below narrow mark digits m v e f = sym (e ∙ (ap (within_of below false) f ∙ within_of-fitting below false (digits_value 16 digits) (narrow false)))
 
--- a value read is one
+-- equal outcomes took equal texts
 same_taken : {X : Type 0} (x y : X) (t u r s : Text) → ◌≡◌ {A = Outcome X} (Read x t r) (Read y u s) → t ≡ u
 same_taken x y t u r s e = cc
 
 same_value : {X : Type 0} (x y : X) (t u r s : Text) → ◌≡◌ {A = Outcome X} (Read x t r) (Read y u s) → x ≡ y
 same_value x y t u r s e = cc
 
--- where no digit stands, no sign is read
+-- where no digit follows, no sign is parsed
 no_digit_reads : {X : Type 0} (sign text : Text) (x : X) (taken rest : Text) → no_digit_behind sign text ≡ Read x taken rest → ⊥
 no_digit_reads [] text x taken rest e = absurd (cc)
 no_digit_reads (c ∷ sign) text x taken rest e = absurd (cc)
 
--- what is read of a sign is the sign, and its bytes
+-- what is taken of a sign is the sign, and its bytes
 sign_read : (text sign taken rest : Text) → sign_at text ≡ Read sign taken rest → (sign ≡ sign_of text) × (taken ≡ sign_of text)
 sign_read text sign taken rest =
     elim (begins is_ascii_digit (after_sign text)) as (λ b. ◌≡◌ {A = Outcome Text} (cond b (Read (sign_of text) (sign_of text) (after_sign text)) (no_digit_behind (sign_of text) (after_sign text))) (Read sign taken rest) → (sign ≡ sign_of text) × (taken ≡ sign_of text)) [
@@ -72,13 +72,13 @@ sign_at-taken text sign taken rest e = let p = sign_read text sign taken rest e 
 pub sign_at-encodes : (text sign taken rest : Text) → sign_at text ≡ Read sign taken rest → encode_utf8_all taken ≡ taken
 sign_at-encodes text sign taken rest e = subst (λ z. encode_utf8_all z ≡ z) (sym (sign_read text sign taken rest e).1) (encodes-sign text)
 
--- what is read behind characters taken was read there
+-- what is parsed after characters that were taken was parsed there
 prefixed_took : {X : Type 0} (t : Text) (o : Outcome X) (x : X) (taken rest : Text) → prefixed t o ≡ Read x taken rest → (more : Text) × (o ≡ Read x more rest) × (taken ≡ t ++ more)
 prefixed_took t (Read y more r) x taken rest e = (more, cc, sym (same_taken y x (t ++ more) taken r rest e))
 prefixed_took t (Missing cause) x taken rest e = absurd (cc)
 prefixed_took t (Bad cause upto) x taken rest e = absurd (cc)
 
--- where the other case reads nothing, this one reads
+-- where the other case parses nothing, this one parses
 read_by : {X : Type 0} (b : Bool) (o : Outcome X) (cause : Fault) (x : X) (taken rest : Text) → ◌≡◌ {A = Outcome X} (cond b o (Missing cause)) (Read x taken rest) → o ≡ Read x taken rest
 read_by true o cause x taken rest e = e
 read_by false o cause x taken rest e = absurd (cc)
@@ -86,12 +86,12 @@ read_by false o cause x taken rest e = absurd (cc)
 the_is : (c d : ℕ) → the c d ≡ true → d ≡ c
 the_is c d e = grind (arith, nat_tests)
 
--- where the other case reads nothing, the test holds
+-- where the other case parses nothing, the test holds
 spells : (b : Bool) (o : Outcome Unit) (cause : Fault) (u : Unit {0}) (taken rest : Text) → ◌≡◌ {A = Outcome Unit} (cond b o (Missing cause)) (Read u taken rest) → (b ≡ true) × (o ≡ Read u taken rest)
 spells true o cause u taken rest e = (refl, e)
 spells false o cause u taken rest e = absurd (cc)
 
--- what is read of a fixed text is that text
+-- what is taken of a fixed text is that text
 word_taken : (whole word text : Text) (u : Unit {0}) (taken rest : Text) → spelled_at whole word text ≡ Read u taken rest → taken ≡ word
 word_taken whole [] text u taken rest e = sym (same_taken tt u [] taken text rest e)
 word_taken whole (c ∷ word) [] u taken rest e = absurd (cc)
@@ -114,18 +114,18 @@ mark_taken (Bad cause upto) word h u taken rest e = absurd (cc)
 mark_encodes : encode_utf8_all (codes "0x") ≡ codes "0x"
 mark_encodes = rw (encode_ascii 48 (omega arith), encode_ascii 120 (omega arith)) refl
 
--- what is read of `0x` is its bytes
+-- what is taken of `0x` is its bytes
 pub mark_at-encodes : (text : Text) (u : Unit {0}) (taken rest : Text) → hexadecimal_mark_at text ≡ Read u taken rest → encode_utf8_all taken ≡ taken
 mark_at-encodes text u taken rest e =
     let t : taken ≡ codes "0x" = mark_taken (text_at (codes "0x") text) (codes "0x") (λ v t r q. word_taken (codes "0x") (codes "0x") text v t r q) u taken rest e in
     subst (λ z. encode_utf8_all z ≡ z) (sym t) mark_encodes
 
--- where what stands in front of the digits was read, the number is what is made of them
+-- if what precedes the digits was parsed, the number is what is made of both
 outcome_is : {L X : Type 0} (digit : ℕ → Bool) (make : L → Text → Option X) (failed : Bool) (o : Outcome L) (lead : L) (taken rest : Text) (v : Option X) → failed ≡ false → o ≡ Read lead taken rest → make lead (front digit rest) ≡ v → unless_failed failed (numeral_at digit make o) ≡ ranged (taken ++ front digit rest) (after digit rest) v
 outcome_is digit make failed o lead taken rest v f e q = rw (f, e) (ap (ranged (taken ++ front digit rest) (after digit rest)) q)
 
 module _ {S : Type 0} (l : Lens S) where
-  -- what stands in front of the digits was read, on a stream that had not failed
+  -- what precedes the digits was parsed, on a stream that had not failed
   pub record Led {L : Type 0} (failed : Bool) (o : Outcome L) (lead : L) (old mid : S) : Type 0 where
     pub not_failed : failed ≡ false
     pub taken : Text
@@ -139,12 +139,12 @@ module _ {S : Type 0} (l : Lens S) where
   led false (Missing cause) lead old mid h = absurd h
   led false (Bad cause upto) lead old mid h = absurd h
 
-  -- what stands in front of the digits was read, and the digits were taken
+  -- what precedes the digits was parsed, and the digits were taken
   pub record Numbered {L : Type 0} (digit : ℕ → Bool) (o : Outcome L) (lead : L) (old mid new : S) : Type 0 where
     pub led : Led (l.view old).failed o lead old mid
     pub digits : Takes l.view l.at (front digit (l.view mid).rest) (after digit (l.view mid).rest) mid new
 
-  -- that reader's answer and the digits' together
+  -- that parser's result and the digits' together
   pub numbered : {L : Type 0} (digit : ℕ → Bool) (o : Outcome L) (lead : L) (old mid new : S) → Gives l.view l.at (unless_failed (l.view old).failed o) old lead mid → Takes l.view l.at (front digit (l.view mid).rest) (after digit (l.view mid).rest) mid new → Numbered digit o lead old mid new
   numbered digit o lead old mid new h d = record { led = led (l.view old).failed o lead old mid h; digits = d }
 
@@ -155,7 +155,7 @@ module _ {S : Type 0} (l : Lens S) where
   refused digit make false (Missing cause) old new fault (inr e) = inr e
   refused digit make false (Bad cause upto) old new fault (inr e) = inr e
 
-  -- where what stands in front of the digits is refused, the number is
+  -- if what precedes the digits is an error, the number is
   pub lead_refused : {L X A : Type 0} (digit : ℕ → Bool) (make : L → Text → Option X) (o : Outcome L) (old new : S) (fault : ParseFault A) → Starves l.view l.at old fault new ⊎ Refuses l.view l.at (unless_failed (l.view old).failed o) old fault new
       → Starves l.view l.at old fault new ⊎ Refuses l.view l.at (unless_failed (l.view old).failed (numeral_at digit make o)) old fault new
   lead_refused digit make o old new fault h = refused digit make (l.view old).failed o old new fault h
@@ -182,7 +182,7 @@ module _ {S : Type 0} (l : Lens S) where
     number_outcome make v e =
         outcome_is digit make (l.view old).failed o lead n.led.taken n.led.rest v n.led.not_failed n.led.is (subst (λ z. make lead (front digit z) ≡ v) left_is e)
 
-    -- the number is read
+    -- the number is parsed
     pub number_read : {X : Type 0} (make : L → Text → Option X) (x : X) → make lead (front digit (l.view mid).rest) ≡ Some x → Gives l.view l.at (unless_failed (l.view old).failed (numeral_at digit make o)) old x new
     number_read make x e = rw (number_outcome make (Some x) e) (refl, number_taken)
 
@@ -197,23 +197,23 @@ module _ {S : Type 0} (l : Lens S) where
         let k = subst (λ z. StarvesHere l.view l.at new fault last ⊎ FailsBehind l.view l.at (NumberRange z) (l.view old).passed new fault last) (number_encodes a b) (h (l.view old).passed number_text number_passed p) in
         rw (number_outcome make None e) (refuses_before l.view l.at l.view_at l.at_at (NumberRange number_text) old new last number_text (after digit n.led.rest) fault n.led.not_failed number_taken k)
 
-    -- memory was refused behind the number
+    -- out of memory after the number
     pub number_starves : {A : Type 0} (last : S) (fault : ParseFault A) → StarvesHere l.view l.at new fault last → Starves l.view l.at old fault last
     number_starves last fault h = starves_behind l.view l.at l.view_at l.at_at old new last number_text (after digit n.led.rest) fault n.led.not_failed number_taken h
 
-    -- a number that doesn't fit is not read
+    -- a number that doesn't fit is not parsed
     pub number_spares : {X A : Type 0} (Y : Type 0) (make : L → Text → Option X) (fault : ParseFault A) → make lead (front digit (l.view mid).rest) ≡ None → NeedsNoMemory {Y = Y} (unless_failed (l.view old).failed (numeral_at digit make o)) (Err fault)
     number_spares Y make fault e = rw (number_outcome make None e) tt
 
-  -- digits behind a sign, or none, from its answer and theirs
+  -- digits after a sign, or after none, from the results of both
   pub signed : (sign : Option ℕ) (old mid new : S) → Gives l.view l.at (unless_failed (l.view old).failed (sign_at (l.view old).rest)) old (sign_text sign) mid → Takes l.view l.at (front is_ascii_digit (l.view mid).rest) (after is_ascii_digit (l.view mid).rest) mid new → Numbered is_ascii_digit (sign_at (l.view old).rest) (sign_text sign) old mid new
   signed sign old mid new h d = numbered is_ascii_digit (sign_at (l.view old).rest) (sign_text sign) old mid new h d
 
-  -- digits behind `0x`, from its answer and theirs
+  -- digits after `0x`, from the results of both
   pub marked : (old mid new : S) → Gives l.view l.at (unless_failed (l.view old).failed (hexadecimal_mark_at (l.view old).rest)) old tt mid → Takes l.view l.at (front is_ascii_hexdigit (l.view mid).rest) (after is_ascii_hexdigit (l.view mid).rest) mid new → Numbered is_ascii_hexdigit (hexadecimal_mark_at (l.view old).rest) tt old mid new
   marked old mid new h d = numbered is_ascii_hexdigit (hexadecimal_mark_at (l.view old).rest) tt old mid new h d
 
-  -- the text of a number is read
+  -- the text of a number is parsed
   pub text_read : {sign : Text} {old mid new : S} {place : Place} (n : Numbered is_ascii_digit (sign_at (l.view old).rest) sign old mid new) (bytes : List ℕ) → StandsBehind place (l.view old).passed → ((passed taken : Text) → passed ++ taken ≡ (l.view new).passed → StandsBehind place passed → bytes ≡ encode_utf8_all taken)
       → Gives l.view l.at (unless_failed (l.view old).failed (numeral_at is_ascii_digit signed_text (sign_at (l.view old).rest))) old bytes new
   text_read {sign = sign} {old = old} {mid = mid} n bytes p h =

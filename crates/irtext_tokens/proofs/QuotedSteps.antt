@@ -1,4 +1,4 @@
--- How far a reader of a quoted text has come.
+-- How far a parser of a quoted text has come.
 use Rattle.std.proofs.Common.{◌≡◌, ℕ, ◌<◌, Bool, true, false, Some, None, Result, Ok, length, List, [], ◌∷◌, ◌++◌, codes, refl, sym, ◌∙◌, ap, subst, append-nil, length-append, arith, ◌⊎◌, inl, inr}
 use Rattle.std.proofs.lemmas.Str.{encodes-append}
 use Rattle.std.specs.Char.{is_ascii_hexdigit, encode_utf8}
@@ -27,7 +27,7 @@ pub encodes-unit : (bytes more last run : List ℕ) (cs : Text) (c : ℕ) → by
 encodes-unit bytes more last run cs c e f h =
     h ∙ (ap (λ z. z ++ encode_utf8_all run) (f ∙ (ap (λ z. z ++ encode_utf8 c) e ∙ sym (encodes-one cs c))) ∙ sym (encodes-append (cs ++ (c ∷ [])) run))
 
--- an outcome behind a fixed text that was read
+-- an outcome after a fixed text that was parsed
 mapped_prefixed : {X Y : Type 0} (g : X → Y) (t : Text) (o : Outcome X) → mapped g (prefixed t o) ≡ prefixed t (mapped g o)
 mapped_prefixed g t (Read x m r) = refl
 mapped_prefixed g t (Missing e) = refl
@@ -43,12 +43,12 @@ first_none [] e = refl
 first_none (c ∷ text) e = absurd (cc)
 
 module _ {S : Type 0} (view : S → StreamView) (at : S → StreamView → S) where
-  -- the characters `cs` were read, and `taken` taken for them; what follows gives the whole
+  -- the characters `cs` were parsed, and `taken` taken for them; what follows gives the whole
   pub record Within (start now : S) (cs taken : Text) : Type 0 where
     pub takes : Takes view at taken (view now).rest start now
     pub so_far : demanded (units_at [] (view start).rest) ≡ whole cs taken (units_at [] (view now).rest)
 
-  -- a unit that was read
+  -- a unit that was parsed
   read_by : (u : Outcome ℕ) (old new : S) (c : ℕ) → Gives view at u old c new → (t : Text) × (r : Text) × (u ≡ Read c t r) × Takes view at t r old new
   read_by (Read x t r) old new c g = (t, r, ap (λ z. let o : Outcome ℕ = Read z t r in o) (sym g.0), g.1)
   read_by (Missing e) old new c g = absurd g
@@ -62,7 +62,7 @@ module _ {S : Type 0} (view : S → StreamView) (at : S → StreamView → S) wh
     pub within_fine : (start now : S) (cs taken : Text) → (view start).failed ≡ false → Within start now cs taken → (view now).failed ≡ false
     within_fine start now cs taken f w = takes_fine view at view_at at_at start now taken (view now).rest w.takes f
 
-    -- a run of characters that stand for themselves
+    -- a run of characters that represent themselves
     within_run : (start now next : S) (cs taken : Text) → Within start now cs taken → Takes view at (front is_plain (view now).rest) (after is_plain (view now).rest) now next → Within start next (cs ++ front is_plain (view now).rest) (taken ++ front is_plain (view now).rest)
     within_run start now next cs taken w k =
         let r = rest_after now next (front is_plain (view now).rest) (after is_plain (view now).rest) k in
@@ -87,7 +87,7 @@ module _ {S : Type 0} (view : S → StreamView) (at : S → StreamView → S) wh
           },
         )
 
-    -- a unit, and the run behind it
+    -- a unit, and the run after it
     pub within_more : (start now mid next : S) (cs taken : Text) (c : ℕ) → Within start now cs taken → begins (the 34) (view now).rest ≡ false → Gives view at (unit_at (view now).rest) now c mid →
         Takes view at (front is_plain (view mid).rest) (after is_plain (view mid).rest) mid next → (t : Text) × Within start next ((cs ++ (c ∷ [])) ++ front is_plain (view mid).rest) t
     within_more start now mid next cs taken c w q g k =
@@ -103,7 +103,7 @@ module _ {S : Type 0} (view : S → StreamView) (at : S → StreamView → S) wh
         let some = unit_takes (view now).rest c b.0 b.1 b.2 in
         omega (arith, some, ap length r, ap length s, ap length b.3.same, ap length k.same, length-append b.0 b.1, length-append (front is_plain (view mid).rest) (after is_plain (view mid).rest))
 
-    -- the quotation mark behind the units
+    -- the quotation mark after the units
     pub closes : (start now next : S) (cs taken : Text) (bytes : List ℕ) → bytes ≡ encode_utf8_all cs → Within start now cs taken → begins (the 34) (view now).rest ≡ true → next ≡ at now (advanced (view now)) → Gives view at (mapped encode_utf8_all (demanded (units_at [] (view start).rest))) start bytes next
     closes start now next cs taken bytes e w q n =
         let m = begins_the 34 (view now).rest q in
@@ -111,7 +111,7 @@ module _ {S : Type 0} (view : S → StreamView) (at : S → StreamView → S) wh
         let o : demanded (units_at [] (view start).rest) ≡ Read (cs ++ []) (taken ++ (34 ∷ [])) m.0 = w.so_far ∙ ap (λ z. whole cs taken (units_at [] z)) m.1 in
         rw o (e ∙ ap encode_utf8_all (sym (append-nil cs)), takes_more view at view_at at_at start now next taken (view now).rest (34 ∷ []) m.0 w.takes k)
 
-    -- the two characters in front of an escape's rest
+    -- the two characters before the rest of an escape
     pub two_taken : (old mid new : S) (a b : ℕ) → a ≡ 92 → Some a ≡ first_of (view old).rest → mid ≡ at old (advanced (view old)) → Some b ≡ first_of (view mid).rest → new ≡ at mid (advanced (view mid)) → Takes view at (92 ∷ b ∷ []) (view new).rest old new
     two_taken old mid new a b p e m f n =
         let x = first_some (view old).rest a e in
@@ -120,7 +120,7 @@ module _ {S : Type 0} (view : S → StreamView) (at : S → StreamView → S) wh
         let l = takes_next view at view_at at_view at_at mid new b y.0 y.1 n in
         rw (rest_after mid new (b ∷ []) y.0 l) (takes_more view at view_at at_at old mid new (92 ∷ []) x.0 (b ∷ []) y.0 k l)
 
-    -- a stream behind `\u{` of an escape
+    -- a stream after `\u{` of an escape
     pub record Opened (before now : S) : Type 0 where
       pub takes : Takes view at (codes "\\u{") (view now).rest before now
       pub unit : unit_at (view before).rest ≡ braced (front is_ascii_hexdigit (view now).rest) (after is_ascii_hexdigit (view now).rest)
@@ -135,7 +135,7 @@ module _ {S : Type 0} (view : S → StreamView) (at : S → StreamView → S) wh
           unit = rw r (unit_unicode (view before).rest (view mid).rest k.same ∙ ap unicode_at m.1);
         }
 
-    -- a stream behind the digits of an escape
+    -- a stream after the digits of an escape
     pub record Counted (before now : S) (digits : Text) : Type 0 where
       pub takes : Takes view at (codes "\\u{" ++ digits) (view now).rest before now
       pub unit : unit_at (view before).rest ≡ closed digits (view now).rest
@@ -148,12 +148,12 @@ module _ {S : Type 0} (view : S → StreamView) (at : S → StreamView → S) wh
           unit = rw r (o.unit ∙ braced_some (view mid).rest q);
         }
 
-    -- a stream behind `\u`, a brace and digits
+    -- a stream after `\u`, a brace and digits
     pub digits_counted : (before old opens now : S) → Takes view at (codes "\\u") (view old).rest before old → begins (the 123) (view old).rest ≡ true → opens ≡ at old (advanced (view old)) → begins is_ascii_hexdigit (view opens).rest ≡ true
         → Takes view at (front is_ascii_hexdigit (view opens).rest) (after is_ascii_hexdigit (view opens).rest) opens now → Counted before now (front is_ascii_hexdigit (view opens).rest)
     digits_counted before old opens now k q n d t = counted before opens now (opened before old opens k q n) d t
 
-    -- the brace behind the digits, where they name a character
+    -- the brace after the digits, if they are a character's number
     pub braces_closed : (before now next : S) (digits : Text) (c : ℕ) → Counted before now digits → begins (the 125) (view now).rest ≡ true → Some c ≡ character_of (value_in 16 digits) → next ≡ at now (advanced (view now)) → Gives view at (unit_at (view before).rest) before c next
     braces_closed before now next digits c h q e n =
         let m = begins_the 125 (view now).rest q in
@@ -162,7 +162,7 @@ module _ {S : Type 0} (view : S → StreamView) (at : S → StreamView → S) wh
         rw u (refl, takes_more view at view_at at_at before now next (codes "\\u{" ++ digits) (view now).rest (125 ∷ []) m.0 h.takes k)
 
     module _ {A : Type 0} where
-      -- a unit that is bad where the stream stands
+      -- a unit that is bad at the stream's position
       unit_refused : (before mid new : S) (t r : Text) (cause : Fault) (fault : ParseFault A) → Takes view at t r before mid → unit_at (view before).rest ≡ Bad cause t → Commits view at cause [] mid fault new → Starves view at before fault new ⊎ Refuses view at (unit_at (view before).rest) before fault new
       unit_refused before mid new t r cause fault k e c =
           rw e (inr (subst (λ z. Commits view at cause z before fault new) (append-nil t) (commits_after view at view_at at_at cause [] before mid new t r fault k c)))
@@ -179,7 +179,7 @@ module _ {S : Type 0} (view : S → StreamView) (at : S → StreamView → S) wh
       unclosed before mid new digits fault h q c =
           unit_refused before mid new (codes "\\u{" ++ digits) (view mid).rest (Unexpected (first_of (view mid).rest) (Word (codes "}"))) fault h.takes (h.unit ∙ closed_open digits (view mid).rest q) c
 
-      -- a unit that is bad at its beginning, or memory refused
+      -- a unit that is bad at its beginning, or out of memory
       pub refused_before : (before mid new : S) (t r : Text) (cause : Fault) (fault : ParseFault A) → Takes view at t r before mid → unit_at (view before).rest ≡ Bad cause [] →
           (view before).failed ≡ false → StarvesHere view at mid fault new ⊎ FailsBehind view at cause (view before).passed mid fault new → Starves view at before fault new ⊎ Refuses view at (unit_at (view before).rest) before fault new
       refused_before before mid new t r cause fault k u f h = rw u (refuses_before view at view_at at_at cause before mid new t r fault f k h)
@@ -197,7 +197,7 @@ module _ {S : Type 0} (view : S → StreamView) (at : S → StreamView → S) wh
           let u : (view old).rest ≡ 92 ∷ [] = x.1 ∙ (ap (λ z. z ∷ x.0) p ∙ ap (λ z. 92 ∷ z) (sym (rest_after old mid (92 ∷ []) x.0 k) ∙ r)) in
           unit_refused old mid new (92 ∷ []) x.0 (Unexpected None AnEscapedCharacter) fault k (unit_unescaped (view old).rest u) i
 
-      -- a character behind a backslash that stands for none
+      -- a character after a backslash that is no escape
       pub unknown_escape : (old mid last new : S) (a b : ℕ) (fault : ParseFault A) → a ≡ 92 → Some a ≡ first_of (view old).rest → mid ≡ at old (advanced (view old)) → Some b ≡ first_of (view mid).rest → last ≡ at mid (advanced (view mid)) → (b ≡ 117 → ⊥) → None ≡ escape_of b →
           (view old).failed ≡ false → FailsBehind view at (BadEscape b) (view old).passed last fault new → Starves view at old fault new ⊎ Refuses view at (unit_at (view old).rest) old fault new
       unknown_escape old mid last new a b fault p e m f n q h g l =
@@ -214,7 +214,7 @@ module _ {S : Type 0} (view : S → StreamView) (at : S → StreamView → S) wh
           let b : encode_utf8_all digits ≡ digits = encodes-front_hexdigits (view opens).rest in
           refused_before before now new (codes "\\u{" ++ digits) (view now).rest (BadUnicodeEscape digits) fault h.takes u f (subst (λ z. StarvesHere view at now fault new ⊎ FailsBehind view at (BadUnicodeEscape z) (view before).passed now fault new) b k)
 
-      -- memory was refused behind what was read
+      -- out of memory after what was parsed
       pub starved_within : (start now new : S) (cs taken : Text) (fault : ParseFault A) → Within start now cs taken → Starves view at now fault new → Starves view at start fault new
       starved_within start now new cs taken fault w s = starves_after view at view_at at_at start now new taken (view now).rest fault w.takes s
 
@@ -226,7 +226,7 @@ module _ {S : Type 0} (view : S → StreamView) (at : S → StreamView → S) wh
       bad_by (Missing e) text old new f n g = absurd (never_missing text (Missing e) n)
       bad_by (Bad e u) text old new f n g = (e, u, refl, g)
 
-      -- a unit that is refused
+      -- a unit that is an error
       pub spoiled : (start now new : S) (cs taken : Text) (f : ParseFault A) → Within start now cs taken → begins (the 34) (view now).rest ≡ false → Starves view at now f new ⊎ Refuses view at (unit_at (view now).rest) now f new →
           Starves view at start f new ⊎ Refuses view at (mapped encode_utf8_all (demanded (units_at [] (view start).rest))) start f new
       spoiled start now new cs taken f w q (inl s) = inl (starves_after view at view_at at_at start now new taken (view now).rest f w.takes s)
@@ -244,7 +244,7 @@ module _ {S : Type 0} (view : S → StreamView) (at : S → StreamView → S) wh
       unquoted false (Missing e) old new f h = h
       unquoted false (Bad e u) old new f h = h
 
-      -- the units behind the mark answer for the whole
+      -- the result of the units after the mark is the result of the whole
       pub quoted_by : {Y : Type 0} (see : Y → List ℕ) (b : Bool) (o : Outcome Unit) (old mid new : S) (y : Unit) (a : Result Y (ParseFault A)) → Answers view at {A = A} (λ u. u) (unless_failed b o) old (Ok y) mid →
           Answers view at see (mapped encode_utf8_all (demanded (units_at [] (view mid).rest))) mid a new → Answers view at see (unless_failed b (mapped encode_utf8_all (followed o (λ mark text. units_at [] text)))) old a new
       quoted_by see true o old mid new y a h k = absurd h

@@ -15,7 +15,7 @@ use Rattle.irtext_base.specs.Quoted.{hexadecimal, image_of, images}
 use Rattle.irtext_base.specs.Text.{Text}
 use Rattle.irtext_tokens.specs.QuotedBytes.{is_escaped, quoted_bytes}
 
--- a test that fails chooses what is behind it
+-- a test that fails selects the second alternative
 passed : (b : Bool) (x y : Text) → b ≡ false → cond b x y ≡ y
 passed true x y e = absurd (true≢false e)
 passed false x y e = refl
@@ -24,7 +24,7 @@ passed false x y e = refl
 abbrev by_number : ℕ → Text
 by_number c = codes "\\u{" ++ (hexadecimal c ++ codes "}")
 
--- where none of the six stands
+-- for a character that is none of the six
 others : (c : ℕ) → (c == 0) ≡ false → (c == 9) ≡ false → (c == 10) ≡ false → (c == 13) ≡ false → (c == 34) ≡ false → (c == 92) ≡ false → image_of c ≡ cond (is_ascii_control c) (by_number c) (c ∷ [])
 others c p q r s t u = passed (c == 0) _ _ p ∙ passed (c == 9) _ _ q ∙ passed (c == 10) _ _ r ∙ passed (c == 13) _ _ s ∙ passed (c == 34) _ _ t ∙ passed (c == 92) _ _ u
 
@@ -96,7 +96,7 @@ run-more bs begun at p l =
 images-more : (bs : List ℕ) (at : ℕ) → at < length bs → images (take (at + 1) bs) ≡ images (take at bs) ++ image_of (get_or bs at 0)
 images-more bs at l = ap images (take_more bs at 0 l) ∙ images-append (take at bs) (get_or bs at 0 ∷ []) ∙ ap (λ z. images (take at bs) ++ z) (append-nil (image_of (get_or bs at 0)))
 
--- a byte that stands as itself joins the run
+-- a byte that represents itself joins the run
 pub run-plain : (bs : List ℕ) (begun at : ℕ) (old now : List ℕ) → begun ≤ at → at < length bs → is_escaped (get_or bs at 0) ≡ false
     → now ++ slice_range bs begun at ≡ old ++ images (take at bs) → now ++ slice_range bs begun (at + 1) ≡ old ++ images (take (at + 1) bs)
 run-plain bs begun at old now p l e h =
@@ -120,7 +120,7 @@ run-last bs begun at old now new e h p =
 pub escaped-ascii : (c : ℕ) → is_escaped c ≡ true → c < 128
 escaped-ascii c e = grind (arith, nat_tests)
 
--- what the loop keeps, at a place behind
+-- the invariant of the loop, at a later place
 pub record Run (bs : List ℕ) (at begun : ℕ) (now old : List ℕ) : Type 0 where
   pub within : begun ≤ at
   pub boundary : IsCharBoundary bs begun

@@ -1,4 +1,4 @@
--- Units of a quoted text, one behind another.
+-- Units of a quoted text, one after another.
 use Rattle.std.proofs.Common.{◌≡◌, ℕ, ◌<◌, Bool, true, false, not, ◌&&◌, ◌==◌, Option, Some, None, cond, length, [], ◌∷◌, ◌++◌, codes, refl, sym, ◌∙◌, ap, subst, append_assoc, append-nil, arith}
 use Rattle.std.proofs.lemmas.Bool.{eqb-true}
 use Rattle.std.specs.Char.{is_ascii_hexdigit}
@@ -13,56 +13,56 @@ use Rattle.irtext_base.proofs.Along.{front_after}
 use Rattle.irtext_base.proofs.Characters.{is_false}
 use Rattle.irtext_tokens.specs.QuotedTexts.{is_plain, escape_of, escaped, named, closed, braced, unicode_at, escape_at, unit_at, behind_first, unit_before, units_at}
 
--- a unit takes the first character, and what it takes stands at the front of the text
-abbrev pub OpenOperation : ℕ → Text → Outcome ℕ → Type 0
-OpenOperation c text (Read d taken rest) = (more : Text) × (taken ≡ c ∷ more) × (more ++ rest ≡ text)
-OpenOperation c text (Missing cause) = ⊥
-OpenOperation c text (Bad cause upto) = Unit {0}
+-- a unit takes the first character, and what it takes is a prefix of the text
+abbrev pub UnitBegins : ℕ → Text → Outcome ℕ → Type 0
+UnitBegins c text (Read d taken rest) = (more : Text) × (taken ≡ c ∷ more) × (more ++ rest ≡ text)
+UnitBegins c text (Missing cause) = ⊥
+UnitBegins c text (Bad cause upto) = Unit {0}
 
-named_begun : (digits rest text : Text) → digits ++ (125 ∷ rest) ≡ text → OpenOperation 92 (117 ∷ 123 ∷ text) (named digits rest)
+named_begun : (digits rest text : Text) → digits ++ (125 ∷ rest) ≡ text → UnitBegins 92 (117 ∷ 123 ∷ text) (named digits rest)
 named_begun digits rest text e =
-    elim (scalar (digits_value 16 digits)) as (λ b. OpenOperation 92 (117 ∷ 123 ∷ text) (cond b (Read (digits_value 16 digits) (codes "\\u{" ++ (digits ++ codes "}")) rest) (Bad (BadUnicodeEscape digits) []))) [
+    elim (scalar (digits_value 16 digits)) as (λ b. UnitBegins 92 (117 ∷ 123 ∷ text) (cond b (Read (digits_value 16 digits) (codes "\\u{" ++ (digits ++ codes "}")) rest) (Bad (BadUnicodeEscape digits) []))) [
       | true ↦ (117 ∷ 123 ∷ (digits ++ (125 ∷ [])), refl, ap (λ z. 117 ∷ 123 ∷ z) (append_assoc digits (125 ∷ []) rest ∙ e))
       | false ↦ tt
     ]
 
-closed_begun : (digits rest text : Text) → digits ++ rest ≡ text → OpenOperation 92 (117 ∷ 123 ∷ text) (closed digits rest)
+closed_begun : (digits rest text : Text) → digits ++ rest ≡ text → UnitBegins 92 (117 ∷ 123 ∷ text) (closed digits rest)
 closed_begun digits [] text e = tt
 closed_begun digits (c ∷ rest) text e =
-    elim (c == 125) as (λ b. (c == 125) ≡ b → OpenOperation 92 (117 ∷ 123 ∷ text) (cond b (named digits rest) (Bad (Unexpected (Some c) (Word (codes "}"))) (codes "\\u{" ++ digits)))) [
+    elim (c == 125) as (λ b. (c == 125) ≡ b → UnitBegins 92 (117 ∷ 123 ∷ text) (cond b (named digits rest) (Bad (Unexpected (Some c) (Word (codes "}"))) (codes "\\u{" ++ digits)))) [
       | true ↦ (λ q. named_begun digits rest text (ap (λ z. digits ++ (z ∷ rest)) (sym (eqb-true c 125 q)) ∙ e))
       | false ↦ (λ q. tt)
     ] refl
 
-braced_begun : (digits rest text : Text) → digits ++ rest ≡ text → OpenOperation 92 (117 ∷ 123 ∷ text) (braced digits rest)
+braced_begun : (digits rest text : Text) → digits ++ rest ≡ text → UnitBegins 92 (117 ∷ 123 ∷ text) (braced digits rest)
 braced_begun [] rest text e = tt
 braced_begun (d ∷ digits) rest text e = closed_begun (d ∷ digits) rest text e
 
-unicode_begun : (text : Text) → OpenOperation 92 (117 ∷ text) (unicode_at text)
+unicode_begun : (text : Text) → UnitBegins 92 (117 ∷ text) (unicode_at text)
 unicode_begun [] = tt
 unicode_begun (c ∷ text) =
-    elim (c == 123) as (λ b. (c == 123) ≡ b → OpenOperation 92 (117 ∷ c ∷ text) (cond b (braced (front is_ascii_hexdigit text) (after is_ascii_hexdigit text)) (Bad (Unexpected (Some c) (Word (codes "{"))) (codes "\\u")))) [
-      | true ↦ (λ q. subst (λ z. OpenOperation 92 (117 ∷ z ∷ text) (braced (front is_ascii_hexdigit text) (after is_ascii_hexdigit text))) (sym (eqb-true c 123 q)) (braced_begun (front is_ascii_hexdigit text) (after is_ascii_hexdigit text) text (front_after is_ascii_hexdigit text)))
+    elim (c == 123) as (λ b. (c == 123) ≡ b → UnitBegins 92 (117 ∷ c ∷ text) (cond b (braced (front is_ascii_hexdigit text) (after is_ascii_hexdigit text)) (Bad (Unexpected (Some c) (Word (codes "{"))) (codes "\\u")))) [
+      | true ↦ (λ q. subst (λ z. UnitBegins 92 (117 ∷ z ∷ text) (braced (front is_ascii_hexdigit text) (after is_ascii_hexdigit text))) (sym (eqb-true c 123 q)) (braced_begun (front is_ascii_hexdigit text) (after is_ascii_hexdigit text) text (front_after is_ascii_hexdigit text)))
       | false ↦ (λ q. tt)
     ] refl
 
-escaped_begun : (o : Option ℕ) (e : ℕ) (text : Text) → OpenOperation 92 (e ∷ text) (escaped o e text)
+escaped_begun : (o : Option ℕ) (e : ℕ) (text : Text) → UnitBegins 92 (e ∷ text) (escaped o e text)
 escaped_begun (Some c) e text = (e ∷ [], refl, refl)
 escaped_begun None e text = tt
 
-escape_begun : (text : Text) → OpenOperation 92 text (escape_at text)
+escape_begun : (text : Text) → UnitBegins 92 text (escape_at text)
 escape_begun [] = tt
 escape_begun (e ∷ text) =
-    elim (e == 117) as (λ b. (e == 117) ≡ b → OpenOperation 92 (e ∷ text) (cond b (unicode_at text) (escaped (escape_of e) e text))) [
-      | true ↦ (λ q. subst (λ z. OpenOperation 92 (z ∷ text) (unicode_at text)) (sym (eqb-true e 117 q)) (unicode_begun text))
+    elim (e == 117) as (λ b. (e == 117) ≡ b → UnitBegins 92 (e ∷ text) (cond b (unicode_at text) (escaped (escape_of e) e text))) [
+      | true ↦ (λ q. subst (λ z. UnitBegins 92 (z ∷ text) (unicode_at text)) (sym (eqb-true e 117 q)) (unicode_begun text))
       | false ↦ (λ q. escaped_begun (escape_of e) e text)
     ] refl
 
-pub unit_begun : (c : ℕ) (text : Text) → OpenOperation c text (unit_at (c ∷ text))
+pub unit_begun : (c : ℕ) (text : Text) → UnitBegins c text (unit_at (c ∷ text))
 unfolding unit_at
 unit_begun c text =
-    elim (c == 92) as (λ b. (c == 92) ≡ b → OpenOperation c text (cond b (escape_at text) (Read c (c ∷ []) text))) [
-      | true ↦ (λ q. subst (λ z. OpenOperation z text (escape_at text)) (sym (eqb-true c 92 q)) (escape_begun text))
+    elim (c == 92) as (λ b. (c == 92) ≡ b → UnitBegins c text (cond b (escape_at text) (Read c (c ∷ []) text))) [
+      | true ↦ (λ q. subst (λ z. UnitBegins z text (escape_at text)) (sym (eqb-true c 92 q)) (escape_begun text))
       | false ↦ (λ q. ([], refl, refl))
     ] refl
 
@@ -72,7 +72,7 @@ Sound (Read c t r) = 0 < length t
 Sound (Missing e) = ⊥
 Sound (Bad e u) = Unit {0}
 
-begun_sound : (c : ℕ) (text : Text) (u : Outcome ℕ) → OpenOperation c text u → Sound u
+begun_sound : (c : ℕ) (text : Text) (u : Outcome ℕ) → UnitBegins c text u → Sound u
 begun_sound c text (Read d t r) h = omega (arith, ap length h.1)
 begun_sound c text (Missing e) h = h
 begun_sound c text (Bad e u) h = tt
@@ -93,11 +93,11 @@ units_skip : (left rest : Text) → units_at left (left ++ rest) ≡ units_at []
 units_skip [] rest = refl
 units_skip (d ∷ left) rest = units_skip left rest
 
--- a unit, and what the text behind it means
+-- a unit, and the meaning of the text after it
 abbrev pub unit_and : Outcome ℕ → Outcome Text
 unit_and u = followed u (λ c rest. mapped (λ cs. c ∷ cs) (units_at [] rest))
 
-by_unit : (c : ℕ) (text : Text) (u : Outcome ℕ) → OpenOperation c text u → unit_before u (λ left. units_at left text) ≡ unit_and u
+by_unit : (c : ℕ) (text : Text) (u : Outcome ℕ) → UnitBegins c text u → unit_before u (λ left. units_at left text) ≡ unit_and u
 by_unit c text (Read d taken rest) h =
     ap (λ z. prefixed taken (mapped (λ cs. d ∷ cs) z)) (ap (λ z. units_at (behind_first z) text) h.1 ∙ (ap (units_at h.0) (sym h.2) ∙ units_skip h.0 rest))
 by_unit c text (Missing e) h = absurd h
@@ -109,7 +109,7 @@ unfolding unit_at
 units_more [] e = refl
 units_more (c ∷ text) e = rw e (by_unit c text (unit_at (c ∷ text)) (unit_begun c text))
 
--- characters that were read and taken, in front of what follows
+-- characters that were parsed and taken, before what follows
 abbrev pub whole : Text → Text → Outcome Text → Outcome Text
 whole cs taken o = prefixed taken (mapped (λ more. cs ++ more) o)
 
@@ -138,7 +138,7 @@ plain_tests true b e = absurd (cc)
 plain_tests false true e = absurd (cc)
 plain_tests false false e = (refl, refl)
 
--- a character that stands for itself
+-- a character that represents itself
 units_plain : (c : ℕ) (text : Text) → is_plain c ≡ true → units_at [] (c ∷ text) ≡ whole (c ∷ []) (c ∷ []) (units_at [] text)
 unfolding unit_at
 units_plain c text e = let p = plain_tests (c == 34) (c == 92) e in rw (p.0, p.1) refl
@@ -154,17 +154,17 @@ units_run (c ∷ text) =
       | false ↦ (λ e. whole_nil (units_at [] (c ∷ text)))
     ] refl
 
--- a run of them behind what was read
+-- a run of them after what was parsed
 pub whole_run : (cs t text : Text) → whole cs t (units_at [] text) ≡ whole (cs ++ front is_plain text) (t ++ front is_plain text) (units_at [] (after is_plain text))
 whole_run cs t text =
     whole_demanded cs t (units_at [] text) ∙ (ap (whole cs t) (units_run text) ∙ whole_whole cs t (front is_plain text) (front is_plain text) (units_at [] (after is_plain text)))
 
--- a unit behind what was read
+-- a unit after what was parsed
 pub whole_unit : (cs t text : Text) (c : ℕ) (u r : Text) → begins (the 34) text ≡ false → unit_at text ≡ Read c u r → whole cs t (units_at [] text) ≡ whole (cs ++ (c ∷ [])) (t ++ u) (units_at [] r)
 whole_unit cs t text c u r q e =
     ap (whole cs t) (units_more text q ∙ ap unit_and e) ∙ whole_whole cs t (c ∷ []) u (units_at [] r)
 
--- a bad unit behind what was read
+-- a bad unit after what was parsed
 pub whole_bad : (cs t text : Text) → begins (the 34) text ≡ false → (cause : _) (upto : Text) → unit_at text ≡ Bad cause upto → whole cs t (units_at [] text) ≡ Bad cause (t ++ upto)
 whole_bad cs t text q cause upto e = ap (whole cs t) (units_more text q ∙ ap unit_and e)
 
@@ -176,7 +176,7 @@ unit_unescaped text e = rw e refl
 not_eqb : (a b : ℕ) → (a ≡ b → ⊥) → (a == b) ≡ false
 not_eqb a b h = is_false (a == b) (λ e. h (eqb-true a b e))
 
--- a character behind a backslash that stands for none
+-- a character after a backslash that is no escape
 pub unit_unknown : (text rest : Text) (b : ℕ) → 92 ∷ b ∷ rest ≡ text → (b ≡ 117 → ⊥) → None ≡ escape_of b → unit_at text ≡ Bad (BadEscape b) []
 unfolding unit_at
 unit_unknown text rest b e q h =

@@ -1,4 +1,4 @@
--- Where each call of an item answers what a relation says of a text, so does the list of items with a separator.
+-- If each call of an item returns what a relation says of a text, so does the list of items with a separator.
 use Rattle.std.proofs.Common.{◌≡◌, ℕ, true, false, Result, Ok, Err, List, [], ◌∷◌, ◌++◌, map, refl, sym, ◌∙◌, ap, append-nil, ◌⊎◌, inl, inr, subst}
 use Rattle.std.specs.Char.{is_whitespace}
 use Rattle.irtext_base.specs.Text.{Text, after_space}
@@ -14,14 +14,14 @@ use Rattle.irtext_tokens.proofs.ItemsMet.{Each, settled}
 use Rattle.irtext_tokens.proofs.Spelling.{begins_the, takes_next}
 
 module _ {S X Y A : Type 0} (view : S → StreamView) (at : S → StreamView → S) (see : X → Y) (Q : Text → Outcome (List Y) → Type 0) where
-  -- what a list answers on a stream that has not failed
+  -- what a list returns on a stream that has not failed
   abbrev pub Whole : S → Result (List X) (ParseFault A) → S → Type 0
   Whole s (Ok xs) t = (k : Text) × (q : Text) × Q (view s).rest (Read (map see xs) k q) × Takes view at k q s t
   Whole s (Err f) t = Starves view at s f t ⊎ ((c : Fault) × (u : Text) × Q (view s).rest (Bad c u) × Commits view at c u s f t)
 
 module _ {S F X Y A : Type 0} (view : S → StreamView) (at : S → StreamView → S) (view_at : (s : S) (v : StreamView) → view (at s v) ≡ v) (at_view : (s : S) → at s (view s) ≡ s) (at_at : (s : S) (v w : StreamView) → at (at s v) w ≡ at s w)
     (calls : F → S → Result X (ParseFault A) → F → S → Type 0) (see : X → Y) (R : Text → Outcome Y → Type 0) where
-  -- one item in front of what comes behind it
+  -- one item before the items that follow it
   joined_by : (P Q : Text → Outcome (List Y) → Type 0) (s mid u : S) (x : X) (k0 q0 : Text) (r : Result (List X) (ParseFault A)) → Takes view at k0 q0 s mid
       → ((o q : Outcome (List Y)) → P (view mid).rest o → q ≡ item_before (see x) k0 o → Q (view s).rest q) → Whole {A = A} view at see P mid r u → Whole {A = A} view at see Q s (prepended (x ∷ []) r) u
   joined_by P Q s mid u x k0 q0 (Ok xs) all mk a =
@@ -33,7 +33,7 @@ module _ {S F X Y A : Type 0} (view : S → StreamView) (at : S → StreamView �
   skips_take : (s t : S) → Skips view at s t → Takes view at (spaces (view s).rest) (after_space (view s).rest) s t
   skips_take s t e = record { is = e; same = front_after is_whitespace (view s).rest }
 
-  -- a separator and the white space behind it are taken
+  -- a separator and the white space after it are taken
   opens_take : (sep : ℕ) (s b : S) → Opens view at sep s b → (left : Text) × ((view s).rest ≡ sep ∷ left) × Takes view at (sep ∷ spaces left) (after_space left) s b
   opens_take sep s b o =
       let f = begins_the sep (view s).rest o.begins_so in
@@ -61,7 +61,7 @@ module _ {S F X Y A : Type 0} (view : S → StreamView) (at : S → StreamView �
     left = record { seen = after_failure (view s); is = i.failing k.committed ∙ ap (λ z. at z (after_failure (view z))) k.left; fails = refl; same = refl };
   }
 
-  -- a fault of an item behind a separator
+  -- an error of an item after a separator
   refused_behind : (sep : ℕ) (s b t u : S) (fault last : ParseFault A) → Opens view at sep s b → Each {A = A} view at see R b (Err fault) t → Insisted view at fault t last u → Whole {A = A} view at see (TailAt R sep) s (Err last) u
   refused_behind sep s b t u fault last o (inl st) i =
       let k = opens_take sep s b o in
@@ -121,7 +121,7 @@ module _ {S F X Y A : Type 0} (view : S → StreamView) (at : S → StreamView �
     none_read sep s t fault (inr (inl m)) c = ([], (view s).rest, none_first (view s).rest m.0 m.1, subst (λ z. Takes view at [] (view s).rest s z) (sym m.2.left) (takes_none view at view_at at_at at_view s))
     none_read sep s t fault (inr (inr d)) c = absurd (let h : true ≡ false = sym d.3.committed ∙ c in cc)
 
-    -- a list with a separator, on a stream that has not failed, answers what the relation of lists says of the text
+    -- a list with a separator, on a stream that has not failed, returns what the relation of lists says of the text
     pub separated_met : (sep : ℕ) (f : F) (s : S) (r : Result (List X) (ParseFault A)) (u : S) → (view s).failed ≡ false → Separated view at calls sep f s r u → Whole {A = A} view at see (SeparatedAt R sep) s r u
     separated_met sep _ _ _ _ n (no_item f s fault g t called free) = none_read sep s t fault (each f s (Err fault) g t n called) free
     separated_met sep _ _ _ _ n (bad_item f s fault g t called shut) = first_refused sep s t fault (each f s (Err fault) g t n called) shut

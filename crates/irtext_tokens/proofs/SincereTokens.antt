@@ -1,4 +1,4 @@
--- What the readers of tokens say of a text is of that text.
+-- What the parsers of tokens say of a text is of that text.
 use Rattle.std.proofs.Common.{◌≡◌, ℕ, zero, suc, List, length, Bool, true, false, cond, Option, Some, None, [], ◌∷◌, ◌++◌, refl, sym, ◌∙◌, ap, append_assoc, subst}
 use Rattle.std.proofs.lemmas.Bool.{eqb-true}
 use Rattle.std.specs.Prelude.{◌==◌, codes}
@@ -16,7 +16,7 @@ use Rattle.irtext_tokens.specs.Demanded.{spaced_at}
 use Rattle.irtext_tokens.specs.ListOutcomes.{item_after, items_after, or_empty, separated_at}
 use Rattle.irtext_tokens.specs.Integers.{sign_at, numeral_at, ranged, signed_integer, no_digit_behind, int_at}
 use Rattle.irtext_tokens.specs.QuotedTexts.{escape_of, escaped, named, closed, braced, unicode_at, escape_at, unit_at, behind_first, unit_before, units_at, quoted_at}
-use Rattle.irtext_tokens.proofs.QuotedUnits.{OpenOperation, unit_begun}
+use Rattle.irtext_tokens.proofs.QuotedUnits.{UnitBegins, unit_begun}
 
 -- ---- fixed texts
 of_spelled : (whole word text : Text) → Of text (spelled_at whole word text)
@@ -99,8 +99,8 @@ of_unit c text =
       | false ↦ (λ q. of_read (c ∷ text) c (c ∷ []) text refl)
     ] refl
 
--- a unit that was begun, and what is said of the text behind it
-of_before : (c : ℕ) (text : Text) (o : Outcome ℕ) (next : Text → Outcome Text) → Of (c ∷ text) o → OpenOperation c text o → ((left rest : Text) → left ++ rest ≡ text → Of rest (next left)) → Of (c ∷ text) (unit_before o next)
+-- a unit that was begun, and what holds of the text after it
+of_before : (c : ℕ) (text : Text) (o : Outcome ℕ) (next : Text → Outcome Text) → Of (c ∷ text) o → UnitBegins c text o → ((left rest : Text) → left ++ rest ≡ text → Of rest (next left)) → Of (c ∷ text) (unit_before o next)
 of_before c text (Read d taken rest) next h b k =
     let m = of_mapped rest (λ cs. d ∷ cs) (next (behind_first taken)) (subst (λ z. Of rest (next (behind_first z))) (sym b.1) (k b.0 rest b.2)) in
     subst (λ z. Of z (prefixed taken (mapped (λ cs. d ∷ cs) (next (behind_first taken))))) h.says (of_prefixed taken rest _ m)
@@ -110,7 +110,7 @@ of_before c text (Bad cause upto) next h b k = of_bad (c ∷ text) cause upto h.
 tail_of : (d c : ℕ) (left text : Text) → ◌≡◌ {A = Text} (d ∷ left) (c ∷ text) → left ≡ text
 tail_of d c left text e = cc
 
--- behind what is left of a unit
+-- after what is left of a unit
 of_units : (left text rest : Text) → left ++ rest ≡ text → Of rest (units_at left text)
 of_units left [] rest e = of_here rest _ refl
 of_units [] (c ∷ text) rest e =
@@ -122,7 +122,7 @@ pub of_quoted : (text : Text) → Of text (quoted_at text)
 unfolding quoted_at
 of_quoted text = of_followed text (text_at (codes "\"") text) (λ mark t. units_at [] t) (of_text (codes "\"") text) (λ mark t. of_units [] t t refl)
 
--- ---- white space, and what stands beside it
+-- ---- white space, and what is next to it
 pub of_space : (text : Text) → Of text (space_at text)
 of_space text = of_read text tt (front is_whitespace text) (after is_whitespace text) (front_after is_whitespace text)
 

@@ -1,4 +1,4 @@
--- Readers that ask for no memory where what they read stands.
+-- Parsers that need no memory if the text has what they parse.
 use Rattle.std.proofs.Common.{◌≡◌, ℕ, Bool, true, false, Option, Result, Ok, Err, [], ◌∷◌, codes, ap, subst, sym}
 use Rattle.std.specs.Char.{is_ascii_digit, is_ascii_hexdigit}
 use Rattle.irtext_base.specs.Text.{Text, begins}
@@ -11,7 +11,7 @@ use Rattle.irtext_tokens.specs.Integers.{no_digit_behind, sign_at, before_hexade
 use Rattle.irtext_tokens.specs.Tokens.{text_at, sign_of, after_sign}
 
 module _ {X A : Type 0} where
-  -- a stream that had failed reads nothing
+  -- a stream that had failed parses nothing
   pub failed_spares : (Y : Type 0) (b : Bool) (o : Outcome X) (fault : ParseFault A) → b ≡ true → NeedsNoMemory {Y = Y} (unless_failed b o) (Err fault)
   failed_spares Y b o fault e = rw e tt
 
@@ -26,14 +26,14 @@ module _ {X A : Type 0} where
   mapped_spares Y W see (Missing cause) fault last h = tt
   mapped_spares Y W see (Bad cause upto) fault last h = tt
 
-  -- where the first of two things is no value, both are none
+  -- if the first of two parsers returns no value, both return none
   pub followed_spares : {V : Type 0} (Y W : Type 0) (b : Bool) (o : Outcome X) (next : X → Text → Outcome V) (fault last : ParseFault A) → NeedsNoMemory {Y = Y} (unless_failed b o) (Err fault) → NeedsNoMemory {Y = W} (unless_failed b (followed o next)) (Err last)
   followed_spares Y W true o next fault last h = tt
   followed_spares Y W false (Read x taken rest) next fault last h = absurd h
   followed_spares Y W false (Missing cause) next fault last h = tt
   followed_spares Y W false (Bad cause upto) next fault last h = tt
 
-  -- where what stands in front of digits is no value, the number is none
+  -- if the parser of what precedes digits returns no value, that of the number returns none
   pub lead_spares : {V : Type 0} (Y W : Type 0) (digit : ℕ → Bool) (make : X → Text → Option V) (b : Bool) (o : Outcome X) (fault last : ParseFault A) → NeedsNoMemory {Y = Y} (unless_failed b o) (Err fault) → NeedsNoMemory {Y = W} (unless_failed b (numeral_at digit make o)) (Err last)
   lead_spares Y W digit make true o fault last h = tt
   lead_spares Y W digit make false (Read x taken rest) fault last h = absurd h
@@ -55,7 +55,7 @@ module _ {X A : Type 0} where
   unmapped_spares Y see false (Bad cause upto) (Err fault) h = tt
 
 module _ {A : Type 0} where
-  -- where no digit stands, nothing is read
+  -- where no digit follows, nothing is parsed
   pub no_digit_spares : (X Y : Type 0) (sign text : Text) (fault : ParseFault A) → NeedsNoMemory {X = X} {Y = Y} (no_digit_behind sign text) (Err fault)
   no_digit_spares X Y [] text fault = tt
   no_digit_spares X Y (c ∷ sign) text fault = tt
@@ -76,13 +76,13 @@ module _ {A : Type 0} where
   neither_spares Y b text fault n m = unread_spares Y b _ fault (rw (n, m) tt)
 
 module _ {S X Y A : Type 0} (view : S → StreamView) (at : S → StreamView → S) (mid new : S) where
-  -- an answer whose fault is committed asks for no memory where the answer didn't
+  -- a result whose error is committed needs no memory if the result before needed none
   pub demanded_spares : (o : Outcome X) (a r : Result Y (ParseFault A)) → NeedsNoMemory o a → DemandsOf view at a mid r new → NeedsNoMemory o r
   demanded_spares o (Ok y) r h d = subst (λ r. NeedsNoMemory o r) (sym d.0) tt
   demanded_spares o (Err fault) r h d = subst (λ r. NeedsNoMemory o r) (sym d.1) (err_spares Y o fault d.0 h)
 
 module _ {S A : Type 0} (view : S → StreamView) (at : S → StreamView → S) (view_at : (s : S) (v : StreamView) → view (at s v) ≡ v) (at_at : (s : S) (v w : StreamView) → at (at s v) w ≡ at s w) where
-  -- a mark behind which no hexadecimal digit stands is none
+  -- a mark without a hexadecimal digit after it is not parsed
   pub mark_spares : (Y : Type 0) (b : Bool) (o : Outcome Unit) (old mid : S) (u : Unit {0}) (fault : ParseFault A) → Gives view at (unless_failed b o) old u mid → begins is_ascii_hexdigit (view mid).rest ≡ false → NeedsNoMemory {Y = Y} (unless_failed b (followed o (λ v text. before_hexadecimal text))) (Err fault)
   mark_spares Y true o old mid u fault h e = tt
   mark_spares Y false (Read x t r) old mid u fault h e =
@@ -91,7 +91,7 @@ module _ {S A : Type 0} (view : S → StreamView) (at : S → StreamView → S) 
   mark_spares Y false (Missing cause) old mid u fault h e = absurd h
   mark_spares Y false (Bad cause upto) old mid u fault h e = absurd h
 
-  -- behind a sign, or none, no digit stands
+  -- an optional sign without a digit after it is not parsed
   pub sign_spares : (Y : Type 0) (old mid : S) (fault : ParseFault A) → Takes view at (sign_of (view old).rest) (after_sign (view old).rest) old mid → begins is_ascii_digit (view mid).rest ≡ false → NeedsNoMemory {Y = Y} (unless_failed (view old).failed (sign_at (view old).rest)) (Err fault)
   sign_spares Y old mid fault k e =
       let f : begins is_ascii_digit (after_sign (view old).rest) ≡ false = subst (λ z. begins is_ascii_digit z ≡ false) (ap (λ v. v.rest) (seen_after view at view_at at_at old mid (sign_of (view old).rest) (after_sign (view old).rest) k)) e in

@@ -1,4 +1,4 @@
--- How far a reader of a fixed text has come.
+-- How far a parser of a fixed text has come.
 use Rattle.std.proofs.Common.{◌≡◌, ℕ, Bool, true, false, Err, [], ◌∷◌, ◌++◌, refl, sym, ◌∙◌, ap, subst, append_assoc, append-nil, inr, ◌⊎◌, arith}
 use Rattle.irtext_base.specs.Text.{Text, begins}
 use Rattle.irtext_base.specs.Reading.{the}
@@ -37,7 +37,7 @@ the-same c = grind (arith, nat_tests)
 
 module _ {S : Type 0} (view : S → StreamView) (at : S → StreamView → S) where
   module _ (view_at : (s : S) (v : StreamView) → view (at s v) ≡ v) (at_view : (s : S) → at s (view s) ≡ s) (at_at : (s : S) (v w : StreamView) → at (at s v) w ≡ at s w) where
-    -- where none is taken, the stream is as it was
+    -- if nothing is taken, the stream is unchanged
     pub takes_none_is : (old now : S) (rest : Text) → Takes view at [] rest old now → now ≡ old
     takes_none_is old now rest k =
         k.is ∙ (ap (λ (p : Text). at old (let v : StreamView = record { passed = p; rest = rest; failed = (view old).failed } in v)) (append-nil (view old).passed)
@@ -69,12 +69,12 @@ module _ {S : Type 0} (view : S → StreamView) (at : S → StreamView → S) wh
           so_far = s.so_far ∙ (ap (begun_by begun taken) more ∙ (begun_more begun taken c (spelled_at word left f.0) s.untaken ∙ ap (λ z. prefixed (taken ++ (c ∷ [])) (spelled_at word left z)) (sym r)));
         }
 
-    -- all of the word was read
+    -- all of the word was parsed
     pub spelling_all : (word : Text) (old now : S) (begun : Bool) (taken : Text) → Spelling view at word old now begun taken [] → Gives view at (text_at word (view old).rest) old tt now
     spelling_all word old now true taken s = rw s.so_far (refl, rw (append-nil taken) s.takes)
     spelling_all word old now false taken s = rw s.so_far (refl, rw (sym (s.untaken refl)) s.takes)
 
-    -- a text that was passed whole was read
+    -- a text that was passed whole was parsed
     pub whole_gives : (word rest : Text) (old new : S) → (view old).rest ≡ word ++ rest → new ≡ at old (behind (view old) word rest) → Gives view at (text_at word (view old).rest) old tt new
     whole_gives word rest old new s n = rw (text_at-literal word (view old).rest rest s) (refl, record { is = n; same = sym s })
 
@@ -90,7 +90,7 @@ module _ {S : Type 0} (view : S → StreamView) (at : S → StreamView → S) wh
           let n : now ≡ old = takes_none_is old now (view now).rest (subst (λ z. Takes view at z (view now).rest old now) (h.spelling.untaken refl) h.spelling.takes) in
           rw q (inr (subst (λ z. Passes view at (Unexpected (first_of (view now).rest) (Word word)) z fault new) n m))
 
-      -- a text that differs is not read
+      -- a text that differs is not parsed
       pub differs_spares : (Y : Type 0) (word : Text) (old now : S) (begun : Bool) (fault : ParseFault A) → Differs view at word old begun now → NeedsNoMemory {Y = Y} (text_at word (view old).rest) (Err fault)
       differs_spares Y word old now true fault h =
           let q : text_at word (view old).rest ≡ prefixed h.taken (Missing (Unexpected (first_of (view now).rest) (Word word))) = h.spelling.so_far ∙ ap (prefixed h.taken) (spelled-misses word h.left (view now).rest h.next h.other) in
@@ -99,6 +99,6 @@ module _ {S : Type 0} (view : S → StreamView) (at : S → StreamView → S) wh
           let q : text_at word (view old).rest ≡ Missing (Unexpected (first_of (view now).rest) (Word word)) = h.spelling.so_far ∙ spelled-misses word h.left (view now).rest h.next h.other in
           rw q tt
 
-      -- memory is refused behind the characters taken
+      -- out of memory after the characters that were taken
       pub spelling_starved : (word : Text) (old now new : S) (begun : Bool) (fault : ParseFault A) → (view old).failed ≡ false → Differs view at word old begun now → StarvesHere view at now fault new → Starves view at old fault new
       spelling_starved word old now new begun fault f h s = starves_behind view at view_at at_at old now new h.taken (view now).rest fault f h.spelling.takes s

@@ -1,4 +1,4 @@
--- How far a reader of several things has come, each of which must stand there.
+-- How far a parser of several required parts has come.
 use Rattle.std.proofs.Common.{◌≡◌, ℕ, Bool, true, false, Result, Ok, Err, [], ◌∷◌, ◌++◌, refl, sym, ◌∙◌, ap, subst, append-nil, ◌⊎◌, inl, inr}
 use Rattle.std.specs.Char.{is_whitespace}
 use Rattle.irtext_base.specs.Text.{Text, begins, front, after}
@@ -14,19 +14,19 @@ use Rattle.irtext_tokens.specs.MustRead.{MustRead, MayRead}
 use Rattle.irtext_tokens.proofs.Grammar.{text_at-literal}
 use Rattle.irtext_tokens.proofs.Spelling.{prefixed-prefixed, begins_the, takes_next, whole_gives}
 
--- where nothing was taken, what follows is demanded
+-- if nothing was taken, what follows is required
 prefixed-none : {X : Type 0} (o : Outcome X) → prefixed [] o ≡ demanded o
 prefixed-none (Read x taken rest) = refl
 prefixed-none (Missing cause) = refl
 prefixed-none (Bad cause upto) = refl
 
--- a value seen by a function is read, and then nothing
+-- a value seen by a function is parsed, and then nothing
 pub mapped_is_followed : {X Y : Type 0} (f : X → Y) (o : Outcome X) → mapped f o ≡ followed o (λ x t. Read (f x) [] t)
 mapped_is_followed f (Read x taken rest) = ap (λ z. Read (f x) z rest) (sym (append-nil taken))
 mapped_is_followed f (Missing cause) = refl
 mapped_is_followed f (Bad cause upto) = refl
 
--- a function of the value goes to the last of two things
+-- a function of the value is applied to the last of two parts
 pub mapped_prefixed : {X Y : Type 0} (f : X → Y) (t : Text) (o : Outcome X) → mapped f (prefixed t o) ≡ prefixed t (mapped f o)
 mapped_prefixed f t (Read x taken rest) = refl
 mapped_prefixed f t (Missing cause) = refl
@@ -56,19 +56,19 @@ abbrev pub lens : {S : Type 0} (view : S → StreamView) (at : S → StreamView 
 lens view at view_at at_view at_at = record { view = view; at = at; view_at = view_at; at_view = at_view; at_at = at_at }
 
 module _ {S : Type 0} (l : Lens S) where
-  -- the reader of `outcome` has come to where `next` is to be read
+  -- the parser of `outcome` has come to where `next` is to be parsed
   pub record Passed {V : Type 0} (outcome next : Text → Outcome V) (old mid : S) : Type 0 where
     pub fine : (l.view old).failed ≡ false
     pub taken : Text
     pub takes : Takes l.view l.at taken (l.view mid).rest old mid
     pub so_far : demanded (outcome (l.view old).rest) ≡ prefixed taken (next (l.view mid).rest)
 
-  -- what is read is read on a stream that has not failed
+  -- what is parsed is parsed on a stream that has not failed
   not_failed : {X : Type 0} (b : Bool) (o : Outcome X) (old mid : S) (x : X) → Gives l.view l.at (demanded (unless_failed b o)) old x mid → b ≡ false
   not_failed true o old mid x h = absurd h
   not_failed false o old mid x h = refl
 
-  -- the reader has not begun
+  -- the parser has not begun
   pub starts : {V : Type 0} (outcome next : Text → Outcome V) (old : S) → (l.view old).failed ≡ false → outcome (l.view old).rest ≡ next (l.view old).rest → Passed outcome next old old
   starts outcome next old f e = record { fine = f; taken = []; takes = takes_none l.view l.at l.view_at l.at_at l.at_view old; so_far = ap demanded e ∙ sym (prefixed-none (next (l.view old).rest)) }
 
@@ -85,15 +85,15 @@ module _ {S : Type 0} (l : Lens S) where
   passed outcome (Missing cause) false k old mid new taken x f t e h = absurd h
   passed outcome (Bad cause upto) false k old mid new taken x f t e h = absurd h
 
-  -- what is to be read may be said in other words
+  -- what is to be parsed may be stated in other words
   pub turned : {V : Type 0} {outcome next : Text → Outcome V} {old mid : S} (other : Text → Outcome V) → next (l.view mid).rest ≡ other (l.view mid).rest → Passed outcome next old mid → Passed outcome other old mid
   turned other e p = record { fine = p.fine; taken = p.taken; takes = p.takes; so_far = p.so_far ∙ ap (prefixed p.taken) e }
 
-  -- one thing more is read
+  -- one more part is parsed
   pub more : {X Y V A : Type 0} {see : Y → X} {f : Text → Outcome X} {outcome : Text → Outcome V} {old mid new : S} {y : Y} (k : X → Text → Outcome V) → Passed outcome (λ t. followed (f t) k) old mid → MustRead {A = A} l.view l.at see f mid (Ok y) new → Passed outcome (k (see y)) old new
   more {see = see} {f = f} {outcome = outcome} {old = old} {mid = mid} {new = new} {y = y} k p h = passed outcome (f (l.view mid).rest) (l.view mid).failed k old mid new p.taken (see y) p.fine p.takes p.so_far h.answers
 
-  -- the first thing is read
+  -- the first part is parsed
   pub first : {X Y V A : Type 0} {see : Y → X} {f : Text → Outcome X} {old mid : S} {y : Y} (k : X → Text → Outcome V) → MustRead {A = A} l.view l.at see f old (Ok y) mid → Passed (λ t. followed (f t) k) (k (see y)) old mid
   first {see = see} {f = f} {old = old} {mid = mid} {y = y} k h =
       more k (starts (λ t. followed (f t) k) (λ t. followed (f t) k) old (not_failed (l.view old).failed (f (l.view old).rest) old mid (see y) h.answers) refl) h
@@ -102,7 +102,7 @@ module _ {S : Type 0} (l : Lens S) where
   pub spaced : {V : Type 0} {outcome : Text → Outcome V} {old mid new : S} (k : Unit {0} → Text → Outcome V) → Passed outcome (λ t. followed (space_at t) k) old mid → Takes l.view l.at (front is_whitespace (l.view mid).rest) (after is_whitespace (l.view mid).rest) mid new → Passed outcome (k tt) old new
   spaced {outcome = outcome} {old = old} {mid = mid} {new = new} k p h = passed outcome (space_at (l.view mid).rest) false k old mid new p.taken tt p.fine p.takes p.so_far (refl, h)
 
-  -- the last thing answers for all
+  -- the result of the last part is the result of all
   pub last : {V Y A : Type 0} {see : Y → V} {f outcome : Text → Outcome V} {old mid new : S} {r : Result Y (ParseFault A)} → Passed outcome f old mid → MustRead l.view l.at see f mid r new → MustRead l.view l.at see outcome old r new
   last {see = see} {f = f} {outcome = outcome} {old = old} {mid = mid} {new = new} {r = r} p h =
       let v : (l.view mid).failed ≡ false = takes_fine l.view l.at l.view_at l.at_at old mid p.taken (l.view mid).rest p.takes p.fine in
@@ -115,7 +115,7 @@ module _ {S : Type 0} (l : Lens S) where
   refused (Missing cause) k s fault new (inr h) = inr h
   refused (Bad cause upto) k s fault new (inr h) = inr h
 
-  -- one thing more is refused
+  -- one more part is an error
   pub refuses : {X Y W V A : Type 0} {see : Y → X} {sees : W → V} {f : Text → Outcome X} {outcome : Text → Outcome V} {old mid new : S} {fault : ParseFault A} (k : X → Text → Outcome V) → Passed outcome (λ t. followed (f t) k) old mid → MustRead l.view l.at see f mid (Err fault) new → MustRead l.view l.at sees outcome old (Err fault) new
   refuses {see = see} {sees = sees} {f = f} {outcome = outcome} {old = old} {mid = mid} {new = new} {fault = fault} k p h =
       let v : (l.view mid).failed ≡ false = takes_fine l.view l.at l.view_at l.at_at old mid p.taken (l.view mid).rest p.takes p.fine in
@@ -123,7 +123,7 @@ module _ {S : Type 0} (l : Lens S) where
       let b : Answers l.view l.at sees (demanded (followed (f (l.view mid).rest) k)) mid (Err fault) new = refused (f (l.view mid).rest) k mid fault new a in
       record { answers = rw (p.fine, p.so_far) (answers_after l.view l.at l.view_at l.at_at sees (followed (f (l.view mid).rest) k) old mid new p.taken (l.view mid).rest (Err fault) p.takes b) }
 
-  -- one thing more is refused, however its value would be seen
+  -- one more part is an error, however its value would be seen
   pub refuses_seen : {X Y W V A : Type 0} {see : Y → X} {sees : W → V} {f : Text → Outcome X} {outcome : Text → Outcome V} {old mid new : S} {fault : ParseFault A} (k : X → V) → Passed outcome (λ t. mapped k (f t)) old mid → MustRead l.view l.at see f mid (Err fault) new → MustRead l.view l.at sees outcome old (Err fault) new
   refuses_seen {see = see} {sees = sees} {f = f} {mid = mid} {new = new} {fault = fault} k p h =
       last p (record { answers = refuses_mapped_demanded l.view l.at l.view_at l.at_at k (l.view mid).failed (f (l.view mid).rest) mid new fault h.answers })
@@ -134,20 +134,20 @@ module _ {S : Type 0} (l : Lens S) where
   seen_so sees false (Missing cause) k s new x w e h = absurd h
   seen_so sees false (Bad cause upto) k s new x w e h = absurd h
 
-  -- the last thing is read, and nothing is left to be read
+  -- the last part is parsed, and nothing is left to be parsed
   pub more_seen : {X Y V A : Type 0} {see : Y → X} {f : Text → Outcome X} {outcome : Text → Outcome V} {old mid new : S} {y : Y} (k : X → V) → Passed outcome (λ t. mapped k (f t)) old mid → MustRead {A = A} l.view l.at see f mid (Ok y) new → Passed outcome (λ t. Read (k (see y)) [] t) old new
   more_seen {f = f} {mid = mid} k p h = more (λ x t. Read (k x) [] t) (turned (λ t. followed (f t) (λ x u. Read (k x) [] u)) (mapped_is_followed k (f (l.view mid).rest)) p) h
 
-  -- the last thing is read, and its value seen by a function
+  -- the last part is parsed, and its value seen by a function
   pub last_seen : {X Y W V A : Type 0} {see : Y → X} (sees : W → V) {f : Text → Outcome X} {outcome : Text → Outcome V} {old mid new : S} {y : Y} (k : X → V) (w : W) → sees w ≡ k (see y) → Passed outcome (λ t. mapped k (f t)) old mid → MustRead {A = A} l.view l.at see f mid (Ok y) new → MustRead {A = A} l.view l.at sees outcome old (Ok w) new
   last_seen {A = A} {see = see} sees {f = f} {mid = mid} {new = new} {y = y} k w e p h =
       last p (record { answers = seen_so sees (l.view mid).failed (f (l.view mid).rest) k mid new (see y) w e h.answers })
 
-  -- the one thing is read, and its value seen by a function
+  -- the only part is parsed, and its value seen by a function
   pub seen_alone : {X Y W V A : Type 0} {see : Y → X} (sees : W → V) {f : Text → Outcome X} {old new : S} {y : Y} (k : X → V) (w : W) → sees w ≡ k (see y) → MustRead {A = A} l.view l.at see f old (Ok y) new → MustRead {A = A} l.view l.at sees (λ t. mapped k (f t)) old (Ok w) new
   seen_alone {see = see} sees {f = f} {old = old} {new = new} {y = y} k w e h = record { answers = seen_so sees (l.view old).failed (f (l.view old).rest) k old new (see y) w e h.answers }
 
-  -- behind the characters taken nothing more is to be read
+  -- after the characters taken nothing more is to be parsed
   pub ends : {W V A : Type 0} (sees : W → V) {outcome : Text → Outcome V} {old mid : S} (w : W) → Passed outcome (λ t. Read (sees w) [] t) old mid → MustRead {A = A} l.view l.at sees outcome old (Ok w) mid
   ends {A = A} sees {outcome = outcome} {old = old} {mid = mid} w p =
       let g : Gives l.view l.at (prefixed p.taken (Read (sees w) [] (l.view mid).rest)) old (sees w) mid = (refl, rw append-nil p.takes) in
@@ -159,7 +159,7 @@ module _ {S : Type 0} (l : Lens S) where
   read_demanded false (Missing cause) s new x h = h
   read_demanded false (Bad cause upto) s new x h = h
 
-  -- white space was passed, and behind it the whole of a fixed text
+  -- white space was consumed, and after it the whole of a fixed text
   pub spaced_whole : {V : Type 0} (k : Unit {0} → Text → Outcome V) (word rest : Text) (old new : S) → (l.view old).failed ≡ false → after is_whitespace (l.view old).rest ≡ word ++ rest → new ≡ l.at old (behind (behind_space (l.view old)) word rest) → Passed (λ t. followed (space_at t) (λ _ u. followed (text_at word u) k)) (k tt) old new
   spaced_whole k word rest old new f e n =
       let out : Text → Outcome _ = λ t. followed (space_at t) (λ _ u. followed (text_at word u) k) in
@@ -177,31 +177,31 @@ module _ {S : Type 0} (l : Lens S) where
   begun false (Missing cause) k s new x h = absurd h
   begun false (Bad cause upto) k s new x h = absurd h
 
-  -- the first thing, which may be missing, is read
+  -- the first part, which may be missing, is parsed
   pub begins_with : {X Y V A : Type 0} {see : Y → X} {f : Text → Outcome X} {old mid : S} {y : Y} (k : X → Text → Outcome V) → MayRead {A = A} l.view l.at see f old (Ok y) mid → Passed (λ t. followed (f t) k) (k (see y)) old mid
   begins_with {Y = Y} {A = A} {see = see} {f = f} {old = old} {mid = mid} {y = y} k h = first {Y = Y} {A = A} {see = see} {f = f} {old = old} {mid = mid} {y = y} k (record { answers = read_demanded (l.view old).failed (f (l.view old).rest) old mid (see y) h.answers })
 
-  -- where it is read, nothing is missing
+  -- where it is parsed, nothing is missing
   pub begun_by : {X Y W V A : Type 0} {see : Y → X} {sees : W → V} {f : Text → Outcome X} {old mid new : S} {y : Y} {r : Result W (ParseFault A)} (k : X → Text → Outcome V) → MayRead {A = A} l.view l.at see f old (Ok y) mid → MustRead l.view l.at sees (λ t. followed (f t) k) old r new → MayRead l.view l.at sees (λ t. followed (f t) k) old r new
   begun_by {see = see} {sees = sees} {f = f} {old = old} {mid = mid} {new = new} {y = y} {r = r} k h m =
       record { answers = subst (λ o. Answers l.view l.at sees o old r new) (begun (l.view old).failed (f (l.view old).rest) k old mid (see y) h.answers) m.answers }
 
-  -- the first thing, which may be missing, is refused
+  -- the first part, which may be missing, is an error
   pub begins_refused : {X Y W V A : Type 0} {see : Y → X} (sees : W → V) {f : Text → Outcome X} {old new : S} {fault : ParseFault A} (k : X → Text → Outcome V) → MayRead {Y = Y} l.view l.at see f old (Err fault) new → MayRead {Y = W} l.view l.at sees (λ t. followed (f t) k) old (Err fault) new
   begins_refused {see = see} sees {f = f} {old = old} {new = new} {fault = fault} k h =
       record { answers = refuses_first l.view l.at l.view_at l.at_at see sees (l.view old).failed (f (l.view old).rest) k old new fault h.answers }
 
-  -- white space is the last thing
+  -- white space is the last part
   pub last_spaced : {W V A : Type 0} (sees : W → V) {outcome : Text → Outcome V} {old mid new : S} (k : Unit {0} → V) (w : W) → sees w ≡ k tt → Passed outcome (λ t. mapped k (space_at t)) old mid → Takes l.view l.at (front is_whitespace (l.view mid).rest) (after is_whitespace (l.view mid).rest) mid new → MustRead {A = A} l.view l.at sees outcome old (Ok w) new
   last_spaced sees {outcome = outcome} {old = old} {mid = mid} {new = new} k w e p h =
       let g : Gives l.view l.at (prefixed p.taken (mapped k (space_at (l.view mid).rest))) old (sees w) new = (e, takes_more l.view l.at l.view_at l.at_at old mid new p.taken (l.view mid).rest (front is_whitespace (l.view mid).rest) (after is_whitespace (l.view mid).rest) p.takes h) in
       record { answers = rw (p.fine, p.so_far) g }
 
-  -- memory is refused on the way, where the stream stands
+  -- out of memory at the stream's position
   pub starved : {W V A : Type 0} {sees : W → V} {outcome next : Text → Outcome V} {old mid new : S} {fault : ParseFault A} → Passed outcome next old mid → StarvesHere l.view l.at mid fault new → MustRead l.view l.at sees outcome old (Err fault) new
   starved {old = old} {mid = mid} {new = new} {fault = fault} p h = record { answers = inl (starves_behind l.view l.at l.view_at l.at_at old mid new p.taken (l.view mid).rest fault p.fine p.takes h) }
 
-  -- what is to be read is seen in another way
+  -- what is to be parsed is seen in another way
   pub onward : {V : Type 0} {outcome : Text → Outcome V} {old mid : S} (next last : Text → Outcome V) → next (l.view mid).rest ≡ last (l.view mid).rest → Passed outcome next old mid → Passed outcome last old mid
   onward next last e p = record { fine = p.fine; taken = p.taken; takes = p.takes; so_far = p.so_far ∙ ap (prefixed p.taken) e }
 
@@ -213,7 +213,7 @@ module _ {S : Type 0} (l : Lens S) where
       let g : Gives l.view l.at (demanded (text_at (c ∷ []) (l.view mid).rest)) mid tt new = rw (text_at-literal (c ∷ []) (l.view mid).rest f.0 f.1) (refl, t) in
       passed outcome (text_at (c ∷ []) (l.view mid).rest) false k old mid new p.taken tt p.fine p.takes p.so_far g
 
-  -- an answer, as what may stand there
+  -- a result, as that of an optional parser
   pub may_read : {X Y A : Type 0} (see : Y → X) (f : Text → Outcome X) (old new : S) (a : Result Y (ParseFault A)) → Answers l.view l.at see (unless_failed (l.view old).failed (f (l.view old).rest)) old a new → MayRead l.view l.at see f old a new
   may_read see f old new a h = record { answers = h }
 
@@ -226,7 +226,7 @@ module _ {S : Type 0} (l : Lens S) where
   never_missing {see = see} f {old = old} {new = new} {r = r} e h =
       record { answers = subst (λ o. Answers l.view l.at see o old r new) (sym (still (l.view old).failed (f (l.view old).rest) (e (l.view old).rest))) h.answers }
 
-  -- what may stand there is insisted on
+  -- an optional value is required
   pub insisted : {X Y A : Type 0} {see : Y → X} {f : Text → Outcome X} {old mid new : S} {a r : Result Y (ParseFault A)} → MayRead l.view l.at see f old a mid → DemandsOf l.view l.at a mid r new → MustRead l.view l.at see f old r new
   insisted {see = see} {f = f} {old = old} {mid = mid} {new = new} {a = a} {r = r} h d =
       record { answers = answers_demanded l.view l.at l.view_at l.at_at see (unless_failed (l.view old).failed (f (l.view old).rest)) old mid new a r h.answers d }

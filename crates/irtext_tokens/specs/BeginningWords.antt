@@ -1,4 +1,5 @@
--- How a family's texts begin, for the law `led`: behind a word and white space it computes, and of a word alone these lemmas say it.
+-- How a family's texts begin, for the law `led`: of a word with white space after it this is computed, and of a word alone these lemmas
+-- state it.
 use Rattle.std.proofs.Common.{◌≡◌, ℕ, true, false, List, [], ◌∷◌, ◌++◌, refl, ap, ◌∙◌, inl, inr, arith}
 use Rattle.std.proofs.lemmas.Bool.Decides.{nat_tests}
 use Rattle.std.specs.List.{list_all}

@@ -15,7 +15,7 @@ begun_by false taken o = o
 begun_by true taken o = prefixed taken o
 
 module _ {S : Type 0} (view : S → StreamView) (at : S → StreamView → S) where
-  -- the consumed characters are those of the word in front of `left`
+  -- the consumed characters are those of the word that precede `left`
   pub record Spelling (word : Text) (old now : S) (begun : Bool) (taken left : Text) : Type 0 where
     pub takes : Takes view at taken (view now).rest old now
     pub untaken : begun ≡ false → taken ≡ []
@@ -29,7 +29,7 @@ module _ {S : Type 0} (view : S → StreamView) (at : S → StreamView → S) wh
     pub spelling : Spelling word old now begun taken (next ∷ left)
     pub other : begins (the next) (view now).rest ≡ false
 
-  -- The word with these bytes was parsed; or its next character does not come next, and the flag tells whether one was consumed before.
+  -- The word with these bytes was parsed; or its next character does not come next, and the flag says whether one was consumed before.
   abbrev pub Spells : List ℕ → S → Option Bool → S → Type 0
   Spells bytes old None new = (word : Text) → encode_utf8_all word ≡ bytes → Gives view at (text_at word (view old).rest) old tt new
   Spells bytes old (Some begun) new = (word : Text) → encode_utf8_all word ≡ bytes → Differs word old begun new

@@ -1,4 +1,4 @@
--- A root that was read is there to be printed: it stands in no block, and is closed where its operations fit their formats.
+-- A root that was parsed can be printed: it has no parent block, and is closed if its operations fit their formats.
 use Rattle.std.proofs.Common.{◌≡◌, Bool, ℕ, List, Option, Some, None, option_map, IsSome, refl, sym, ap, subst}
 use Rattle.irtext_base.specs.Answers.{Outcome}
 use Rattle.irtext_base.specs.Own.{Texts, texts_of}

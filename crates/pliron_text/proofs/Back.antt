@@ -43,12 +43,12 @@ use Rattle.irtext_promises.proofs.PrintedBack.{stands_back, stands_whole, not_re
 use Rattle.pliron_text.specs.Calls.{IsClosed, IsPrinted, ComesBack, ComesBackWhole, ReadsText, RefusesText}
 use Rattle.pliron_text.proofs.Fitting.{fits_whole}
 
--- what is said of a refusal that was none for want of memory
+-- what holds of an error that is not out of memory
 pub refused_as : {X A : Type 0} (P Q : ParseFault A → Type 0) → ((f : ParseFault A) → P f → Q f) → (r : Result X (ParseFault A)) → IfErr r (UnlessMemory P) → IfErr r (UnlessMemory Q)
 refused_as P Q as-q (Ok x) h = tt
 refused_as P Q as-q (Err f) h = elim h [ inl m ↦ inl m | inr p ↦ inr (as-q f p) ]
 
--- a root that stands alone is closed where its operations fit
+-- a root that is alone is closed if its operations fit
 pub closed_where_fits : {T A : Type 0} (written : A → Text) (C : Printing T A) (ctx : ContextView T A) (p : Ptr Operation) (g : Graph T A) → IsClosed written C ctx p g → Distinct C (isolated ctx.dialects) g → Fit C (isolated ctx.dialects) g → ClosedRoot C (isolated ctx.dialects) g
 closed_where_fits written C ctx p g h d f = record { closed = found_closed C (isolated ctx.dialects) g h.found d h.results h.operands h.successors h.alone; fits = f; unlabelled = h.unlabelled }
 
@@ -93,7 +93,7 @@ module _ {T A : Type 0} (types : ir_text.Ghosts T A) (owns : ir_text.Ghosts A A)
     as_printed : Fit C (isolated ctx.dialects) g → PrintedRoot texts own_texts attr C ctx p g layout.width layout.indent (levels layout.limit) bytes
     as_printed fits = record { sees = sees; kept = kept; fits = fits; utf8 = utf8; few = few; printed = printed.is_text g sees nowhere }
 
-    -- nothing is read of a root of which a region was left out
+    -- nothing is parsed from a root of which a region was left out
     pub nothing_back : Fit C (isolated ctx.dialects) g → (AllShown (written C (levels layout.limit) g) → ⊥) → (q : Ptr Operation) (left : ContextView T A) → ReadsText texts own_texts attr text other q left → ⊥
     nothing_back fits out q left r =
         none_read texts owns.reading owns.written types_law owns_law unreserved attributes.outlined attributes.print_once same sound reflexive ctx p g layout.width layout.indent bytes (levels layout.limit) (as_printed fits) r.old (r.starts.text ∙ ap chars text_is)
@@ -106,7 +106,7 @@ module _ {T A : Type 0} (types : ir_text.Ghosts T A) (owns : ir_text.Ghosts A A)
       wholly : PrintedRoot texts own_texts attr C ctx p g layout.width layout.indent None bytes
       wholly = subst (λ l. PrintedRoot texts own_texts attr C ctx p g layout.width layout.indent l bytes) unlimited (as_printed fits_there)
 
-      -- what is read of it is equal to it
+      -- what is parsed from it is equal to it
       pub reads_back : (Fit C (isolated ctx.dialects) g → ClosedRoot C (isolated ctx.dialects) g) → (q : Ptr Operation) (left : ContextView T A) → ReadsText texts own_texts attr text other q left → ComesBack texts own_texts attr C ctx.dialects g q left
       reads_back closed q left r = (
         r.new.stream.rest,
@@ -124,7 +124,7 @@ module _ {T A : Type 0} (types : ir_text.Ghosts T A) (owns : ir_text.Ghosts A A)
             (ap (λ (v : ContextView T A). v.dialects) r.starts.context ∙ same_dialects) k.1 q r.new r.builds),
       )
 
-      -- and it is refused for want of memory alone
+      -- and it is an error only if out of memory
       pub memory_alone : (Fit C (isolated ctx.dialects) g → ClosedRoot C (isolated ctx.dialects) g) → (f : ParseFault A) → UnlessMemory (RefusesText texts own_texts attr text other types.reading) f → fault_of f.cause ≡ faults.Memory
       memory_alone closed f h =
           elim h [

@@ -56,6 +56,6 @@ module _ {T A : Type 0} (C : Printing T A) (isolated : Id → Bool) where
         operations_fit i os (λ k. h (inr k)),
       )
 
-    -- a root that gives no reason to refuse it for a format fits, and so does all inside
+    -- a root that has no reason to fail for a format fits, and so does all inside
     pub fits_whole : (i : ℕ) (g : Graph T A) → ((OperationFault C isolated width Misfit g.own g.regions ⊎ RegionsFault C isolated width Misfit i None g.regions) → ⊥) → Fit C isolated g
     fits_whole i g h = (fits_sure (C.format_of g.own.id) g.own (length (regions_list g.regions)) (λ k. h (inl k)), regions_fit i g.regions (λ k. h (inr k)))

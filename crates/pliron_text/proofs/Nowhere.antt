@@ -1,4 +1,4 @@
--- A root that was read stands in no block.
+-- A root that was parsed has no parent block.
 use Rattle.std.proofs.Common.{◌≡◌, ◌∙◌, ℕ, map, Option, Some, None, option_map, IsSome, slice_get, refl, sym, ap, inl, inr}
 use Rattle.irtext_context.specs.Context.{ContextView}
 use Rattle.irtext_context.proofs.Contexts.{OperationEntry, BlockEntry}
@@ -44,7 +44,7 @@ module _ {T A : Type 0} (old new : ContextView T A) (op : Ptr Operation) (before
         | inr inside ↦ not_above after (TheBlock b) (TheOperation op) e inside
       ]
 
-  -- the root stands in no block
+  -- the root has no parent block
   pub root_nowhere : block_round new op ≡ None
   root_nowhere = go (block_round new op) refl
     where

@@ -1,2 +1,2 @@
--- What is written is read back.
+-- What is written is parsed back.
 pub mod WithPlaces

@@ -6,6 +6,7 @@ use irtext_few::{Few, Items};
 use std::alloc::{AllocError, Global};
 
 /// Wraps each type of a vector in `Some`.
+#[inline(never)]
 fn many_known_types<T: Drop>(alloc: Global, types: Vec<T>) -> Result<Vec<Option<T>>, AllocError>
     ensures { IfOk result (λ all. all.items ≡ known types.items) }
 {
@@ -17,6 +18,7 @@ fn many_known_types<T: Drop>(alloc: Global, types: Vec<T>) -> Result<Vec<Option<
 }
 
 /// Wraps each type in `Some`. It allocates nothing for up to two types.
+#[inline(always)]
 pub(crate) fn known_types<T: Drop>(
     alloc: Global,
     types: Few<T>,

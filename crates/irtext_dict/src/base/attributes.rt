@@ -153,6 +153,13 @@ impl<A: Drop> AttributeDict<A> {
         self.others.get(key)
     }
 
+    /// Returns the given names: the attribute under `builtin_given_names`, or `None` if there is none.
+    pub fn given_names(&self) -> Option<&AttrObj<A>>
+        ensures { option_copied result ≡ lookup (bytes_eq given_names_key) self.now }
+    {
+        given_attr(&self.given)
+    }
+
     /// Puts an attribute under a key: in place of the one that is there, or else as the last entry. If the key is `builtin_given_names` and
     /// the attribute is not `GivenNames`, the error is `ReservedKey` with the key. For any other key, the error is `Memory` when out of
     /// memory. On an error the dictionary is unchanged. Given names under their key need no allocation, and never fail.

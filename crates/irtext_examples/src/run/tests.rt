@@ -1,5 +1,5 @@
 //! The tasks over small inputs, with the outputs and the errors.
-use super::run;
+use super::{Task, run};
 use std::process::Abort;
 
 /// A task, an input, and the output.
@@ -40,46 +40,37 @@ const REFUSED: &[(&str, &[u8], &[u8])] = &[
     ),
 ];
 
-/// Runs the program with this argument and this input, and checks its exit status, output and errors.
+/// Runs the task of this word with this input, and checks the exit status, the output and the errors.
 fn check(
     rt: &(impl Abort + AllocGlobal),
     word: &str,
-    input: &[u8],
-    status: u8,
-    output: &[u8],
-    errors: &[u8],
+    mut input: &[u8],
+    (status, output, errors): (u8, &[u8], &[u8]),
 ) {
-    let mut written = Vec::new(rt.alloc());
-    let mut told = Vec::new(rt.alloc());
-    let mut left = input;
-    let ended = run(rt.alloc(), &[word], &mut left, &mut written, &mut told);
-    assert_eq!(rt; told.as_slice(), errors);
-    assert_eq!(rt; written.as_slice(), output);
-    assert_eq!(rt; ended, status);
+    let (mut written, mut told) = (Vec::new(rt.alloc()), Vec::new(rt.alloc()));
+    let ended = run(
+        rt.alloc(),
+        Task::of(word),
+        &mut input,
+        &mut written,
+        &mut told,
+    );
+    let (written, told) = (written.as_slice(), told.as_slice());
+    assert_eq!(rt; (ended, written, told), (status, output, errors));
 }
 
 #[test]
-fn roots_are_built_and_changed(rt: HostRuntime) {
+fn roots_are_built_and_changed_or_errors_show_their_place(rt: HostRuntime) {
     for row in ACCEPTED {
-        check(&rt, row.0, row.1, 0, row.2, b"");
+        check(&rt, row.0, row.1, (0, row.2, b""));
     }
-}
-
-#[test]
-fn errors_show_their_place(rt: HostRuntime) {
     for row in REFUSED {
-        check(&rt, row.0, row.1, 1, b"", row.2);
+        check(&rt, row.0, row.1, (1, b"", row.2));
     }
 }
 
 #[test]
 fn another_word_is_told_the_usage(rt: HostRuntime) {
-    check(
-        &rt,
-        "fmt",
-        b"1",
-        2,
-        b"",
-        b"usage: irtext_examples front|pass|both\n",
-    );
+    let usage = b"usage: irtext_examples front|pass|both\n";
+    check(&rt, "fmt", b"1", (2, b"", usage));
 }

@@ -1,4 +1,4 @@
--- What can begin the text of an operation's parts, and that no list among them goes on into what stands behind it.
+-- What can begin the text of an operation's parts, and that no list among them can continue into what follows it.
 use Rattle.std.specs.Prelude.{◌≡◌, ℕ, Bool, true, false, cond, not, ◌&&◌, ◌||◌, ◌==◌, ◌⊎◌, List, [], ◌∷◌, ◌++◌, map, codes, refl, Option, Some, None, ⊤}
 use Rattle.std.specs.List.{list_all}
 use Rattle.std.proofs.Common.{inl, inr, sym, ◌∙◌, ap, subst, true≢false}
@@ -35,7 +35,7 @@ disjoint_within Q cs xs ys w d none k c x = go (w k x)
     go (inl y) = d k c y
     go (inr q) = none k c q
 
--- operands, successors and result types: those that no region stands before
+-- operands, successors and result types: directives that no region may precede
 abbrev early : Directive → Bool
 early d = elim d [ format.operand i ↦ true | format.operands ↦ true | format.successor i ↦ true | format.successors ↦ true | format.result_type i ↦ true | _ ↦ false ]
 
@@ -74,7 +74,7 @@ module _ {P T A : Type 0} where
 
 -- ---- all parts
 module _ {P T A O B R : Type 0} where
-  -- what can begin the parts' text, where what stands behind it begins with one of `last`
+  -- what can begin the parts' text, if what follows the text begins with one of `last`
   abbrev pub starts : List ℕ → List (Part P T A) → Regions O B R → List ℕ
   starts last [] rs = last
   starts last (tree.piece p ∷ ps) rs = first (directive_of_piece p) ++ cond (listed (directive_of_piece p)) (starts last ps rs) []
@@ -82,7 +82,7 @@ module _ {P T A O B R : Type 0} where
   starts last (tree.regions ∷ ps) no_regions = codes "{" ++ starts last ps no_regions
   starts last (tree.regions ∷ ps) (region r bs rs) = codes "{"
 
-  -- no list goes on into what stands behind it
+  -- no list can continue into what follows it
   abbrev pub Apart : List ℕ → List (Part P T A) → Regions O B R → Type 0
   Apart last [] rs = ⊤
   Apart last (tree.piece p ∷ ps) rs = Disjoint (continuing p) (starts last ps rs) × Apart last ps rs
@@ -112,7 +112,7 @@ module _ {P T A O B R : Type 0} where
       let q : format.regions ≡ d = cc e in
       inl (subst (λ d. has ◌==◌ k (followers (d ∷ ds)) ≡ true) q (has_left k (codes "{") (followers ds) h))
 
-  -- Behind what can stand behind any operation.
+  -- What can follow any operation follows the parts.
   pub apart_inside : (ps : List (Part P T A)) (ds : List Directive) (rs : Regions O B R) → map directive ps ≡ map Some ds → c8 ds ≡ true → Apart (followers []) ps rs
   apart_inside [] [] rs e c = tt
   apart_inside [] (d ∷ ds) rs e c = absurd (cc e)
@@ -135,7 +135,7 @@ module _ {P T A O B R : Type 0} where
         apart_inside ps ds no_regions q' (and_right (disjoint (continuings d) (followers ds)) (c8 ds) c),
       )
 
-  -- Where a region is still to come, what stands behind the parts does not count.
+  -- If a region is still to be parsed, what follows the parts makes no difference.
   starts_same : (last other : List ℕ) (ps : List (Part P T A)) (r : R) (bs : Blocks O B R) (rs : Regions O B R) → Enough ps (region r bs rs) → starts last ps (region r bs rs) ≡ starts other ps (region r bs rs)
   starts_same last other [] r bs rs en = absurd en
   starts_same last other (tree.piece p ∷ ps) r bs rs en = ap (λ ks. first (directive_of_piece p) ++ cond (listed (directive_of_piece p)) ks []) (starts_same last other ps r bs rs en)
@@ -163,7 +163,7 @@ module _ {P T A O B R : Type 0} where
         apart_late ps ds no_regions q' (and_right (disjoint (continuings d) (followers ds)) (c8 ds) c) (and_right (not (early d)) _ l),
       )
 
-  -- Behind a word, where a region is still to come: behind it stands no list of names or labels.
+  -- A word follows the parts, and a region is still to be parsed: then no list of names or labels is the last part.
   pub apart_outside : (ps : List (Part P T A)) (ds : List Directive) (r : R) (bs : Blocks O B R) (rs : Regions O B R) → map directive ps ≡ map Some ds → c7 ds ≡ true → c8 ds ≡ true → Enough ps (region r bs rs)
       → Apart (codes "_") ps (region r bs rs)
   apart_outside [] ds r bs rs e s c en = absurd en

@@ -1,4 +1,4 @@
--- What is written reads as what it was written from, before every follower that printed IR has.
+-- What is written parses as what it was written from, before every follower that printed IR has.
 use Rattle.std.specs.Prelude.{◌≡◌, ℕ, zero, suc, ◌+◌, ◌<◌, Bool, true, false, cond, not, ◌==◌, ◌&&◌, ◌||◌, ◌⊎◌, List, [], ◌∷◌, ◌++◌, map, codes, refl, Option, Some, None, ⊤}
 use Rattle.std.proofs.Common.{inl, inr, sym, ◌∙◌, ap, subst, true≢false, append_assoc, arith}
 use Rattle.std.proofs.lemmas.Bool.Decides.{nat_tests}
@@ -50,7 +50,7 @@ module _ {P T A : Type 0} (L : Language P T A) (types : Lawful T L.types) (owns 
   pub here : (p : P) {R : Reading} {t f : Text} → Reaches R t f → Reaches (reads.here L p R) t f
   here p r = record { left = r.left; reading = (anywhere p _, r.reading); same = r.same }
 
-  -- a name reads back
+  -- a name is parsed back
   pub back_name : (n : Name P) (f : Text) → IsName n → Ends f → Reaches (reads.name L n) (n.text ++ f) f
   back_name n f e h = here n.place (reaches_identifier n.text f e h)
 
@@ -58,11 +58,11 @@ module _ {P T A : Type 0} (L : Language P T A) (types : Lawful T L.types) (owns 
   back_signed : (c : ℕ) (s f : Text) → is_whitespace c ≡ false → IsIdentifier s → Ends f → Reaches (literal (c ∷ []) ▸ identifier s) (c ∷ (s ++ f)) f
   back_signed c s f w e h = record { left = f; reading = (s ++ f, after_stops is_whitespace c (s ++ f) w, identifier_here s f e h); same = refl }
 
-  -- a label that is named reads back
+  -- a label that is named is parsed back
   pub back_target : (n : Name P) (f : Text) → IsName n → Ends f → Reaches (reads.target L n) (spell.label L n ++ f) f
   back_target n f e h = record { left = f; reading = (n.text ++ f, after_stops is_whitespace 94 (n.text ++ f) refl, (anywhere n.place (n.text ++ f), identifier_here n.text f e h)); same = refl }
 
-  -- a type reads back
+  -- a type is parsed back
   pub back_type : (x : T) (f : Text) → Ends f → Reaches (reads.type L x) (L.types.written x ++ f) f
   back_type x f h = let a = types.again x f h in
       record { left = a.0; reading = subst (λ t. L.types.outcome t ≡ found x a.0) (sym (word_tight (L.types.written x ++ f) (types.starts x f))) a.1; same = a.2 }
@@ -74,14 +74,14 @@ module _ {P T A : Type 0} (L : Language P T A) (types : Lawful T L.types) (owns 
   back_given None f e h = reaches_literal 63 [] f refl
   back_given (Some n) f e h = reaches_identifier n f e h
 
-  -- a list in brackets, the first of which was read
+  -- a list in brackets, the first of which was parsed
   back_bracketed : {X : Type 0} (F : X → Reading) (s : X → Text) (Good : X → Type 0) → ((x : X) (f : Text) → Good x → Ends f → Reaches (F x) (s x ++ f) f)
       → (absent : Text → Type 0) → ((f : Text) → absent (93 ∷ f)) → (xs : List X) (f : Text) → Each Good xs
       → Reaches (literal (codes "[") ▹ separated 44 absent (map F xs) ▹ literal (codes "]")) (91 ∷ ((joined comma (map s xs) ++ codes "]") ++ f)) f
   back_bracketed F s Good back absent shut xs f g = reaches_then (reaches_literal 91 [] ((joined comma (map s xs) ++ codes "]") ++ f) refl)
       (reaches_then (reaches_from (ap after_space (append_assoc (joined comma (map s xs)) (codes "]") f)) (back_list F s Good back absent xs (93 ∷ f) g (inr refl) refl (shut f))) (reaches_literal 93 [] f refl))
 
-  -- an attribute reads back
+  -- an attribute is parsed back
   pub back_attribute : (a : Attribute A) (f : Text) → IsSpellableAttribute a → Ends f → Reaches (reads.attribute L a) (spell.attribute L a ++ f) f
   back_attribute (given_names ns) f e h = reaches_then (reaches_keyword 98 (codes "uiltin.given_names") (32 ∷ 91 ∷ ((joined comma (map or_question ns) ++ codes "]") ++ f)) refl refl)
       (reaches_from refl (back_bracketed reads.given_name or_question IsGiven back_given reads.no_given_name (λ f. refl) ns f e))
@@ -104,11 +104,11 @@ module _ {P T A : Type 0} (L : Language P T A) (types : Lawful T L.types) (owns 
   back_entry e f g h = reaches_then (reaches_from (ap after_space (append_assoc e.0.text (58 ∷ 32 ∷ spell.attribute L e.1) f)) (back_name e.0 (58 ∷ 32 ∷ (spell.attribute L e.1 ++ f)) g.0 (inr refl)))
       (reaches_then (reaches_literal 58 [] (32 ∷ (spell.attribute L e.1 ++ f)) refl) (reaches_from refl (back_attribute e.1 f g.1 h)))
 
-  -- a dictionary reads back
+  -- a dictionary is parsed back
   pub back_dictionary : (es : List (Name P × Attribute A)) (f : Text) → Each IsSpellableEntry es → Reaches (reads.dictionary L es) (spell.dictionary L es ++ f) f
   back_dictionary es f g = back_bracketed (reads.entry L) (spell.entry L) IsSpellableEntry back_entry reads.no_word (λ f. refl) es f g
 
-  -- what stands behind a piece ends it, and does not go on with it
+  -- what follows a piece ends it, and does not continue it
   abbrev pub FollowsWell : Piece P T A → Text → Type 0
   FollowsWell (tree.word s) f = ⊤
   FollowsWell p f = Ends f × NoneOf (continuing p) (after_space f)
@@ -197,7 +197,7 @@ module _ {P T A : Type 0} (L : Language P T A) (types : Lawful T L.types) (owns 
   unwhite (tree.region i ∷ ps) (r ∷ rs) m u a = (u, subst (λ s. (r ▸ reads.parts L ps rs) s u) (after_twice is_whitespace m) a, refl)
   unwhite (tree.regions ∷ ps) rs m u a = (u, subst (λ s. (repeated (the 123) rs ▸ reads.parts L ps []) s u) (after_twice is_whitespace m) a, refl)
 
-  -- a part's reading, and then those of the parts behind it
+  -- a part is parsed, and then the parts after it
   pub reaches_part : {R : Reading} {t g f : Text} (ps : List (Part P T A)) (rs : List Reading) → Reaches R t g → Reaches (reads.parts L ps rs) g f → Reaches (white (R ▸ reads.parts L ps rs)) t f
   reaches_part {R} {t} ps rs r s =
       let a = unwhite ps rs r.left s.left (subst (λ w. reads.parts L ps rs w s.left) (sym r.same) s.reading) in
@@ -213,7 +213,7 @@ module _ {P T A : Type 0} (L : Language P T A) (types : Lawful T L.types) (owns 
   oneof_right xs ys [] (inr e) = absurd (true≢false (sym e))
   oneof_right xs ys (c ∷ t) (inr e) = inr (has_right (kind c) xs ys e)
 
-  -- what stands where a thing is written, or behind it where nothing was written
+  -- what the text begins with, if something is written here, or the text after it, if nothing is written
   oneof_behind : (xs ys : List ℕ) (b : Bool) (t t' : Text) → (b ≡ true) × (t ≡ t') ⊎ Begins xs t → OneOf ys t' → OneOf (xs ++ cond b ys []) t
   oneof_behind xs ys b t t' (inl (e, q)) o = oneof_right xs (cond b ys []) t (subst (λ b. OneOf (cond b ys []) t) (sym e) (subst (λ s. OneOf ys s) (sym q) o))
   oneof_behind xs ys b t t' (inr e) o = oneof_left xs (cond b ys []) t e
@@ -240,7 +240,7 @@ module _ {P T A : Type 0} (L : Language P T A) (types : Lawful T L.types) (owns 
     abbrev pub Inner : Type 0
     Inner = Regions (Op P T A) (Head P T A) (Brace P)
 
-    -- each region is read back, whatever follows
+    -- each region is parsed back, whatever follows
     abbrev pub BackRegions : ℕ → Inner → Type 0
     BackRegions n no_regions = ⊤
     BackRegions n (region brace bs rs) = ((f : Text) → Reaches (reads.region_read L brace (reads.block_readings L bs)) (spell.region_text L width n brace (spell.block_texts L width (n + width) bs) ++ f) f) × BackRegions n rs
@@ -257,7 +257,7 @@ module _ {P T A : Type 0} (L : Language P T A) (types : Lawful T L.types) (owns 
     joined_nothing [] = refl
     joined_nothing (t ∷ ts) = refl
 
-    -- the regions of an operation read back, before what begins no region
+    -- the regions of an operation are parsed back, before what begins no region
     pub back_regions : (n : ℕ) (rs : Inner) (f : Text) → BackRegions n rs → begins (the 123) (after_space f) ≡ false
         → Reaches (repeated (the 123) (reads.region_readings L rs)) (joined [] (spell.region_texts L width n rs) ++ f) f
     back_regions n rs f b e = reaches_from (ap (λ t. after_space (t ++ f)) (joined_nothing (spell.region_texts L width n rs))) (back_joined n rs f b e)
@@ -269,12 +269,12 @@ module _ {P T A : Type 0} (L : Language P T A) (types : Lawful T L.types) (owns 
         let k = newline (n + width) ++ (joined (10 ∷ newline (n + width)) ss ++ (newline n ++ codes "}")) in
         ap (begins (λ c. has ◌==◌ (kind c) (codes "{"))) (ap after_space (append_assoc (newline n) (123 ∷ k) f) ∙ newline_white n (123 ∷ (k ++ f)))
 
-    -- the parts are read back, and what stands at their beginning is among what can begin them
+    -- the parts are parsed back, and their text begins with one of what can begin them
     pub record BackParts (last : List ℕ) (n : ℕ) (ps : List (Part P T A)) (rs : Inner) (f : Text) : Type 0 where
       pub thru : Reaches (reads.parts L ps (reads.region_readings L rs)) (spell.parts L ps (spell.region_texts L width n rs) ++ f) f
       pub begin : OneOf (starts last ps rs) (after_space (spell.parts L ps (spell.region_texts L width n rs) ++ f))
 
-    -- the parts of a body read back, each before the next
+    -- the parts of a body are parsed back, each before the next
     pub back_parts : (last : List ℕ) (n : ℕ) (ps : List (Part P T A)) (rs : Inner) (f : Text) → Apart last ps rs
         → AreSpellable ps → Enough ps rs → BackRegions n rs → Ends f → OneOf last (after_space f) → BackParts last n ps rs f
     back_parts last n [] no_regions f c g en b h o = record { thru = record { left = after_space f; reading = refl; same = after_twice is_whitespace f }; begin = o }

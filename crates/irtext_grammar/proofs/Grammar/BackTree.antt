@@ -1,4 +1,4 @@
--- What is written of a whole tree reads as that tree, before whatever printed IR has behind it.
+-- The text that is written of a whole tree parses as that tree, before whatever printed IR follows it.
 use Rattle.std.specs.Prelude.{◌≡◌, ℕ, List, [], ◌∷◌, ◌++◌, Option, Some, None, ◌+◌, ◌<◌, ◌^◌, Bool, true, false, ◌||◌, ◌==◌, ◌⊎◌, map, codes, refl, ⊤, decimal}
 use Rattle.irtext_base.specs.Text.{Text, begins, after_space, begins_word, in_word}
 use Rattle.irtext_grammar.proofs.Grammar.Back as back
@@ -38,7 +38,7 @@ module _ {P T A : Type 0} (L : Language P T A) (types : Lawful T L.types) (owns 
   back_mark_if None f e h o = reaches_ends (the 33) f (o refl)
   back_mark_if (Some m) f e h o = back_mark m f e h
 
-  -- no list of names and `=` stands where an id stands
+  -- a text that begins with an id does not begin with a list of names and `=`
   no_results : (d x : Text) → IsIdentifier d → (ns : List (Name P)) (left : Text) → reads.results L ns (d ++ (46 ∷ x)) left → ⊥
   no_results d x w [] left (m, a, b) = true≢false (sym (identifier_begins d (46 ∷ x) w) ∙ a.0)
   no_results d x w (n ∷ []) left (m, (m', a, b), c) = true≢false (ap (begins (the 46))
@@ -74,7 +74,7 @@ module _ {P T A : Type 0} (L : Language P T A) (types : Lawful T L.types) (owns 
   mark_one None f b = (oneof_right L types owns unreserved anywhere) (codes "!") (codes ";}^") (after_space f) (b.one refl)
   mark_one (Some m) f b = inr refl
 
-  -- what lets a body be read back before what begins with one of `last`
+  -- what lets a body be parsed back before what begins with one of `last`
   abbrev Closes : List ℕ → Body P T A → Inner → Type 0
   Closes last (tree.custom ps) rs = Apart last ps rs
   Closes last (tree.canonical names labels entries operand_types result_types) rs = Disjoint (codes "{") last
@@ -97,7 +97,7 @@ module _ {P T A : Type 0} (L : Language P T A) (types : Lawful T L.types) (owns 
   is_of (format.custom ds) (tree.canonical ns ls es xs ys) rs fine = absurd fine
   is_of format.canonical (tree.custom ps) rs fine = absurd fine
 
-  -- what stands behind an operation: behind its mark, or where it has none
+  -- what follows an operation: after its mark, or after its text if it has no mark
   record After (last : List ℕ) (mark : Option (Mark P)) (f : Text) : Type 0 where
     ends : Ends f
     one : OneOf last (after_space (spell.mark_if L mark ++ f))
@@ -136,7 +136,7 @@ module _ {P T A : Type 0} (L : Language P T A) (types : Lawful T L.types) (owns 
   closes_inside (format.custom ds) (tree.canonical ns ls es xs ys) rs fine = absurd fine
   closes_inside format.canonical (tree.custom ps) rs fine = absurd fine
 
-  -- before what stands behind any operation
+  -- before what can follow any operation
   back_inside : (n : ℕ) (op : Op P T A) (rs : Inner) (f : Text) → IsSpellableOp L op rs → BackRegions n rs → Behind op.mark f
       → Reaches (reads.operation_read L op (reads.region_readings L rs)) (spell.operation_text L op (spell.region_texts L width n rs) ++ f) f
   back_inside n op rs f fine b h = back_operation (followers []) n op rs f fine (closes_inside fine.its_format op.body rs fine.body) b
@@ -165,11 +165,11 @@ module _ {P T A : Type 0} (L : Language P T A) (types : Lawful T L.types) (owns 
   abbrev pub Leaves : Type 0
   Leaves = Blocks (Op P T A) (Head P T A) (Brace P)
 
-  -- operations, one behind the other
+  -- operations, one after another
   abbrev pub Steps : Type 0
   Steps = Operations (Op P T A) (Head P T A) (Brace P)
 
-  -- the text of each of the operations reads back
+  -- the text of each of the operations is parsed back
   abbrev pub BackOperations : ℕ → Steps → Type 0
   BackOperations n no_operations = ⊤
   BackOperations n (operation o rs os) = ((f : Text) → Behind o.mark f → Reaches (reads.operation_read L o (reads.region_readings L rs)) (spell.operation_text L o (spell.region_texts L width n rs) ++ f) f) × BackOperations n os
@@ -282,7 +282,7 @@ module _ {P T A : Type 0} (L : Language P T A) (types : Lawful T L.types) (owns 
       let j = joined_from (gap k) (spell.block_texts L width m bs) in
       record { ends = inr refl; one = subst (λ t. OneOf (codes "}^") t) (sym (ap after_space (append_assoc (newline k) (x ++ j) (shut n f)) ∙ newline_white k ((x ++ j) ++ shut n f))) (inr refl) }
 
-  -- a block in front of blocks that are read back
+  -- a block before blocks that are parsed back
   back_leaf : (n k m : ℕ) (h : Head P T A) (os : Operations (Op P T A) (Head P T A) (Brace P)) (bs : Leaves) (f : Text) → BackBlocks m (block h os bs)
       → Reaches (repeated (the 94) (reads.block_readings L bs)) (joined_from (gap k) (spell.block_texts L width m bs) ++ shut n f) (shut n f)
       → Reaches (repeated (the 94) (reads.block_readings L (block h os bs))) (joined (gap k) (spell.block_texts L width m (block h os bs)) ++ shut n f) (shut n f)
@@ -338,7 +338,7 @@ module _ {P T A : Type 0} (L : Language P T A) (types : Lawful T L.types) (owns 
       let X : Reading = reads.results_if L t.own.names ▹ reads.id t.own.id ▸ reads.parts L (parts_of t.own.body) (reads.region_readings L t.regions) ▹ reads.mark_if L t.own.mark in
       (r.left, (anywhere t.own.place text, (r.reading.1.0, subst (λ s. X s r.left) (after_twice is_whitespace text) r.reading.1.1)), r.same)
 
-  -- What is written of a tree reads as that tree, up to what follows.
+  -- What is written of a tree parses as that tree, up to what follows.
   pub reads_back : (n : ℕ) (t : Tree P T A) (f : Text) → Writable L t → Behind t.own.mark f → (u : Text) × reads.reads L t (spell.spelled L width n t ++ f) u × (after_space u ≡ after_space f)
   reads_back n t f w h = reading_of n t f (back_inside n t.own t.regions f w.0 (regions_back n t.regions w.1) h)
 

@@ -1,4 +1,4 @@
--- The canonical text reads back.
+-- The canonical text is parsed back.
 use Rattle.std.specs.Prelude.{◌≡◌, ℕ, false, List, [], ◌∷◌, ◌++◌, map, codes, refl, ⊤}
 use Rattle.std.proofs.Common.{inr, ap, append_assoc}
 use Rattle.std.specs.Char.{is_whitespace}
@@ -23,7 +23,7 @@ every [] = tt
 every (x ∷ xs) = (tt, every xs)
 
 module _ {P T A : Type 0} (L : Language P T A) (types_law : Lawful T L.types) (owns : Lawful A L.owns) (unreserved : Unreserved A L.owns) (anywhere : (p : P) (t : Text) → L.at p t) (width : ℕ) where
-  -- the canonical text of an operation reads back
+  -- the canonical text of an operation is parsed back
   pub back_canonical : (n : ℕ) (ns ls : List (Name P)) (es : List (Name P × Attribute A)) (os rs : List T) (gs : Inner L types_law owns unreserved anywhere width) (f : Text)
       → Each IsName ns → Each IsName ls → Each IsSpellableEntry es → BackRegions L types_law owns unreserved anywhere width n gs → begins (the 123) (after_space f) ≡ false
       → Reaches (reads.parts L (parts_of (canonical ns ls es os rs)) (reads.region_readings L gs)) (spell.body L (canonical ns ls es os rs) (spell.region_texts L width n gs) ++ f) f

@@ -1,4 +1,4 @@
--- What stands behind a list neither begins an item nor separates one.
+-- What follows a list neither begins an item nor separates items.
 use Rattle.std.specs.Prelude.{◌≡◌, ℕ, Bool, true, false, cond, not, ◌==◌, ◌||◌, ◌⊎◌, List, [], ◌∷◌, ◌++◌, refl}
 use Rattle.std.proofs.Common.{inl, inr, sym, ◌∙◌, ap, true≢false}
 use Rattle.irtext_base.specs.Text.{Text, begins, begins_word}
@@ -76,7 +76,7 @@ pub none_word : (kinds : List ℕ) (t : Text) → has ◌==◌ 95 kinds ≡ true
 none_word kinds [] e n = refl
 none_word kinds (c ∷ t) e n = is_false (begins_word c) (λ f. true≢false (sym e ∙ ap (λ k. has ◌==◌ k kinds) (sym (word_kind c f)) ∙ n))
 
--- a text that begins with none of some kinds does not begin with a character of such a kind
+-- a text that begins with none of some kinds of characters does not begin with a character of one of these kinds
 pub none_the : (kinds : List ℕ) (d : ℕ) (t : Text) → has ◌==◌ (kind d) kinds ≡ true → NoneOf kinds t → begins (the d) t ≡ false
 none_the kinds d [] e n = refl
 none_the kinds d (c ∷ t) e n = is_false (c == d) (λ f. true≢false (sym e ∙ ap (λ c. has ◌==◌ (kind c) kinds) (sym (same_character c d f)) ∙ n))

@@ -1,4 +1,4 @@
--- A language in which a region can be left out: what reads in the text's own language reads there too, and has every region shown.
+-- A language in which a region can be left out: a tree of the text's own language is one of this language too, with every region shown.
 use Rattle.std.specs.Prelude.{List, [], ◌∷◌, codes, ⊤}
 use Rattle.irtext_base.specs.Text.{Text, after_space}
 use Rattle.irtext_base.specs.Reading.{the, literal, separated, more, repeated}
@@ -108,7 +108,7 @@ module _ {P T A : Type 0} (L : Language P T A) (never_out : (t u : Text) → L.l
   lenient_region elided (block h os bs) s t u a = absurd a
   lenient_region (shown p) bs s t u (at, (m, o, (k, a, c))) = let r = lenient_leaves bs (after_space m) k s a in ((at, (m, o, (k, r.0, c))), tt, r.1)
 
-  -- what reads in the text's own language reads in the lenient one, with every region shown
+  -- a tree that a text parses as in its own language it parses as in the lenient one, with every region shown
   pub lenient_reads : (t : Tree P T A) (text rest : Text) → reads.reads L t text rest → reads.reads M t text rest × AllShown t
   lenient_reads t text rest a = lenient_operation t.own t.regions (all_regions LenientRegion LenientBlock LenientOperation lenient_region lenient_block lenient_operation t.regions) text rest a
 

@@ -40,18 +40,18 @@ module _ {O B R : Type 0} (OfRegion : R → Blocks O B R → Type 0) (OfBlock : 
 -- Every region is shown, and something holds of every operation with its regions, at any depth.
 module _ {P T A : Type 0} (Q : Op P T A → Regions (Op P T A) (Head P T A) (Brace P) → Type 0) where
   abbrev mutual
-    -- so it is in each of the regions
+    -- it holds in each of the regions
     pub ShownWith : Regions (Op P T A) (Head P T A) (Brace P) → Type 0
     ShownWith no_regions = ⊤
     ShownWith (region (shown place) bs rs) = BlocksWith bs × ShownWith rs
     ShownWith (region elided bs rs) = ⊥
 
-    -- so it is in each of the blocks
+    -- it holds in each of the blocks
     pub BlocksWith : Blocks (Op P T A) (Head P T A) (Brace P) → Type 0
     BlocksWith no_blocks = ⊤
     BlocksWith (block h os bs) = OperationsWith os × BlocksWith bs
 
-    -- so it is of each of the operations
+    -- it holds of each of the operations
     pub OperationsWith : Operations (Op P T A) (Head P T A) (Brace P) → Type 0
     OperationsWith no_operations = ⊤
     OperationsWith (operation o rs os) = (Q o rs × ShownWith rs) × OperationsWith os

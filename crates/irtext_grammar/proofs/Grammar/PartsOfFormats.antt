@@ -1,4 +1,4 @@
--- A tree that is read has, at each operation, the parts of its format, and a part for each region; the operations of what is written
+-- A tree that is parsed has, at each operation, the parts of its format, and a part for each region; the operations of what is written
 -- of a graph that fits are of accepted formats.
 use Rattle.std.proofs.Common.{◌≡◌, Some}
 use Rattle.std.specs.Prelude.{⊤}
@@ -21,7 +21,7 @@ module _ {P T A : Type 0} where
     pub is_of : IsOf format o.body
     pub enough : Enough (parts_of o.body) rs
 
-  -- each operation inside is so formed, and no region is elided
+  -- each operation inside has the parts of its format, and no region is elided
   abbrev pub FormedRegions : Regions (Op P T A) (Head P T A) (Brace P) → Type 0
   FormedRegions rs = ShownWith FormedOp rs
 
@@ -33,12 +33,12 @@ module _ {P T A : Type 0} where
   abbrev pub FormedOperations : Operations (Op P T A) (Head P T A) (Brace P) → Type 0
   FormedOperations os = OperationsWith FormedOp os
 
-  -- each operation of a tree is so formed
+  -- each operation of a tree has the parts of its format
   abbrev pub Formed : Tree P T A → Type 0
   Formed t = FormedOp t.own t.regions × FormedRegions t.regions
 
 module _ {P T A : Type 0} (L : Language P T A) where
-  -- no text reads as a region that was left out
+  -- no text parses as a region that was left out
   abbrev pub NoneLeftOut : Type 0
   NoneLeftOut = (text rest : Text) → L.left_out text rest → ⊥
 
@@ -77,7 +77,7 @@ module _ {P T A : Type 0} (L : Language P T A) where
   abbrev pub AllAccepted : Tree P T A → Type 0
   AllAccepted t = KnownAccepted t.own × AllRegions KnownAccepted (λ b. ⊤) (λ r. ⊤) t.regions
 
-  -- a tree that is read, in which no region is left out, has the parts of its formats
+  -- a tree that is parsed, in which no region is left out, has the parts of its formats
   pub formed_read : NoneLeftOut → (t : Tree P T A) (text rest : Text) → AllAccepted t → reads L t text rest → Formed t
   formed_read none t text rest a h = let r = op_read t.own t.regions text rest a.0 h in (r.0, regions_read none t.regions a.1 r.1)
 

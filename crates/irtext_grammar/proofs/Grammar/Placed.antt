@@ -1,4 +1,4 @@
--- A tree without places that a text reads as has places with which the text reads as it.
+-- A tree without places that a text parses as has places with which the text parses as it.
 use Rattle.std.specs.Prelude.{◌≡◌, ℕ, List, [], ◌∷◌, map, refl, Option, Some, None, ⊤, option_map}
 use Rattle.std.proofs.Common.{inl, inr, sym, ◌∙◌, ap, ap₂, subst}
 use Rattle.irtext_base.specs.Text.{Text, after_space}
@@ -13,11 +13,11 @@ use Rattle.irtext_grammar.specs.Grammar.Bare.{bare_name, bare_mark, bare_entry, 
 use Rattle.irtext_grammar.specs.Grammar.Reads as reads
 use Rattle.irtext_grammar.proofs.Grammar.Nested.{EachRegion, EachBlock, EachOperation, all_regions}
 
--- a value that reads so, whose bare value is the one given
+-- a value that the text parses as, whose bare value is the one given
 abbrev pub Placed : {X Y : Type 0} → (X → Reading) → (X → Y) → Y → Text → Text → Type 0
 Placed {X} F bare y t u = (x : X) × F x t u × (bare x ≡ y)
 
--- what reads without places reads with some places, of which it is the bare thing
+-- a text that parses as a value without places parses as one with places, of which it is the bare value
 abbrev pub Places : {X Y : Type 0} → (X → Reading) → (X → Y) → (Y → Reading) → Type 0
 Places {X} {Y} F bare G = (y : Y) (t u : Text) → G y t u → Placed F bare y t u
 
@@ -54,7 +54,7 @@ module _ {P T A : Type 0} (L : Language P T A) (spot : Text → P) (at_spot : (t
   places_mark_if None t u a = (None, a, refl)
   places_mark_if (Some m) t u a = (Some (record { place = spot t; index = m.index }), (at_spot t, a.1), refl)
 
-  -- an attribute has no place: it reads with places as without
+  -- an attribute has no place: it parses with places as without
   pub same_attribute : (a : Attribute A) (t u : Text) → reads.attribute B a t u → reads.attribute L a t u
   same_attribute (tree.given_names ns) t u a = a
   same_attribute (tree.ident n) t u a = a
@@ -258,7 +258,7 @@ module _ {P T A : Type 0} (L : Language P T A) (spot : Text → P) (at_spot : (t
   places_region elided (block h os bs) s t u a = absurd a
   places_region (shown p) bs s t u (at, (m, o, (k, a, c))) = let r = places_leaves bs (after_space m) k s a in (shown (spot t), r.0, (at_spot t, (m, o, (k, r.1, c))), refl, r.2)
 
-  -- a tree without places that a text reads as has places with which the text reads as it
+  -- a tree without places that a text parses as has places with which the text parses as it
   pub placed : (t : Tree ⊤ T A) (text rest : Text) → reads.reads B t text rest → (t' : Tree P T A) × reads.reads L t' text rest × (bare t' ≡ t)
   placed t text rest a =
       let r = places_operation t.own t.regions (all_regions PlacesRegion PlacesBlock PlacesOperation places_region places_block places_operation t.regions) text rest a in

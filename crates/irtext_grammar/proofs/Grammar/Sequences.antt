@@ -9,13 +9,13 @@ use Rattle.irtext_grammar.specs.Spelling.Spellable.{Each, IsIdentifier}
 use Rattle.irtext_grammar.specs.Spelling.Spell.{joined, joined_from, comma}
 use Rattle.irtext_base.proofs.Characters.{after_stops, after_twice, front_all, after_all, ends_word, identifier_every, identifier_begins, word_tight}
 
--- The text, white space first, reads as R up to f, white space aside.
+-- The text, white space first, parses as R up to f, white space aside.
 pub record Reaches (R : Reading) (t f : Text) : Type 0 where
   pub left : Text
   pub reading : R (after_space t) left
   pub same : after_space left ≡ after_space f
 
--- white space in front of the text says nothing
+-- white space at the beginning of the text makes no difference
 pub reaches_from : {R : Reading} {t t' f : Text} → after_space t ≡ after_space t' → Reaches R t' f → Reaches R t f
 reaches_from {R} e r = record { left = r.left; reading = subst (λ s. R s r.left) (sym e) r.reading; same = r.same }
 
@@ -23,15 +23,15 @@ reaches_from {R} e r = record { left = r.left; reading = subst (λ s. R s r.left
 pub reaches_then : {R S : Reading} {t g f : Text} → Reaches R t g → Reaches S g f → Reaches (R ▹ S) t f
 reaches_then {R} {S} r s = record { left = s.left; reading = (r.left, r.reading, subst (λ w. S w s.left) (sym r.same) s.reading); same = s.same }
 
--- a fixed word reads where it stands
+-- a fixed word is parsed if the text begins with it
 pub reaches_literal : (c : ℕ) (w f : Text) → is_whitespace c ≡ false → Reaches (literal (c ∷ w)) (c ∷ (w ++ f)) f
 reaches_literal c w f e = record { left = f; reading = after_stops is_whitespace c (w ++ f) e; same = refl }
 
--- an identifier reads where no character behind it goes on with it
+-- an identifier is parsed if no character after it continues it
 pub identifier_stops : (s f : Text) → IsIdentifier s → begins in_word f ≡ false → identifier s (s ++ f) f
 identifier_stops s f e h = (identifier_begins s f e, sym (front_all in_word s f (identifier_every s e) h), sym (after_all in_word s f (identifier_every s e) h))
 
--- an identifier reads before what ends a word
+-- an identifier parses before what ends a word
 pub identifier_here : (s f : Text) → IsIdentifier s → Ends f → identifier s (s ++ f) f
 identifier_here s f e h = identifier_stops s f e (ends_word f h)
 
@@ -61,7 +61,7 @@ module _ {X : Type 0} (F : X → Reading) (s : X → Text) (Good : X → Type 0)
       → Reaches (separated 44 absent (F x ∷ map F xs)) ((s x ++ joined_from comma (map s xs)) ++ f) f
   list_first absent x xs f r = record { left = r.left; reading = r.reading; same = r.same }
 
-  -- a list reads back where each of its items does
+  -- a list is parsed back where each of its items does
   pub back_list : (absent : Text → Type 0) (xs : List X) (f : Text) → Each Good xs → Ends f → begins (the 44) (after_space f) ≡ false → absent (after_space f)
       → Reaches (separated 44 absent (map F xs)) (joined comma (map s xs) ++ f) f
   back_list absent [] f g h e n = record { left = after_space f; reading = (n, refl); same = after_twice is_whitespace f }
@@ -69,6 +69,6 @@ module _ {X : Type 0} (F : X → Reading) (s : X → Text) (Good : X → Type 0)
       let j = joined_from comma (map s xs) in
       list_first absent x xs f (reaches_then (reaches_from (ap after_space (append_assoc (s x) j f)) (back x (j ++ f) g.0 (ends_joined xs f h))) (back_more xs f g.1 h e))
 
--- a reading behind white space reaches where the reading does
+-- a reading after white space reaches the position that the reading reaches
 pub reaches_white : {R : Reading} {t f : Text} → Reaches R t f → Reaches (white R) t f
 reaches_white {R} {t} r = record { left = r.left; reading = subst (λ s. R s r.left) (sym (after_twice is_whitespace t)) r.reading; same = r.same }

@@ -1,4 +1,4 @@
--- A text reads as one tree, and one rest.
+-- A text parses as one tree, and one rest.
 use Rattle.std.specs.Prelude.{◌≡◌, ℕ, Bool, true, false, cond, ◌==◌, ◌||◌, List, [], ◌∷◌, ◌++◌, map, codes, get_or, refl, Option, Some, None, ⊤}
 use Rattle.std.proofs.Common.{inl, inr, sym, ◌∙◌, ap, ap₂, subst, true≢false}
 use Rattle.std.specs.Char.{is_whitespace}
@@ -17,11 +17,11 @@ use Rattle.irtext_grammar.proofs.Grammar.Nested.{EachRegion, EachBlock, EachOper
 abbrev pub Agree : Type 0 → Reading → Reading → Type 0
 Agree C R S = (t u v : Text) → R t u → S t v → C × (u ≡ v)
 
--- what reads of a text as two values reads as one value, and leaves one rest
+-- two values that a text parses as are one, and leave one rest
 abbrev pub Sure : {X : Type 0} → (X → Reading) → Type 0
 Sure {X} F = (x y : X) → Agree (x ≡ y) (F x) (F y)
 
--- readings that agree on one thing agree on what follows from it
+-- readings that agree on a value agree on a function of it
 pub agree_map : {C D : Type 0} {R S : Reading} → (C → D) → Agree C R S → Agree D R S
 agree_map f h t u v a b = let r = h t u v a b in (f r.0, r.1)
 
@@ -43,15 +43,15 @@ same_rest : (w : Text) (u v : Text) → w ++ u ≡ w ++ v → u ≡ v
 same_rest [] u v e = e
 same_rest (c ∷ w) u v e = same_rest w u v (cc)
 
--- a fixed word reads in one way
+-- a fixed word parses in one way
 pub one_literal : (w : Text) → Agree ⊤ (literal w) (literal w)
 one_literal w t u v a b = (tt, same_rest w u v (sym a ∙ b))
 
--- an identifier reads in one way
+-- an identifier parses in one way
 pub sure_identifier : Sure identifier
 sure_identifier x y t u v a b = (a.1 ∙ sym b.1, a.2 ∙ sym b.2)
 
--- digits read in one way
+-- digits are parsed in one way
 pub sure_digits : Sure digits
 sure_digits x y t u v a b = (a.1 ∙ sym b.1, a.3 ∙ sym b.3)
 
@@ -59,7 +59,7 @@ sure_digits x y t u v a b = (a.1 ∙ sym b.1, a.3 ∙ sym b.3)
 pub clash : {Z : Type 0} (test : ℕ → Bool) (c : ℕ) (t m : Text) → begins test t ≡ false → t ≡ c ∷ m → test c ≡ true → Z
 clash test c t m a b d = absurd (true≢false (sym d ∙ ap (begins test) (sym b) ∙ a))
 
--- a number reads in one way
+-- a number parses in one way
 pub sure_number : Sure number
 sure_number x y t u v (inl a) (inl b) = sure_digits x y t u v a.1 b.1
 sure_number x y t u v (inl a) (inr (m, b, c)) = clash (the 43) 43 t m a.0 b refl
@@ -73,7 +73,7 @@ module _ {X : Type 0} (F : X → Reading) (sure : Sure F) (sep : ℕ) (is_sep : 
   sure_more (x ∷ xs) [] t u v (m, b, c) a = clash (the sep) sep t m a.0 b is_sep
   sure_more (x ∷ xs) (y ∷ ys) t u v a b = agree_map (λ p. ap₂ ◌∷◌ p.1.0 p.1.1) (agree_then (one_literal (sep ∷ [])) λ _. agree_then (sure x y) λ _. sure_more xs ys) t u v a b
 
-  -- a list with a separator reads in one way where each item does, and no item begins where the list is empty
+  -- a list with a separator parses in one way where each item does, and no item begins where the list is empty
   pub sure_separated : (missing : Text → Type 0) → ((x : X) (t u : Text) → F x t u → missing t → ⊥) → Sure (λ xs. separated sep missing (map F xs))
   sure_separated none not [] [] t u v a b = (refl, a.1 ∙ sym b.1)
   sure_separated none not [] (y ∷ ys) t u v a (m, b, c) = absurd (not y t m b a.0)
@@ -129,7 +129,7 @@ module _ {P T A : Type 0} (L : Language P T A) (types : Lawful T L.types) (owns 
   same_mark : (m n : Mark P) → m.place ≡ n.place → m.index ≡ n.index → m ≡ n
   same_mark m n e f = λ i. record { place = e i; index = f i }
 
-  -- a name reads in one way
+  -- a name parses in one way
   pub sure_name : Sure (reads.name L)
   sure_name m n = agree_map (λ p. same_name m n p.0 p.1) (sure_here m.place n.place (sure_identifier m.text n.text))
 
@@ -139,7 +139,7 @@ module _ {P T A : Type 0} (L : Language P T A) (types : Lawful T L.types) (owns 
   sure_target : Sure (reads.target L)
   sure_target m n = agree_map (λ p. same_name m n p.1.0 p.1.1) (agree_tight (one_literal (codes "^")) λ _. sure_here m.place n.place (sure_identifier m.text n.text))
 
-  -- a mark reads in one way
+  -- a mark parses in one way
   pub sure_mark : Sure (reads.mark L)
   sure_mark m n = agree_map (λ p. same_mark m n p.0 p.1.1) (sure_here m.place n.place (agree_tight (one_literal (codes "!")) λ _. sure_number m.index n.index))
 
@@ -159,7 +159,7 @@ module _ {P T A : Type 0} (L : Language P T A) (types : Lawful T L.types) (owns 
   type_begins : (x : T) (t u : Text) → reads.type L x t u → reads.no_type L t → ⊥
   type_begins x t u a b = cc (a, b)
 
-  -- a name reads nowhere where no word begins
+  -- where no word begins, no name is parsed
   pub name_begins : (n : Name P) (t u : Text) → reads.name L n t u → reads.no_word t → ⊥
   name_begins n t u a b = true≢false (sym a.1.0 ∙ b)
 
@@ -172,7 +172,7 @@ module _ {P T A : Type 0} (L : Language P T A) (types : Lawful T L.types) (owns 
   given_names_text : (t m n : Text) → keyword (codes "builtin.given_names") t m → keyword (codes "builtin.identifier") t n → ⊥
   given_names_text t m n a b = let e : get_or ((codes "builtin.given_names") ++ m) 8 0 ≡ get_or ((codes "builtin.identifier") ++ n) 8 0 = ap (λ s. get_or s 8 0) (sym a.0 ∙ b.0) in true≢false (ap (λ c. c == 103) e)
 
-  -- an attribute reads in one way
+  -- an attribute parses in one way
   pub sure_attribute : Sure (reads.attribute L)
   sure_attribute (given_names ms) (given_names ns) = agree_map (λ p. ap given_names p.1.1.0)
       (agree_then (agree_keyword (codes "builtin.given_names")) λ _. agree_then (one_literal (codes "[")) λ _.
@@ -233,7 +233,7 @@ module _ {P T A : Type 0} (L : Language P T A) (types : Lawful T L.types) (owns 
   abbrev Inner : Type 0
   Inner = Regions (Op P T A) (Head P T A) (Brace P)
 
-  -- of each region: it reads so at most once
+  -- a text parses as at most one such region
   abbrev SureRegion : Brace P → Blocks (Op P T A) (Head P T A) (Brace P) → Type 0
   SureRegion brace bs = (brace' : Brace P) (bs' : Blocks (Op P T A) (Head P T A) (Brace P)) →
       Agree ((brace ≡ brace') × (bs ≡ bs')) (reads.region_read L brace (reads.block_readings L bs)) (reads.region_read L brace' (reads.block_readings L bs'))
@@ -252,7 +252,7 @@ module _ {P T A : Type 0} (L : Language P T A) (types : Lawful T L.types) (owns 
   sure_repeated (region brace bs rs) no_regions s t u v (m, b, c) a = absurd (brace_begins brace _ t m b a.0)
   sure_repeated (region brace bs rs) (region brace' bs' ss) s t u v a b = agree_map (λ p. λ i. region (p.0.0 i) (p.0.1 i) (p.1 i)) (agree_then (s.0 brace' bs') λ _. sure_repeated rs ss s.1) t u v a b
 
-  -- readings that agree do so behind white space
+  -- readings that agree do so after white space
   pub agree_white : {C : Type 0} {R S : Reading} → Agree C R S → Agree C (white R) (white S)
   agree_white h t u v a b = h (after_space t) u v a b
 
@@ -319,7 +319,7 @@ module _ {P T A : Type 0} (L : Language P T A) (types : Lawful T L.types) (owns 
   repeated_blocks (block h os bs) no_blocks s t u v (m, b, c) a = absurd (block_begins h _ t m b a.0)
   repeated_blocks (block h os bs) (block h' os' cs) s t u v a b = agree_map (λ p. λ i. block (p.0.0 i) (p.0.1 i) (p.1 i)) (agree_then (s.0 h' os') λ _. repeated_blocks bs cs s.1) t u v a b
 
-  -- behind its brace a region that is shown has a block or the other brace
+  -- after its brace a region that is shown has a block or the other brace
   not_both_braces : (p : P) (bs : Leaves) (t u v : Text) → reads.region_read L (shown p) (reads.block_readings L bs) t u → literal (codes "{..}") t v → ⊥
   not_both_braces p no_blocks t u v (at, (m, o, (k, a, c))) e =
       let s : m ≡ codes "..}" ++ v = cc in
@@ -431,6 +431,6 @@ module _ {P T A : Type 0} (L : Language P T A) (types : Lawful T L.types) (owns 
   all_sure : (rs : Inner) → SureRegions rs
   all_sure = all_regions SureRegion SureBlock SureOperation (λ brace bs s brace' cs. sure_region bs s brace brace' cs) (λ h os s h' os'. sure_block os s h h' os') (λ o rs s o' ss. sure_operation rs s o o' ss)
 
-  -- A text reads as one tree at most, and leaves one rest.
+  -- A text parses as one tree at most, and leaves one rest.
   pub one_tree : (x y : Tree P T A) (t u v : Text) → reads.reads L x t u → reads.reads L y t v → (x ≡ y) × (u ≡ v)
   one_tree x y t u v a b = agree_map (λ p. λ i. record { own = p.0 i; regions = p.1 i }) (sure_operation x.regions (all_sure x.regions) x.own y.own y.regions) t u v a b

@@ -1,4 +1,4 @@
--- A text reads as one root with its section, and one rest.
+-- A text parses as one root with its section, and one rest.
 use Rattle.std.specs.Prelude.{◌≡◌, Bool, true, false, List, [], ◌∷◌, ◌++◌, map, codes, refl, Option, Some, None}
 use Rattle.std.proofs.Common.{sym, ◌∙◌, ap, ap₂, subst, true≢false}
 use Rattle.irtext_base.specs.Text.{Text, begins, after_space, begins_word}
@@ -42,7 +42,7 @@ module _ {P T A X : Type 0} (L : Language P T A) (types : Lawful T L.types) (own
   abbrev pairs : List (Name P × Item P A) → Text → Text → Type 0
   pairs es = separated 44 reads.no_word (map (read.pair L location_at) es)
 
-  -- what an item's entry has behind `=` begins as no attribute does
+  -- what follows `=` in the entry of an item does not begin as an attribute does
   no_attribute : (x : Option X) (es : List (Name P × Item P A)) (a : Attribute A) (t u v : Text) → (read.located L location_at x ▹ literal (codes "[") ▹ pairs es ▹ literal (codes "]")) t u → reads.attribute L a t v → ⊥
   no_attribute (Some x) es a t u v (m, r, s) k = attribute_begins L owns a t v k (ap (begins begins_word) r.1)
   no_attribute None es a t u v (m, r, (n, e, s)) k = go (begins begins_word t) refl
@@ -79,7 +79,7 @@ module _ {P T A X : Type 0} (L : Language P T A) (types : Lawful T L.types) (own
   sure_section_if false (e ∷ es) [] t u v a b = absurd a
   sure_section_if false (e ∷ es) (f ∷ fs) t u v a b = absurd a
 
-  -- a text reads as one root with one section, and leaves one rest
+  -- a text parses as one root with one section, and leaves one rest
   pub one_root : (x y : Tree P T A) (es fs : List (Entry P A X)) (t u v : Text) → reads_root L location_at x es t u → reads_root L location_at y fs t v → (x ≡ y) × (es ≡ fs) × (u ≡ v)
   one_root x y es fs t u v (m, a, b) (n, c, d) =
       let r = one_tree L types owns one_place only x y t m n a c in

@@ -1,4 +1,4 @@
--- A tree that a text reads as has a place for each region, and no region left out.
+-- A tree that a text parses as has a place for each region, and no region left out.
 use Rattle.irtext_base.specs.Text.{Text, after_space}
 use Rattle.irtext_base.specs.Reading.{the}
 use Rattle.irtext_base.specs.Own.{Language}
@@ -28,6 +28,6 @@ module _ {P T A : Type 0} (L : Language P T A) (never_out : (t u : Text) → L.l
     whole_operations no_operations a = tt
     whole_operations (operation o rs os) ((t, u, a), d) = let h = operation_whole o rs t u a in ((h.0, whole_regions rs h.1), whole_operations os d)
 
-  -- a tree that a text reads as has a place for each region, and no region left out
+  -- a tree that a text parses as has a place for each region, and no region left out
   pub whole : (t : Tree P T A) (text rest : Text) → reads.reads L t text rest → WholeOperations (operation t.own t.regions no_operations)
   whole t text rest a = let h = operation_whole t.own t.regions text rest a in ((h.0, whole_regions t.regions h.1), tt)

@@ -132,7 +132,7 @@ nothing_left F [] e = refl
 nothing_left F (x ∷ xs) e = cc
 
 module _ {P T A : Type 0} where
-  -- a view of parts without their places is the view of the parts, where it is so of each piece
+  -- a view of parts without their places is the view of the parts, if this holds for each piece
   views_bare : {X Y : Type 0} (F : Piece ⊤ T A → List Y) (G : Piece P T A → List X) (h : X → Y) → ((x : Piece P T A) → F (bare_piece x) ≡ map h (G x)) → (ps : List (Part P T A)) → views F (map bare_part ps) ≡ map h (views G ps)
   views_bare F G h same [] = refl
   views_bare F G h same (tree.piece x ∷ ps) = ap₂ ◌++◌ (same x) (views_bare F G h same ps) ∙ mapped_both h (G x) (views G ps)

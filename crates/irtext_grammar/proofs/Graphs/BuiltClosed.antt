@@ -1,4 +1,4 @@
--- A root that stands for what was read is closed, and its blocks, results and arguments have names.
+-- A root that represents a parsed tree is closed, and its blocks, results and arguments have names.
 use Rattle.std.proofs.Common.{◌≡◌, Bool, List, [], Some}
 use Rattle.irtext_base.specs.Text.{Text}
 use Rattle.irtext_base.specs.Format.{Accepted, Format, Id}
@@ -23,7 +23,7 @@ use Rattle.irtext_grammar.proofs.Graphs.StandsClosed.{stands_closed}
 use Rattle.irtext_grammar.proofs.Graphs.BuiltNamed.{built_named, built_kept, no_results, no_operands, no_successors, isolated_if}
 
 module _ {P T A X : Type 0} (L : Language P T A) (none : NoneLeftOut L) (C : Printing T A) (isolated : Id → Bool) (first : P → X) where
-  -- a root that stands for what was read of an accepted tree that resolves is closed
+  -- a root that represents a parsed tree, accepted and resolved, is closed
   pub built_closed : (t : Tree P T A) (es : List (Entry P A X)) (g : Graph T A) (source rest : Text) → ((id : Id) (format : Format) → L.format_of id ≡ Some format → Accepted format)
       → reads L t source rest → failures_of isolated t es ≡ [] → StandsFor (stood C isolated g) (build isolated first es t) → Distinct C isolated g → Closed C isolated g × GraphKeepsKeys g × Named C g
   built_closed t es g source rest accepted r e s d =

@@ -1,4 +1,4 @@
--- What a tree that resolves builds has names for all results and arguments, keys that may stand, and labels in no dictionary.
+-- What a tree that resolves builds has names for all results and arguments, keys that are allowed, and labels in no dictionary.
 use Rattle.std.proofs.Common.{◌≡◌, ℕ, suc, Bool, true, false, cond, not, ◌&&◌, ◌||◌, ◌==◌, List, [], ◌∷◌, ◌++◌, map, filter, flat_map, length, Option, Some, None, is_some, nat_eq, inl, inr, refl, sym, ap, ap₂, ◌∙◌, subst, true≢false, arith}
 use Rattle.std.specs.Prelude.{⊤}
 use Rattle.std.proofs.lemmas.Bool.Decides.{nat_tests}
@@ -47,7 +47,7 @@ or_second : {X : Type 0} (o q : Option X) → is_some q ≡ true → is_some (or
 or_second (Some x) q h = refl
 or_second None q h = h
 
--- names that were read are there
+-- names that were parsed are there
 names_put : {A : Type 0} (base : List (Text × Attribute A)) (n : Text) (ns : List Text) → is_some (lookup given_names_key (put_all [] (base ++ read_names (n ∷ ns)))) ≡ true
 names_put base n ns =
     ap is_some (lookup_put_all given_names_key [] (base ++ read_names (n ∷ ns))) ∙ or_first (last_of given_names_key (base ++ read_names (n ∷ ns))) None (ap is_some (last_both given_names_key base (read_names (n ∷ ns))))
@@ -64,7 +64,7 @@ holds_names : {Y A X : Type 0} (things : List Y) (names : List Text) (es base : 
 holds_names things [] es base c f e = inl (f refl)
 holds_names things (n ∷ ns) es base c f e = inr (ap (λ z. is_some (lookup given_names_key z)) e ∙ names_there base n ns c)
 
--- as many things as types, and as many types as names
+-- as many values as types, and as many types as names
 none_named : {P T : Type 0} (xs : List (ℕ × T)) (ts : List T) (ns : List (Name P)) → map (λ (r : ℕ × T). r.1) xs ≡ ts → (length ts == length ns) ≡ true → map (λ n. n.text) ns ≡ [] → xs ≡ []
 none_named [] ts ns e h q = refl
 none_named (x ∷ xs) ts [] e h q = absurd (more (length (map (λ (r : ℕ × _). r.1) xs)) (ap (λ z. length z == 0) e ∙ h))
@@ -78,7 +78,7 @@ none_typed [] ys e q = refl
 none_typed (x ∷ xs) [] e q = absurd (unequal x.1 _ e)
 none_typed (x ∷ xs) (y ∷ ys) e q = absurd (unequal y.0.text _ q)
 
--- ---- what may stand under keys
+-- ---- which attributes are allowed under keys
 keeps_both : {A : Type 0} (rule : Rule A) (xs ys : List (Text × Attribute A)) → KeepsRule rule xs → KeepsRule rule ys → KeepsRule rule (xs ++ ys)
 keeps_both rule [] ys h k = k
 keeps_both rule (x ∷ xs) ys h k = both_true (rule x.0 x.1) _ (and_left (rule x.0 x.1) _ h) (keeps_both rule xs ys (and_right (rule x.0 x.1) _ h) k)
@@ -389,7 +389,7 @@ module _ {P T A X : Type 0} (C : Printing T A) (isolated : Id → Bool) (first :
     regions_of C isolated first es B (OpNamed C) (BlockNamed C) (op_named C isolated first es B) (block_named C isolated first es B) [] [] [] [] 0 0 (isolated g.own.id) (isolated t.own.id) g.regions t.regions s.1 r.counts.1 r.keys.1 f.1 (λ i h. h),
   )
 
-  -- the dictionaries hold what may stand in them
+  -- the dictionaries contain only entries that are allowed
   pub built_kept : GraphKeepsKeys g
   built_kept = (
     op_kept C isolated first es B r.section.kept g.own t.own t.regions [] [] [] [] s.0 r.counts.0 r.keys.0 f.0,
@@ -397,7 +397,7 @@ module _ {P T A X : Type 0} (C : Printing T A) (isolated : Id → Bool) (first :
         s.1 r.counts.1 r.keys.1 f.1 (λ i h. h),
   )
 
-  -- nothing stands outside of its regions
+  -- no name is defined or used outside of its regions
   pub no_results : g.own.results ≡ []
   no_results = none_named g.own.results (result_types t.own.body) t.own.names s.0.shape.result_types r.counts.0 (ap (map (λ n. n.text)) r.nothing_outside.0)
 

@@ -1,5 +1,5 @@
--- A dictionary whose inline attributes are read behind an item, and whose outlined ones are read in its entry, is the item's own, but
--- that the names that were read may stand under the reserved key.
+-- A dictionary whose inline attributes are parsed after an item, and whose outlined ones are parsed in its entry, is the item's own, except
+-- that the parsed names are allowed under the reserved key.
 use Rattle.std.proofs.Common.{◌≡◌, Bool, true, false, cond, not, ◌||◌, List, [], ◌∷◌, ◌++◌, map, filter, Option, Some, None, refl, sym, ap, ◌∙◌, ◌⊎◌, inl, inr, subst, true≢false, ◌&&◌, ap₂}
 use Rattle.irtext_base.specs.Text.{Text}
 use Rattle.irtext_base.specs.Format.{same_text, given_names_key, block_label_key}
@@ -45,7 +45,7 @@ label_stays l (e ∷ es) h = go (same_text e.0 block_label_key) (and_right (may_
     go false h f = f
 
 module _ {T A : Type 0} (C : Printing T A) where
-  -- whether an attribute stands behind its item
+  -- whether an attribute is printed after its item
   abbrev pub inlined : Attribute A → Bool
   inlined a = not (outlined C a)
 
@@ -69,7 +69,7 @@ module _ {T A : Type 0} (C : Printing T A) where
   content_but_label (Some t) None es base y h = ap (put_all base) (no_label es h)
   content_but_label (Some t) (Some n) es base y h = ap (put_all base) (no_label es h)
 
-  -- the label of a block with its entry: the one that the entry gives, or else the one that was read
+  -- the label of a block with its entry: the one that the entry gives, or else the one that was parsed
   pub content_label : {Y : Type 0} (l o : Option Text) (es : List (Text × Attribute A)) (t : Text) (y : Y) → KeepsRule block_may_hold es
       → labelled t (cond (is_marked C l (label_entry o ++ es)) (Some (y, label_entry o ++ es)) None) ≡ elim o [ Some n ↦ n | None ↦ t ]
   content_label None None [] t y h = refl

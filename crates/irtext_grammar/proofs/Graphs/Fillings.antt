@@ -1,4 +1,4 @@
--- What a tree builds that is read of a written graph, with a section that says of each item what the item holds, is equal to the
+-- What a tree builds that was parsed from a printed graph, with a section that gives each item what the graph's item has, is equal to the
 -- graph up to fillings.
 use Rattle.std.proofs.Common.{◌≡◌, ℕ, suc, Bool, true, false, cond, List, [], ◌∷◌, ◌++◌, map, length, Option, Some, None, option_map, refl, sym, ap, ap₂, ◌∙◌, subst, true≢false}
 use Rattle.std.specs.Prelude.{⊤}
@@ -55,7 +55,7 @@ module _ {P A : Type 0} where
   entries_stored (Some es) = mapped_twice bare_entry plain_entry es
 
 -- ---- what a mark's entry says of its item
--- a location was read where the item has one, and has its text
+-- a location was parsed where the item has one, and has its text
 abbrev SameGiven : {X : Type 0} → Locations X → Option Text → Option X → Type 0
 SameGiven K None None = ⊤
 SameGiven K (Some l) (Some x) = K.text x ≡ l
@@ -108,7 +108,7 @@ module _ {P T A X : Type 0} (C : Printing T A) (isolated : Id → Bool) (K : Loc
   located_same (Some l) ds m p (None, e, g) = absurd g
   located_same (Some l) ds m p (Some x, e, g) = subst (λ c. SameLocation K (Some l) (located (first p) c)) (sym e) g
 
-  -- with what was read of the item, and what its mark's content adds to that
+  -- with what was parsed at the item, and what its mark's content adds to that
   dictionary_same : (ds : List (Text × Attribute A)) (c : Option (Option X × List (Text × Attribute A))) (names ns : List Text) (here shown : List (Text × Attribute A))
       → KeysDiffer ds → KeepsKeys ds → Picks (inlined C) ds shown → here ≡ shown → ns ≡ names → ((base : List (Text × Attribute A)) → with_content base c ≡ put_all base (outlined_entries C ds))
       → SameDictionary names ds (with_content (put_all [] (here ++ read_names ns)) c)

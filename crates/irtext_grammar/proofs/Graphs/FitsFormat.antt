@@ -23,7 +23,7 @@ pub and_right : (a b : Bool) → (a && b) ≡ true → b ≡ true
 and_right true b e = e
 and_right false b e = absurd (true≢false (sym e))
 
--- what an accepted format meets
+-- the conditions that an accepted format satisfies
 pub record Meets (ds : List Directive) : Type 0 where
   pub first : c1 ds ≡ true
   pub second : c2 ds ≡ true
@@ -37,7 +37,7 @@ pub record Meets (ds : List Directive) : Type 0 where
 abbrev here : Bool → Bool → Bool → Bool → Bool → Bool → Bool → Bool → ℕ
 here a b c d e f g h = if a then (if b then (if c then (if d then (if e then (if f then (if g then (if h then 0 else 8) else 7) else 6) else 5) else 4) else 3) else 2) else 1
 
--- a format without a fault meets each condition
+-- a format without a fault satisfies each condition
 pub meets : (ds : List Directive) → first_fault (format.custom ds) ≡ 0 → Meets ds
 meets ds = go (c1 ds) refl (c2 ds) refl (c3 ds) refl (c4 ds) refl (c5 ds) refl (c6 ds) refl (c7 ds) refl (c8 ds) refl
   where

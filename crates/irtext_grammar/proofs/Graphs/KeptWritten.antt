@@ -1,4 +1,4 @@
--- In what is written of a graph, counts agree, the reserved key is kept, and the marks are numbered on: none is refused.
+-- In what is printed of a graph, counts agree, the reserved key is kept, and the marks are numbered on: there is no failure.
 use Rattle.std.proofs.Common.{◌≡◌, ℕ, suc, ◌+◌, ◌<◌, ◌≤◌, Bool, true, false, cond, ◌&&◌, ◌==◌, nat_eq, List, [], ◌∷◌, ◌++◌, map, filter, length, filter_map, slice_get, Option, Some, None, option_map, option_and_then, refl, sym, ap, ap₂, ◌∙◌, subst, true≢false, append-nil, arith}
 use Rattle.std.specs.Prelude.{⊤}
 use Rattle.std.specs.List.{cons_option}
@@ -61,7 +61,7 @@ marks_more n m h done b = tt
 marks_more n m h (does a k) b = (below_more n m h (fact_of a).marks b.0, marks_more n m h k b.1)
 marks_more n m h (within iso p body k) b = (marks_more n m h body b.0, marks_more n m h k b.1)
 
--- Where marks so far are below n, nothing is refused; and all its own are below m.
+-- If the marks so far are below n, there is no failure; and all its own marks are below m.
 pub record Good (m n : ℕ) (x : Script Text ⊤) : Type 0 where
   pub kept : (s : Scopes Text) → Below n s.marks → Kept same_text s x
   pub below : MarksBelow m x
@@ -69,7 +69,7 @@ pub record Good (m n : ℕ) (x : Script Text ⊤) : Type 0 where
 good_later : {k m n : ℕ} {x : Script Text ⊤} → n ≤ k → Good m k x → Good m n x
 good_later {k = k} {n = n} h f = record { kept = λ s b. f.kept s (below_more n k h s.marks b); below = f.below }
 
--- the act marks nothing, and is not refused where it looks at no name
+-- the act marks nothing, and does not fail if it looks at no name
 pub record GoodAct (a : Act Text ⊤) : Type 0 where
   pub no_mark : (fact_of a).marks ≡ []
   pub no_fault : (s : Scopes Text) → names_one a ≡ false → act_failures same_text s a ≡ []
@@ -118,7 +118,7 @@ keys_good : {A : Type 0} (rule : Rule A) (es : List (Name ⊤ × Attribute A)) �
 keys_good rule [] h = tt
 keys_good rule (e ∷ es) h = (claimed _ _ h.0, keys_good rule es h.1)
 
--- the entries that pass a test may stand where all may
+-- the entries that pass a test are allowed if all entries are
 pub keeps_filter : {A : Type 0} (rule : Rule A) (test : Text × Attribute A → Bool) (es : List (Text × Attribute A)) → KeepsRule rule es → KeepsRule rule (filter test es)
 keeps_filter rule test [] h = refl
 keeps_filter rule test (e ∷ es) h = go (test e) (keeps_filter rule test es (and_right (rule e.0 e.1) _ h))

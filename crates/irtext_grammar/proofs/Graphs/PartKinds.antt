@@ -11,7 +11,7 @@ use Rattle.irtext_grammar.specs.Grammar.Tree.{Name, Piece, Part, Body, custom, c
 use Rattle.irtext_grammar.proofs.Graphs.FitsFormat.{meets, and_left, and_right, below}
 use Rattle.irtext_grammar.proofs.Lists.InOrder.{firsts}
 
--- what is there, spread, if something is
+-- a list if there is a value, and otherwise the empty list
 abbrev pub spread_if : {X Y : Type 0} → (Y → List X) → Option Y → List X
 spread_if f None = []
 spread_if f (Some y) = f y
@@ -107,7 +107,7 @@ module _ {P T A : Type 0} where
           successor_lists = few successor_list is_successors (λ ns. tt) (chosen_are successor_list (passing is_successors) (λ ns. tt) (elim [ tree.successors ns ↦ refl | _ ↦ refl ]) (λ i. refl) refl) (and_right (are_places (successor_places ds)) (nat_lt (count is_successors ds) 2) m.third);
         }
 
-  -- of a body that an accepted format reads
+  -- of a body that an accepted format parses
   pub formed_numbered : (f : Format) (b : Body P T A) → Accepted f → IsOf f b → Numbered (parts_of b)
   formed_numbered (format.custom ds) (custom ps) a e = custom_numbered ps ds e a
   formed_numbered (format.custom ds) (canonical ns ls es xs ys) a e = absurd e

@@ -21,7 +21,7 @@ use Rattle.irtext_grammar.proofs.Lists.Numbering.{numbered, own, listed, all_num
 pub same_under : {X : Type 0} (a : List X) {x y : List X} → Same x y → Same (a ++ x) (a ++ y)
 same_under a h = same_both (same_refl a) h
 
--- what stands in the middle may stand in front
+-- a list in the middle may be moved to the front
 pub same_past : {X : Type 0} (h a b : List X) → Same (h ++ (a ++ b)) (a ++ (h ++ b))
 same_past h a b = same_then (same_path _ _ (sym (append_assoc h a b))) (same_then (same_both (same_swap h a) (same_refl b)) (same_path _ _ (append_assoc a h b)))
 

@@ -1,4 +1,4 @@
--- A root of the arenas that stands for what a tree builds is closed, where each operand and successor that is built holds something.
+-- A root of the arenas that represents what a tree builds is closed, if each operand and successor that is built refers to something.
 use Rattle.std.proofs.Common.{◌≡◌, ℕ, zero, suc, Bool, true, cond, ◌&&◌, ◌==◌, List, [], ◌∷◌, map, drop, length, slice_get, Option, Some, None, is_some, refl, sym, ap, ap₂, ◌∙◌, subst, arith}
 use Rattle.std.specs.Prelude.{⊤}
 use Rattle.std.specs.List.{list_all}
@@ -80,7 +80,7 @@ module _ (v l : List (Fact Thing)) where
   use_block_sound p i None g e a = a
   use_block_sound p i (Some x) g e a = ((tt, a.0), (e, a.1))
 
--- of regions, whatever the labels round them
+-- for regions, whatever the labels around them
 abbrev SoundAll : List (Fact Thing) → List (Script Thing ⊤ → Script Thing ⊤) → Type 0
 SoundAll v [] = ⊤
 SoundAll v (s ∷ ss) = ((l : List (Fact Thing)) (g : Script Thing ⊤) → Sound v l g → Sound v l (s g)) × SoundAll v ss
@@ -138,7 +138,7 @@ module _ {T A : Type 0} (C : Printing T A) (isolated : Id → Bool) where
       body_sound [] [] (C.format_of g.own.id) [] g.own _ _ (values_there [] [] g.own.operands h.0.0) (blocks_there [] [] g.own.successors h.0.1) (found_regions [] [] 0 (isolated g.own.id) g.regions h.1)
       (results_sound [] [] [] 0 g.own.results _ (tt, tt))
 
-  -- what stands for a root in which each operand and successor holds something finds each of them
+  -- in a root that represents one in which each operand and successor refers to something, each of them is found
   module _ {X : Type 0} where
     own_found : (a : StoodOp T A) (b : BuiltOp T A X) → StandsForOp a b → OpLinked b → OpFound a
     own_found a b s h = (ap (list_all is_some) s.shape.operands ∙ h.0, ap (list_all is_some) s.shape.successors ∙ h.1)
@@ -218,14 +218,14 @@ module _ {T A : Type 0} (C : Printing T A) (isolated : Id → Bool) where
   graph_only g r o s i =
       body_only [] g.own o s (C.format_of g.own.id) _ _ (regions_only [] 0 (isolated g.own.id) g.regions i) (subst (λ z. OnlyRegions (does_all (defined_results [] 0 z) done)) (sym r) tt)
 
-  -- a root without results, operands and successors is closed, where each operand and successor inside is found in the scopes round it
+  -- a root without results, operands and successors is closed, if each operand and successor inside is found in the scopes around it
   pub found_closed : (g : Graph T A) → Found (stood C isolated g) → Distinct C isolated g
       → g.own.results ≡ [] → g.own.operands ≡ [] → g.own.successors ≡ [] → (has_region g.regions ≡ true → isolated g.own.id ≡ true) → Closed C isolated g
   found_closed g h d r o t i =
       let q = graph_sound g h in
       outer_clean same_thing thing_symmetric [] [] [] [] [] (graph_script C isolated g) (graph_only g r o t i) q.0 q.1 (distinct_fresh same_thing thing_symmetric (made (graph_script C isolated g)) d)
 
-  -- so is a root that stands for what a tree builds, where each operand and successor holds something
+  -- a root that represents what a tree builds is closed, if each operand and successor refers to something
   pub stands_closed : {X : Type 0} (g : Graph T A) (b : Built T A X) → StandsFor (stood C isolated g) b → Linked b → Distinct C isolated g
       → g.own.results ≡ [] → g.own.operands ≡ [] → g.own.successors ≡ [] → (has_region g.regions ≡ true → isolated g.own.id ≡ true) → Closed C isolated g
   stands_closed g b s h d r o t i = found_closed g (root_found (stood C isolated g) b s h) d r o t i

@@ -57,7 +57,7 @@ module _ {T A : Type 0} where
   skip_header view h (Some (own x)) qs = refl
 
 module _ {T A : Type 0} (C : Printing T A) where
-  -- a view sees nothing of what stands where a directive stands
+  -- a view sees nothing of the part of a directive
   abbrev Blind : {X : Type 0} → (Piece ⊤ T A → List X) → Directive → Type 0
   Blind view (format.word s) = (x : ⊤) → view (tree.word s) ≡ []
   Blind view (format.operand i) = (n : Name ⊤) → view (tree.operand i n) ≡ []
@@ -70,7 +70,7 @@ module _ {T A : Type 0} (C : Printing T A) where
   Blind view format.header = (n : Name ⊤) → view (tree.header n) ≡ []
   Blind view _ = (x : ⊤) → x ≡ x
 
-  -- such a directive's part adds nothing to the view
+  -- the part of a directive that the view does not see adds nothing to the view
   unseen : {X : Type 0} (view : Piece ⊤ T A → List X) (ds : List Directive) (o : GraphOp T A) (d : Directive) → Blind view d → (qs : List (Part ⊤ T A)) → views view (cons_option (part_of C ds o d) qs) ≡ views view qs
   unseen view ds o (format.word s) b qs = ap (λ z. z ++ views view qs) (b tt)
   unseen view ds o (format.operand i) b qs = skip view (λ v. tree.operand i (value C v)) (λ v. b (value C v)) (slice_get o.operands i) qs
@@ -83,7 +83,7 @@ module _ {T A : Type 0} (C : Printing T A) where
   unseen view ds o format.header b qs = skip_header view b (lookup sym_name_key o.attributes) qs
   unseen view ds o _ b qs = refl
 
-  -- an item that a directive places, in front of those that other directives place
+  -- an item that a directive places, before those that other directives place
   placed : {X Y : Type 0} (F : X → Y) (G : Y → Piece ⊤ T A) (view : Piece ⊤ T A → List (ℕ × Y)) (xs : List X) (i : ℕ) → ((x : X) → view (G (F x)) ≡ (i, F x) ∷ []) → (ks : List ℕ) (qs : List (Part ⊤ T A))
       → (let r : Option (Part ⊤ T A) = option_map (λ x. tree.piece (G (F x))) (slice_get xs i) in is_some r) ≡ true → (firsts (views view qs) ≡ ks) × AllFrom (map F xs) (views view qs)
       → (let all = views view (cons_option (option_map (λ x. tree.piece (G (F x))) (slice_get xs i)) qs) in (firsts all ≡ i ∷ ks) × AllFrom (map F xs) all)

@@ -1,4 +1,4 @@
--- What is written of a graph can be written: its text is read back.
+-- What is written of a graph can be written: its text is parsed back.
 use Rattle.std.proofs.Common.{◌≡◌, ℕ, zero, suc, ◌+◌, ◌<◌, ◌^◌, Bool, true, false, cond, not, ◌&&◌, ◌==◌, nat_lt, List, [], ◌∷◌, ◌++◌, map, length, filter_map, slice_get, Option, Some, None, option_map, option_and_then, codes, decimal, refl, sym, ap, subst, true≢false, arith, inl, inr, ◌∙◌}
 use Rattle.std.specs.Prelude.{⊤, ◌⊎◌, ◌≤◌}
 use Rattle.std.specs.List.{cons_option, list_all}
@@ -270,7 +270,7 @@ module _ {T A : Type 0} (C : Printing T A) (isolated : Id → Bool) (given : (v 
       mark = mark_fine n b.location (block_outlined C b) h;
     }
 
-    -- where the limit leaves a region out, that is read
+    -- where the limit leaves a region out, that is parsed
     abbrev Allowed : Limit → Type 0
     Allowed l = (l ≡ None) ⊎ ((f : Text) → L.left_out (codes "{..}" ++ f) f)
 
@@ -328,7 +328,8 @@ module _ {T A : Type 0} (C : Printing T A) (isolated : Id → Bool) (given : (v 
 
 -- what is written of a graph that fits can be written
 module _ {T A : Type 0} (C : Printing T A) (isolated : Id → Bool) where
-  -- what is written of a graph that fits can be written and read back, also where regions are left out: a number counts the marks that are written
+  -- what is written of a graph that fits can be written and parsed back, also where regions are left out: a number counts the marks that
+  -- are written
   pub written_fine_at : (L : Language ⊤ T A) → ((i : Id) → L.format_of i ≡ C.format_of i) → (l : Limit) → (l ≡ None) ⊎ ((f : Text) → L.left_out (codes "{..}" ++ f) f) → (g : Graph T A)
       → ((v : ℕ) (n : Text) → C.given v ≡ Some n → IsIdentifier n) → ((b : ℕ × ℕ) (n : Text) → C.label b ≡ Some n → IsIdentifier n) → OpHasIdentifiers C g.own → AllRegions (OpHasIdentifiers C) (BlockHasIdentifiers C) (λ r. ⊤) g.regions
       → marks_in_regions C l g.regions + own_marks C g.own.location (op_outlined C g.own) < 2 ^ 64 → Fit C isolated g → SmallGraph C isolated g → Writable L (written C l g)
@@ -345,6 +346,6 @@ module _ {T A : Type 0} (C : Printing T A) (isolated : Id → Bool) where
       let h = w.marks in
       written_fine_at L e l k g w.given w.label w.own w.regions (omega (arith, fewer, h)) f s
 
-  -- what is written of a graph that fits can be written and read back
+  -- what is written of a graph that fits can be written and parsed back
   pub written_fine : (types : Texts T) (owns : Texts A) (g : Graph T A) → HasIdentifiers C g → Fit C isolated g → SmallGraph C isolated g → Writable (unplaced types owns C.format_of) (written C None g)
   written_fine types owns g w f s = written_fine_under (unplaced types owns C.format_of) (λ i. refl) None (inl refl) g w f s

@@ -16,7 +16,7 @@ abbrev pub last_of : {V : Type 0} → Text → List (Text × V) → Option V
 last_of key [] = None
 last_of key (d ∷ ds) = or_else (last_of key ds) (cond (same_text key d.0) (Some d.1) None)
 
--- what a key has last in two lists joined: what the second has, or else the first
+-- the last value of a key in two lists joined: that in the second, or otherwise that in the first
 pub last_both : {V : Type 0} (key : Text) (xs ys : List (Text × V)) → last_of key (xs ++ ys) ≡ or_else (last_of key ys) (last_of key xs)
 last_both key [] ys = sym (or_else-none (last_of key ys))
 last_both key (x ∷ xs) ys = ap (λ o. or_else o (cond (same_text key x.0) (Some x.1) None)) (last_both key xs ys) ∙ go (last_of key ys)
@@ -79,7 +79,7 @@ module _ {V : Type 0} (test : V → Bool) (es : List (Text × V)) where
       go None s true k = (ap (λ z. lookup z es) (same_text_true key x.0 k) ∙ h.0.0, h.0.1)
       go None s false k = tt
 
-  -- what a key has last among the entries that are picked: its entry in the dictionary, where that passes
+  -- the last value of a key among the entries that are picked: its entry in the dictionary, if that passes
   pub last_passing : (xs : List (Text × V)) → Picks xs → (key : Text) → last_of key xs ≡ passing test (lookup key es)
   last_passing xs p key = go (last_of key xs) (last_stands key xs p.each) (lookup key es) refl (p.all key)
     where

@@ -27,13 +27,13 @@ each_filter Q test (x ∷ xs) e = go (test x) (each_filter Q test xs e.1)
     go true k = (e.0, k)
     go false k = k
 
--- what holds of each holds of each behind the first ones
+-- what holds of each element holds of each after the first n
 pub each_drop : {X : Type 0} (Q : X → Type 0) (n : ℕ) (xs : List X) → Each Q xs → Each Q (drop n xs)
 each_drop Q zero xs e = e
 each_drop Q (suc n) [] e = tt
 each_drop Q (suc n) (x ∷ xs) e = each_drop Q n xs e.1
 
--- it holds of what is there, if something is
+-- it holds of the value, if there is one
 abbrev pub OfOption : {X : Type 0} → (X → Type 0) → Option X → Type 0
 OfOption Q None = ⊤
 OfOption Q (Some x) = Q x

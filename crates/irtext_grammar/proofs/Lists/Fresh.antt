@@ -1,4 +1,4 @@
--- Lists in which each item is new where it stands.
+-- Lists in which each item is new at its position: it does not occur before it.
 use Rattle.std.proofs.Common.{◌≡◌, Bool, true, false, not, ◌&&◌, ◌||◌, List, [], ◌∷◌, ◌++◌, refl, sym, ◌∙◌, subst, append_assoc, append-nil, true≢false}
 use Rattle.std.specs.Prelude.{⊤}
 use Rattle.irtext_base.specs.Format.{has, distinct}
@@ -40,7 +40,7 @@ module _ {X : Type 0} (same : X → X → Bool) where
   Fresh before [] = ⊤
   Fresh before (x ∷ xs) = (has same x before ≡ false) × Fresh (before ++ x ∷ []) xs
 
-  -- two lists joined are new where the first is, and the second behind it
+  -- two lists joined are new if the first is, and the second is after the first
   pub fresh_join : (before xs ys : List X) → Fresh before xs → Fresh (before ++ xs) ys → Fresh before (xs ++ ys)
   fresh_join before [] ys f g = subst (λ b. Fresh b ys) (append-nil before) g
   fresh_join before (x ∷ xs) ys f g = (f.0, fresh_join (before ++ x ∷ []) xs ys f.1 (subst (λ b. Fresh b ys) (sym (append_assoc before (x ∷ []) xs)) g))
@@ -50,7 +50,7 @@ module _ {X : Type 0} (same : X → X → Bool) where
   fresh_left before [] ys f = tt
   fresh_left before (x ∷ xs) ys f = (f.0, fresh_left (before ++ x ∷ []) xs ys f.1)
 
-  -- the rest of a list that is new is new behind its front
+  -- the rest of a list that is new is new after its beginning
   pub fresh_right : (before xs ys : List X) → Fresh before (xs ++ ys) → Fresh (before ++ xs) ys
   fresh_right before [] ys f = subst (λ b. Fresh b ys) (sym (append-nil before)) f
   fresh_right before (x ∷ xs) ys f = subst (λ b. Fresh b ys) (append_assoc before (x ∷ []) xs) (fresh_right (before ++ x ∷ []) xs ys f.1)

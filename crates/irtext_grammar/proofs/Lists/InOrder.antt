@@ -1,4 +1,5 @@
--- A list of places, each of 0 to one below its length once, has each of them; so what stands at them is, in order, the front of the list.
+-- A list of places, each from 0 to one below its length once, has each of them; so the elements at these places, in order, are a prefix of
+-- the list.
 use Rattle.std.proofs.Common.{◌≡◌, ℕ, zero, suc, ◌+◌, ◌<◌, ◌≤◌, Bool, true, false, cond, not, ◌||◌, ◌==◌, nat_lt, eqb, List, [], ◌∷◌, ◌++◌, take, drop, length, slice_get, Some, option_to_list, refl, sym, ap, ap₂, ◌∙◌, subst, true≢false, arith}
 use Rattle.std.specs.Prelude.{⊤}
 use Rattle.std.specs.List.{IsDistinct, list_any, AllByRecursion, list_all}
@@ -66,7 +67,7 @@ all_there ks e k low = go (has ◌==◌ k ks) refl
     go true c = refl
     go false c = let h = length-le_from_distinct_below (k ∷ ks) (length ks) (distinct_more k ks c d) (within c) in absurd (omega arith)
 
--- each entry is what stands at its place in the list
+-- each entry is the element at its place in the list
 abbrev pub AllFrom : {X : Type 0} → List X → List (ℕ × X) → Type 0
 AllFrom xs [] = ⊤
 AllFrom xs (e ∷ es) = (slice_get xs e.0 ≡ Some e.1) × AllFrom xs es
@@ -103,7 +104,7 @@ from_front xs es (suc n) k h all =
     ap₂ (λ o z. option_to_list o ++ z) (all k (omega arith)) (from_front xs es n (suc k) (omega arith) (λ j l. all j (omega arith)))
     ∙ front_step xs n k (omega arith)
 
--- what stands at places in the list is the list's front
+-- the elements at places in the list, in order, are a prefix of the list
 pub in_order_front : {X : Type 0} (xs : List X) (es : List (ℕ × X)) → are_places (firsts es) ≡ true → AllFrom xs es → length es ≤ length xs → in_order es ≡ take (length es) xs
 in_order_front xs es e a h =
     let f = firsts_length es in

@@ -18,7 +18,7 @@ abbrev pub or_else : {A : Type 0} → Option A → Option A → Option A
 or_else None o = o
 or_else (Some x) o = Some x
 
--- an alternative behind a choice
+-- an alternative after a choice
 pub or_else-cond : {A : Type 0} (b : Bool) (x : A) (o q : Option A) → or_else (cond b (Some x) o) q ≡ cond b (Some x) (or_else o q)
 or_else-cond true x o q = refl
 or_else-cond false x o q = refl
@@ -82,7 +82,7 @@ among-last n ns = among-append n ns (n ∷ []) ∙ (ap (λ b. cond (among n ns) 
     cond_same true = refl
     cond_same false = refl
 
--- where it was not there before, it is the last
+-- if it was not there before, it is the last
 pub among-new : (n m : Text) (ns : List Text) → among m (ns ++ n ∷ []) ≡ true → (among m ns ≡ true) ⊎ (n ≡ m)
 among-new n m ns h = go (among m ns) (same_text n m) refl refl
   where
@@ -115,7 +115,7 @@ pub among-names : (n : Text) (ns : List Text) (f : List Fact) → among n ns ≡
 among-names n ns [] h = h
 among-names n ns (x ∷ f) h = among-names n (add ns (name_of x)) f (among-add (name_of x) n ns h)
 
--- ---- what a scope shows for its names and its operands, by what each name stands for
+-- ---- the entries that a scope shows for its names and its operands, given what each name refers to
 abbrev pub entries : (Text → Held) → List Text → List (Text × Held)
 entries F [] = []
 entries F (n ∷ ns) = (n, F n) ∷ entries F ns

@@ -1,5 +1,5 @@
--- Places numbered from 0 on, each once: what stands at them is, in order, a list in which each stands at its own number. And what
--- is looked up of the items of a list, each with the user of its number.
+-- Places numbered from 0 on, each once: the elements at them, in order, are a list in which each is at its own number. And what is looked
+-- up among the items of a list, each with the user of its number.
 use Rattle.std.proofs.Common.{◌≡◌, ℕ, zero, suc, ◌+◌, ◌<◌, Bool, true, false, cond, not, ◌||◌, ◌==◌, nat_lt, List, [], ◌∷◌, ◌++◌, map, length, slice_get, Option, Some, None, is_some, option_to_list, refl, sym, ap, ◌∙◌, subst, inl, inr, true≢false, arith, flat_map}
 use Rattle.std.specs.Prelude.{⊤}
 use Rattle.std.proofs.lemmas.List.{append-nil, length-map, map-append}
@@ -38,7 +38,7 @@ in_numbered F u k n i [] x e h = absurd (none i x h)
 in_numbered F u k n zero (y ∷ xs) x e h = let m : n ≡ k = omega arith in inl (λ i. (u (m i), F (some_inside x y (sym h) i)))
 in_numbered F u k n (suc i) (y ∷ xs) x e h = inr (in_numbered F u (suc k) n i xs x (omega arith) h)
 
--- a member of a numbered list stands at its own number
+-- a member of a numbered list is at its own number
 pub numbered_in : {X Y : Type 0} (F : X → Y) (u : ℕ → User) (k : ℕ) (xs : List X) (w : User) (y : Y) → In (w, y) (numbered u k (map F xs)) → (i : ℕ) × (x : X) × (slice_get xs i ≡ Some x) × (w ≡ u (k + i)) × (y ≡ F x)
 numbered_in F u k [] w y h = absurd h
 numbered_in F u k (x ∷ xs) w y (inl e) = let m : k ≡ k + 0 = omega arith in (0, x, refl, ap (λ z. z.0) e ∙ ap u m, ap (λ z. z.1) e)
@@ -65,7 +65,7 @@ all_got get (e ∷ es) d h =
           (λ k i. h k (or_right (k == e.0) (has ◌==◌ k (firsts es)) i) ∙ ap (λ b. cond b (Some e.1) (at_place k es)) (differs k e.0 (firsts es) n i)),
     )
 
--- ---- what stands at places, in order
+-- ---- the elements at places, in order
 there : {X : Type 0} (k : ℕ) (es : List (ℕ × X)) → has ◌==◌ k (firsts es) ≡ true → is_some (at_place k es) ≡ true
 there k [] h = absurd (true≢false (sym h))
 there k (e ∷ es) h = go (e.0 == k) refl (k == e.0) refl h (there k es)
@@ -116,7 +116,7 @@ module _ {X : Type 0} (es : List (ℕ × X)) (places : are_places (firsts es) �
   pub in_order_length : length (in_order es) ≡ length es
   in_order_length = from_length (length es) 0 es at_all
 
-  -- each stands at its own number
+  -- each is at its own number
   pub in_order_got : AllGot (slice_get (in_order es)) es
   in_order_got =
       let d = and_left (distinct ◌==◌ (firsts es)) (list_all (λ k. nat_lt k (length (firsts es))) (firsts es)) places in
@@ -174,7 +174,7 @@ module _ {X Y : Type 0} (F : X → Y) (u : ℕ → User) (k : ℕ) where
   lists_numbered (xs ∷ []) l = append-nil (numbered u k (map F xs)) ∙ ap (λ z. numbered u k (map F z)) (sym (append-nil xs))
   lists_numbered (xs ∷ ys ∷ ls) l = absurd (omega arith)
 
--- singles with their own numbers, and a list behind them
+-- singles with their own numbers, and a list after them
 pub all_numbered : {X Y : Type 0} (F : X → Y) (u : ℕ → User) (es : List (ℕ × X)) (ls : List (List X)) → are_places (firsts es) ≡ true → length ls < 2
     → Same (flat_map (own F u) es ++ flat_map (listed F u (length es)) ls) (numbered u 0 (map F (in_order es ++ flat_map (λ xs. xs) ls)))
 all_numbered F u es ls p l =

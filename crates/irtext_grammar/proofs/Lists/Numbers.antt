@@ -4,7 +4,7 @@ use Rattle.std.proofs.lemmas.Bool.Decides.{nat_tests}
 use Rattle.irtext_grammar.specs.Names.Scopes.{is_among}
 use Rattle.irtext_grammar.specs.Spelling.SectionEntries.{numbers}
 
--- two runs of numbers, one behind the other, are one run
+-- two runs of numbers, one after the other, are one run
 pub numbers_both : (n a b : ℕ) → numbers n a ++ numbers (n + a) b ≡ numbers n (a + b)
 numbers_both n zero b = let e : n + 0 ≡ n = omega arith in let f : b ≡ 0 + b = omega arith in ap (λ k. numbers k b) e ∙ ap (numbers n) f
 numbers_both n (suc a) b =
@@ -27,7 +27,7 @@ among_numbers i n (suc k) h l = go (nat_eq n i) refl (λ q. among_numbers i (suc
     go true e more = refl
     go false e more = more (later n i h e)
 
--- a number behind the row is not
+-- a number past the end of the run is not in it
 pub beyond_numbers : (i n k : ℕ) → n + k ≤ i → is_among i (numbers n k) ≡ false
 beyond_numbers i n zero h = refl
 beyond_numbers i n (suc k) h = ap (λ b. cond b true (is_among i (numbers (suc n) k))) (differ n i (omega arith)) ∙ beyond_numbers i (suc n) k (omega arith)

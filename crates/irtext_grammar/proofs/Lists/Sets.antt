@@ -48,7 +48,7 @@ same_path xs ys e = subst (Same xs) e (same_refl xs)
 pub same_then : {A : Type 0} {xs ys zs : List A} → Same xs ys → Same ys zs → Same xs zs
 same_then p q = record { into = λ x h. q.into x (p.into x h); back = λ x h. p.back x (q.back x h) }
 
--- the other way round
+-- the other direction
 pub same_flip : {A : Type 0} {xs ys : List A} → Same xs ys → Same ys xs
 same_flip p = record { into = p.back; back = p.into }
 
@@ -59,7 +59,7 @@ same_both {xs = xs} {ys = ys} {us = us} {vs = vs} p q = record {
   back = λ x h. ⊎_elim (λ k. in_left x xs ys (p.back x k)) (λ k. in_right x xs ys (q.back x k)) (in_split x us vs h);
 }
 
--- so do their images
+-- their images are the same, too
 pub same_map : {A B : Type 0} (g : A → B) {xs ys : List A} → Same xs ys → Same (map g xs) (map g ys)
 same_map g {xs = xs} {ys = ys} p = record {
   into = λ y h. let k = in_mapped g y xs h in subst (λ z. In z (map g ys)) (sym k.2) (in_map g k.0 ys (p.into k.0 k.1));

@@ -89,7 +89,7 @@ abbrev pub NoEntry : {P : Type 0} → Act Text P → Type 0
 NoEntry (entry i p) = ⊥
 NoEntry _ = ⊤
 
--- of an act that names or marks nothing is asked, and it is no entry
+-- nothing is required of an act that names or marks nothing, and it is no entry
 abbrev Easy : {P : Type 0} → Act Text P → Type 0
 Easy a = Holds a × NoEntry a
 
@@ -135,7 +135,7 @@ module _ {P : Type 0} where
   keys_no_entry rule (e ∷ es) = (tt, keys_no_entry rule es)
 
 module _ {P T A : Type 0} where
-  -- the claims of a piece hold where its keys may stand
+  -- the claims of a piece hold if its keys are allowed
   pub piece_holds : (p : Path) (k l : ℕ) (x : Piece P T A) → KeysKept may_hold (entries_in x) → Each Holds (piece_acts p k l x)
   piece_holds p k l (tree.operand i n) h = (tt, tt)
   piece_holds p k l (tree.operands ns) h = easy_holds (value_uses p k ns) (easy_values p k ns)
@@ -144,7 +144,7 @@ module _ {P T A : Type 0} where
   piece_holds p k l (tree.dictionary es) h = keys_hold may_hold es h
   piece_holds p k l _ h = tt
 
-  -- the keys of a piece may stand where its claims hold
+  -- the keys of a piece are allowed if its claims hold
   pub holds_piece : (p : Path) (k l : ℕ) (x : Piece P T A) → Each Holds (piece_acts p k l x) → KeysKept may_hold (entries_in x)
   holds_piece p k l (tree.dictionary es) h = hold_keys may_hold es h
   holds_piece p k l _ h = tt
@@ -175,11 +175,11 @@ module _ {P T A : Type 0} where
   header_rest : (p : Path) (h : Head P T A) → Each Easy (rest_of p h)
   header_rest p h = each_both Easy (argument_definitions p 0 h.arguments) _ (easy_arguments p 0 h.arguments) (each_both Easy (mark_acts h.mark) _ (easy_mark h.mark) ((tt, tt), tt))
 
-  -- the claims of a block's own hold where its keys may stand
+  -- the claims of a block's header hold if its keys are allowed
   pub header_holds : (p : Path) (h : Head P T A) → HeadKeysKept h → Each Holds (header_acts p h)
   header_holds p h k = each_both Holds (map (key_act block_may_hold) (entries_if h.attributes)) (rest_of p h) (keys_hold block_may_hold (entries_if h.attributes) k) (easy_holds (rest_of p h) (header_rest p h))
 
-  -- the keys of a block's own may stand where its claims hold
+  -- the keys of a block's header are allowed if its claims hold
   pub holds_header : (p : Path) (h : Head P T A) → Each Holds (header_acts p h) → HeadKeysKept h
   holds_header p h k = hold_keys block_may_hold (entries_if h.attributes) (each_left Holds (map (key_act block_may_hold) (entries_if h.attributes)) (rest_of p h) k)
 

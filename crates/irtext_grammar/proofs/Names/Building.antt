@@ -10,7 +10,7 @@ use Rattle.irtext_grammar.proofs.Lists.Sets.{Same, same_refl, same_path, same_th
 abbrev means : List Fact → List Fact → Script → List (User × Place)
 means = scopes.bound same_text
 
--- what facts bind, when the scopes round them are v and l
+-- what facts bind, if the scopes around them are v and l
 abbrev pub spread : List Fact → List Fact → Facts → List (User × Place)
 spread v l f = bound_in v f.values ++ (bound_in l f.labels ++ f.bound)
 

@@ -1,4 +1,4 @@
--- A script in which each use means something, and all that is defined differs, is not refused.
+-- A script in which each use refers to something, and all that is defined differs, has no failure.
 use Rattle.std.proofs.Common.{◌≡◌, ℕ, Bool, true, false, cond, ◌||◌, List, [], ◌∷◌, ◌++◌, Some, None, is_some, refl, sym, ap, ◌∙◌, true≢false}
 use Rattle.std.specs.Prelude.{⊤}
 use Rattle.irtext_base.specs.Format.{has}
@@ -24,7 +24,7 @@ Names done = ⊤
 Names (does a k) = Naming a × Names k
 Names (within iso p body k) = Names body × Names k
 
--- nothing stands outside of regions, and these are isolated
+-- no act is outside of regions, and these are isolated
 abbrev pub OnlyRegions : {N P : Type 0} → Script N P → Type 0
 OnlyRegions done = ⊤
 OnlyRegions (does a k) = ⊥

@@ -1,4 +1,4 @@
--- What is wrong in one script and then another: what is wrong in the first, and in the second behind the facts of the first.
+-- The failures of one script and then another: those of the first, and those of the second after the facts of the first.
 use Rattle.std.proofs.Common.{◌≡◌, Bool, List, [], ◌++◌, Option, Some, None, refl, sym, ap, ◌∙◌, append_assoc, append-nil}
 use Rattle.irtext_grammar.specs.Names.Script.{Script, done, does, within, follow}
 use Rattle.irtext_grammar.specs.Names.Scopes.{Fact, Facts, ◌⊕◌, Scopes, and_then, ◌⊳◌, fact_of, not_isolated, inside, left_open, outward, facts, act_failures, failures}
@@ -19,7 +19,7 @@ module _ {N : Type 0} where
   then_nothing s = λ i. record { values = sym (and_nothing s.values) i; labels = sym (and_nothing s.labels) i; marks = sym (append-nil s.marks) i; entries = sym (append-nil s.entries) i }
 
 module _ {N P : Type 0} (eq : N → N → Bool) where
-  -- the failures of one script and then another: those of the first, and those of the second behind the first's facts
+  -- the failures of one script and then another: those of the first, and those of the second after the first's facts
   pub failures_follow : (s : Scopes N) (x y : Script N P) → failures eq s (follow x y) ≡ failures eq s x ++ failures eq (s ⊳ facts eq x) y
   failures_follow s done y = ap (λ z. failures eq z y) (then_nothing s)
   failures_follow s (does a k) y =

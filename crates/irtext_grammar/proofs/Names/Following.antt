@@ -14,7 +14,7 @@ module _ {P : Type 0} where
   does_follow [] x y = refl
   does_follow (a ∷ xs) x y = ap (does a) (does_follow xs x y)
 
-  -- each of the scripts goes on with what is done then
+  -- a script that follows one of these may be moved inside it
   abbrev pub AllFollow : List (Script Text P → Script Text P) → Type 0
   AllFollow [] = ⊤
   AllFollow (r ∷ rs) = ((x y : Script Text P) → r (follow x y) ≡ follow (r x) y) × AllFollow rs
@@ -35,14 +35,14 @@ module _ {P T A : Type 0} where
   parts_follow p k l (tree.region i ∷ ps) (r ∷ rs) x y h = ap r (parts_follow p k l ps rs x y h.1) ∙ h.0 (parts_script p k l ps rs x) y
   parts_follow p k l (tree.regions ∷ ps) rs x y h = ap (all_of rs) (parts_follow p k l ps [] x y tt) ∙ all_follow rs (parts_script p k l ps [] x) y h
 
-  -- an operation's script goes on with what is done then
+  -- a script that follows an operation's script may be moved inside it
   pub operation_follow : (p : Path) (o : Op P T A) (rs : List (Script Text P → Script Text P)) (x y : Script Text P) → AllFollow rs → operation_script p o rs (follow x y) ≡ follow (operation_script p o rs x) y
   operation_follow p o rs x y h =
       ap (parts_script p (singles (parts_of o.body)) (single_labels (parts_of o.body)) (parts_of o.body) rs) (does_follow (closing_acts p o) x y)
       ∙ parts_follow p (singles (parts_of o.body)) (single_labels (parts_of o.body)) (parts_of o.body) rs (does_all (closing_acts p o) x) y h
 
   module _ (isolated : Id → Bool) where
-    -- so does that of each region
+    -- the same for that of each region
     pub regions_follow : (p : Path) (j : ℕ) (iso : Bool) (rs : Regions (Op P T A) (Head P T A) (Brace P)) → AllFollow (region_scripts isolated p j iso rs)
     regions_follow p j iso no_regions = tt
     regions_follow p j iso (region b bs rs) = ((λ x y. region_follow iso b (blocks_script isolated (j ∷ p) 0 bs) x y), regions_follow p (suc j) iso rs)

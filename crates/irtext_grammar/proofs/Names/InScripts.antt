@@ -111,24 +111,24 @@ module _ {P T A : Type 0} (isolated : Id → Bool) (of_piece : Piece P T A → T
     (heads : (p : Path) (h : Head P T A) (then : Script Text P) → Both (D (does_all (header_acts p h) then)) (of_head h × D then))
     (regions : (p : Path) (iso : Bool) (place : P) (bs : Blocks (Op P T A) (Head P T A) (Brace P)) (then : Script Text P) (Q : Type 0) → WholeBlocks bs → Both (D (blocks_script isolated p 0 bs)) Q
     → Both (D (within iso place (blocks_script isolated p 0 bs) then)) (inside iso bs Q × D then)) where
-  -- what is asked of a body's pieces
+  -- what is required of a body's pieces
   abbrev pub OfParts : List (Part P T A) → Type 0
   OfParts [] = ⊤
   OfParts (tree.piece x ∷ ps) = of_piece x × OfParts ps
   OfParts (_ ∷ ps) = OfParts ps
 
   abbrev mutual
-    -- what is asked of regions
+    -- what is required of regions
     pub OfRegions : Bool → Regions (Op P T A) (Head P T A) (Brace P) → Type 0
     OfRegions iso no_regions = ⊤
     OfRegions iso (region brace bs rs) = inside iso bs (OfBlocks bs) × OfRegions iso rs
 
-    -- what is asked of blocks
+    -- what is required of blocks
     pub OfBlocks : Blocks (Op P T A) (Head P T A) (Brace P) → Type 0
     OfBlocks no_blocks = ⊤
     OfBlocks (block h os bs) = of_head h × (OfOperations os × OfBlocks bs)
 
-    -- what is asked of operations
+    -- what is required of operations
     pub OfOperations : Operations (Op P T A) (Head P T A) (Brace P) → Type 0
     OfOperations no_operations = ⊤
     OfOperations (operation o rs os) = (OfParts (parts_of o.body) × (OfRegions (isolated o.id) rs × of_op o)) × OfOperations os
@@ -144,7 +144,7 @@ module _ {P T A : Type 0} (isolated : Id → Bool) (of_piece : Piece P T A → T
       let s = all_hold p (suc j) iso rs then a.1 in
       record { to = λ d. let x = r.to d in let y = s.to x.1 in ((x.0, y.0), y.1); from = λ d. r.from (d.0.0, s.from (d.0.1, d.1)) }
 
-  -- what holds of the script of a body's parts holds of the parts, and the other way round
+  -- what holds of the script of a body's parts holds of the parts, and conversely
   pub parts_hold : (p : Path) (k l : ℕ) (ps : List (Part P T A)) (q : Path) (j : ℕ) (iso : Bool) (rs : Regions (Op P T A) (Head P T A) (Brace P)) (then : Script Text P) → Enough ps rs → Hold q j iso rs
       → Both (D (parts_script p k l ps (region_scripts isolated q j iso rs) then)) (OfParts ps × (OfRegions iso rs × D then))
   parts_hold p k l [] q j iso no_regions then e a = record { to = λ d. (tt, (tt, d)); from = λ d. d.1.1 }

@@ -1,4 +1,4 @@
--- Printed names of different things differ: the last run of digits is the number, or generation and place.
+-- Printed names of different values and blocks differ: the last run of digits is the number, or generation and place.
 use Rattle.std.proofs.Common.{◌≡◌, ℕ, ◌<◌, Bool, true, false, cond, ◌&&◌, ◌==◌, List, [], ◌∷◌, ◌++◌, Option, Some, None, codes, decimal, refl, sym, ap, ap₂, ◌∙◌, subst, true≢false, append_assoc, length, ◌^◌, arith}
 use Rattle.std.proofs.lemmas.List.{append_cancel_right}
 use Rattle.std.proofs.lemmas.Fmt.{decimal_injective, decimal_nonempty, decimal_is_IsNumeral}
@@ -37,7 +37,7 @@ not_digit_before a b c d e n p q same =
     let k : d ≡ e = sym (run_last a c d n p) ∙ (ap last_run same ∙ run_last b c e n q) in
     (k, append_cancel_right a b (c ∷ d) (same ∙ ap (λ z. b ++ (c ∷ z)) (sym k)))
 
--- what stands before the `v` of a value's name, and of a block's
+-- what precedes the `v` of a value's name, and that of a block's
 abbrev front_of_value : Option Text → Text
 front_of_value None = []
 front_of_value (Some g) = g ++ codes "_"
@@ -95,7 +95,7 @@ both_of : (a b : Bool) → (a && b) ≡ true → (a ≡ true) × (b ≡ true)
 both_of true b e = (refl, e)
 both_of false b e = absurd (true≢false (sym e))
 
--- the printed names of two things are one text exactly where the things are one
+-- the printed names of two values or blocks are one text exactly if these are the same
 pub names_agree : {T A : Type 0} (C : Printing T A) (x y : Thing) → Small x → Small y → same_text (printed C x) (printed C y) ≡ same_thing x y
 names_agree C (a_value v) (a_value w) p q =
     decided (value_name (C.given v) v) (value_name (C.given w) w) (v == w) (λ e. ap (λ n. value_name (C.given n) n) (same_character v w e))

@@ -1,5 +1,5 @@
--- Where the failures of labels stand: of a label that its scope has already at that label, of what a region leaves open at the
--- region's brace.
+-- The places of the failures of labels: that of a label defined twice is the place of the second definition, that of labels that a region
+-- leaves open is the region's brace.
 use Rattle.std.proofs.Common.{◌≡◌, ℕ, Bool, true, false, cond, List, [], ◌∷◌, ◌++◌, Some, is_some, refl, sym, ap, ◌∙◌, subst, ◌⊎◌, inl, inr}
 use Rattle.irtext_base.specs.Text.{Text}
 use Rattle.irtext_base.specs.Format.{same_text}
@@ -35,7 +35,7 @@ undefined_not_found name (defines m q ∷ scope) n =
     ∙ undefined_not_found name scope (λ d. n (d.0, inr d.1))
 
 -- ---- what one act fails by
--- a block's label that its scope has already fails where it stands
+-- a block's label that is already defined in its scope fails at its place
 pub defined_again : (s : Scopes) (n : Name ℕ) (place : ℕ) → n.place ≡ place → (p : Place) (scope : List Fact) → s.labels ≡ Some scope → IsDefined n.text scope
     → Fails s (define_label (word_of n) p) (record { cause = MultipleDefinitions n.text; at = Some place })
 defined_again s n place at p scope e d k = ap (λ z. z ++ failures (s ⊳ fact_of (define_label (word_of n) p)) k)

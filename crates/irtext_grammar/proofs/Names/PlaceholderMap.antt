@@ -12,7 +12,7 @@ use Rattle.irtext_grammar.proofs.Lists.SameText.{same_text_refl, same_text_true,
 use Rattle.irtext_grammar.proofs.Lists.Lists.{among, or_else, or_else-none, lookup-append, lookup-use, lookup-define, add, name_of, names_from, names-append, among-new, among-differs, among-added, among-names, entries, shown, entries-append, shown-append, find-entries, same_entries, same_shown}
 use Rattle.irtext_grammar.proofs.Lists.Sets.{Same, same_refl, same_path, same_then, same_both, same_map, same_swap}
 
--- what a name stands for: its definition, or else a placeholder of this number
+-- what a name refers to: its definition, or else a placeholder of this number
 abbrev pub held_of : Option Place → ℕ → Held
 held_of (Some p) k = bound p
 held_of None k = hole k
@@ -27,7 +27,7 @@ pub record Scope : Type 0 where
   pub number : Text → ℕ
   pub base : ℕ
 
--- what a name stands for in a scope
+-- what a name refers to in a scope
 abbrev pub means : Scope → Text → Held
 means g = held g.number g.facts
 
@@ -54,7 +54,7 @@ abbrev pub operands : List Scope → List (User × Held)
 operands [] = []
 operands (g ∷ gs) = shown (means g) g.facts ++ operands gs
 
--- what is bound for good, as it is held
+-- what is bound for good, as it is stored
 abbrev pub final : List (User × Place) → List (User × Held)
 final [] = []
 final ((u, p) ∷ b) = (u, bound p) ∷ final b
@@ -64,18 +64,18 @@ pub record Pending (f : List Fact) (n : Text) : Type 0 where
   pub there : among n (names f) ≡ true
   pub open_yet : lookup n f ≡ None
 
--- the placeholders of a scope differ, and lie between two bounds
+-- the placeholders of a scope differ, and are between two bounds
 pub record Apart (g : Scope) (high : ℕ) : Type 0 where
   pub low : g.base ≤ high
   pub within : (n : Text) → Pending g.facts n → (g.base ≤ g.number n) × (g.number n < high)
   pub apart : (m n : Text) → Pending g.facts m → Pending g.facts n → g.number m ≡ g.number n → m ≡ n
 
--- the placeholders of open scopes lie one scope's above the other's
+-- the placeholders of each open scope have higher numbers than those of the scope outside of it
 abbrev pub Stacked : ℕ → List Scope → Type 0
 Stacked high [] = Unit {0}
 Stacked high (g ∷ gs) = Apart g high × Stacked g.base gs
 
--- the reader's state is what the open scopes and what is bound say
+-- the parser's state is what the open scopes and what is bound say
 pub record Linked (gs : List Scope) (b : List (User × Place)) (s : Names) : Type 0 where
   pub scopes_are : s.scopes ≡ maps_of gs
   pub stacked : Stacked s.fresh gs
@@ -114,14 +114,14 @@ unknown n ns (defines m p ∷ f) h = go (same_text m n) refl (unknown n (add ns 
     go true e k = absurd (true≢false (sym (subst (λ z. among z (names_from (add ns m) f) ≡ true) (same_text_true m n e) (among-names m (add ns m) f (among-added m ns))) ∙ h))
     go false e k = k
 
--- ---- what the calls answer
+-- ---- what the calls return
 abbrev pub Agrees : List Failure → List Scope → List (User × Place) → Result Names Failure → Type 0
 Agrees [] gs b (Ok s) = Linked gs b s
 Agrees [] gs b (Err f) = ⊥
 Agrees (x ∷ xs) gs b (Ok s) = ⊥
 Agrees (x ∷ xs) gs b (Err f) = f ≡ x
 
--- a reader's answer agrees with these failures, or else has open scopes of these facts
+-- a parser's result agrees with these failures, or else has open scopes of these facts
 pub record Follows (F : List Failure) (fs : List (List Fact)) (b : List (User × Place)) (r : Result Names Failure) : Type 0 where
   pub scopes : List Scope
   pub facts_are : facts_in scopes ≡ fs
@@ -415,7 +415,8 @@ head (x ∷ xs) = Some x
 abbrev pub unresolved_name : ℕ → Text → Failure
 unresolved_name a n = record { cause = script.UnresolvedReference n; at = Some a }
 
-defined_there : (n : Text) (p : Place) (pre fs : List Fact) → (q : Place) × (lookup n (pre ++ defines n p ∷ fs) ≡ Some q)
+-- a name that is defined after some facts is found among all
+pub defined_there : (n : Text) (p : Place) (pre fs : List Fact) → (q : Place) × (lookup n (pre ++ defines n p ∷ fs) ≡ Some q)
 defined_there n p pre fs = go (lookup n pre) refl
   where
     last : lookup n (defines n p ∷ fs) ≡ Some p
@@ -466,7 +467,7 @@ left_linked g gs b s a l e =
           (same_path _ _ (append_assoc (operands gs) (final b) X ∙ ap (λ z. operands gs ++ z) (sym (final-append b (bound_in g.facts g.facts)))))));
     }
 
--- the scopes round the innermost one
+-- the scopes around the innermost one
 abbrev pub under_scopes : List Scope → List Scope
 under_scopes [] = []
 under_scopes (g ∷ gs) = gs

@@ -1,4 +1,4 @@
--- A script is not refused where its names resolve and what looks at no name is not refused.
+-- A script has no failure if its names resolve and the acts that look at no name do not fail.
 use Rattle.std.proofs.Common.{◌≡◌, Bool, true, false, List, [], ◌∷◌, ◌++◌, Option, Some, None, refl, sym, ap, ap₂, ◌∙◌, subst, append-nil}
 use Rattle.irtext_grammar.specs.Names.Script.{use_value, use_label, define_value, define_label, mark, entry, claim, Script, done, does, within}
 use Rattle.irtext_grammar.specs.Names.Scopes.{Fact, Facts, ◌⊕◌, Scopes, and_then, ◌⊳◌, fact_of, not_isolated, inside, outward, facts, act_failures, left_open, failures}
@@ -57,7 +57,7 @@ module _ {N P : Type 0} (eq : N → N → Bool) where
   left_unmarked p true x = refl
   left_unmarked p false x = refl
 
-  -- a script is not refused where it is not refused without marks, entries and claims, and those hold
+  -- a script has no failure if it has none without marks, entries and claims, and those hold
   pub no_failure : (s : Scopes N) (x : Script N P) → failures eq (unmarked_scopes s) (plain x) ≡ [] → Kept eq s x → failures eq s x ≡ []
   no_failure s done e h = refl
   no_failure s (does (mark i p) k) e h =

@@ -1,4 +1,4 @@
--- The reader's machine ends as the two passes say.
+-- The parser's machine ends as the two passes say.
 use Rattle.std.proofs.Common.{◌≡◌, ℕ, Bool, true, false, cond, not, ◌&&◌, List, [], ◌∷◌, ◌++◌, Some, None, Result, Ok, Err, refl, sym, ap, ◌∙◌, subst, inl, inr, append_assoc, append-nil}
 use Rattle.irtext_base.specs.Text.{Text}
 use Rattle.irtext_grammar.specs.Names.Script.{Place, User, use_value, use_label, define_value, define_label, mark, entry, claim, DuplicateIndex, UnknownIndex, NotIsolated, Cause}
@@ -43,7 +43,7 @@ onto-nothing : (gs : List (List Fact)) → onto gs [] ≡ gs
 onto-nothing [] = refl
 onto-nothing (h ∷ gs) = ap (λ x. x ∷ gs) (append-nil h)
 
--- scopes over the same places are tied to a state whose facts and lists are theirs
+-- scopes over the same places match a state whose facts and lists are theirs
 tied : (st st' : State) (t t' : Tracker) (d : Tied st t) (vs ls : List Scope) → facts_in vs ≡ st'.values → facts_in ls ≡ st'.labels → t'.marks ≡ st'.marks → t'.entries ≡ st'.entries → st.bound ≡ st'.bound
     → Linked vs d.of_values t'.values → Linked ls d.of_labels t'.labels → Tied st' t'
 tied st st' t t' d vs ls v l m n b x y = record {
@@ -256,7 +256,7 @@ ends [] f (Err x) d = d
 ends (x ∷ F) f (Ok t) d = d
 ends (x ∷ F) f (Err y) d = d
 
--- the reader's machine ends with the first failure, or with what the two passes bind
+-- the parser's machine ends with the first failure, or with what the two passes bind
 pub reads : (x : Script) → AgreesWith (failures no_scope x) (facts x).bound (read (Ok fresh_tracker) (events x))
 reads x = ends (failures no_scope x) (facts x) (read (Ok fresh_tracker) (events x)) (subst (λ o. Follow o (read (Ok fresh_tracker) (events x))) (one_pass x) (run_follows (events x) (going start) (Ok fresh_tracker) begun))
 

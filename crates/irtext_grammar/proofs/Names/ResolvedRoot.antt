@@ -1,4 +1,4 @@
--- A root and its section are not refused exactly where they resolve.
+-- A root and its section have no failure exactly if they resolve.
 use Rattle.std.proofs.Common.{◌≡◌, Bool, true, false, ◌==◌, List, [], ◌∷◌, ◌++◌, map, refl, sym, ap, ◌∙◌, subst}
 use Rattle.irtext_base.specs.Text.{Text}
 use Rattle.irtext_base.specs.Format.{Id, same_text, distinct}
@@ -114,7 +114,7 @@ module _ {P T A X : Type 0} (isolated : Id → Bool) (t : Tree P T A) (es : List
       (lists.labels_in_root isolated t w ∙ ap (λ z. z ++ []) (none_kept isolated (λ o. []) (λ h. h.label.text ∷ []) (isolated t.own.id) t.regions))
       ((uses.labels_in_root isolated (λ n. ⊥) t w).from (none_each (R used_labels (λ h. []) kept_inside ++ used_labels t.own) (append_empty (R used_labels (λ h. []) kept_inside) (used_labels t.own) (none_kept isolated used_labels (λ h. []) (isolated t.own.id) t.regions) u)))
 
-  -- a root that is not refused resolves
+  -- a root without failures resolves
   pub resolves : failures_of isolated t es ≡ [] → Resolves isolated t es
   resolves e =
       let b = both_empty (failures same_text no_scope x) (failures same_text (no_scope ⊳ facts same_text x) (does_all (section_acts (rule_of t) es) done)) (sym parts_failures ∙ e) in
@@ -132,7 +132,7 @@ module _ {P T A X : Type 0} (isolated : Id → Bool) (t : Tree P T A) (es : List
         section = section_resolves (rule_of t) es (no_scope ⊳ facts same_text x) (marks_of isolated t) marks_are entries_are b.1;
       }
 
-  -- a root that resolves is not refused
+  -- a root that resolves has no failure
   pub not_refused : Resolves isolated t es → failures_of isolated t es ≡ []
   not_refused r =
       let g : Good no_scope x = record {

@@ -1,4 +1,5 @@
--- A script without entries is not refused exactly where its claims hold, what it gives the scopes round it is new there, and the scopes that end in it resolve.
+-- A script without entries has no failure exactly if its claims hold, what it gives the scopes around it is new there, and the scopes that
+-- end in it resolve.
 use Rattle.std.proofs.Common.{◌≡◌, ℕ, Bool, true, false, cond, ◌||◌, ◌==◌, List, [], ◌∷◌, ◌++◌, Option, Some, None, refl, sym, ap, ◌∙◌, subst, true≢false, arith}
 use Rattle.std.specs.Prelude.{⊤, is_some, nat_eq}
 use Rattle.std.proofs.lemmas.Bool.Decides.{nat_tests}
@@ -13,7 +14,7 @@ use Rattle.irtext_grammar.proofs.Lists.Fresh.{Fresh, fresh_join, fresh_left, fre
 use Rattle.irtext_grammar.proofs.Lists.Each.{each_both, each_left, each_right}
 
 -- ---- names in scopes
--- the names that a scope defines, in reading order
+-- the names that a scope defines, in the order of the text
 abbrev pub defined : List (Fact Text) → List Text
 defined [] = []
 defined (uses n u ∷ fs) = defined fs
@@ -75,7 +76,7 @@ then_nothing : {X : Type 0} (b : Bool) (x : X) → cond b (x ∷ []) [] ≡ [] �
 then_nothing true x e = absurd (unequal x [] e)
 then_nothing false x e = refl
 
--- the other way round
+-- the converse
 pub nothing_if : {X : Type 0} (b : Bool) (x : X) → b ≡ true → cond b [] (x ∷ []) ≡ []
 nothing_if true x e = refl
 nothing_if false x e = absurd (true≢false (sym e))
@@ -164,13 +165,13 @@ module _ {P : Type 0} where
   Entryless (does _ k) = Entryless k
   Entryless (within iso p body k) = Entryless body × Entryless k
 
-  -- the regions that stand in no other are isolated
+  -- the regions that are in no other region are isolated
   abbrev pub OuterIsolated : Script Text P → Type 0
   OuterIsolated done = ⊤
   OuterIsolated (does a k) = OuterIsolated k
   OuterIsolated (within iso p body k) = (iso ≡ true) × OuterIsolated k
 
-  -- what a script without entries has to meet so that it is not refused
+  -- the conditions under which a script without entries has no failure
   pub record Good (s : Scopes Text) (x : Script Text P) : Type 0 where
     pub claims : Claims x
     pub values : New s.values (facts same_text x).values
@@ -179,7 +180,7 @@ module _ {P : Type 0} where
     pub outer : s.values ≡ None → OuterIsolated x
     pub scopes : Each Scope (scopes x)
 
-  -- what is asked of one act
+  -- what is required of one act
   abbrev Claim : Act Text P → Type 0
   Claim (claim b x) = b ≡ true
   Claim _ = ⊤
@@ -297,7 +298,7 @@ module _ {P : Type 0} where
             ((new_once (F body).values b.values, resolved_of p (F body).values (F body).values e.0), ((new_once (F body).labels b.labels, resolved_of p (F body).labels (F body).labels e.1), d.scopes));
       }
 
-  -- a script that is not refused meets it
+  -- a script without failures satisfies the conditions
   pub good_of : (s : Scopes Text) (x : Script Text P) → Entryless x → failures same_text s x ≡ [] → Good s x
   good_of s done n e = record { claims = tt; values = new_nothing s.values; labels = new_nothing s.labels; marks = tt; outer = λ h. tt; scopes = tt }
   good_of s (does a k) n e =
@@ -318,7 +319,7 @@ module _ {P : Type 0} where
   open_shared None h = absurd (true≢false (sym (h refl)))
   open_shared (Some fs) h = refl
 
-  -- a script that meets it is not refused
+  -- a script that satisfies the conditions has no failures
   pub of_good : (s : Scopes Text) (x : Script Text P) → Entryless x → Good s x → failures same_text s x ≡ []
   of_good s done n g = refl
   of_good s (does a k) n g =

@@ -1,4 +1,4 @@
--- A section is not refused exactly where its entries, references and keys are right.
+-- A section has no failure exactly if its entries, references and keys are right.
 use Rattle.std.proofs.Common.{◌≡◌, ℕ, true, not, ◌&&◌, ◌==◌, List, [], ◌∷◌, ◌++◌, refl, sym, ap, ap₂, ◌∙◌, subst, append_assoc, append-nil, arith}
 use Rattle.std.specs.Prelude.{⊤, flat_map}
 use Rattle.std.proofs.lemmas.Bool.Decides.{nat_tests}
@@ -36,7 +36,7 @@ module _ {P : Type 0} where
   index_of (entry i p) = i ∷ []
   index_of _ = []
 
-  -- what entries and claims ask, where these marks and these entries stand before them
+  -- what entries and claims require, after these marks and these entries
   abbrev Right : List ℕ → List ℕ → List (Act Text P) → Type 0
   Right ms ns acts = Each Holds acts × Fresh ◌==◌ ns (flat_map index_of acts) × Each (λ i. has ◌==◌ i ms ≡ true) (flat_map index_of acts)
 
@@ -76,7 +76,7 @@ module _ {P A X : Type 0} (rules : ℕ → Rule A) (all : List (Entry P A X)) wh
   abbrev Pair : Type 0
   Pair = Name P × Item P A
 
-  -- what the pairs of one entry do, as they stand and behind the last entry
+  -- what the pairs of one entry do, at the entry and after the last entry
   abbrev Known : List Pair → Type 0
   Known = Each (λ i. is_known all i ≡ true)
 
@@ -156,7 +156,7 @@ module _ {P A X : Type 0} (rules : ℕ → Rule A) (es : List (Entry P A X)) whe
   index_all : flat_map index_of (section_acts rules es) ≡ indices es
   index_all = flat_both index_of (flat_map (entry_acts rules) es) (flat_map (late_acts rules es) es) ∙ (ap₂ ◌++◌ (entries_index rules es es) (entries_no_index rules es es) ∙ append-nil (indices es))
 
-  -- a section that is not refused resolves
+  -- a section without failures resolves
   pub section_resolves : (s : Scopes Text) (marks : List ℕ) → s.marks ≡ marks → s.entries ≡ [] → failures same_text s (does_all (section_acts rules es) done) ≡ [] → SectionResolves rules marks es
   section_resolves s marks em en e =
       let r = right_of s marks [] em en (section_acts rules es) quiet e in
@@ -168,7 +168,7 @@ module _ {P A X : Type 0} (rules : ℕ → Rule A) (es : List (Entry P A X)) whe
         kept = h.1;
       }
 
-  -- a section that resolves is not refused
+  -- a section that resolves has no failure
   pub resolves_section : (s : Scopes Text) (marks : List ℕ) → s.marks ≡ marks → s.entries ≡ [] → SectionResolves rules marks es → failures same_text s (does_all (section_acts rules es) done) ≡ []
   resolves_section s marks em en r =
       let h = hold_entries rules es es r.known r.kept in

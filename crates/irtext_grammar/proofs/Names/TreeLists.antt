@@ -1,4 +1,4 @@
--- What the scopes of a tree's script define and use, and which marks it has, told from the tree.
+-- What the scopes of a tree's script define and use, and which marks it has, computed from the tree.
 use Rattle.std.proofs.Common.{◌≡◌, ℕ, Bool, true, false, List, [], ◌∷◌, ◌++◌, map, refl, sym, ap, ap₂, ◌∙◌, append_assoc, append-nil}
 use Rattle.std.specs.Prelude.{flat_map}
 use Rattle.irtext_base.specs.Text.{Text}
@@ -40,7 +40,7 @@ one x = x ∷ []
 
 -- ---- lists, act by act
 module _ {P X : Type 0} (uv ul dv dl : Text → List X) (mk : ℕ → List X) (L : Script Text P → List X) (step : (a : Act Text P) (k : Script Text P) → L (does a k) ≡ act_of uv ul dv dl mk a ++ L k) where
-  -- what is gathered of acts, and then of what is done behind them
+  -- what is gathered of acts, and then of the script after them
   pub acts_add : (acts : List (Act Text P)) (k : Script Text P) → L (does_all acts k) ≡ flat_map (act_of uv ul dv dl mk) acts ++ L k
   acts_add [] k = refl
   acts_add (a ∷ acts) k = step a (does_all acts k) ∙ (ap (λ z. act_of uv ul dv dl mk a ++ z) (acts_add acts k) ∙ sym (append_assoc (act_of uv ul dv dl mk a) (flat_map (act_of uv ul dv dl mk) acts) (L k)))

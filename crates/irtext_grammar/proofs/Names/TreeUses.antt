@@ -1,4 +1,4 @@
--- What the scopes of a tree's script use, told from the tree, in whatever order.
+-- What the scopes of a tree's script use, computed from the tree, in any order.
 use Rattle.std.proofs.Common.{◌≡◌, ℕ, Bool, true, false, List, [], ◌∷◌, ◌++◌, map, refl, sym, ap, ap₂, ◌∙◌, subst, append-nil}
 use Rattle.std.specs.Prelude.{⊤, flat_map}
 use Rattle.irtext_base.specs.Text.{Text}
@@ -27,7 +27,7 @@ abbrev pub Unless : Bool → Type 0 → Type 0
 Unless true Q = ⊤
 Unless false Q = Q
 
--- nothing is asked
+-- nothing is required
 abbrev pub Never : Bool → Type 0 → Type 0
 Never iso Q = ⊤
 

@@ -80,7 +80,7 @@ module _ {N : Type 0} (eq : N → N → Bool) where
   bound_meant v l (does a k) u q = in_both (u, q) (u, Some q) _ _ _ _ (bound_by_meant v l a u q) (bound_meant v l k u q)
   bound_meant v l (within iso p body k) u q = in_both (u, q) (u, Some q) _ _ _ _ (bound_meant (cond iso (facts eq body).values v) (facts eq body).labels body u q) (bound_meant v l k u q)
 
-  -- the uses of acts, and then of what is done behind them
+  -- the uses of acts, and then of the script after them
   pub meant_all : {P : Type 0} (v l : List (Fact N)) (acts : List (Act N P)) (k : Script N P) → meant v l (does_all acts k) ≡ acts_meant v l acts ++ meant v l k
   meant_all v l [] k = refl
   meant_all v l (a ∷ rest) k = ap (λ z. meant_by v l a ++ z) (meant_all v l rest k) ∙ sym (append_assoc (meant_by v l a) (acts_meant v l rest) (meant v l k))

@@ -1,4 +1,4 @@
--- The text of a root with its section reads as a tree and entries, which are the written ones but for places and locations.
+-- The text of a root with its section parses as a tree and entries, which are the written ones but for places and locations.
 use Rattle.std.proofs.Common.{◌≡◌, ℕ, ◌+◌, ◌<◌, ◌^◌, List, [], ◌∷◌, ◌++◌, map, length, None, refl, sym, ap, ◌∙◌, subst, append-nil}
 use Rattle.std.specs.Prelude.{⊤, codes}
 use Rattle.std.specs.Char.{is_whitespace}
@@ -29,15 +29,15 @@ module _ {T A X : Type 0} (types : Texts T) (owns : Texts A) (types_law : Lawful
   abbrev B : Language ⊤ T A
   B = unplaced types owns C.format_of
 
-  -- what each of the entries needs so that its text is read back
+  -- what each of the entries needs so that its text is parsed back
   abbrev pub AreSpellableItems : List (graph.Entry C) → Type 0
   AreSpellableItems all = Each (IsSpellableEntryOf L types_law owns_law unreserved length (λ t. refl) location_at K C (length all) (shared C all)) all
 
-  -- a tree and entries that a whole text reads as, which are these without places
+  -- a tree and entries that a whole text parses as, which are these without places
   abbrev pub RootRead : Tree ⊤ T A → List (Entry ⊤ A Text) → Text → Type 0
   RootRead t es text = (t' : Tree ℕ T A) × (es' : List (Entry ℕ A X)) × (u : Text) × reads_root L location_at t' es' text u × (bare t' ≡ t) × (bare_section K.text es' ≡ es) × (after_space u ≡ [])
 
-  -- a section that was found behind a tree
+  -- a section that was found after a tree
   section_behind : (t : Tree ℕ T A) (all : List (graph.Entry C)) (f : Text) → is_some_list all ≡ marked t → after_space f ≡ after_space (section.section B C all)
       → length all + length (shared C all) < 2 ^ 64 → AreSpellableItems all
       → (es : List (Entry ℕ A X)) × (u : Text) × section_if L location_at (marked t) es f u × (bare_section K.text es ≡ written_section C all) × (after_space u ≡ [])
@@ -49,11 +49,11 @@ module _ {T A X : Type 0} (types : Texts T) (owns : Texts A) (types_law : Lawful
       let q : after_space (after_space (t' ++ [])) ≡ after_space f = after_twice is_whitespace (t' ++ []) ∙ (ap after_space (append-nil t') ∙ sym s) in
       (r.item, r.thru.left, subst (λ b. section_if L location_at b r.item f r.thru.left) e (subst inner q r.thru.reading), r.same, r.thru.same)
 
-  -- a tree that a text reads as before what follows, which is this without places
+  -- a tree that a text parses as before what follows, which is this without places
   abbrev pub TreeRead : Tree ⊤ T A → Text → Text → Type 0
   TreeRead t text f = (t' : Tree ℕ T A) × (u : Text) × reads.reads L t' text u × (bare t' ≡ t) × (after_space u ≡ after_space f)
 
-  -- the text of a graph whose tree is read back before the section
+  -- the text of a graph whose tree is parsed back before the section
   pub root_behind : (g : Graph T A) (width n : ℕ) → let f = section.section B C (entries_of C None g) in TreeRead (written C None g) (spelled B width n (written C None g) ++ f) f → SmallSection C g → AreSpellableItems (entries_of C None g)
       → RootRead (written C None g) (written_section C (entries_of C None g)) (section.text B C g n width None)
   root_behind g width n r small items =

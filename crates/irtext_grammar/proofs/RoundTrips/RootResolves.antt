@@ -1,4 +1,4 @@
--- A closed root's text with its section reads as a tree and entries that resolve, in which each item has its own entry.
+-- A closed root's text with its section parses as a tree and entries that resolve, in which each item has its own entry.
 use Rattle.std.proofs.Common.{◌≡◌, ℕ, ◌+◌, ◌<◌, ◌^◌, Bool, true, false, cond, List, [], ◌∷◌, ◌++◌, length, Option, None, refl, sym, ap, ap₂, ◌∙◌, subst, arith, append-nil, inl, Some}
 use Rattle.std.specs.Prelude.{⊤}
 use Rattle.irtext_base.specs.Text.{Text}
@@ -168,7 +168,7 @@ module _ {T A X : Type 0} (types : Texts T) (owns : Texts A) (types_law : Lawful
       each_two (EntryLocated C location_at K) (λ e. EntryWordy C e × Mentions C sound once e) (ItemFine items once) (λ e h k. (h, pairs e.attributes k.0 k.1)) all (entries_located C location_at K g held)
       (each_two (EntryWordy C) (Mentions C sound once) (λ e. EntryWordy C e × Mentions C sound once e) (λ e h k. (h, k)) all (entries_wordy C g w) (each_shared C sound reflexive all))
 
-  -- behind the root's text stands its section, and nothing more
+  -- the root's text is followed by its section, and nothing more
   behind : (isolated : Id → Bool) (g : Graph T A) → Fit C isolated g → BehindRoot B (written C None g) (section.section B C (entries_of C None g))
   behind isolated g fit =
       let t = written C None g in

@@ -1,4 +1,5 @@
--- The printed text of a closed root with its section reads as a tree and entries that resolve, and what they build is equal to the root up to fillings.
+-- The printed text of a closed root with its section parses as a tree and entries that resolve, and what they build is equal to the root up
+-- to fillings.
 use Rattle.std.proofs.Common.{None, ◌≡◌, ℕ, Bool, true, refl, List, [], sym, ap, ap₂, ◌∙◌, subst}
 use Rattle.std.specs.Prelude.{⊤}
 use Rattle.irtext_base.specs.Text.{Text, after_space}
@@ -62,7 +63,7 @@ module _ {T A X : Type 0} (types : Texts T) (owns : Texts A) (types_law : Lawful
   abbrev L : Language ℕ T A
   L = language types owns C.format_of
 
-  -- the printed text of a closed root reads as a tree and entries that resolve, and what they build is equal to the root up to fillings
+  -- the printed text of a closed root parses as a tree and entries that resolve, and what they build is equal to the root up to fillings
   pub comes_back : (g : Graph T A) (width n : ℕ) → HasIdentifiers C g → Fit C isolated g → SmallGraph C isolated g → GraphKeepsKeys g → GraphHeld location_at K g → Closed C isolated g → SmallSection C g
       → ComesBack types owns location_at K first C isolated g width n
   comes_back g width n wordy fit small keys held closed numbers =
@@ -74,7 +75,7 @@ module _ {T A X : Type 0} (types : Texts T) (owns : Texts A) (types_law : Lawful
       let formed = formed_read L (λ p q h. h) t _ r.3.0 (accepted_written C isolated L (λ i. refl) g t fit r.4) r.3.1 in
       (t, es, r.2, r.3, r.6, resolves, fillings C isolated K first position es g t (does_all (section_acts (rule_of t) es) done) fit small keys (held_differ location_at K g held) r.4 formed resolves says)
 
-  -- whatever the text reads as is that
+  -- whatever the text parses as is that
   pub each_comes_back : (g : Graph T A) (width n : ℕ) → ComesBack types owns location_at K first C isolated g width n
       → (t : Tree ℕ T A) (es : List (Entry ℕ A X)) (u : Text) → reads_root L location_at t es (text (unplaced types owns C.format_of) C g n width None) u
       → (after_space u ≡ []) × (failures_of isolated t es ≡ []) × UpToFillings K (stood C isolated g) (build isolated first es t)

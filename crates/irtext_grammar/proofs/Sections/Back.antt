@@ -1,4 +1,4 @@
--- The text of a section reads as its entries, behind whatever it stands, before anything but `!`.
+-- The text of a section parses as its entries, whatever precedes it, and whatever follows except `!`.
 use Rattle.std.proofs.Common.{◌≡◌, ℕ, suc, ◌+◌, ◌<◌, ◌^◌, Bool, true, false, cond, List, [], ◌∷◌, ◌++◌, map, length, Option, Some, None, option_map, refl, sym, ap, ap₂, subst, inr, append_assoc, arith}
 use Rattle.std.specs.Prelude.{⊤, codes, decimal}
 use Rattle.std.specs.Char.{is_whitespace}
@@ -26,7 +26,7 @@ use Rattle.irtext_grammar.proofs.Grammar.Sequences.{Reaches, reaches_from, reach
 use Rattle.irtext_grammar.proofs.Grammar.Back.{back_attribute}
 use Rattle.irtext_grammar.proofs.Grammar.Placed.{same_attribute}
 
--- something that the text reads as up to f, and that is y without its places
+-- something that the text parses as up to f, and that is y without its places
 pub record Found {X Y : Type 0} (F : X → Reading) (bare : X → Y) (y : Y) (t f : Text) : Type 0 where
   pub item : X
   pub thru : Reaches (F item) t f
@@ -85,7 +85,7 @@ module _ {P T A X : Type 0} (L : Language P T A) (types : Lawful T L.types) (own
     SmallItem (own a) = C.own_once a ≡ true → items + place_in C once a < 2 ^ 64
     SmallItem _ = ⊤
 
-    -- the names of an entry are identifiers, and what it says is small enough to be read back
+    -- the names of an entry are identifiers, and what it says is small enough to be parsed back
     abbrev pub IsSpellablePair : Text × Attribute A → Type 0
     IsSpellablePair e = EntryHasIdentifiers e × SmallItem e.1
 
@@ -140,7 +140,7 @@ module _ {P T A X : Type 0} (L : Language P T A) (types : Lawful T L.types) (own
         located : (l t : Text) (x : X) (left : Text) → begins is_whitespace l ≡ false → begins is_whitespace t ≡ false → location_at (l ++ t) ≡ found x left → after_space left ≡ after_space t → Reaches (read.location L location_at x) (l ++ t) t
         located l t x left e g q s = record { left = left; reading = subst (λ z. location_at z ≡ found x left) (sym (tight l t e g)) q; same = s }
 
-    -- the location of an item's entry reads, and each of its pairs can be written and read back
+    -- the location of an item's entry parses, and each of its pairs can be written and parsed back
     abbrev pub IsSpellableEntryOf : graph.Entry C → Type 0
     IsSpellableEntryOf e = LocationReads location_at K e.location × Each IsSpellablePair e.attributes
 

@@ -1,4 +1,4 @@
--- A section can stand behind the root that it is written for.
+-- A section can follow the root that it is written for.
 use Rattle.std.specs.Prelude.{◌≡◌, ℕ, Bool, true, false, cond, List, [], ◌∷◌, ◌++◌, length, refl, Option, Some, None, ⊤}
 use Rattle.std.proofs.Common.{inl, inr, subst, true≢false, sym, ◌∙◌}
 use Rattle.irtext_base.specs.Text.{Text}
@@ -35,7 +35,7 @@ module _ {T A : Type 0} (C : Printing T A) (isolated : Id → Bool) (L : Languag
   unmarked n true e = absurd (cc e)
   unmarked n false e = refl
 
-  -- behind the root's text stands its section, or, where it has none, what stands behind any operation
+  -- the root's text is followed by its section, or, if it has none, by what can follow any operation
   pub section_behind : (l : Limit) (g : Graph T A) (f : Text) → Fit C isolated g → Behind (written C l g).own.mark f
       → BehindRoot L (written C l g) (section L C (entries_of C l g) ++ f)
   section_behind l g f fit h = go (entries_of C l g) refl

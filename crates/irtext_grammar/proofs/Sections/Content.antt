@@ -22,7 +22,7 @@ length-both : {X : Type 0} (xs ys : List X) → length (xs ++ ys) ≡ length xs 
 length-both [] ys = omega arith
 length-both (x ∷ xs) ys = let e = length-both xs ys in omega arith
 
--- a list stands in another at a place
+-- a list is part of another, from a place on
 pub record Stands {X : Type 0} (all : List X) (n : ℕ) (xs : List X) : Type 0 where
   pub before : List X
   pub after : List X
@@ -115,7 +115,7 @@ module _ {T A : Type 0} (C : Printing T A) where
         apart : (n i : ℕ) → n < i → (n == i) ≡ false
         apart n i h = grind (arith, nat_tests)
 
-    -- the entry that stands at a place has its index
+    -- the entry at a place has its index
     content_there : (n : ℕ) (e : graph.Entry C) → Stands all n (e ∷ []) → content {P = ⊤} W (Some (mark_of n)) ≡ Some (e.location, e.attributes)
     content_there n e s =
         let once = shared C all in
@@ -201,7 +201,7 @@ module _ {O B R P T A : Type 0} (F : O → Op ⊤ T A → Type 0) (G : B → Hea
     match_operations (operation x ys xs) (operation o rs os) m = (f x o m.0, match_regions ys rs m.1, match_operations xs os m.2)
 
 module _ {T A X : Type 0} (C : Printing T A) (sound : (a b : A) → C.same_own a b ≡ true → a ≡ b) (reflexive : (a : A) → C.same_own a a ≡ true) (text : X → Text) where
-  -- each item of what reads as the written tree and section has its own entry
+  -- each item of a tree and section that are the printed ones but for places has its own entry
   pub contents_back : {P : Type 0} (g : Graph T A) (t : Tree P T A) (es : List (Entry P A X)) → bare t ≡ written C None g → bare_section text es ≡ written_section C (entries_of C None g) → Contents C text es g t
   contents_back {P} g t es same_tree same_section =
       let all = entries_of C None g in

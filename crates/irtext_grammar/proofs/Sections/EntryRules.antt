@@ -1,5 +1,5 @@
--- What the section gives of each written item may stand in the entry of its mark: the marks of blocks are those that the rule of
--- a tree takes for blocks, and no operation's mark is among them.
+-- What the section gives of each written item is allowed in the entry of its mark: the marks of blocks are those that the rule of a tree
+-- takes for blocks, and no operation's mark is among them.
 use Rattle.std.proofs.Common.{◌≡◌, ℕ, suc, ◌+◌, ◌<◌, ◌≤◌, Bool, true, false, cond, ◌&&◌, ◌||◌, List, [], ◌∷◌, ◌++◌, length, Option, Some, None, nat_eq, true≢false, refl, sym, ap, ap₂, ◌∙◌, subst, arith}
 use Rattle.std.specs.Prelude.{⊤}
 use Rattle.std.proofs.lemmas.Bool.Decides.{nat_tests}
@@ -84,7 +84,7 @@ module _ {T A : Type 0} (C : Printing T A) where
         among_both i (block_marks_in_regions (tree_regions C None n rs)) _ (regions_out n rs i (λ h l. o h (omega arith)))
         (operations_out (n + marks_in_regions C None rs + own_marks C x.location (op_outlined C x)) os i (λ h l. o (omega arith) (omega arith)))
 
--- ---- what may stand in entries
+-- ---- what is allowed in entries
 label_keeps : {A : Type 0} (k : Text) (a : Attribute A) → block_may_hold k a ≡ true → keeps_label_key k a ≡ true
 label_keeps k a h = ap₂ ◌&&◌ (and_left (may_hold k a) _ h) (ap (λ b. b || is_label a) (and_right (may_hold k a) _ h))
 

@@ -1,4 +1,4 @@
--- The acts of a written section are not refused: each entry's index is a mark and new, and each reference is found.
+-- The acts of a printed section do not fail: each entry's index is a mark and new, and each reference is found.
 use Rattle.std.proofs.Common.{◌≡◌, ℕ, suc, ◌+◌, ◌<◌, Bool, true, false, cond, not, ◌&&◌, List, [], ◌∷◌, ◌++◌, map, length, Some, refl, sym, ap, ap₂, ◌∙◌, subst, append-nil, arith}
 use Rattle.std.specs.Prelude.{⊤, flat_map, is_some}
 use Rattle.irtext_base.specs.Text.{Text}
@@ -21,7 +21,7 @@ pub record Entered (m n : ℕ) (s : Scopes Text) : Type 0 where
   pub marks : s.marks ≡ numbers 0 m
   pub entries : s.entries ≡ numbers 0 n
 
--- a script that is not refused there
+-- a script that does not fail there
 pub record Clean (m n : ℕ) (k : Script Text ⊤) : Type 0 where
   pub nothing : (s : Scopes Text) → Entered m n s → failures same_text s k ≡ []
 
@@ -40,12 +40,12 @@ clean_entry {m} {n} k l c = record {
       (c.nothing _ (record { marks = append-nil s.marks ∙ h.marks; entries = ap (λ z. z ++ (n ∷ [])) h.entries ∙ (ap (λ z. numbers 0 n ++ numbers z 1) (sym e) ∙ (numbers_both 0 n 1 ∙ ap (numbers 0) f)) }));
 }
 
--- the attribute may stand under its key
+-- the attribute is allowed under its key
 abbrev pub Keeps : {A : Type 0} → Rule A → Text × Attribute A → Type 0
 Keeps rule e = rule e.0 e.1 ≡ true
 
 module _ {T A : Type 0} (C : Printing T A) (rules : ℕ → Rule A) where
-  -- what the entries give, numbered from n on, may stand there
+  -- what the entries give, numbered from n on, is allowed there
   abbrev pub Ruled : ℕ → List (graph.Entry C) → Type 0
   Ruled n [] = ⊤
   Ruled n (e ∷ es) = Each (Keeps (rules n)) e.attributes × Ruled (suc n) es
@@ -110,7 +110,7 @@ module _ {T A : Type 0} (C : Printing T A) (sound : (a b : A) → C.same_own a b
       let rest = flat_map (late_acts rules W) (written_items C (length all) (shared C all) (suc n) es ++ last) in
       subst (Clean m k) (sym (does_both C (flat_map (reference_acts (rules n) W) (map pair e.attributes)) rest x)) (clean_references (rules n) e.attributes _ h.0 q.0 (clean_lates (suc n) es last x h.1 q.1 c))
 
-  -- the whole section's acts, behind as many marks as it has items
+  -- the whole section's acts, after as many marks as it has items
   pub section_clean : Ruled C rules 0 all → Clean (length all) 0 (does_all (section_acts rules W) done)
   section_clean h =
       let once = shared C all in

@@ -1,4 +1,4 @@
--- The marks of what is written of a graph are numbered on without a gap, in reading order, and nothing there is an entry.
+-- The marks of what is printed of a graph are numbered on without a gap, in the order of the text, and nothing there is an entry.
 use Rattle.std.proofs.Common.{◌≡◌, ℕ, zero, suc, ◌+◌, Bool, true, false, cond, ◌&&◌, nat_lt, List, [], ◌∷◌, ◌++◌, map, length, Option, Some, None, refl, sym, ap, ◌∙◌, subst, arith}
 use Rattle.std.specs.Prelude.{⊤}
 use Rattle.irtext_base.specs.Text.{Text}

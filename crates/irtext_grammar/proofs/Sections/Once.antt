@@ -50,7 +50,7 @@ module _ {T A : Type 0} (C : Printing T A) (sound : (a b : A) → C.same_own a b
           ap (λ z. has C.same_own a known || (z || has C.same_own a (firsts C (b ∷ known) rest))) s
           ∙ (ap (λ z. (z || has C.same_own a known) || has C.same_own a (firsts C (b ∷ known) rest)) (sym s) ∙ more h)
 
-  -- the place of what is there is below the length
+  -- the place of an element that is present is below the length
   pub place_below : (a : A) (xs : List A) → has C.same_own a xs ≡ true → place_in C xs a < length xs
   place_below a [] e = absurd (true≢false (sym e))
   place_below a (b ∷ xs) e = go (C.same_own a b) e (place_below a xs)

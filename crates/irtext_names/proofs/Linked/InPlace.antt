@@ -41,7 +41,7 @@ module _ {O B T : Type 0} where
   pub moves_all : {g k : GraphView (Option O) B T} (e : Defined) → ((s : Site) (d : Defined) → IsInPlace g d s → IsInPlace k d s) → Moves g k None e
   moves_all e f = record { same = λ s d n i. f s d i; late = λ s d n i. cc }
 
-  -- the operation at the place stands as it stood
+  -- the operation at the place is unchanged
   pub stays_at : (g k : GraphView (Option O) B T) (s : Site) (d : Defined) → get k.operations (user s) ≡ get g.operations (user s) → IsInPlace g d s → IsInPlace k d s
   stays_at g k (AtOperand p i) d e f = (
     subst (λ c. option_map OfValue (slice_get (operands_of (option_map (λ e. e.content.content) c)) i) ≡ Some d) (sym e) f.0,
@@ -54,7 +54,7 @@ module _ {O B T : Type 0} where
     subst (λ c. option_map (λ c. c.data_of) (option_map (λ e. e.content.content) c) ≡ Some (Some f.1)) (sym e) f.2,
   )
 
-  -- nothing is in place where no operation stands
+  -- nothing is in place if the operation is not live
   absent : (g : GraphView (Option O) B T) (s : Site) (d : Defined) → IsInPlace g d s → get g.operations (user s) ≡ None → ⊥
   absent g s d f e = let none = subst (λ c. option_map (λ c. c.data_of) (option_map (λ e. e.content.content) c) ≡ Some (Some f.1)) e f.2 in cc
 

@@ -1,4 +1,4 @@
--- A name that is kept moves the machine nowhere: names that grow stand where they stood.
+-- A name that is interned leaves the state of the machine unchanged: names that are added agree with the same state.
 use Rattle.std.proofs.Common.{◌≡◌, sym, subst, Option, List, [], ◌∷◌}
 use Rattle.irtext_base.specs.Text.{Text}
 use Rattle.irtext_graph.specs.declared.arena.Ptr.{Ptr}

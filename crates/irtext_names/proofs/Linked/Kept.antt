@@ -1,4 +1,4 @@
--- What stands where the machine stands, part by part: what a call leaves of it.
+-- Names and graph that agree with the state of the machine, part by part: what a call leaves of it.
 use Rattle.std.proofs.Common.{◌≡◌, inl, inr, ℕ, refl, sym, ap, subst, true, false, List, [], ◌∷◌, ◌++◌, Option, Some, None}
 use Rattle.irtext_base.specs.Text.{Text}
 use Rattle.irtext_graph.specs.declared.arena.Ptr.{Ptr}
@@ -25,7 +25,7 @@ use Rattle.irtext_names.proofs.Linked.InPlace.{Moves}
 use Rattle.irtext_names.proofs.Linked.Moving.{among_split, holds_moves, links_move, onto_nothing}
 
 module _ {O B T : Type 0} where
-  -- what stands, from its parts
+  -- the agreement, from its parts
   pub stands_by : (names : NameTracker Value (Ptr BasicBlock)) (g : GraphView (Option O) B T) (known : Known) (held : List (User × Defined)) (st : State) (ns : List Text) (vs : List (Scope Value)) (ls : List (Scope (Ptr BasicBlock)))
       → names.names ≡ ns → names.values ≡ vs → names.labels ≡ ls → AreDistinct ns → MatchesGraph names.values names.labels g
       → AreLinked ns OfValue known.values known.sites held g st.values vs → AreLinked ns OfBlock known.blocks known.sites held g st.labels ls

@@ -6,9 +6,9 @@ use Rattle.irtext_graph.specs.Chained.{Among}
 use Rattle.irtext_grammar.specs.Names.Script.{Place, User, UnresolvedReference}
 use Rattle.irtext_grammar.specs.Names.Scopes.{uses, defines, fail, link}
 use Rattle.irtext_grammar.specs.Names.TextScopes.{Fact, lookup, bound_in, unresolved}
-use Rattle.irtext_grammar.proofs.Lists.Lists.{among, or_else, or_else-none, lookup-append, add, name_of, names_from, among-new, among-added, among-names}
+use Rattle.irtext_grammar.proofs.Lists.Lists.{among, or_else, or_else-none, add, name_of, names_from, among-new, among-added, among-names}
 use Rattle.irtext_grammar.proofs.Lists.SameText.{same_text_refl, same_text_true}
-use Rattle.irtext_grammar.proofs.Names.PlaceholderMap.{head, unresolved_name}
+use Rattle.irtext_grammar.proofs.Names.PlaceholderMap.{head, unresolved_name, defined_there}
 use Rattle.irtext_names.specs.Linked as linked
 use Rattle.irtext_names.specs.Linked.{is_listed, with_mention, mentioned_from}
 
@@ -24,7 +24,7 @@ same_name (defines n p) = refl
 added_mention : (ns : List Text) (f : Fact) → with_mention ns (linked.name_of f) ≡ add ns (name_of f)
 added_mention ns f = ap (with_mention ns) (same_name f) ∙ ap (λ b. cond b ns (ns ++ name_of f ∷ [])) (listed_among (name_of f) ns)
 
--- the names of facts behind others
+-- the names of facts after others
 pub names_mentioned : (ns : List Text) (fs : List Fact) → mentioned_from ns fs ≡ names_from ns fs
 names_mentioned ns [] = refl
 names_mentioned ns (f ∷ fs) = ap (λ z. mentioned_from z fs) (added_mention ns f) ∙ names_mentioned (add ns (name_of f)) fs
@@ -57,7 +57,7 @@ once_add ns t o = go (among t ns) refl
     go true e = o
     go false e = once_last ns t o e
 
--- the names of facts stand once
+-- the names of facts occur once
 pub once_names : (ns : List Text) (fs : List Fact) → Once ns → Once (names_from ns fs)
 once_names ns [] o = o
 once_names ns (f ∷ fs) o = once_names (add ns (name_of f)) fs (once_add ns (name_of f) o)
@@ -142,17 +142,7 @@ undefined_names all ns (f ∷ fs) =
     ∙ (ap (λ o. or_else o (first_of all fs)) (undefined_add all ns (name_of f))
     ∙ or_else_assoc (first_undefined all ns) (undefined_of (lookup (name_of f) all) (name_of f)) (first_of all fs))
 
-defined_there : (n : Text) (p : Place) (pre fs : List Fact) → (q : Place) × (lookup n (pre ++ defines n p ∷ fs) ≡ Some q)
-defined_there n p pre fs = go (lookup n pre) refl
-  where
-    last : lookup n (defines n p ∷ fs) ≡ Some p
-    last = ap (λ c. cond c (Some p) (lookup n fs)) (same_text_refl n)
-
-    go : (o : Option Place) → lookup n pre ≡ o → (q : Place) × (lookup n (pre ++ defines n p ∷ fs) ≡ Some q)
-    go None e = (p, lookup-append n pre (defines n p ∷ fs) ∙ (ap (λ o. or_else o (lookup n (defines n p ∷ fs))) e ∙ last))
-    go (Some r) e = (r, lookup-append n pre (defines n p ∷ fs) ∙ ap (λ o. or_else o (lookup n (defines n p ∷ fs))) e)
-
--- the first use without definition, of the facts behind others
+-- the first use without definition, among the facts after others
 first_unresolved : (a : ℕ) (all pre fs : List Fact) → all ≡ pre ++ fs → head (unresolved a all fs) ≡ option_map (unresolved_name a) (first_of all fs)
 first_unresolved a all pre [] e = refl
 first_unresolved a all pre (uses n u ∷ fs) e = go (lookup n all) (first_unresolved a all (pre ++ uses n u ∷ []) fs (e ∙ sym (append_assoc pre (uses n u ∷ []) fs)))

@@ -37,7 +37,7 @@ module _ {V : Type 0} where
       go true f ih = refl
       go false f ih = ih f
 
-  -- a name that was defined stands for its definition
+  -- a name that was defined refers to its definition
   pub defined_here : (n : ℕ) (v : V) (s : Scope V) → find n (defined n v s) ≡ Some (IsMeantBy v)
   defined_here n v s = go (find n s) refl
     where
@@ -58,7 +58,7 @@ module _ {O B T V : Type 0} (of : V → Defined) (names : List Text) (sites : Li
   used_moves : (fs : List Fact) (s : Scope V) → ((n : ℕ) (e : Entry V) → find n s ≡ Some e → o ≡ Some (of (value_of e)) → ⊥) → AreUsed names of sites held g fs s → AreUsed names of sites held' k fs s
   used_moves fs s apart a = λ n t u is among. let r = a n t u is among in (r.0, r.1, holds_moves u (of (value_of r.0)) (apart n r.0 r.1) r.2)
 
-  -- scopes stay, and what their names stand for is not lost
+  -- scopes are unchanged, and what their names refer to is not lost
   pub links_move : (made : List (Place × V)) (fss : List (List Fact)) (ss : List (Scope V)) → ((i n : ℕ) (e : Entry V) → entry_at i n ss ≡ Some e → o ≡ Some (of (value_of e)) → ⊥)
       → AreLinked names of made sites held g fss ss → AreLinked names of made sites held' k fss ss
   links_move made [] [] apart l = tt

@@ -1,4 +1,4 @@
--- What the machine comes to over the events of a whole script is what the two passes say of it.
+-- The outcome of the machine over the events of a whole script is what the two passes state of it.
 use Rattle.std.proofs.Common.{◌≡◌, ◌∙◌, refl, sym, ap, List, [], ◌∷◌}
 use Rattle.irtext_grammar.specs.Names.Scopes.{no_scope}
 use Rattle.irtext_grammar.specs.Names.TextScopes.{Failure, Script, facts, failures}
@@ -13,7 +13,7 @@ went_wrong : (us : List Failure) (f : Failure) (last : State) → failed f ≡ o
 went_wrong [] f last e = absurd (cc)
 went_wrong (u ∷ us) f last e = let same : f ≡ u = cc in (us, ap (λ x. x ∷ us) (sym same))
 
--- where it goes through, nothing is wrong, and it stands behind all that the script says
+-- if it runs without failure, there are no failures, and its state is the one after all facts of the script
 pub ran_through : (x : Script) (st : State) → run (going start) (events x) ≡ going st → (failures no_scope x ≡ []) × (st ≡ after start (facts x))
 ran_through x st e = went_on (failures no_scope x) st (after start (facts x)) (sym e ∙ one_pass x)
 

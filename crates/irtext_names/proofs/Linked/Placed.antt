@@ -1,4 +1,4 @@
--- An object that came to stand in another leaves all standing where the machine stands.
+-- After an object was appended to another, names and graph still agree with the state of the machine.
 use Rattle.std.proofs.Common.{◌≡◌, ◌≢◌, ◌⊎◌, ◌∙◌, inl, inr, ℕ, sym, ap, subst, List, Option, Some, None}
 use Rattle.std.specs.Option.{option_map}
 use Rattle.irtext_graph.specs.declared.arena.Ptr.{Ptr}
@@ -28,7 +28,7 @@ use Rattle.irtext_names.proofs.Linked.InPlace.{in_place_same}
 use Rattle.irtext_names.proofs.Linked.Steps.{stands_kept}
 
 module _ {O B T : Type 0} {g k : GraphView (Option O) B T} {h c : Object} (a : Appends g k h c) where
-  -- ---- what stays, whatever came to stand in what
+  -- ---- what is unchanged, whatever was appended to what
   still_there : (d : Defined) → IsDefined g d → IsDefined k d
   still_there d e = same_defined g k d (ap (option_map without_uses) (a.objects.contents (owner d))) e
 
@@ -51,17 +51,17 @@ module _ {O B T : Type 0} {g k : GraphView (Option O) B T} {h c : Object} (a : A
     alone = t.alone;
   }
 
-  -- names stay tied, where none waits with what came to stand, or with what it stands in
+  -- names still match the graph, if none waits with the appended object, or with its parent
   pub appended_ties : (vs : List (Scope Value)) (ls : List (Scope (Ptr BasicBlock)))
       → ((i n : ℕ) (x : Value) → entry_at i n vs ≡ Some (Pending x) → (owner (OfValue x) ≢ h) × (owner (OfValue x) ≢ c))
       → ((i n : ℕ) (x : Ptr BasicBlock) → entry_at i n ls ≡ Some (Pending x) → (TheBlock x ≢ h) × (TheBlock x ≢ c)) → MatchesGraph vs ls g → MatchesGraph vs ls k
   appended_ties vs ls values labels t = record { value_ties = tied_appended OfValue vs values t.value_ties; label_ties = tied_appended OfBlock ls labels t.label_ties }
 
-  -- all stands where the machine stands, where names stay tied
+  -- names and graph agree with the state of the machine, if names match the graph
   pub appended_stands : (names : NameTracker Value (Ptr BasicBlock)) (known : Known) (held : List (User × Defined)) (st : State) → MatchesGraph names.values names.labels k → StandsAt names g known held st → StandsAt names k known held st
   appended_stands names known held st tied s = stands_kept g k names known held st still_there (λ s d i. in_place_same g k s d (a.objects.contents (TheOperation (user s))) i) tied s
 
--- ---- a block came to stand in a region
+-- ---- a block was appended to a region
 module _ {O B T : Type 0} {g k : GraphView (Option O) B T} (r : Ptr Region) (b : Ptr BasicBlock) (a : Appends g k (TheRegion r) (TheBlock b)) where
   -- the placeholder of a value is no block's
   value_apart : (x : Value) → IsPlaceholder g (OfValue x) → (owner (OfValue x) ≢ TheRegion r) × (owner (OfValue x) ≢ TheBlock b)
@@ -71,11 +71,11 @@ module _ {O B T : Type 0} {g k : GraphView (Option O) B T} (r : Ptr Region) (b :
   block_apart : (ls : List (Scope (Ptr BasicBlock))) → IsNoPlaceholder ls b → (i n : ℕ) (x : Ptr BasicBlock) → entry_at i n ls ≡ Some (Pending x) → (TheBlock x ≢ TheRegion r) × (TheBlock x ≢ TheBlock b)
   block_apart ls none i n x f = (λ e. cc, λ e. let same : x ≡ b = cc in none i n (subst (λ z. entry_at i n ls ≡ Some (Pending z)) same f))
 
-  -- names stay tied, where no label waits with the block
+  -- names still match the graph, if no label waits with the block
   pub block_placed_ties : (vs : List (Scope Value)) (ls : List (Scope (Ptr BasicBlock))) → IsNoPlaceholder ls b → MatchesGraph vs ls g → MatchesGraph vs ls k
   block_placed_ties vs ls none t = appended_ties a vs ls (λ i n x f. value_apart x (t.value_ties.held i n x f)) (block_apart ls none) t
 
-  -- all stands where the machine stands
+  -- names and graph agree with the state of the machine
   pub block_placed : (names : NameTracker Value (Ptr BasicBlock)) (known : Known) (held : List (User × Defined)) (st : State) → IsNoPlaceholder names.labels b → StandsAt names g known held st → StandsAt names k known held st
   block_placed names known held st none s = appended_stands a names known held st (block_placed_ties names.values names.labels none s.tied) s
 

@@ -1,4 +1,4 @@
--- Regions that begin and end take names from where the machine stands to where it stands behind the event.
+-- Regions that begin and end take names from agreement with a state of the machine to agreement with the state after the event.
 use Rattle.std.proofs.Common.{◌≡◌, ◌∙◌, ℕ, zero, suc, ◌<◌, refl, sym, ap, subst, inl, inr, ⊎_elim, Bool, true, false, Result, Ok, Err, OnOk, IfNone, IfSome, Option, Some, None, List, [], ◌∷◌, ◌++◌, length, slice_get, true≢false}
 use Rattle.std.specs.Prelude.{◌↔◌, ◌⊎◌}
 use Rattle.std.specs.Option.{option_or}
@@ -143,7 +143,7 @@ module _ {O B T : Type 0} (g : GraphView (Option O) B T) (old new : NameTracker 
       some_open i true e = refl
       some_open i false e = let k = shut.1 (i, e) in absurd (cc)
 
-  -- a region that is refused for want of a scope of values fails at its beginning
+  -- a region that is an error because no scope of values is open fails at its beginning
   pub fails_enter : {A : Type 0} (r : Result A EnterFault) (isolated : Bool) → ((r ≡ Err TopLevelOpRegionNotIsolatedFromAbove) ↔ ((isolated ≡ false) × (is_open old.values ≡ false)))
       → r ≡ Err TopLevelOpRegionNotIsolatedFromAbove → FailsBy (enter isolated) old g (record { cause = NotIsolated; at = None })
   fails_enter r isolated shut e = let k = shut.0 e in record { so = λ known held st s. fails isolated k.0 k.1 known held st s }

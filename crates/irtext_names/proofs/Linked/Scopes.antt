@@ -68,7 +68,7 @@ module _ {V : Type 0} (names : List Text) where
       go k true d g ih = (x.0, k ∙ ap Some (same_text_true u t d), x.1, ap (λ b. cond b (Some x.1) (find x.0 s)) (eq-eqb x.0 x.0 refl))
       go k false d g ih = let r = ih g in let w = further r.0 r.2 r.3 (nat_eq x.0 r.0) in (r.0, r.1, w.0, w.1)
 
-  -- where texts stand once, so do names
+  -- if texts occur once, so do names
   texts_apart : (s : Scope V) (ts : List Text) → texts_of names s ≡ map Some ts → Once ts → are_apart s ≡ true
   texts_apart [] ts o once = refl
   texts_apart (x ∷ s) [] o once = absurd (cc)

@@ -1,4 +1,5 @@
--- What else a reader does to the graph leaves all standing where the machine stands: edits, and the making of operations and of blocks.
+-- What else a parser does to the graph leaves names and graph in agreement with the state of the machine: edits, and the making of
+-- operations and of blocks.
 use Rattle.std.proofs.Common.{◌≡◌, ◌∙◌, inl, inr, sym, ap, subst, List, [], ◌∷◌, ◌++◌, Option, Some}
 use Rattle.std.specs.Option.{option_map}
 use Rattle.irtext_base.specs.Text.{Text}
@@ -44,7 +45,7 @@ module _ {O B T : Type 0} (g k : GraphView (Option O) B T) where
     links_hold of names made made' sites sites' held held' more holds rest ss l.2,
   )
 
-  -- all stands where the machine stands, once more is made, and all that users hold they hold still
+  -- names and graph agree with the state of the machine after more is made, if all that users refer to they still refer to
   stands_grown : (names : NameTracker Value (Ptr BasicBlock)) (known known' : Known) (held held' : List (User × Defined)) (st : State)
       → ((p : Place) (v : Value) → Among (p, v) known.values → Among (p, v) known'.values) → ((p : Place) (b : Ptr BasicBlock) → Among (p, b) known.blocks → Among (p, b) known'.blocks)
       → ((u : User) (d : Defined) → Holds known.sites held g u d → Holds known'.sites held' k u d) → MatchesGraph names.values names.labels k

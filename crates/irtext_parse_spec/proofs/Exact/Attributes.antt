@@ -1,4 +1,4 @@
--- The readers of attributes, entries and dictionaries answer what the grammar reads.
+-- The parsers of attributes, entries and dictionaries return what the grammar parses.
 use Rattle.std.proofs.Common.{◌≡◌, ◌∙◌, ℕ, Bool, true, false, cond, Some, None, Option, [], ◌∷◌, ◌++◌, refl, sym, ap, subst, true≢false, arith}
 use Rattle.std.proofs.lemmas.Bool.Decides.{nat_tests}
 use Rattle.std.specs.Prelude.{codes}
@@ -20,7 +20,7 @@ use Rattle.irtext_parse_spec.proofs.Joins.Dictionary.{tree_read, tree_found, spl
 use Rattle.irtext_parse_spec.proofs.Joins.Tokens.{text_read, text-literal, splits_text}
 use Rattle.irtext_parse_spec.specs.Exact.{Exact, NeedsWord}
 use Rattle.irtext_parse_spec.specs.Heads.{pair_at, dictionary_at, dictionary_if_at, outlined_or_at}
-use Rattle.irtext_parse_spec.proofs.Exact.Combined.{exact_as, exact_word, exact_then, exact_spaced, exact_behind, exact_before, exact_so, exact_seen, exact_if, exact_keyed}
+use Rattle.irtext_parse_spec.proofs.Exact.Combined.{exact_as, exact_word, exact_then, exact_spaced, exact_before, exact_if, exact_keyed}
 use Rattle.irtext_parse_spec.proofs.Exact.Listed.{Starts, starts_so, exact_list, loosened, tightened}
 use Rattle.irtext_parse_spec.proofs.Exact.Names.{exact_name, starts_name}
 
@@ -39,7 +39,7 @@ starts_first c w (d ∷ text) e = go (the c d) refl e
     go true f e = f
     go false f e = absurd (true≢false (sym e))
 
--- where `!` stands no word begins
+-- where a text begins with `!`, no word begins
 pub no_word_there : (text : Text) → begins (the 33) text ≡ true → begins begins_word text ≡ false
 no_word_there [] e = refl
 no_word_there (c ∷ text) e = other c e
@@ -48,7 +48,7 @@ no_word_there (c ∷ text) e = other c e
     other c e = grind (arith, nat_tests)
 
 -- ---- attributes
--- a caller's own reader that keeps the law finds nothing where no word begins
+-- a caller's own parser that keeps the law finds nothing where no word begins
 pub lawful_needs_word : {A : Type 0} (reading : Text → Outcome A) (written : A → Text) → Lawful A (texts_of reading written) → NeedsWord reading
 lawful_needs_word reading written law = record { misses = law.misses }
 
@@ -85,7 +85,7 @@ module _ {T A : Type 0} (types : Texts T) (reading : Text → Outcome A) (writte
       (λ es text rest (m, a, q). (m, a, loosened 44 exact_pair starts_pair es (literal (codes "]")) m rest q))
       (λ es text rest (m, a, q). (m, a, tightened 44 exact_pair starts_pair es (literal (codes "]")) m rest q))
 
-  -- a block's dictionary, where one stands
+  -- a block's dictionary, if there is one
   pub exact_dictionary_if : (types_at : Text → Outcome T) → Exact (dictionary_if_at types_at attr) (reads.dictionary_if l)
   exact_dictionary_if types_at = exact_if (the 91) exact_dictionary (λ es text rest r. ap (begins (the 91)) r.1) (reads.dictionary_if l) (λ text rest. (λ r. r, λ r. r)) (λ es text rest. (λ r. r, λ r. r))
 
@@ -103,7 +103,7 @@ module _ {T A : Type 0} (types : Texts T) (reading : Text → Outcome A) (writte
   abbrev outlined : Text → Option (Attribute A) → Reading
   outlined key o = reads.piece l (tree.attribute key o)
 
-  -- an attribute or the marker in its place that is answered is one that the grammar reads
+  -- an attribute or the marker in its place that is accepted is one that the grammar parses
   pub outlined_read : (key text : Text) (o : Option (Attribute A)) (taken rest : Text) → outlined_or_at attr text ≡ Read o taken rest → outlined key o text rest × (taken ++ rest ≡ text)
   outlined_read key text o taken rest e = go (starts_with marker text) e
     where
@@ -114,7 +114,7 @@ module _ {T A : Type 0} (types : Texts T) (reading : Text → Outcome A) (writte
           let k = exact_attribute.read text m.0 taken rest m.1 in
           (subst (λ o. outlined key o text rest) m.2 k.0, k.1)
 
-  -- An attribute or the marker in its place that the grammar reads is answered, where each attribute begins as a word does.
+  -- An attribute or the marker in its place that the grammar parses is accepted, where each attribute begins as a word does.
   pub outlined_found : NeedsWord reading → (key text : Text) (o : Option (Attribute A)) (rest : Text) → outlined key o text rest → (taken : Text) × (outlined_or_at attr text ≡ Read o taken rest)
   outlined_found h key text None rest r =
       let s : starts_with marker text ≡ true = ap (starts_with marker) r ∙ starts_front marker rest in

@@ -1,4 +1,4 @@
--- Readers that answer what the grammar reads, put together.
+-- Parsers that return what the grammar parses, put together.
 use Rattle.std.proofs.Common.{◌≡◌, ◌∙◌, ℕ, Bool, true, false, cond, Option, Some, None, [], ◌++◌, length, refl, sym, ap, ap₂, subst, append_assoc}
 use Rattle.std.specs.Prelude.{◌↔◌}
 use Rattle.std.specs.Char.{is_whitespace}
@@ -12,7 +12,7 @@ use Rattle.irtext_parse_spec.proofs.Joins.Answers.{followed_read, followed-read,
 use Rattle.irtext_parse_spec.proofs.Joins.Tokens.{text_read, text-literal, splits_text, splits_space}
 use Rattle.irtext_parse_spec.specs.Exact.{Exact}
 
--- the same reader, and a reading that says the same
+-- the same parser, and an equivalent reading
 pub exact_as : {X : Type 0} {reader : Reader X} {reading other : X → Reading} → Exact reader reading
     → ((x : X) (text rest : Text) → reading x text rest → other x text rest) → ((x : X) (text rest : Text) → other x text rest → reading x text rest) → Exact reader other
 exact_as h there back = record {
@@ -21,7 +21,7 @@ exact_as h there back = record {
 }
 
 -- ---- white space and fixed texts
--- what is read of white space is what stands behind it
+-- the rest after white space
 pub exact_space : Exact space_at (λ _ text rest. rest ≡ after_space text)
 exact_space = record {
   read = λ text x taken rest e. ((let f : after is_whitespace text ≡ rest = cc e in sym f), splits_space text x taken rest e);
@@ -35,13 +35,13 @@ exact_word w = record {
   found = λ text x rest r. (w, text-literal w text rest r);
 }
 
--- ---- one behind the other
+-- ---- one after another
 -- a text in two parts, of which the second is in two parts
 pub split_behind : (text front middle more rest taken : Text) → front ++ middle ≡ text → more ++ rest ≡ middle → front ++ more ≡ taken → taken ++ rest ≡ text
 split_behind text front middle more rest taken e f g = ap (λ t. t ++ rest) (sym g) ∙ (append_assoc front more rest ∙ (ap (λ t. front ++ t) f ∙ e))
 
 module _ {X Y : Type 0} where
-  -- one thing, and behind it what its value says, where the whole tells that value
+  -- one parser, and after it another that depends on its value, if the value of both determines that of the first
   pub exact_so : {f : Reader X} {k : X → Reader Y} {r : X → Reading} {s : X → Y → Reading} → Exact f r → ((x : X) → Exact (k x) (s x)) → (get : Y → X)
       → ((x : X) (y : Y) (text rest : Text) → s x y text rest → x ≡ get y) → Exact (f ▶ k) (λ y. r (get y) ▸ s (get y) y)
   exact_so {f} {k} {r} {s} h j get sure = record { read = there; found = back }
@@ -60,7 +60,7 @@ module _ {X Y : Type 0} where
           let b = (j (get y)).found mid y rest q in
           (a.0 ++ b.0, followed-read (f text) k (get y) y a.0 mid b.0 rest a.1 b.1)
 
-  -- a value seen by a function, where what is seen tells it
+  -- a parsed value seen by a function, if its image determines it
   pub exact_seen : {f : Reader X} {r : X → Reading} → Exact f r → (see : X → Y) (get : Y → X) (Kept : Y → Type 0)
       → ((x : X) → Kept (see x)) → ((x : X) → get (see x) ≡ x) → ((y : Y) → Kept y → see (get y) ≡ y) → Exact (f ⇒ see) (λ y text rest. Kept y × r (get y) text rest)
   exact_seen {f} {r} h see get Kept kept got same = record { read = there; found = back }
@@ -74,7 +74,7 @@ module _ {X Y : Type 0} where
       back : (text : Text) (y : Y) (rest : Text) → Kept y × r (get y) text rest → (taken : Text) × (mapped see (f text) ≡ Read y taken rest)
       back text y rest (k, q) = let a = h.found text (get y) rest q in (a.0, ap (mapped see) a.1 ∙ ap (λ y. Read y a.0 rest) (same y k))
 
--- what was read of a text, put together with the text's place
+-- what was parsed from a text, put together with the text's place
 pub exact_placed : {X N : Type 0} {f : Reader X} {r : X → Reading} → Exact f r → (make : ℕ → X → N) (place : N → ℕ) (value : N → X)
     → ((p : ℕ) (x : X) → place (make p x) ≡ p) → ((p : ℕ) (x : X) → value (make p x) ≡ x) → ((n : N) → make (place n) (value n) ≡ n)
     → Exact (λ text. mapped (make (length text)) (f text)) (λ n text rest. (place n ≡ length text) × r (value n) text rest)
@@ -92,21 +92,21 @@ exact_placed {X} {N} {f} {r} h make place value placed valued made = record { re
         (a.0, ap (mapped (make (length text))) a.1 ∙ ap (λ n. Read n a.0 rest) (ap (λ p. make p (value n)) (sym p) ∙ made n))
 
 module _ {X : Type 0} where
-  -- one thing without a value, and behind it the other
+  -- one parser without a value, and the other after it
   pub exact_then : {f : Reader Unit} {g : Reader X} {r : Reading} {s : X → Reading} → Exact f (λ _. r) → Exact g s → Exact (f ▷ g) (λ x. r ▸ s x)
   exact_then h j = exact_so h (λ _. j) (λ _. tt) (λ u x text rest q. refl)
 
-  -- white space in front
+  -- white space before
   pub exact_spaced : {g : Reader X} {s : X → Reading} → Exact g s → Exact (space_at ▷ g) (λ x. white (s x))
   exact_spaced {s = s} j = exact_as (exact_then exact_space j) (λ x text rest (mid, e, q). subst (λ t. s x t rest) e q) (λ x text rest q. (after_space text, refl, q))
 
 module _ {X : Type 0} where
-  -- a fixed text in front, with white space round it
+  -- a fixed text before, with white space around it
   pub exact_behind : {g : Reader X} {s : X → Reading} (w : Text) → Exact g s → Exact (spaced_at w ▷ g) (λ x. white (literal w ▹ s x))
   exact_behind {s = s} w j = exact_as (exact_then (exact_spaced (exact_then (exact_word w) exact_space)) j)
       (λ x text rest (mid, (m, a, e), q). (m, a, subst (λ t. s x t rest) e q)) (λ x text rest (m, a, q). (after_space m, (m, a, refl), q))
 
-  -- one thing without a value behind
+  -- one parser without a value after
   pub exact_before : {f : Reader X} {g : Reader Unit} {r : X → Reading} {s : Reading} → Exact f r → Exact g (λ _. s) → Exact (f ◁ g) (λ x. r x ▸ s)
   exact_before h j = exact_as (exact_so h (λ x. exact_seen j (λ _. x) (λ _. tt) (λ y. x ≡ y) (λ _. refl) (λ _. refl) (λ y k. k)) (λ x. x) (λ x y text rest q. q.0))
       (λ x text rest (mid, a, (k, b)). (mid, a, b)) (λ x text rest (mid, a, b). (mid, a, (refl, b)))
@@ -119,7 +119,7 @@ exact_keyed w h j = exact_as
 
 -- ---- one or the other
 module _ {X : Type 0} {f : Reader X} {r : X → Reading} where
-  -- a thing where its beginning stands, and else none
+  -- a value if its first character follows, and otherwise none
   pub exact_if : (test : ℕ → Bool) → Exact f r → ((x : X) (text rest : Text) → r x text rest → begins test text ≡ true) → (reading : Option X → Reading)
       → ((text rest : Text) → reading None text rest ↔ ends test text rest) → ((x : X) (text rest : Text) → reading (Some x) text rest ↔ r x text rest)
       → Exact (either (begins test) (f ⇒ Some) (nothing None)) reading

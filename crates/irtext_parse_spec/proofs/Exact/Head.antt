@@ -1,4 +1,4 @@
--- The reader of a block's header answers what the grammar reads up to its `:`.
+-- The parser of a block's header returns what the grammar parses up to its `:`.
 use Rattle.std.proofs.Common.{◌≡◌, ℕ, Option, List, refl, ap}
 use Rattle.std.specs.Prelude.{◌↔◌, codes}
 use Rattle.irtext_base.specs.Text.{Text}
@@ -37,7 +37,7 @@ module _ {T A : Type 0} (types_at : Text → Outcome T) (types_written : T → T
   abbrev header : Name ℕ → List (Name ℕ × T) → Option (List (Name ℕ × Attribute A)) → Option (Mark ℕ) → Head ℕ T A
   header label arguments attributes mark = record { label = label; arguments = arguments; attributes = attributes; mark = mark }
 
-  -- its end, behind its mark
+  -- its end, after its mark
   abbrev closed : Name ℕ → List (Name ℕ × T) → Option (List (Name ℕ × Attribute A)) → Option (Mark ℕ) → Head ℕ T A → Reading
   closed label arguments attributes mark h text rest = (header label arguments attributes mark ≡ h) × literal (codes ":") text rest
 
@@ -54,7 +54,7 @@ module _ {T A : Type 0} (types_at : Text → Outcome T) (types_written : T → T
   no_argument : Starts (argument_at types_at (attr_at reading)) reads.no_word
   no_argument = starts_argument types_at types_written (texts_of reading written) formats types_split (attr_at reading)
 
-  -- what stands behind the arguments
+  -- what follows the arguments
   abbrev behind_arguments : Head ℕ T A → Reading
   behind_arguments h = literal (codes ")") ▹ reads.dictionary_if l h.attributes ▹ reads.mark_if l h.mark ▹ literal (codes ":")
 

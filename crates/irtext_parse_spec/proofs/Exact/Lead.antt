@@ -1,4 +1,4 @@
--- The reader of an operation's lead answers what the grammar reads in front of its parts: the names of its results, and its id.
+-- The parser of an operation's lead returns what the grammar parses before the operation's parts: the names of its results, and its id.
 use Rattle.std.proofs.Common.{◌≡◌, ◌∙◌, ℕ, Bool, true, false, cond, List, Option, Some, None, [], ◌∷◌, ◌++◌, map, refl, sym, ap, ap₂, subst, inl, inr, is_some, true≢false}
 use Rattle.std.specs.Prelude.{codes, option_and_then}
 use Rattle.std.specs.Option.{option_map}
@@ -40,17 +40,17 @@ module _ {T A : Type 0} (types : Texts T) (owns : Texts A) (formats : Id → Opt
   exact_results : Exact results_at tight
   exact_results = exact_before (exact_list 44 (exact_name types owns formats) starts_name) (exact_word (codes "="))
 
-  -- behind white space results that are answered are those that the grammar reads
+  -- results that parse after white space are those that the grammar parses
   results_read : (text : Text) (ns : List (Name ℕ)) (taken rest : Text) → results_at (after_space text) ≡ Read ns taken rest → reads.results l ns (after_space text) rest × (taken ++ rest ≡ after_space text)
   results_read text ns taken rest e =
       let k = exact_results.read (after_space text) ns taken rest e in
       (loosened 44 (exact_name types owns formats) starts_name ns (literal (codes "=")) text rest k.0, k.1)
 
-  -- and the other way round
+  -- and conversely
   results_found : (text : Text) (ns : List (Name ℕ)) (rest : Text) → reads.results l ns (after_space text) rest → (taken : Text) × (results_at (after_space text) ≡ Read ns taken rest)
   results_found text ns rest r = exact_results.found (after_space text) ns rest (tightened 44 (exact_name types owns formats) starts_name ns (literal (codes "=")) text rest r)
 
-  -- the names of results, where they stand, are answered as the grammar reads them
+  -- the names of results, if there are any, are parsed as the grammar parses them
   named_read : (text : Text) (ns : List (Name ℕ)) (taken rest : Text) → named (results_at (after_space text)) (after_space text) ≡ Read ns taken rest
       → reads.results_if l ns (after_space text) rest × (taken ++ rest ≡ after_space text)
   named_read text ns taken rest e = go (results_at (after_space text)) refl e
@@ -77,7 +77,7 @@ module _ {T A : Type 0} (types : Texts T) (owns : Texts A) (formats : Id → Opt
       go (Missing cause) f = refl
       go (Bad cause upto) f = refl
 
-  -- white space, names of results where they stand, and white space
+  -- white space, names of results if there are any, and white space
   abbrev lead_read : List (Name ℕ) → Reading
   lead_read ns text rest = (mid : Text) × reads.results_if l ns (after_space text) mid × (rest ≡ after_space mid)
 
@@ -110,7 +110,7 @@ module _ {T A : Type 0} (types : Texts T) (owns : Texts A) (formats : Id → Opt
           )
 
 -- ---- a registered operation
--- what stands behind a lead, seen from behind it
+-- what follows a lead, with the lead itself
 behind_read : {X : Type 0} (lead : Text) (o : Outcome X) (x : X) (taken rest : Text) → behind lead o ≡ Read x taken rest → (a : Text) × (o ≡ Read x a rest) × (taken ≡ lead ++ a)
 behind_read [] o x taken rest e = (taken, e, refl)
 behind_read (c ∷ lead) o x taken rest e =
@@ -146,7 +146,7 @@ module _ (dialects : List (Text × Table)) where
   registered_found lead o i taken rest e k = ap (registered_behind dialects lead) e ∙ rw (has_dialect (dialect_of dialects i.dialect) i k, k) refl
 
   module _ {T A : Type 0} (types : Texts T) (owns : Texts A) where
-    -- An operation's lead is answered where the grammar reads it and its operation is registered, and nowhere else.
+    -- An operation's lead is parsed where the grammar parses it and its operation is registered, and nowhere else.
     pub exact_led : Exact (led_at dialects) (registered_lead (language types owns (format_of dialects)))
     exact_led = record { read = λ text x taken rest e. there text x taken rest (lead_at text) refl e; found = back }
       where

@@ -1,4 +1,4 @@
--- A list's reader answers what the grammar reads as a list, where that of its items does.
+-- A list's parser returns what the grammar parses as a list, where that of its items does.
 use Rattle.std.proofs.Common.{◌≡◌, ◌∙◌, ℕ, Bool, true, false, cond, List, [], ◌∷◌, ◌++◌, map, length, refl, sym, ap, subst, true≢false}
 use Rattle.std.proofs.lemmas.List.{map-id}
 use Rattle.irtext_base.specs.Text.{Text, begins}
@@ -13,7 +13,7 @@ use Rattle.irtext_parse_spec.proofs.Joins.Lists.{Items, first_missing, splits_se
 use Rattle.irtext_parse_spec.specs.Exact.{Exact}
 
 -- ---- where an item is missing
--- Where the reader finds an item missing, and only there, this holds of the text.
+-- Where the parser finds an item missing, and only there, this holds of the text.
 pub record Starts {X : Type 0} (item : Reader X) (none : Text → Type 0) : Type 0 where
   pub misses : (text : Text) (cause : Fault) → item text ≡ Missing cause → none text
   pub missed : (text : Text) → none text → (cause : Fault) × (item text ≡ Missing cause)
@@ -25,7 +25,7 @@ mapped_missing see (Missing c) cause e = let f : c ≡ cause = cc e in ap (λ c.
 mapped_missing see (Bad c upto) cause e = absurd (cc e)
 
 module _ {X Y : Type 0} where
-  -- one thing, and behind it another: the first one decides
+  -- one parser, and after it another: the first one decides whether anything is missing
   pub starts_so : {f : Reader X} {none : Text → Type 0} (k : X → Reader Y) → Starts f none → Starts (f ▶ k) none
   starts_so {f = f} k h = record {
     misses = λ text cause e. h.misses text cause (first_missing (f text) k cause e);
@@ -39,7 +39,7 @@ module _ {X Y : Type 0} where
     missed = λ text n. let m = h.missed text n in (m.0, ap (mapped (see text)) m.1);
   }
 
--- a fixed text is missing where its first character does not stand
+-- a fixed text is missing where the text does not begin with its first character
 pub starts_word : (c : ℕ) (w : Text) → Starts (word (c ∷ w)) (λ text. begins (the c) text ≡ false)
 starts_word c w = record { misses = misses; missed = missed }
   where
@@ -96,10 +96,10 @@ module _ {X : Type 0} {item : Reader X} {reading : X → Reading} {none : Text �
       back text xs rest (all_fine f taken e) = (taken, e ∙ ap (λ z. Read z taken rest) (map-id xs))
       back text xs rest (one_stops k) = absurd (true≢false k.refused)
 
-  -- behind a list that stands behind white space no white space is left, whatever follows
+  -- after a list that follows white space no white space is left, whatever follows
   pub loosened : (xs : List X) (next : Reading) (text rest : Text) → white (listed xs ▸ next) text rest → white (listed xs ▹ next) text rest
   loosened xs next text rest (mid, a, b) = (mid, a, subst (λ t. next t rest) (sym (list_tight separator items xs text mid a)) b)
 
-  -- the same, the other way round
+  -- the converse
   pub tightened : (xs : List X) (next : Reading) (text rest : Text) → white (listed xs ▹ next) text rest → white (listed xs ▸ next) text rest
   tightened xs next text rest (mid, a, b) = (mid, a, subst (λ t. next t rest) (list_tight separator items xs text mid a) b)

@@ -1,4 +1,4 @@
--- The readers of names, labels, symbols and marks answer what the grammar reads.
+-- The parsers of names, labels, symbols and marks return what the grammar parses.
 use Rattle.std.proofs.Common.{ℕ, true, Option, [], length, refl, ap}
 use Rattle.std.specs.Prelude.{codes}
 use Rattle.irtext_base.specs.Text.{Text, begins}
@@ -69,6 +69,6 @@ module _ {T A : Type 0} (types : Texts T) (owns : Texts A) (formats : Id → Opt
   pub exact_mark : Exact mark_at (reads.mark l)
   exact_mark = exact_placed (exact_then (exact_word (codes "!")) exact_number) (λ p i. record { place = p; index = i }) (λ m. m.place) (λ m. m.index) (λ p x. refl) (λ p x. refl) (λ n. refl)
 
-  -- a mark, where one stands
+  -- a mark, if there is one
   pub exact_mark_if : Exact mark_if_at (reads.mark_if l)
   exact_mark_if = exact_if (the 33) exact_mark (λ m text rest r. ap (begins (the 33)) r.1.1) (reads.mark_if l) (λ text rest. (λ r. r, λ r. r)) (λ m text rest. (λ r. r, λ r. r))

@@ -1,4 +1,4 @@
--- Outside of each region no name may be used: there the readers answer what the grammar reads and uses none.
+-- Outside of each region no name may be used: there the parsers return what the grammar parses and uses none.
 use Rattle.std.proofs.Common.{◌≡◌, ◌∙◌, ℕ, true, false, List, [], ◌∷◌, ◌++◌, length, Option, Some, refl, sym, ap, subst}
 use Rattle.std.specs.Prelude.{◌↔◌, ⊤}
 use Rattle.irtext_base.specs.Text.{Text}
@@ -29,7 +29,7 @@ outside_never (Read m a r) n taken rest e = cc e
 outside_never (Missing cause) n taken rest e = cc e
 outside_never (Bad cause upto) n taken rest e = cc e
 
--- a name is never read where it may not be used
+-- a name is never parsed where it may not be used
 pub used_never : (text : Text) (n : Name ℕ) (taken rest : Text) → used_at false text ≡ Read n taken rest → ⊥
 used_never text n taken rest e = outside_never (name_at text) n taken rest e
 
@@ -55,7 +55,7 @@ starts_no_target : Starts (target_at false) reads.no_label
 starts_no_target = starts_so (λ _. used_at false) (starts_word 94 [])
 
 -- ---- lists
--- a list of items that are never read is empty
+-- a list of items that are never parsed is empty
 module _ {X : Type 0} {item : Reader X} {none : Text → Type 0} (separator : ℕ) (starts : Starts item none) (never : (text : Text) (x : X) (taken rest : Text) → item text ≡ Read x taken rest → ⊥) where
   -- an empty list, of which nothing was taken
   pub empty_read : (text : Text) (xs : List X) (taken rest : Text) → separated_at separator item text ≡ Read xs taken rest → (xs ≡ []) × (taken ≡ []) × none text × (rest ≡ text)
@@ -67,7 +67,7 @@ module _ {X : Type 0} {item : Reader X} {none : Text → Type 0} (separator : �
       go (Missing cause) f e = (sym (cc e), sym (cc e), starts.misses text cause f, sym (cc e))
       go (Bad cause upto) f e = absurd (cc e)
 
-  -- the empty list alone is read
+  -- the empty list alone is parsed
   pub exact_empty : Exact (λ text. separated_at separator item text) (λ xs text rest. (xs ≡ []) × none text × (rest ≡ text))
   exact_empty = record {
     read = λ text xs taken rest e. let k = empty_read text xs taken rest e in ((k.0, k.2, k.3), ap (λ t. t ++ rest) k.1 ∙ k.3);
@@ -109,6 +109,16 @@ module _ {T A : Type 0} where
   no_successors : (p : Piece ℕ T A) → directive_of_piece p ≡ Some format.successors → UsesNone p → tree.successors [] ≡ p
   no_successors p i n = let b = is_successors p i in ap (λ ns. tree.successors ns) (sym (subst UsesNone (sym b.1) n)) ∙ b.1
 
+  -- an empty list, of which no item may be used here, is read where its items may be used too
+  empty_either_way : {none : Text → Type 0} {never_used used : Reader (Name ℕ)} (see : List (Name ℕ) → Piece ℕ T A) → UsesNone (see []) → Starts never_used none → Starts used none
+      → ((text : Text) (n : Name ℕ) (taken rest : Text) → never_used text ≡ Read n taken rest → ⊥) → (text : Text) (p : Piece ℕ T A) (taken rest : Text) → mapped see (separated_at 44 never_used text) ≡ Read p taken rest
+      → UsesNone p × (mapped see (separated_at 44 used text) ≡ Read p taken rest)
+  empty_either_way {never_used = never_used} see unused starts starts_used never text p taken rest e =
+      let m = mapped_read see (separated_at 44 never_used text) p taken rest e in
+      let k = empty_read 44 starts never text m.0 taken rest m.1 in
+      let is : see [] ≡ p = ap see (sym k.0) ∙ m.2 in
+      (subst UsesNone is unused, ap (mapped see) (none_listed 44 starts_used text k.2) ∙ (ap (λ p. Read p [] text) is ∙ (ap (λ t. Read p t text) (sym k.1) ∙ ap (Read p taken) (sym k.3))))
+
 module _ {T A : Type 0} (types_at : Text → Outcome T) (types_written : T → Text) (reading : Text → Outcome A) (written : A → Text) (formats : Id → Option Format)
     (types_split : Splits types_at) (splits : Splits reading) where
   abbrev l : Language ℕ T A
@@ -142,7 +152,7 @@ module _ {T A : Type 0} (types_at : Text → Outcome T) (types_written : T → T
         (a.0, ap (mapped see) a.1 ∙ ap (λ p. Read p a.0 rest) b);
   }
 
-  -- What a step reads outside of each region, the grammar reads as a piece of that step that uses no name, and no other.
+  -- What a step parses outside of each region, the grammar parses as a piece of that step that uses no name, and no other.
   pub exact_outside : (step : Step) → (Marks step → NeedsWord reading) → Exact (piece_at types_at (attr_at reading) false step) (unused_piece step)
   exact_outside (flat (format.operand k)) h = never_read (flat (format.operand k)) (tree.operand k) used_never (λ p i n. let b = is_operand k p i in subst UsesNone (sym b.1) n)
   exact_outside (flat format.operands) h = no_list (used_at false) (flat format.operands) tree.operands (exact_empty 44 starts_outside used_never) refl refl (λ text rest. (λ r. r, λ r. r)) no_operands
@@ -150,19 +160,11 @@ module _ {T A : Type 0} (types_at : Text → Outcome T) (types_written : T → T
   exact_outside (flat format.successors) h = no_list (target_at false) (flat format.successors) tree.successors (exact_empty 44 starts_no_target target_never) refl refl (λ text rest. (λ r. r, λ r. r)) no_successors
   exact_outside step h = exact_as (exact_piece types_at types_written reading written formats types_split splits step h) (λ p text rest r. (uses_none step (λ i. i) p r.0, r)) (λ p text rest r. r.1)
 
-  -- What a step reads outside of each region it reads inside of one too, and no name is used there.
+  -- What a step parses outside of each region it parses inside of one too, and no name is used there.
   pub outside_read : (step : Step) (text : Text) (p : Piece ℕ T A) (taken rest : Text) → piece_at types_at (attr_at reading) false step text ≡ Read p taken rest
       → UsesNone p × (piece_at types_at (attr_at reading) true step text ≡ Read p taken rest)
   outside_read (flat (format.operand k)) text p taken rest e = absurd (let m = mapped_read (tree.operand k) (used_at false text) p taken rest e in used_never text m.0 taken rest m.1)
-  outside_read (flat format.operands) text p taken rest e =
-      let m = mapped_read tree.operands (separated_at 44 (used_at false) text) p taken rest e in
-      let k = empty_read 44 starts_outside used_never text m.0 taken rest m.1 in
-      let is : tree.operands [] ≡ p = ap (λ ns. tree.operands ns) (sym k.0) ∙ m.2 in
-      (subst UsesNone is refl, ap (mapped tree.operands) (none_listed 44 starts_name text k.2) ∙ (ap (λ p. Read p [] text) is ∙ (ap (λ t. Read p t text) (sym k.1) ∙ ap (Read p taken) (sym k.3))))
+  outside_read (flat format.operands) text p taken rest e = empty_either_way tree.operands refl starts_outside starts_name used_never text p taken rest e
   outside_read (flat (format.successor k)) text p taken rest e = absurd (let m = mapped_read (tree.successor k) (target_at false text) p taken rest e in target_never text m.0 taken rest m.1)
-  outside_read (flat format.successors) text p taken rest e =
-      let m = mapped_read tree.successors (separated_at 44 (target_at false) text) p taken rest e in
-      let k = empty_read 44 starts_no_target target_never text m.0 taken rest m.1 in
-      let is : tree.successors [] ≡ p = ap (λ ns. tree.successors ns) (sym k.0) ∙ m.2 in
-      (subst UsesNone is refl, ap (mapped tree.successors) (none_listed 44 starts_target text k.2) ∙ (ap (λ p. Read p [] text) is ∙ (ap (λ t. Read p t text) (sym k.1) ∙ ap (Read p taken) (sym k.3))))
+  outside_read (flat format.successors) text p taken rest e = empty_either_way tree.successors refl starts_no_target starts_target target_never text p taken rest e
   outside_read step text p taken rest e = (uses_none step (λ i. i) p (piece_read types_at types_written reading written formats types_split splits step text p taken rest e).0.0, e)

@@ -1,4 +1,4 @@
--- The reader of a step answers the pieces that the grammar reads.
+-- The parser of a step returns the pieces that the grammar parses.
 use Rattle.std.proofs.Common.{◌≡◌, ◌∙◌, ℕ, true, Option, Some, List, ◌++◌, refl, sym, ap, subst}
 use Rattle.std.specs.Prelude.{◌↔◌, ⊤}
 use Rattle.irtext_base.specs.Text.{Text}
@@ -23,7 +23,7 @@ use Rattle.irtext_parse_spec.proofs.Exact.Names.{exact_used, exact_target, exact
 use Rattle.irtext_parse_spec.proofs.Exact.Attributes.{exact_dictionary, outlined_read, exact_outlined}
 use Rattle.irtext_parse_spec.proofs.Exact.Types.{exact_type, starts_type}
 
--- ---- which pieces a step reads
+-- ---- which pieces a step parses
 module _ {T A : Type 0} where
   -- a fixed word
   pub is_word : (s : Text) (p : Piece ℕ T A) → directive_of_piece p ≡ Some (format.word s) → Unit {0} × (tree.word s ≡ p)
@@ -85,22 +85,22 @@ module _ {T A : Type 0} where
   is_no_regions (tree.word s) e = cc e
   is_no_regions _ e = cc e
 
--- the step may have a marker in the place of what it reads
+-- the step may have a marker in the place of what it parses
 abbrev pub Marks : Step → Type 0
 Marks (flat (format.attribute k)) = ⊤
 Marks _ = ⊥
 
 module _ {T A : Type 0} (types_at : Text → Outcome T) (types_written : T → Text) (reading : Text → Outcome A) (written : A → Text) (formats : Id → Option Format)
     (types_split : Splits types_at) (splits : Splits reading) where
-  -- the language of the readers
+  -- the language of the parsers
   abbrev l : Language ℕ T A
   l = language (texts_of types_at types_written) (texts_of reading written) formats
 
-  -- the reader of attributes
+  -- the parser of attributes
   abbrev attr : Text → Outcome (AttrView A)
   attr = attr_at reading
 
-  -- what a step reads, where its value tells the piece
+  -- what a step parses, if its value determines the piece
   by_step : {X : Type 0} {f : Reader X} {r : X → Reading} → Exact f r → (step : Step) (see : X → Piece ℕ T A) → ((x : X) → IsOfStep step (see x))
       → ((x : X) (text rest : Text) → reads.piece l (see x) text rest ↔ r x text rest) → ((p : Piece ℕ T A) → IsOfStep step p → (x : X) × (see x ≡ p)) → Exact (f ⇒ see) (step_piece l step)
   by_step {f = f} h step see is same back = record {
@@ -114,11 +114,12 @@ module _ {T A : Type 0} (types_at : Text → Outcome T) (types_written : T → T
         (a.0, ap (mapped see) a.1 ∙ ap (λ p. Read p a.0 rest) b.1);
   }
 
-  -- nothing is read where no piece is of the step
+  -- nothing is parsed where no piece is of the step
   by_none : (step : Step) (cause : Text → Fault) → ((p : Piece ℕ T A) → IsOfStep step p → ⊥) → Exact (λ text. Missing (cause text)) (step_piece l step)
   by_none step cause none = record { read = λ text p taken rest e. absurd (cc e); found = λ text p rest r. absurd (none p r.0) }
 
-  -- What a step reads, the grammar reads as a piece of that step, and no other; where a marker may stand, each attribute begins as a word does.
+  -- A piece that a step parses, and no other, is what the grammar parses as a piece of that step; where a marker may be in place of an
+  -- attribute, each attribute begins as a word does.
   pub exact_piece : (step : Step) → (Marks step → NeedsWord reading) → Exact (piece_at types_at attr true step) (step_piece l step)
   exact_piece (flat (format.word s)) h = by_step (exact_word s) (flat (format.word s)) (λ _. tree.word s) (λ x. refl) (λ x text rest. (λ r. r, λ r. r)) (is_word s)
   exact_piece (flat (format.operand i)) h =
@@ -145,7 +146,7 @@ module _ {T A : Type 0} (types_at : Text → Outcome T) (types_written : T → T
   exact_piece (one i) h = by_none (one i) _ (λ p i. i)
   exact_piece all h = by_none all _ (λ p i. i)
 
-  -- What a step reads, the grammar reads as a piece of that step, however attributes begin.
+  -- What a step parses, the grammar parses as a piece of that step, however attributes begin.
   pub piece_read : (step : Step) (text : Text) (p : Piece ℕ T A) (taken rest : Text) → piece_at types_at attr true step text ≡ Read p taken rest → step_piece l step p text rest × (taken ++ rest ≡ text)
   piece_read (flat (format.attribute k)) text p taken rest e =
       let m = mapped_read (tree.attribute k) (outlined_or_at attr text) p taken rest e in

@@ -1,4 +1,4 @@
--- The readers of types and of a block's arguments answer what the grammar reads.
+-- The parsers of types and of a block's arguments return what the grammar parses.
 use Rattle.std.proofs.Common.{◌≡◌, ℕ, Option, refl, ap}
 use Rattle.std.specs.Prelude.{codes}
 use Rattle.irtext_base.specs.Text.{Text}

@@ -1,4 +1,4 @@
--- What the reader of attributes answers, and the grammar's readings of them.
+-- What the parser of attributes returns, and the grammar's readings of them.
 use Rattle.std.proofs.Common.{◌≡◌, ◌∙◌, ℕ, Bool, true, false, cond, Some, None, Option, List, [], ◌∷◌, ◌++◌, map, codes, refl, sym, ap, subst, true≢false}
 use Rattle.std.proofs.lemmas.List.{map-id}
 use Rattle.std.specs.Prelude.{◌||◌, ◌==◌}
@@ -59,7 +59,7 @@ name-missed [] e = (_, refl)
 name-missed (c ∷ text) e = missing_by (c == 63) (begins_word c) c text refl refl e
 
 -- ---- the names
--- given names, as the grammar and their reader have them; each is allowed
+-- given names, as the grammar and their parser have them; each is allowed
 abbrev given : Items (Option Text) (Option Text)
 given = record {
   item = given_name_at;
@@ -88,7 +88,7 @@ names-reads all text rest h = go (list_found 44 given all text rest h)
     go (all_fine f taken e) = (taken, e ∙ ap (λ z. Read z taken rest) (map-id all))
     go (one_stops k) = absurd (true≢false k.refused)
 
--- behind names no white space stands
+-- no white space is left after names
 separated_tight : (names : List (Option Text)) (text rest : Text) → separated 44 reads.no_given_name (map reads.given_name names) (after_space text) rest → after_space rest ≡ rest
 separated_tight names text rest h = list_tight 44 given names text rest h
 
@@ -96,7 +96,7 @@ separated_tight names text rest h = list_tight 44 given names text rest h
 splits_names : Splits names_at
 splits_names = splits_separated 44 given_name_at given_name_takes
 
--- the bracket that closes, behind what was read
+-- the closing bracket, after what was parsed
 abbrev pub shut_next : {X : Type 0} → X → Text → Outcome X
 shut_next x text = mapped (λ _. x) (text_at (codes "]") text)
 
@@ -113,7 +113,7 @@ splits_ident : Splits ident_at
 unfolding ident_at
 splits_ident = splits_followed (text_at (codes "builtin.identifier")) _ (splits_text (codes "builtin.identifier")) (λ a. splits_followed space_at _ splits_space (λ b. splits_word AnIdentifier))
 
--- an attribute takes a front of the text, where the caller's own reader does
+-- an attribute takes a front of the text, where the caller's own parser does
 pub splits_attr : {A : Type 0} (reading : Text → Outcome A) → Splits reading → Splits (attr_at reading)
 unfolding attr_at
 splits_attr reading h text v taken rest e = go (leads (codes "builtin.given_names") text) (leads (codes "builtin.identifier") text) e
@@ -172,7 +172,7 @@ module _ {P T A : Type 0} (reading : Text → Outcome A) (L : Language P T A) (s
     (λ after k. true≢false (sym (in_front (codes "builtin.identifier") text refl after k) ∙ f), same text ∙ ap standing e),
   )
 
-  -- what was read is the grammar's
+  -- what was parsed is the grammar's
   pub attribute_read : (v : AttrView A) (text taken rest : Text) → attr_at reading text ≡ Read v taken rest → reads.attribute L (attr_tree v) text rest
   attribute_read v text taken rest e =
       let go : (b c : Bool) → leads (codes "builtin.given_names") text ≡ b → leads (codes "builtin.identifier") text ≡ c → reads.attribute L (attr_tree v) text rest =
@@ -215,7 +215,7 @@ module _ {P T A : Type 0} (reading : Text → Outcome A) (L : Language P T A) (s
       let e1 : k1 tt b1 ≡ Read name (front is_whitespace b1 ++ name) rest = ap (prefixed (front is_whitespace b1)) (word-identifier AnIdentifier (after_space b1) name rest h) in
       (_, followed-read (text_at (codes "builtin.identifier") text) k1 tt name (codes "builtin.identifier") b1 (front is_whitespace b1 ++ name) rest (text-literal (codes "builtin.identifier") text b1 word.0) e1)
 
-  -- what the grammar reads is read
+  -- what the grammar parses is accepted
   pub attribute-reads : (v : AttrView A) (text rest : Text) → reads.attribute L (attr_tree v) text rest → (taken : Text) × (attr_at reading text ≡ Read v taken rest)
   attribute-reads (view.given_names all) text rest h =
       let n = given_names-reads text all rest h in

@@ -1,4 +1,4 @@
--- What the reader of an attribute answers, and the grammar's reading of it; and where an identifier is missing.
+-- What the parser of an attribute returns, and the grammar's reading of it; and where an identifier is missing.
 use Rattle.std.proofs.Common.{◌≡◌, ℕ, false, Option, refl, ap, subst}
 use Rattle.irtext_base.specs.Text.{Text, begins, begins_word}
 use Rattle.irtext_base.specs.Format.{Id, Format}
@@ -32,7 +32,7 @@ unfolding word_at
 missing_word text b = (fault.Unexpected (first_of text) AnIdentifier, rw b refl)
 
 module _ {T A : Type 0} (reading : Text → Outcome A) (types : Texts T) (owns : Texts A) (formats : Id → Option Format) (same : (text : Text) → owns.outcome text ≡ standing (reading text)) where
-  -- the language of the readers
+  -- the language of the parsers
   abbrev pub l : Language ℕ T A
   l = language types owns formats
 
@@ -42,7 +42,7 @@ module _ {T A : Type 0} (reading : Text → Outcome A) (types : Texts T) (owns :
       let m = mapped_read attr_tree (attr_at reading text) a taken rest e in
       subst (λ a. reads.attribute l a text rest) m.2 (attribute_read reading l same m.0 text taken rest m.1)
 
-  -- an attribute that the grammar reads is answered
+  -- an attribute that the grammar parses is accepted
   pub tree_found : (a : Attribute A) (text rest : Text) → reads.attribute l a text rest → (taken : Text) × (attribute_at (attr_at reading) text ≡ Read a taken rest)
   tree_found (tree.given_names ns) text rest r = let k = attribute-reads reading l same (view.given_names ns) text rest r in (k.0, ap (mapped attr_tree) k.1)
   tree_found (tree.ident n) text rest r = let k = attribute-reads reading l same (view.ident n) text rest r in (k.0, ap (mapped attr_tree) k.1)

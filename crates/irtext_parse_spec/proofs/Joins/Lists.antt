@@ -1,4 +1,5 @@
--- What the reader of a list with a separator answers, and the grammar's readings of it. An item that may not stand there is bad where it begins.
+-- What the parser of a list with a separator returns, and the grammar's readings of the list. An item that is not allowed is bad where it
+-- begins.
 use Rattle.std.proofs.Common.{◌≡◌, ◌∙◌, ◌≤◌, ◌⊎◌, inl, inr, ℕ, zero, suc, Bool, true, false, cond, ◌&&◌, List, [], ◌∷◌, ◌++◌, map, length, length-append, refl, sym, ap, ap₂, subst, arith, append_assoc, append-nil}
 use Rattle.std.specs.List.{list_all}
 use Rattle.std.specs.Char.{is_whitespace}
@@ -22,7 +23,7 @@ shorter text taken rest e = omega (arith, ap length e, length-append taken rest)
 space_shorter : (text : Text) → length (after_space text) ≤ length text
 space_shorter text = shorter text (front is_whitespace text) (after_space text) (front_after is_whitespace text)
 
--- the list that was read, or the first item was missing
+-- the list that was parsed, or the first item was missing
 or_read : {Y : Type 0} (o : Outcome (List Y)) (text : Text) (all : List Y) (taken rest : Text) → or_empty o text ≡ Read all taken rest
     → (o ≡ Read all taken rest) ⊎ ((cause : Fault) × (o ≡ Missing cause) × (all ≡ []) × (rest ≡ text) × (taken ≡ []))
 or_read (Read xs t r) text all taken rest e = inl e
@@ -76,14 +77,14 @@ module _ {Y : Type 0} (sep : ℕ) (item : Text → Outcome Y) where
         | inr f ↦ ap₂ ◌++◌ f.4 f.3
       ]
 
--- an item that was read, as the grammar has it
+-- an item that was parsed, as the grammar has it
 pub record ItemRead {X Y : Type 0} (reading : X → Reading) (see : X → Y) (allowed : X → Bool) (text : Text) (y : Y) (rest : Text) : Type 0 where
   pub item : X
   pub read : reading item text rest
   pub sees : see item ≡ y
   pub fine : allowed item ≡ true
 
--- how a reader of items and the grammar's reading of an item belong together
+-- how a parser of items and the grammar's reading of an item are related
 pub record Items (X Y : Type 0) : Type 1 where
   pub item : Text → Outcome Y
   pub reading : X → Reading
@@ -99,15 +100,15 @@ pub record Items (X Y : Type 0) : Type 1 where
   pub missed : (text : Text) → missing text → (cause : Fault) × (item text ≡ Missing cause)
 
 module _ {X Y : Type 0} (sep : ℕ) (i : Items X Y) where
-  -- ---- what was read
-  -- items behind a separator each
+  -- ---- what was parsed
+  -- items, each after a separator
   record More (text : Text) (before all : List Y) (rest : Text) : Type 0 where
     pub items : List X
     pub whole : all ≡ before ++ map i.see items
     pub read : more sep (map i.reading items) text rest
     pub fine : list_all i.allowed items ≡ true
 
-  -- an item with the white space behind it
+  -- an item with the white space after it
   record One (text : Text) (before all : List Y) (rest : Text) : Type 0 where
     pub item : X
     pub middle : Text
@@ -155,14 +156,14 @@ module _ {X Y : Type 0} (sep : ℕ) (i : Items X Y) where
             fine = ap₂ ◌&&◌ one.fine k.fine;
           }
 
-  -- the items that were read, as the grammar has them
+  -- the items that were parsed, as the grammar has them
   pub record ListRead (text : Text) (all : List Y) (rest : Text) : Type 0 where
     pub items : List X
     pub whole : map i.see items ≡ all
     pub read : separated sep i.missing (map i.reading items) text rest
     pub fine : list_all i.allowed items ≡ true
 
-  -- a list that is answered is one that the grammar reads, item by item
+  -- a list that is accepted is one that the grammar parses, item by item
   pub list_read : (text : Text) (all : List Y) (taken rest : Text) → separated_at sep i.item text ≡ Read all taken rest → ListRead text all rest
   list_read text all taken rest e =
       elim (or_read (followed (item_after sep i.item [] text) (first_next sep i.item)) text all taken rest e) [
@@ -186,13 +187,13 @@ module _ {X Y : Type 0} (sep : ℕ) (i : Items X Y) where
   more_tight [] text rest h = ap after_space h.1 ∙ (after_twice is_whitespace text ∙ sym h.1)
   more_tight (x ∷ items) text rest h = more_tight items h.2.0 rest h.2.2
 
-  -- behind a list that stands behind white space, none is left
+  -- after a list that follows white space, no white space is left
   pub list_tight : (items : List X) (text rest : Text) → separated sep i.missing (map i.reading items) (after_space text) rest → after_space rest ≡ rest
   list_tight [] text rest h = ap after_space h.1 ∙ (after_twice is_whitespace text ∙ sym h.1)
   list_tight (x ∷ items) text rest h = more_tight items h.0 rest h.2
 
-  -- ---- what is to be read
-  -- the first item that is not allowed, where the reader stops
+  -- ---- what is to be parsed
+  -- the first item that is not allowed, where the parser stops
   pub record Stop (items : List X) (text : Text) (o : Outcome (List Y)) : Type 0 where
     pub before : List X
     pub first : X
@@ -207,12 +208,12 @@ module _ {X Y : Type 0} (sep : ℕ) (i : Items X Y) where
     pub read : i.reading first stop left
     pub is : o ≡ Bad (i.wrong first) upto
 
-  -- the items behind those found are read, all that are allowed
+  -- the items after those found are parsed, if all are allowed
   pub data ListFound (found : List Y) (items : List X) (text rest : Text) (o : Outcome (List Y)) : Type 0 where
     all_fine : list_all i.allowed items ≡ true → (taken : Text) → o ≡ Read (found ++ map i.see items) taken rest → ListFound found items text rest o
     one_stops : Stop items text o → ListFound found items text rest o
 
-  -- a stop with other items in front of it, and more characters
+  -- a stop with other items before it, and more characters
   stop_behind : {items : List X} (whole : List X) (before : List X) (front mid text : Text) (o p : Outcome (List Y)) (k : Stop items mid p) → whole ≡ before ++ (k.first ∷ k.behind) → list_all i.allowed before ≡ true → front ++ mid ≡ text
       → ((cause : Fault) (upto : Text) → p ≡ Bad cause upto → o ≡ Bad cause (front ++ upto)) → Stop whole text o
   stop_behind whole before front mid text o p k w a s f = record {
@@ -234,11 +235,11 @@ module _ {X Y : Type 0} (sep : ℕ) (i : Items X Y) where
   pub stop_as : (items : List X) (text : Text) (o p : Outcome (List Y)) → ((cause : Fault) (upto : Text) → o ≡ Bad cause upto → p ≡ Bad cause upto) → Stop items text o → Stop items text p
   stop_as items text o p f k = stop_behind items k.before [] text text p o k k.whole k.fine refl f
 
-  -- an item that is not allowed stands first
+  -- the first item is not allowed
   stops_first : (x : X) (items : List X) (text left : Text) (o : Outcome (List Y)) → i.reading x text left → i.allowed x ≡ false → o ≡ Bad (i.wrong x) [] → Stop (x ∷ items) text o
   stops_first x items text left o r f e = record { before = []; first = x; behind = items; whole = refl; fine = refl; refused = f; upto = []; stop = text; left = left; splits = refl; read = r; is = e }
 
-  -- an item more in front
+  -- one more item before
   later : (x : X) (found : List Y) (items : List X) (front mid text rest : Text) (o p : Outcome (List Y)) → i.allowed x ≡ true → front ++ mid ≡ text → o ≡ prefixed front p
       → ListFound (found ++ (i.see x ∷ [])) items mid rest p → ListFound found (x ∷ items) text rest o
   later x found items front mid text rest o p f s e (all_fine g taken h) =
@@ -246,12 +247,12 @@ module _ {X Y : Type 0} (sep : ℕ) (i : Items X Y) where
   later x found items front mid text rest o p f s e (one_stops k) =
       one_stops (stop_behind (x ∷ items) (x ∷ k.before) front mid text o p k (ap (λ items. x ∷ items) k.whole) (ap₂ ◌&&◌ f k.fine) s (λ cause upto b. e ∙ ap (prefixed front) b))
 
-  -- characters more in front
+  -- more characters before
   pub moved : (found : List Y) (items : List X) (front mid text rest : Text) (o p : Outcome (List Y)) → front ++ mid ≡ text → o ≡ prefixed front p → ListFound found items mid rest p → ListFound found items text rest o
   moved found items front mid text rest o p s e (all_fine g taken h) = all_fine g (front ++ taken) (e ∙ ap (prefixed front) h)
   moved found items front mid text rest o p s e (one_stops k) = one_stops (stop_behind items k.before front mid text o p k k.whole k.fine s (λ cause upto b. e ∙ ap (prefixed front) b))
 
-  -- an item and what stands behind it, by the reader of the rest
+  -- an item and what follows it, given the parser of the rest
   item_found : (x : X) (found : List Y) (items : List X) (text mid rest : Text) (next : List Y → Text → Outcome (List Y)) → i.reading x text mid
       → ListFound (found ++ (i.see x ∷ [])) items (after_space mid) rest (next (found ++ (i.see x ∷ [])) (after_space mid)) → ListFound found (x ∷ items) text rest (followed (item_after sep i.item found text) next)
   item_found x found items text mid rest next r k = go (i.allowed x) refl
@@ -269,7 +270,7 @@ module _ {X Y : Type 0} (sep : ℕ) (i : Items X Y) where
       let a = i.found x text mid r f in
       omega (arith, space_shorter mid, shorter text a.0 mid (i.splits text (i.see x) a.0 mid a.1))
 
-  -- items behind a separator each
+  -- items, each after a separator
   more_found : (items : List X) (n : ℕ) (found : List Y) (text rest : Text) → length text ≤ n → more sep (map i.reading items) text rest → ListFound found items text rest (items_after sep i.item n found text)
   more_found [] zero found text rest l h = all_fine refl [] (ap (λ z. Read found [] z) (sym h.1) ∙ ap (λ z. Read z [] rest) (sym (append-nil found)))
   more_found [] (suc n) found text rest l h = all_fine refl [] (rw h.0 (ap (λ z. Read found [] z) (sym h.1) ∙ ap (λ z. Read z [] rest) (sym (append-nil found))))
@@ -290,7 +291,7 @@ module _ {X Y : Type 0} (sep : ℕ) (i : Items X Y) where
           let enough : length (after_space mid) ≤ n = omega (arith, l, ap length first, space_shorter between, item_shorter x (after_space between) mid r f) in
           item_found x found items (after_space between) mid rest (items_next sep i.item n) r (again enough)
 
-  -- What the grammar reads is read, up to the first item that is not allowed.
+  -- What the grammar parses is accepted, up to the first item that is not allowed.
   pub list_found : (items : List X) (text rest : Text) → separated sep i.missing (map i.reading items) text rest → ListFound [] items text rest (separated_at sep i.item text)
   list_found [] text rest h =
       let m = i.missed text h.0 in

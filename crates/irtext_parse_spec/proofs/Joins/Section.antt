@@ -1,4 +1,4 @@
--- What the reader of a fixed text with white space round it answers, and the grammar's reading of it.
+-- What the parser of a fixed text with white space around it returns, and the grammar's reading of it.
 use Rattle.std.proofs.Common.{◌≡◌, ◌++◌, refl, ◌∙◌}
 use Rattle.std.specs.Char.{is_whitespace}
 use Rattle.irtext_base.specs.Text.{Text, front, after_space}
@@ -15,7 +15,7 @@ space_behind _ text = space_at text
 abbrev word_behind : Text → Unit {0} → Text → Outcome (Unit {0})
 word_behind word _ text = followed (text_at word text) space_behind
 
--- a word behind white space that is answered stands there
+-- a word that is parsed after white space is what follows the white space
 pub spaced_read : (word text taken rest : Text) → spaced_at word text ≡ Read tt taken rest → (m : Text) × literal word (after_space text) m × (after_space m ≡ rest)
 spaced_read word text taken rest e =
     let a = followed_read (space_at text) (word_behind word) tt taken rest e in
@@ -24,7 +24,7 @@ spaced_read word text taken rest e =
     let g : after_space b.middle ≡ rest = cc b.second in
     (b.middle, f ∙ text_read word a.middle b.front b.middle b.first, g)
 
--- a word that stands behind white space is answered
+-- a word that follows white space is parsed
 pub spaced_found : (word text m : Text) → literal word (after_space text) m → (taken : Text) × (spaced_at word text ≡ Read tt taken (after_space m))
 spaced_found word text m e = (
   front is_whitespace text ++ (word ++ front is_whitespace m),

@@ -1,4 +1,4 @@
--- What the readers of tokens answer, and the grammar's readings of them.
+-- What the parsers of tokens return, and the grammar's readings of them.
 use Rattle.std.proofs.Common.{◌≡◌, ℕ, ◌<◌, ◌^◌, Bool, true, false, cond, ◌||◌, Some, None, [], ◌∷◌, ◌++◌, refl, sym, ◌∙◌, ap, ap₂, inl, inr, true≢false, arith, subst}
 use Rattle.std.proofs.lemmas.Bool.Decides.{nat_tests}
 use Rattle.std.specs.Prelude.{codes, nat_lt}
@@ -29,7 +29,7 @@ the_same : (c : ℕ) → the c c ≡ true
 the_same c = grind (arith, nat_tests)
 
 -- ---- a fixed text
--- one more character of a fixed text was read
+-- one more character of a fixed text was parsed
 spelled_more : (c d : ℕ) (word text taken rest : Text) (o : Outcome Unit) → ((a : Text) → o ≡ Read tt a rest → (a ≡ word) × (text ≡ word ++ rest)) → d ≡ c
     → prefixed (d ∷ []) o ≡ Read tt taken rest → (taken ≡ c ∷ word) × (d ∷ text ≡ c ∷ (word ++ rest))
 spelled_more c d word text taken rest (Read u a r) h same e =
@@ -54,11 +54,11 @@ spelled-literal : (whole word rest : Text) → spelled_at whole word (word ++ re
 spelled-literal whole [] rest = refl
 spelled-literal whole (c ∷ word) rest = rw (the_same c) (ap (prefixed (c ∷ [])) (spelled-literal whole word rest))
 
--- a fixed word that is answered is one that the grammar reads
+-- a fixed word that is accepted is one that the grammar parses
 pub text_read : (word text taken rest : Text) → text_at word text ≡ Read tt taken rest → literal word text rest
 text_read word text taken rest e = (spelled_read word word text taken rest e).1
 
--- a fixed word that the grammar reads is answered
+-- a fixed word that the grammar parses is accepted
 pub text-literal : (word text rest : Text) → literal word text rest → text_at word text ≡ Read tt word rest
 text-literal word text rest e = ap (text_at word) e ∙ spelled-literal word word rest
 
@@ -79,12 +79,12 @@ word_go : (demand : Demand) (text x taken rest : Text) (b : Bool) → begins beg
 word_go demand text x taken rest true f e = ((f, cc e, cc e), cc e)
 word_go demand text x taken rest false f e = absurd (cc e)
 
--- an identifier that is answered is one that the grammar reads
+-- an identifier that is accepted is one that the grammar parses
 pub word_read : (demand : Demand) (text x taken rest : Text) → word_at demand text ≡ Read x taken rest → identifier x text rest × (x ≡ taken)
 unfolding word_at
 word_read demand text x taken rest e = word_go demand text x taken rest (begins begins_word text) refl e
 
--- an identifier that the grammar reads is answered
+-- an identifier that the grammar parses is accepted
 pub word-identifier : (demand : Demand) (text x rest : Text) → identifier x text rest → word_at demand text ≡ Read x x rest
 unfolding word_at
 word-identifier demand text x rest (f, g, h) = rw f (ap₂ (λ w r. Read w w r) (sym g) (sym h))
@@ -96,7 +96,7 @@ splits_word demand text x taken rest e =
     ap (λ t. t ++ rest) (sym r.1 ∙ r.0.1) ∙ (ap (λ t. front in_word text ++ t) r.0.2 ∙ front-after in_word text)
 
 -- ---- a number
--- a number was read: it fits, and its sign isn't a minus
+-- a number was parsed: it fits, and its sign isn't a minus
 fitting_go : (sign ds left : Text) (v n : ℕ) (taken rest : Text) (b c : Bool) → nat_lt v (2 ^ 64) ≡ b → begins (the 45) sign ≡ c
     → numbered sign ds left (cond b (Some v) None) ≡ Read n taken rest → (v < 2 ^ 64) × (n ≡ v) × (begins (the 45) sign ≡ false) × (taken ≡ sign ++ ds) × (rest ≡ left)
 fitting_go sign ds left v n taken rest false c f g e = absurd (cc e)
@@ -164,7 +164,7 @@ unfolding number_at
 number_reads [] n taken rest e = absurd (cc e)
 number_reads (c ∷ text) n taken rest e = number_go c text n taken rest (is_sign c) refl e
 
--- a number that is answered is one that the grammar reads
+-- a number that is accepted is one that the grammar parses
 pub number_read : (text : Text) (n : ℕ) (taken rest : Text) → number_at text ≡ Read n taken rest → number n text rest
 number_read text n taken rest e = (number_reads text n taken rest e).0
 
@@ -176,7 +176,7 @@ splits_number text n taken rest e = (number_reads text n taken rest e).1
 no_sign : (c : ℕ) → is_ascii_digit c ≡ true → is_sign c ≡ false
 no_sign c e = grind (arith, nat_tests)
 
--- a number that the grammar reads is answered
+-- a number that the grammar parses is accepted
 pub number_found : (text : Text) (n : ℕ) (rest : Text) → number n text rest → (taken : Text) × (number_at text ≡ Read n taken rest)
 unfolding number_at
 number_found [] n rest (inl a) = absurd (true≢false (sym a.1.0))
@@ -202,7 +202,7 @@ id_read text i taken rest e =
       ),
     )
 
--- an id that the grammar reads is answered
+-- an id that the grammar parses is accepted
 pub id_found : (text : Text) (i : Id) (rest : Text) → reads.id i text rest → (taken : Text) × (id_at text ≡ Read i taken rest)
 unfolding id_at
 id_found text i rest (m, a, (n, b, c)) = (

@@ -1,4 +1,4 @@
--- Two readings of nested text that answer the same, and leave no more than a bound: each way to put readings together keeps to it.
+-- Two parses of nested text with the same result, which leave no more than a bound: each way to combine parses preserves this.
 use Rattle.std.proofs.Common.{◌≡◌, ℕ, zero, suc, ◌≤◌, Bool, true, false, cond, [], ◌∷◌, length, refl, ap, subst, arith}
 use Rattle.irtext_base.specs.Text.{Text, after_space}
 use Rattle.irtext_base.specs.Answers.{Outcome, Read, Missing, Bad}
@@ -6,11 +6,11 @@ use Rattle.irtext_parse_spec.specs.Readers.RestLengths.{Leaves}
 use Rattle.irtext_parse_spec.proofs.Locations.RestLengths.{space_bound}
 use Rattle.irtext_parse_spec.specs.Reached.{Reached, Advanced, Stopped, came, tells, Reads}
 
--- where a reading came to an end, at most so many characters are left
+-- if a parse came to an end, at most this many characters are left
 pub record LeavesBy {X S : Type 0} (bound : ℕ) (o : Reached X S) : Type 0 where
   pub by : (x : X) (s : S) (rest : Text) → o ≡ Advanced x s rest → length rest ≤ bound
 
--- both readings are the same, and leave no more than the bound
+-- both parses are the same, and leave no more than the bound
 pub record Alike {X S : Type 0} (bound : ℕ) (o p : Reached X S) : Type 0 where
   pub leaves : LeavesBy bound o
   pub same : o ≡ p
@@ -19,7 +19,7 @@ module _ {X S : Type 0} where
   leaves_came : (b : ℕ) (x : X) (s : S) (rest : Text) → length rest ≤ b → LeavesBy b (Advanced x s rest)
   leaves_came b x s rest h = record { by = λ y t r e. let f : rest ≡ r = cc e in let j : length rest ≡ length r = ap length f in omega (arith, h, j) }
 
-  -- a reading that came to an end is like itself
+  -- a parse that came to an end is like itself
   pub alike_came : (b : ℕ) (x : X) (s : S) (rest : Text) → length rest ≤ b → Alike b (Advanced x s rest) (Advanced x s rest)
   alike_came b x s rest h = record { leaves = leaves_came b x s rest h; same = refl }
 
@@ -37,7 +37,7 @@ module _ {X S : Type 0} where
   alike_either b false o p q r h k = k
 
 module _ {X Y S : Type 0} where
-  -- what comes behind two readings that are alike
+  -- what follows two parses that are alike
   pub alike_behind : (c b : ℕ) (o p : Reached X S) (next other : X → S → Text → Reached Y S) → Alike c o p
       → ((x : X) (s : S) (rest : Text) → length rest ≤ c → Alike b (next x s rest) (other x s rest)) → Alike b (came o next) (came p other)
   alike_behind c b (Advanced x s rest) p next other h k =
@@ -45,21 +45,21 @@ module _ {X Y S : Type 0} where
   alike_behind c b (Stopped s cause place) p next other h k =
       subst (λ p. Alike b (Stopped s cause place) (came p other)) h.same (alike_stuck b (Stopped s cause place) (λ x s rest e. cc e))
 
-  -- what comes behind what must stand there
+  -- what follows something that is required
   pub alike_tells : (c b : ℕ) (o : Outcome X) (text : Text) (s : S) (next other : X → Text → Reached Y S) → Leaves c o
       → ((x : X) (rest : Text) → length rest ≤ c → Alike b (next x rest) (other x rest)) → Alike b (tells o text s next) (tells o text s other)
   alike_tells c b (Read x taken rest) text s next other h k = k x rest (h.by x taken rest refl)
   alike_tells c b (Missing cause) text s next other h k = alike_stuck b (Stopped s cause (length text)) (λ x s rest e. cc e)
   alike_tells c b (Bad cause upto) text s next other h k = alike_stuck b _ (λ x s rest e. cc e)
 
-  -- what comes behind one reading is the same where it is on texts within the bound
+  -- what follows a parse is the same if it is the same on texts within the bound
   pub came_same : (c : ℕ) (o : Reached X S) (next other : X → S → Text → Reached Y S) → LeavesBy c o
       → ((x : X) (s : S) (rest : Text) → length rest ≤ c → next x s rest ≡ other x s rest) → came o next ≡ came o other
   came_same c (Advanced x s rest) next other h k = k x s rest (h.by x s rest refl)
   came_same c (Stopped s cause place) next other h k = refl
 
--- ---- readers
--- two readers that are alike at each text no longer than the bound
+-- ---- parsers
+-- two parsers that are alike at each text no longer than the bound
 pub record Agree {S : Type 0} (b : ℕ) (f g : Reads S) : Type 0 where
   pub alike : (text : Text) (s : S) → length text ≤ b → Alike b (f text s) (g text s)
 

@@ -1,5 +1,5 @@
--- The bounds of nested reading are enough: a region's on how deep it nests, and each loop's on its items. So a region is its blocks
--- between braces, whose operations' regions are regions.
+-- The bounds of nested parsing are enough: a region's on how deep it nests, and each loop's on its items. So a region is its blocks between
+-- braces, whose operations' regions are regions.
 use Rattle.std.proofs.Common.{◌≡◌, ℕ, zero, suc, ◌≤◌, ◌<◌, Bool, true, List, [], ◌∷◌, ◌++◌, codes, length, refl, arith}
 use Rattle.irtext_base.specs.Text.{Text, begins, after_space}
 use Rattle.irtext_base.specs.Reading.{the}
@@ -26,7 +26,7 @@ without_first_bound b [] h = space_bound b [] (omega arith)
 without_first_bound b (c ∷ text) h = space_bound b text (omega (arith, h))
 
 module _ {S : Type 0} where
-  -- what stands behind a `;`
+  -- what follows a `;`
   abbrev pub behind_semicolon : Reads S → Reads S
   behind_semicolon item text s = item (after_space (without_first text)) s
 
@@ -39,14 +39,14 @@ module _ {S : Type 0} where
   pub blocks_loop : (block : Reads S) → IsLoop begins_block block (blocks_by block)
   blocks_loop block = record { none = λ text s. refl; more = λ n text s. refl }
 
-  -- a reader that shrinks agrees with its like
+  -- a parser that shrinks agrees with its like
   pub shrunk : {b : ℕ} {f g : Reads S} → Shrink b f g → Agree b f g
   shrunk h = record { alike = λ text s k. h.alike text s (omega (arith, k)) }
 
   behind_semicolon_agree : (b : ℕ) (f g : Reads S) → Agree b f g → Shrink b (behind_semicolon f) (behind_semicolon g)
   behind_semicolon_agree b f g h = record { alike = λ text s k. h.alike (after_space (without_first text)) s (without_first_bound b text k) }
 
-  -- behind a `;` less is left
+  -- less text is left after a `;`
   pub semicolon_shrinks : (f : Reads S) → ((b : ℕ) → Shrink b f f) → (b : ℕ) → Shrink b (behind_semicolon f) (behind_semicolon f)
   semicolon_shrinks f h b = behind_semicolon_agree b f f (shrunk (h b))
 
@@ -67,7 +67,7 @@ module _ {T A S : Type 0} (dialects : List (Text × Table)) (types_at : Reader T
         ((◌then◌ (within_honest honest_space) (piece_within no_more none_more inside step)).leaves text k)
         (λ p rest e. front_agree b inside ss (found ++ tree.piece p ∷ []) rest s e)
 
-    -- ---- over readers of regions that agree
+    -- ---- over parsers of regions that agree
     module _ (b : ℕ) (f g : Bool → Reads S) (agree : (iso : Bool) → Agree b (f iso) (g iso)) where
       late_agree : (iso inside : Bool) (place : ℕ) (id : Id) (step : Step) (found : List (Part ℕ T A)) (text : Text) (s : S)
           (next other : Piece ℕ T A → Text → Reached (List (Part ℕ T A)) S) → length text ≤ b
@@ -122,7 +122,7 @@ module _ {T A S : Type 0} (dialects : List (Text × Table)) (types_at : Reader T
           (λ _ end e. alike_came b tt _ end e)));
     }
 
-    -- the blocks of a region whose operations' regions are read by this
+    -- the blocks of a region whose operations' regions are parsed by this
     abbrev pub inner_blocks : (Bool → Reads S) → Reads S
     inner_blocks inner rest t = blocks_by (block_by dialects types_at attr does (operations_by (operation_by dialects types_at attr does inner true))) (length rest) rest t
 
@@ -172,11 +172,11 @@ module _ {T A S : Type 0} (dialects : List (Text × Table)) (types_at : Reader T
         ((region_agree (length text) _ _ (blocks_agree (length text) _ _ (λ iso. at_enough (suc (length text)) (length text) (omega arith) iso)) iso).alike (c ∷ text) s (omega arith)).same
 
     -- ---- what is left, and how many items are enough
-    -- behind a region less than its text is left
+    -- a region consumes at least one character
     pub region_shrinks : (b : ℕ) (iso : Bool) → Shrink b (region_at dialects types_at attr does iso) (region_at dialects types_at attr does iso)
     region_shrinks b iso = record { alike = λ text s k. (within_shrinks (suc (length text)) b iso).alike text s k }
 
-    -- behind an operation less than its text is left
+    -- an operation consumes at least one character
     pub operation_shrinks : (b : ℕ) (inside : Bool) → Shrink b (operation_at dialects types_at attr does inside) (operation_at dialects types_at attr does inside)
     operation_shrinks b inside = operation_agree b _ _ (λ iso. shrunk (region_shrinks b iso)) inside
 
@@ -184,6 +184,6 @@ module _ {T A S : Type 0} (dialects : List (Text × Table)) (types_at : Reader T
     abbrev pub block_at : Reads S
     block_at = block_by dialects types_at attr does (operations_by (operation_at dialects types_at attr does true))
 
-    -- behind a block less than its text is left
+    -- a block consumes at least one character
     pub block_shrinks : (b : ℕ) → Shrink b block_at block_at
     block_shrinks b = block_agree b _ _ (operations_agree b _ _ (shrunk (operation_shrinks b true)))

@@ -1,4 +1,4 @@
--- What the grammar reads fs a tree the readers of nested text read, and they do what the tree does.
+-- What the grammar parses as a tree the parsers of nested text parse, and they perform the actions of the tree.
 use Rattle.std.proofs.Common.{◌≡◌, ◌∙◌, ℕ, Bool, true, false, ◌==◌, ◌||◌, List, [], ◌∷◌, ◌++◌, map, codes, length, refl, sym, ap, subst, arith, append_assoc, append-nil, inl, inr}
 use Rattle.std.specs.Char.{is_whitespace}
 use Rattle.irtext_base.specs.Text.{Text, begins, begins_word, front, after_space}
@@ -41,14 +41,14 @@ begins_by_word (c ∷ text) e = rw e refl
 -- ---- what an operation, a block and a region are made of
 module _ {T A S : Type 0} (texts : Texts T) (owns : Texts A) (dialects : List (Text × Table)) (types_at : Reader T) (attr : Reader (AttrView A)) (does : Actions T A S)
     (heads : FoundHeads texts owns dialects types_at attr) where
-  -- a piece is read behind white space
+  -- a piece is parsed after white space
   piece_found : (inside : Bool) (step : Step) (p : Piece ℕ T A) (text mid : Text) → IsOfStep step p → reads.piece (l texts owns dialects) p (after_space text) mid → MayUse inside p
       → (taken : Text) × ((space_at ▷ piece_at types_at attr inside step) text ≡ Read p taken mid)
   piece_found inside step p text mid is r may =
       let k = heads.piece inside step (after_space text) p mid (is, r) may in
       (_, followed-read (space_at text) (λ _ t. piece_at types_at attr inside step t) tt p (front is_whitespace text) (after_space text) k.0 mid refl k.1)
 
-  -- the parts in front of the first region are read, and the others stand behind them
+  -- the parts before the first region are parsed, and the other parts follow them
   record FrontFound (inside : Bool) (ss : List Step) (found : List (Part ℕ T A)) (ps : List (Part ℕ T A)) (rs : List Reading) (text rest : Text) (s : S) : Type 0 where
     pub mid : Text
     pub is : front_by dialects types_at attr does inside (front_steps ss) found text s ≡ Advanced (found ++ front_parts ps) s mid
@@ -93,7 +93,7 @@ module _ {T A S : Type 0} (texts : Texts T) (owns : Texts A) (dialects : List (T
         tells_found ((space_at ▷ piece_at types_at attr inside step) text) text s next p first.0 m first.1
         ∙ (e ∙ ap (λ qs. Advanced qs (do_parts (isolated dialects) does place id ps fs (does.late place id p s)) rest) (append_assoc found (tree.piece p ∷ []) ps))
 
-    -- The parts from the first region on are read, with what the regions do.
+    -- The parts from the first region on are parsed, with what the regions do.
     steps_found : (inside : Bool) (place : ℕ) (id : Id) (ss : List Step) (ps : List (Part ℕ T A)) (rs : List Reading) (fs : List (S → S)) (found : List (Part ℕ T A)) (text rest : Text) (s : S)
         → ArePartsOf ps ss → MayUseAll inside ps → AllFind (BeginsWith (the 123)) inner rs fs → reads.parts (l texts owns dialects) ps rs text rest
         → steps_by dialects types_at attr does inner inside place id ss found text s ≡ Advanced (found ++ ps) (do_parts (isolated dialects) does place id ps fs s) rest
@@ -143,7 +143,7 @@ module _ {T A S : Type 0} (texts : Texts T) (owns : Texts A) (dialects : List (T
       let k = heads.mark (after_space text) o.mark rest r in
       tells_found ((space_at ▷ mark_if_at) text) text _ _ o.mark _ rest (followed-read (space_at text) (λ _ t. mark_if_at t) tt o.mark (front is_whitespace text) (after_space text) k.0 rest refl k.1)
 
-  -- what stands behind an id, by these steps
+  -- what follows an id, given these steps
   abbrev body_with : Reads S → Bool → ℕ → List (Name ℕ) → Id → List Step → Reads S
   body_with inner inside place names id ss text s = came (front_by dialects types_at attr does inside (front_steps ss) [] text s) (λ found t rest.
       came (steps_by dialects types_at attr does inner inside place id (region_steps ss) found rest (does.uses place id found t)) (λ parts u left. end_by dialects types_at attr does place names id parts left u))
@@ -161,7 +161,7 @@ module _ {T A S : Type 0} (texts : Texts T) (owns : Texts A) (dialects : List (T
       came_found _ _ (front_parts ps) s f.mid f.is
       ∙ (came_found _ _ ps u mid (g ∙ ap (λ ps. Advanced ps u mid) (split_parts ps)) ∙ end_found o o.place mid rest u mark)
 
-  -- An operation is read where the grammar reads it, if its regions are.
+  -- An operation is parsed where the grammar parses it, if its regions are.
   operation_found : (inner : Bool → Reads S) (shrink : (iso : Bool) (b : ℕ) → Shrink b (inner iso) (inner iso)) (inside : Bool) (o : Op ℕ T A) (rs : List Reading) (fs : List (S → S)) (text rest : Text) (s : S)
       → MayUseAll inside (parts_of o.body) → AllFind (BeginsWith (the 123)) (inner (isolated dialects o.id)) rs fs
       → reads.operation_read (l texts owns dialects) o rs text rest → operation_by dialects types_at attr does inner inside text s ≡ Advanced tt (do_operation (isolated dialects) does o fs s) rest
@@ -286,13 +286,13 @@ module _ {T A S : Type 0} (texts : Texts T) (owns : Texts A) (dialects : List (T
     operations_found no_operations = tt
     operations_found (operation o rs os) = (one_operation true o rs (inside_all (parts_of o.body)) (regions_found (isolated dialects o.id) rs), operations_found os)
 
-  -- What the grammar reads fs a tree an operation's reader reads, and does what the tree does; outside of each region, if the operation
+  -- What the grammar parses as a tree an operation's parser parses, and does what the tree does; outside of each region, if the operation
   -- itself uses no name.
   pub tree_found : (inside : Bool) (x : Tree ℕ T A) (text rest : Text) (s : S) → MayUseAll inside (parts_of x.own.body) → reads.reads (l texts owns dialects) x text rest
       → operation_at dialects types_at attr does inside text s ≡ Advanced tt (do_tree (isolated dialects) does x s) rest
   tree_found inside x text rest s may r = (one_operation inside x.own x.regions may (regions_found (isolated dialects x.own.id) x.regions)).found text rest s r
 
-  -- What the grammar reads fs a region its reader reads, and does what the region does.
+  -- What the grammar parses as a region its parser parses, and does what the region does.
   pub region_is_found : (iso : Bool) (bs : Blocks (Op ℕ T A) (Head ℕ T A) (Brace ℕ)) (place : ℕ) (text rest : Text) (s : S)
       → reads.region_read (l texts owns dialects) (shown place) (reads.block_readings (l texts owns dialects) bs) text rest
       → region_at dialects types_at attr does iso text s ≡ Advanced tt (does.leaves iso place (do_blocks (isolated dialects) does bs (does.enters iso s))) rest

@@ -1,4 +1,4 @@
--- What is asked of the readers of one item's own parts, for what nests to be read as the grammar reads it.
+-- What is required of the parsers of one item's own parts, so that nested text is parsed as the grammar parses it.
 use Rattle.std.proofs.Common.{◌≡◌, ℕ, Bool, true, false, Option, List, [], ◌∷◌}
 use Rattle.std.specs.Prelude.{⊤}
 use Rattle.irtext_base.specs.Text.{Text}
@@ -16,7 +16,7 @@ use Rattle.irtext_parse_spec.specs.Exact.{UsesNone, step_piece, block_head, regi
 use Rattle.irtext_parse_spec.specs.Heads.{Step, piece_at, head_at, led_at, mark_if_at}
 
 module _ {P T A : Type 0} where
-  -- the names that a piece uses may stand inside of a region, and no name may outside of each
+  -- a piece inside a region may use names, and one outside of every region uses none
   abbrev pub MayUse : Bool → Piece P T A → Type 0
   MayUse true p = ⊤
   MayUse false p = UsesNone p
@@ -39,7 +39,7 @@ module _ {T A : Type 0} (texts : Texts T) (owns : Texts A) (dialects : List (Tex
   l = language texts owns (format_of dialects)
 
   module _ (types_at : Reader T) (attr : Reader (AttrView A)) where
-    -- what the readers answer the grammar reads
+    -- what the parsers accept the grammar parses
     pub record ReadHeads : Type 0 where
       pub lead : (text : Text) (lead : List (Name ℕ) × Id) (taken rest : Text) → led_at dialects text ≡ Read lead taken rest → registered_lead l lead text rest
       pub head : (text : Text) (head : Head ℕ T A) (taken rest : Text) → head_at types_at attr text ≡ Read head taken rest → block_head l head text rest
@@ -47,7 +47,7 @@ module _ {T A : Type 0} (texts : Texts T) (owns : Texts A) (dialects : List (Tex
           → step_piece l step p text rest × MayUse inside p
       pub mark : (text : Text) (mark : Option (Mark ℕ)) (taken rest : Text) → mark_if_at text ≡ Read mark taken rest → reads.mark_if l mark text rest
 
-    -- what the grammar reads the readers answer
+    -- what the grammar parses the parsers accept
     pub record FoundHeads : Type 0 where
       pub lead : (text : Text) (lead : List (Name ℕ) × Id) (rest : Text) → registered_lead l lead text rest → (taken : Text) × (led_at dialects text ≡ Read lead taken rest)
       pub head : (text : Text) (head : Head ℕ T A) (rest : Text) → block_head l head text rest → (taken : Text) × (head_at types_at attr text ≡ Read head taken rest)

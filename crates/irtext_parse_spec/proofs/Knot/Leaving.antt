@@ -1,5 +1,5 @@
--- How much of a text the readers of an operation's own parts and of a block's header leave: no more than the text, and less behind an
--- id or a label.
+-- How much of a text the parsers of an operation's own parts and of a block's header leave: no more than the text, and less after an id or
+-- a label.
 use Rattle.std.proofs.Common.{◌≡◌, ℕ, zero, suc, ◌≤◌, Bool, true, false, cond, List, [], ◌∷◌, ◌++◌, Some, None, codes, is_some, length, length-append, refl, ap, arith}
 use Rattle.irtext_base.specs.Text.{Text, begins, front, after, begins_word, in_word}
 use Rattle.irtext_base.specs.Reading.{the}
@@ -27,13 +27,13 @@ use Rattle.irtext_parse_spec.specs.Readers.RestLengths.{Leaves, LeavesNoMore}
 use Rattle.irtext_parse_spec.proofs.Locations.RestLengths.{Within, within_honest, within_no_more, within_either, ◌so◌, ◌then◌, seen, leaves_read, leaves_missing, leaves_bad, leaves_prefixed, leaves_word}
 use Rattle.irtext_parse_spec.specs.Heads.{name_at, label_at, symbol_at, mark_if_at, outside, used_at, target_at, pair_at, dictionary_at, outlined_or_at, Step, flat, types, one, all, directive_at, piece_at, argument_at, dictionary_if_at, head_at, results_at, named, lead_at, led_by, led_at}
 
--- ---- readers put together
+-- ---- parsers put together
 module _ {b : ℕ} where
   -- an outcome that leaves no more than the bound, whatever the text
   same_within : {X : Type 0} {o : Outcome X} → Leaves b o → Within b (λ text. o)
   same_within h = record { leaves = λ text i. h }
 
-  -- nothing is read
+  -- nothing is parsed
   none_within : {X : Type 0} (x : X) → Within b (nothing x)
   none_within x = record { leaves = λ text i. leaves_read b x [] text i }
 
@@ -58,7 +58,7 @@ module _ {b : ℕ} {X Y : Type 0} where
 shortens_word : {b : ℕ} (c : ℕ) (w : Text) → Shortens b (word (c ∷ w))
 shortens_word {b} c w = record { leaves = λ text i. leaves_word b c w text i }
 
--- behind an opening brace less than its text is left
+-- an opening brace consumes at least one character
 pub brace_leaves : (b : ℕ) (text : Text) → length text ≤ suc b → Leaves b ((word (codes "{") ▷ space_at) text)
 brace_leaves b = (shortens_so (shortens_word 123 []) (λ _. within_honest honest_space)).leaves
 
@@ -117,7 +117,7 @@ module _ {b : ℕ} where
   symbol_within : Within b symbol_at
   symbol_within = record { leaves = λ text i. (seen _ (◌then◌ (within_honest (honest_word (codes "@"))) (within_honest (honest_name _)))).leaves text i }
 
-  -- a mark, where one stands, leaves no more than its text
+  -- a mark, if there is one, leaves no more than its text
   pub mark_within : Within b mark_if_at
   mark_within = within_either (begins (the 33)) (seen Some (record { leaves = λ text i. (seen _ (within_honest honest_index)).leaves text i })) (none_within None)
 
@@ -180,7 +180,7 @@ module _ {b : ℕ} {T A : Type 0} {types_at : Reader T} {attr : Reader (AttrView
   dictionary_if_within : Within b (dictionary_if_at types_at attr)
   dictionary_if_within = within_either (begins (the 91)) (seen Some (dictionary_within h)) (none_within None)
 
-  -- behind a block's header less than its text is left
+  -- a block's header consumes at least one character
   pub head_leaves : (text : Text) → length text ≤ suc b → Leaves b (head_at types_at attr text)
   head_leaves = (shortens_so label_shortens (λ label. ◌then◌ (within_honest (honest_spaced (codes "("))) (◌so◌ (separated_within 44 argument_within) (λ arguments.
       ◌then◌ (within_honest (honest_word (codes ")"))) (◌then◌ (within_honest honest_space) (◌so◌ dictionary_if_within (λ attributes.
@@ -221,6 +221,6 @@ module _ {b : ℕ} where
   led_leaves_by dialects (Missing cause) h = leaves_missing b cause
   led_leaves_by dialects (Bad cause upto) h = leaves_bad b cause upto
 
--- behind an operation's id less than its text is left
+-- an operation's lead and id consume at least one character
 pub led_leaves : (b : ℕ) (dialects : List (Text × Table)) (text : Text) → length text ≤ suc b → Leaves b (led_at dialects text)
 led_leaves b dialects text i = led_leaves_by dialects (lead_at text) (lead_within.leaves text i)

@@ -1,4 +1,4 @@
--- A loop over items reads them as the grammar reads a row of them, and does what each does in their order.
+-- A loop over items parses them as the grammar parses a row of them, and does what each does in their order.
 use Rattle.std.proofs.Common.{◌≡◌, ◌∙◌, ℕ, zero, suc, ◌≤◌, Bool, true, false, cond, List, [], ◌∷◌, map, length, refl, sym, ap, arith, true≢false}
 use Rattle.std.specs.Prelude.{⊤}
 use Rattle.std.specs.Char.{is_whitespace}
@@ -12,31 +12,31 @@ use Rattle.irtext_parse_spec.specs.Reached.{Reached, Advanced, Stopped, came, te
 use Rattle.irtext_parse_spec.proofs.Knot.Alike.{Shrink, IsLoop}
 use Rattle.irtext_parse_spec.proofs.Knot.Bound.{behind_semicolon}
 
--- ---- readings put together
+-- ---- parses put together
 module _ {X Y S : Type 0} where
-  -- what comes behind what was read
+  -- what follows a value that was parsed
   pub tells_found : (o : Outcome X) (text : Text) (s : S) (next : X → Text → Reached Y S) (x : X) (taken rest : Text) → o ≡ Read x taken rest → tells o text s next ≡ next x rest
   tells_found o text s next x taken rest e = ap (λ o. tells o text s next) e
 
-  -- what comes behind a reading that came to an end
+  -- what follows a parse that came to an end
   pub came_found : (o : Reached X S) (next : X → S → Text → Reached Y S) (x : X) (s : S) (rest : Text) → o ≡ Advanced x s rest → came o next ≡ next x s rest
   came_found o next x s rest e = ap (λ o. came o next) e
 
-  -- what was read, where something came behind it
+  -- the value that was parsed, if the parse went on and came to an end
   pub tells_read : (o : Outcome X) (text : Text) (s : S) (next : X → Text → Reached Y S) (y : Y) (t : S) (rest : Text) → tells o text s next ≡ Advanced y t rest
       → (x : X) × (taken : Text) × (mid : Text) × (o ≡ Read x taken mid) × (next x mid ≡ Advanced y t rest)
   tells_read (Read x taken mid) text s next y t rest e = (x, taken, mid, refl, e)
   tells_read (Missing cause) text s next y t rest e = absurd (cc e)
   tells_read (Bad cause upto) text s next y t rest e = absurd (cc e)
 
-  -- what a reading came to, where something came behind it
+  -- the result of the first parse, if the parse went on after it and came to an end
   pub came_read : (o : Reached X S) (next : X → S → Text → Reached Y S) (y : Y) (t : S) (rest : Text) → came o next ≡ Advanced y t rest
       → (x : X) × (u : S) × (mid : Text) × (o ≡ Advanced x u mid) × (next x u mid ≡ Advanced y t rest)
   came_read (Advanced x u mid) next y t rest e = (x, u, mid, refl, e)
   came_read (Stopped s cause place) next y t rest e = absurd (cc e)
 
--- ---- what is to be read
--- what a reading reads the reader reads, and does this; and so each text begins
+-- ---- what is to be parsed
+-- what a reading of the grammar parses, the parser parses, with this action; and each such text begins as required
 pub record Finds {S : Type 0} (Begins : Text → Type 0) (item : Reads S) (reading : Reading) (act : S → S) : Type 0 where
   pub begins : (text rest : Text) → reading text rest → Begins text
   pub found : (text rest : Text) (s : S) → reading text rest → item text s ≡ Advanced tt (act s) rest
@@ -56,11 +56,11 @@ module _ {S : Type 0} {test : ℕ → Bool} {item : Reads S} {loop : ℕ → Rea
   stops zero text s e = i.none text s
   stops (suc n) text s e = rw (i.more n text s, e) refl
 
-  -- what is left behind an item that was read
+  -- what is left after an item that was parsed
   less : (c : ℕ) (text : Text) (s t : S) (rest : Text) → item (c ∷ text) s ≡ Advanced tt t rest → length (after_space rest) ≤ length text
   less c text s t rest e = space_bound (length text) rest (((shrink (length text)).alike (c ∷ text) s (omega arith)).leaves.by tt t rest e)
 
-  -- A row that the grammar reads the loop reads.
+  -- A row that the grammar parses the loop parses.
   pub loop_found : (n : ℕ) (rs : List Reading) (fs : List (S → S)) (text rest : Text) (s : S) → length text ≤ n → AllFind (BeginsWith test) item rs fs
       → repeated test rs text rest → loop n text s ≡ Advanced tt (each_of fs s) rest
   loop_found n [] [] text rest s h k (e, r) = stops n text s e ∙ ap (Advanced tt s) (sym r)
@@ -74,21 +74,21 @@ module _ {S : Type 0} {test : ℕ → Bool} {item : Reads S} {loop : ℕ → Rea
       let again = loop_found n rs fs (after_space m) rest (a s) (omega (arith, h, j)) k.1 z in
       rw (i.more n (c ∷ text) s, k.0.begins (c ∷ text) m q) (came_found (item (c ∷ text) s) (λ _ t rest. loop n (after_space rest) t) tt (a s) m first ∙ again)
 
--- behind a row that stands behind white space none is left
+-- after items that follow white space no white space is left
 pub repeated_tight : (test : ℕ → Bool) (rs : List Reading) (text rest : Text) → repeated test rs (after_space text) rest → after_space rest ≡ rest
 repeated_tight test [] text rest h = ap after_space h.1 ∙ (after_twice is_whitespace text ∙ sym h.1)
 repeated_tight test (r ∷ rs) text rest h = repeated_tight test rs h.0 rest h.2
 
--- an item behind its separator
+-- an item after its separator
 abbrev pub separate : ℕ → Reading → Reading
 separate sep reading = literal (sep ∷ []) ▹ reading
 
--- items behind a separator each are a row of such
+-- items, each after a separator, are repeated items of a separator and an item
 pub more_repeated : (sep : ℕ) (rs : List Reading) (text rest : Text) → more sep rs text rest → repeated (the sep) (map (separate sep) rs) text rest
 more_repeated sep [] text rest h = h
 more_repeated sep (r ∷ rs) text rest (m, first, (k, q, z)) = (k, (m, first, q), more_repeated sep rs (after_space k) rest z)
 
--- and the other way round
+-- and conversely
 pub repeated_more : {X : Type 0} (sep : ℕ) (reading : X → Reading) (xs : List X) (text rest : Text)
     → repeated (the sep) (map (λ x. separate sep (reading x)) xs) text rest → more sep (map reading xs) text rest
 repeated_more sep reading [] text rest h = h
@@ -98,7 +98,7 @@ module _ {S : Type 0} (Begins : Text → Type 0) (item : Reads S) where
   semicolon_first : (text rest : Text) → literal (59 ∷ []) text rest → text ≡ 59 ∷ rest
   semicolon_first text rest e = e
 
-  -- items are found behind a `;`
+  -- items are found after a `;`
   pub behind_found : (rs : List Reading) (fs : List (S → S)) → AllFind Begins item rs fs → AllFind (BeginsWith (the 59)) (behind_semicolon item) (map (separate 59) rs) fs
   behind_found [] [] h = tt
   behind_found [] (a ∷ fs) h = absurd h
@@ -111,12 +111,12 @@ module _ {S : Type 0} (Begins : Text → Type 0) (item : Reads S) where
     behind_found rs fs h.1,
   )
 
--- ---- what was read
--- what the reader reads the grammar reads fs a thing that does the same
+-- ---- what was parsed
+-- what the parser accepts is a reading of the grammar whose action on the state is the same
 pub record Tells {X S : Type 0} (item : Reads S) (reading : X → Reading) (act : X → S → S) : Type 0 where
   pub read : (text : Text) (s t : S) (rest : Text) → item text s ≡ Advanced tt t rest → (x : X) × reading x text rest × (t ≡ act x s)
 
--- a row of such things
+-- repeated items that were parsed, with their actions
 pub record RowRead {X S : Type 0} (test : ℕ → Bool) (reading : X → Reading) (act : X → S → S) (text : Text) (s t : S) (rest : Text) : Type 0 where
   pub items : List X
   pub reads : repeated test (map reading items) text rest
@@ -127,7 +127,7 @@ module _ {X S : Type 0} {test : ℕ → Bool} {item : Reads S} {loop : ℕ → R
   ended : (text : Text) (s t : S) (rest : Text) → begins test text ≡ false → ◌≡◌ {A = Reached Unit S} (Advanced tt s text) (Advanced tt t rest) → RowRead test reading act text s t rest
   ended text s t rest b e = let f : s ≡ t = cc e in let g : text ≡ rest = cc e in record { items = []; reads = (b, sym g); does = sym f }
 
-  -- What the loop reads is a row that the grammar reads.
+  -- What the loop parses is a row that the grammar parses.
   pub loop_read : (n : ℕ) (text : Text) (s t : S) (rest : Text) → length text ≤ n → loop n text s ≡ Advanced tt t rest → RowRead test reading act text s t rest
   loop_read zero [] s t rest h e = ended [] s t rest refl (sym (i.none [] s) ∙ e)
   loop_read zero (c ∷ text) s t rest h e = absurd (omega (arith, h))

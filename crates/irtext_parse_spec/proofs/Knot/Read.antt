@@ -1,4 +1,4 @@
--- What the readers of nested text read is a tree that the grammar reads, and they have done what the tree does.
+-- What the parsers of nested text parse is a tree that the grammar parses, and they have performed the actions of the tree.
 use Rattle.std.proofs.Common.{◌≡◌, ◌∙◌, ℕ, zero, suc, Bool, true, false, cond, Option, List, [], ◌∷◌, ◌++◌, map, Some, codes, length, refl, sym, ap, ap₂, subst, arith, append_assoc, append-nil, true≢false}
 use Rattle.std.specs.Prelude.{IfSome}
 use Rattle.std.specs.Char.{is_whitespace}
@@ -32,7 +32,7 @@ use Rattle.irtext_parse_spec.proofs.Knot.Heads.{MayUse, MayUseAll, l, ReadHeads}
 use Rattle.irtext_parse_spec.proofs.Knot.Loops.{tells_read, came_read, Tells, RowRead, loop_read, repeated_tight, separate, repeated_more}
 use Rattle.irtext_parse_spec.proofs.Knot.Steps.{ArePartsOf, ArePieces, EndsRegions, body_of_steps, ends_regions, steps_known}
 
--- steps that read no region end their regions
+-- steps that parse no region end their regions
 pieces_end : (ss : List Step) → ArePieces ss → EndsRegions ss
 pieces_end [] h = tt
 pieces_end (flat d ∷ ss) h = pieces_end ss h
@@ -40,9 +40,9 @@ pieces_end (types ∷ ss) h = pieces_end ss h
 pieces_end (one i ∷ ss) h = absurd h
 pieces_end (all ∷ ss) h = absurd h
 
--- ---- forests of what was read one behind the other
+-- ---- forests that were parsed one after another
 module _ {T A S : Type 0} (texts : Texts T) (owns : Texts A) (dialects : List (Text × Table)) (does : Actions T A S) where
-  -- a region that is shown: where it stands, and its blocks
+  -- a region that is shown: its place, and its blocks
   abbrev Shown : Type 0
   Shown = ℕ × Blocks (Op ℕ T A) (Head ℕ T A) (Brace ℕ)
 
@@ -101,7 +101,7 @@ module _ {T A S : Type 0} (texts : Texts T) (owns : Texts A) (dialects : List (T
 -- ---- the parts of an operation
 module _ {T A S : Type 0} (texts : Texts T) (owns : Texts A) (dialects : List (Text × Table)) (types_at : Reader T) (attr : Reader (AttrView A)) (does : Actions T A S)
     (heads : ReadHeads texts owns dialects types_at attr) where
-  -- a piece that was read behind white space
+  -- a piece that was parsed after white space
   piece_read : (inside : Bool) (step : Step) (p : Piece ℕ T A) (text taken mid : Text) → (space_at ▷ piece_at types_at attr inside step) text ≡ Read p taken mid
       → IsOfStep step p × reads.piece (l texts owns dialects) p (after_space text) mid × MayUse inside p
   piece_read inside step p text taken mid e =
@@ -110,7 +110,7 @@ module _ {T A S : Type 0} (texts : Texts T) (owns : Texts A) (dialects : List (T
       let k = heads.piece inside step a.middle p a.more mid a.second in
       (k.0.0, subst (λ t. reads.piece (l texts owns dialects) p t mid) spaced k.0.1, k.1)
 
-  -- the parts in front of the first region and those from there on, put together
+  -- the parts before the first region and those from there on, put together
   record Joined (inside : Bool) (ss : List Step) (ps qs : List (Part ℕ T A)) (rs : List Reading) (text rest : Text) : Type 0 where
     pub fits : ArePartsOf (ps ++ qs) ss
     pub may : MayUseAll inside (ps ++ qs)
@@ -118,7 +118,7 @@ module _ {T A S : Type 0} (texts : Texts T) (owns : Texts A) (dialects : List (T
     pub front : front_parts (ps ++ qs) ≡ ps
     pub behind : region_parts (ps ++ qs) ≡ qs
 
-  -- the parts that were read in front of the first region
+  -- the parts that were parsed before the first region
   record FrontRead (inside : Bool) (ss : List Step) (found parts : List (Part ℕ T A)) (s t : S) (text mid : Text) : Type 1 where
     pub ps : List (Part ℕ T A)
     pub whole : parts ≡ found ++ ps
@@ -189,7 +189,7 @@ module _ {T A S : Type 0} (texts : Texts T) (owns : Texts A) (dialects : List (T
       front_more inside types ss found parts s t text mid refl (λ p m. front_read inside ss (found ++ tree.piece p ∷ []) parts s t m mid) e
 
   module _ (inner : Reads S) (shrink : (b : ℕ) → Shrink b inner inner) (iso : Bool) (tell : Tells inner (region_of texts owns dialects does) (region_act texts owns dialects does iso)) where
-    -- the parts that were read from the first region on, and their regions
+    -- the parts that were parsed from the first region on, and their regions
     record StepsRead (inside : Bool) (place : ℕ) (id : Id) (ss : List Step) (found parts : List (Part ℕ T A)) (s t : S) (text rest : Text) : Type 0 where
       pub ps : List (Part ℕ T A)
       pub regions : List (Shown texts owns dialects does)
@@ -260,12 +260,12 @@ module _ {T A S : Type 0} (texts : Texts T) (owns : Texts A) (dialects : List (T
     steps_read inside place id (types ∷ ss) found parts s t text rest ends e =
         late_read inside place id types ss found parts s t text rest _ (λ p m. steps_read inside place id ss (found ++ tree.piece p ∷ []) parts (does.late place id p s) t m rest ends) (λ h. h) e
 
-    -- what stands behind an id, by these steps
+    -- what follows an id, given these steps
     abbrev body_with : Bool → ℕ → List (Name ℕ) → Id → List Step → Reads S
     body_with inside place names id ss text s = came (front_by dialects types_at attr does inside (front_steps ss) [] text s) (λ found t rest.
         came (steps_by dialects types_at attr does inner inside place id (region_steps ss) found rest (does.uses place id found t)) (λ parts u left. end_by dialects types_at attr does place names id parts left u))
 
-    -- a body that was read
+    -- a body that was parsed
     record BodyRead (inside : Bool) (place : ℕ) (names : List (Name ℕ)) (id : Id) (ss : List Step) (s t : S) (text rest : Text) : Type 0 where
       pub ps : List (Part ℕ T A)
       pub regions : List (Shown texts owns dialects does)
@@ -324,7 +324,7 @@ module _ {T A S : Type 0} (texts : Texts T) (owns : Texts A) (dialects : List (T
 -- ---- operations, blocks and regions
 module _ {T A S : Type 0} (texts : Texts T) (owns : Texts A) (dialects : List (Text × Table)) (types_at : Reader T) (attr : Reader (AttrView A)) (does : Actions T A S)
     (heads : ReadHeads texts owns dialects types_at attr) (no_more : LeavesNoMore types_at) (none_more : LeavesNoMore attr) (accepted : (id : Id) → IsAccepted dialects id) where
-  -- what an operation's reader read
+  -- what an operation's parser parsed
   record OperationRead (inside : Bool) (text : Text) (s t : S) (rest : Text) : Type 0 where
     pub tree : Tree ℕ T A
     pub reads : reads.reads (l texts owns dialects) tree text rest
@@ -335,7 +335,7 @@ module _ {T A S : Type 0} (texts : Texts T) (owns : Texts A) (dialects : List (T
   known_ends id f e = ends_regions f (subst (λ o. IfSome o Accepted) e (accepted id))
 
   module _ (inner : Bool → Reads S) (shrink : (iso : Bool) (b : ℕ) → Shrink b (inner iso) (inner iso)) (tell : (iso : Bool) → Tells (inner iso) (region_of texts owns dialects does) (region_act texts owns dialects does iso)) where
-    -- the tree of a body that was read behind its lead
+    -- the tree of a body that was parsed after its lead
     body_tree : (inside : Bool) (text mid : Text) (s t : S) (rest : Text) (names : List (Name ℕ)) (id : Id) (f : Format) → format_of dialects id ≡ Some f → operation_lead (l texts owns dialects) (names, id) text mid
         → BodyRead texts owns dialects types_at attr does heads (inner (isolated dialects id)) (shrink (isolated dialects id)) (isolated dialects id) (tell (isolated dialects id)) inside (length text) names id (steps_of f) s t mid rest
         → OperationRead inside text s t rest
@@ -393,7 +393,7 @@ module _ {T A S : Type 0} (texts : Texts T) (owns : Texts A) (dialects : List (T
         let x = tell.read (after_space text) s t rest e in
         (x.0, (text, ap (λ c. c ∷ text) (same_character c 59 b), x.1), x.2)
 
-    -- a row of operations that was read
+    -- a row of operations that was parsed
     operations_read : (text : Text) (s t : S) (rest : Text) → operations_by item (after_space text) s ≡ Advanced tt t rest
         → (xs : List (Tree ℕ T A)) × separated 59 reads.no_operation (map (reads.reads (l texts owns dialects)) xs) (after_space text) rest × (t ≡ each_of (map (do_tree (isolated dialects) does) xs) s)
     operations_read text s t rest e = go (begins_operation (after_space text)) refl e
@@ -464,7 +464,7 @@ module _ {T A S : Type 0} (texts : Texts T) (owns : Texts A) (dialects : List (T
             (subst (λ z. RowRead (the 94) (block_of texts owns dialects does) (block_act texts owns dialects does) z (does.enters iso s) b.1 b.2) (sym spaced) row)
             (subst (literal (codes "}") b.2) left (text_read (codes "}") b.2 c.1 c.2 c.3)) (sym done)
 
-  -- ---- the knot
+  -- ---- regions within a bound on their nesting, by induction on the bound
   within_read : (n : ℕ) (iso : Bool) → Tells (region_within dialects types_at attr does n iso) (region_of texts owns dialects does) (region_act texts owns dialects does iso)
   within_read zero iso = record { read = λ text s t rest e. absurd (cc e) }
   within_read (suc n) iso = record {
@@ -477,11 +477,11 @@ module _ {T A S : Type 0} (texts : Texts T) (owns : Texts A) (dialects : List (T
         iso text s t rest e;
   }
 
-  -- what a region's reader reads
+  -- what a region's parser parses
   region_tells : (iso : Bool) → Tells (region_at dialects types_at attr does iso) (region_of texts owns dialects does) (region_act texts owns dialects does iso)
   region_tells iso = record { read = λ text s t rest e. (within_read (suc (length text)) iso).read text s t rest e }
 
-  -- What an operation's reader reads is a tree that the grammar reads, and it has done what the tree does; outside of each region the
+  -- What an operation's parser parses is a tree that the grammar parses, and it has done what the tree does; outside of each region the
   -- operation itself uses no name.
   pub tree_read : (inside : Bool) (text : Text) (s t : S) (rest : Text) → operation_at dialects types_at attr does inside text s ≡ Advanced tt t rest
       → (x : Tree ℕ T A) × reads.reads (l texts owns dialects) x text rest × MayUseAll inside (parts_of x.own.body) × (t ≡ do_tree (isolated dialects) does x s)
@@ -489,7 +489,7 @@ module _ {T A S : Type 0} (texts : Texts T) (owns : Texts A) (dialects : List (T
       let k = operation_read (region_at dialects types_at attr does) (λ iso b. region_shrinks dialects types_at attr does no_more none_more b iso) region_tells inside text s t rest e in
       (k.tree, k.reads, k.may, k.acts)
 
-  -- What a region's reader reads is a region that the grammar reads, and it has done what the region does.
+  -- What a region's parser parses is a region that the grammar parses, and it has done what the region does.
   pub region_is_read : (iso : Bool) (text : Text) (s t : S) (rest : Text) → region_at dialects types_at attr does iso text s ≡ Advanced tt t rest
       → (bs : Blocks (Op ℕ T A) (Head ℕ T A) (Brace ℕ)) × reads.region_read (l texts owns dialects) (shown (length text)) (reads.block_readings (l texts owns dialects) bs) text rest
       × (t ≡ does.leaves iso (length text) (do_blocks (isolated dialects) does bs (does.enters iso s)))

@@ -1,4 +1,4 @@
--- The parts of a body that a format reads are those of the format's steps, in front of the first region and from there on.
+-- The parts of a body that a format parses are those of the format's steps, before the first region and from there on.
 use Rattle.std.proofs.Common.{◌≡◌, ◌∙◌, ℕ, Bool, true, not, List, [], ◌∷◌, ◌++◌, map, Some, None, codes, refl, sym, ap, ap₂, true≢false}
 use Rattle.std.specs.Prelude.{⊤}
 use Rattle.std.specs.List.{list_all}
@@ -18,7 +18,7 @@ use Rattle.irtext_parse_spec.proofs.Knot.Heads.{MayUseAll}
 use Rattle.irtext_parse_spec.proofs.Exact.Pieces.{is_word, is_operands, is_successors, is_dictionary, is_types, is_no_region, is_no_regions}
 
 module _ {T A : Type 0} where
-  -- the part is one that the step reads
+  -- the part is one that the step parses
   abbrev pub IsPartOf : Part ℕ T A → Step → Type 0
   IsPartOf (tree.piece p) step = IsOfStep step p
   IsPartOf (tree.region i) (one j) = i ≡ j
@@ -91,7 +91,7 @@ module _ {T A : Type 0} where
   record MadeSo {X : Type 0} (ss : List Step) (parts : X → List (Part ℕ T A)) : Type 0 where
     pub from : (ps : List (Part ℕ T A)) → ArePartsOf ps ss → (x : X) × (ps ≡ parts x)
 
-  -- a list in front
+  -- with a list before the parts
   list_before : {X Y : Type 0} {ss : List Step} {parts : X → List (Part ℕ T A)} (see : List Y → Piece ℕ T A) (s : Step)
       → ((p : Piece ℕ T A) → IsOfStep s p → (ys : List Y) × (see ys ≡ p)) → ((p : Part ℕ T A) → IsPartOf p s → (q : Piece ℕ T A) × (p ≡ tree.piece q) × IsOfStep s q)
       → MadeSo ss parts → MadeSo {X = List Y × X} (s ∷ ss) (λ x. tree.piece (see x.0) ∷ parts x.1)
@@ -105,7 +105,7 @@ module _ {T A : Type 0} where
           let m = h.from ps k.1 in
           ((l.0, m.0), ap₂ ◌∷◌ (q.1 ∙ ap (λ p. tree.piece p) (sym l.1)) m.1)
 
-  -- a word in front
+  -- with a word before the parts
   word_before : {X : Type 0} {ss : List Step} {parts : X → List (Part ℕ T A)} (w : Text) → MadeSo ss parts → MadeSo (flat (format.word w) ∷ ss) (λ x. tree.piece (tree.word w) ∷ parts x)
   word_before {X} {ss} {parts} w h = record { from = go }
     where
@@ -147,12 +147,12 @@ module _ {T A : Type 0} where
       let m = canonical_so.from ps h in
       record { body = tree.canonical m.0.0 m.0.1.0 m.0.1.1.0 m.0.1.1.1.0 m.0.1.1.1.1.0; is_of = tt; parts = sym m.1 }
 
-  -- parts of a format's steps are those of a body that the format reads
+  -- parts of a format's steps are those of a body that the format parses
   pub body_of_steps : (f : Format) (ps : List (Part ℕ T A)) → ArePartsOf ps (steps_of f) → BodyOf f ps
   body_of_steps format.canonical ps h = canonical_body ps h
   body_of_steps (format.custom ds) ps h = record { body = tree.custom ps; is_of = parts_directives ps ds h; parts = refl }
 
-  -- ---- in front of the first region, and from there on
+  -- ---- before the first region, and from there on
   -- the parts from the first region on are those of the steps from there on
   pub region_fit : (ps : List (Part ℕ T A)) (ss : List Step) → ArePartsOf ps ss → ArePartsOf (region_parts ps) (region_steps ss)
   region_fit [] [] h = tt
@@ -182,8 +182,8 @@ module _ {T A : Type 0} where
 pub steps_known : (dialects : List (Text × Table)) (id : Id) (f : Format) → format_of dialects id ≡ Some f → steps_in dialects id ≡ steps_of f
 steps_known dialects id f e = ap (λ o. elim o [ Some f ↦ steps_of f | None ↦ [] ]) e
 
--- ---- where all regions that are left are read, no region stands behind
--- no step reads a region
+-- ---- after the step that parses all other regions, no step parses a region
+-- no step parses a region
 abbrev pub ArePieces : List Step → Type 0
 ArePieces [] = ⊤
 ArePieces (flat d ∷ ss) = ArePieces ss
@@ -191,7 +191,7 @@ ArePieces (types ∷ ss) = ArePieces ss
 ArePieces (one i ∷ ss) = ⊥
 ArePieces (all ∷ ss) = ⊥
 
--- no region stands behind all that are left
+-- no step parses a region after the step of all other regions
 abbrev pub EndsRegions : List Step → Type 0
 EndsRegions [] = ⊤
 EndsRegions (all ∷ ss) = ArePieces ss
@@ -219,6 +219,6 @@ last_steps (all ∷ ss) h = h
 last_steps (flat d ∷ ss) h = last_steps ss h
 last_steps (types ∷ ss) h = last_steps ss h
 
--- a list of steps of an accepted format reads no region behind all that are left
+-- in the steps of an accepted format, none parses a region after the step of all other regions
 pub ends_regions : (f : Format) → Accepted f → EndsRegions (region_steps (steps_of f))
 ends_regions f h = last_steps (steps_of f) (accepted_steps f h)

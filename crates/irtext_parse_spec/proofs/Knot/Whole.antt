@@ -1,5 +1,5 @@
--- What the readers of nested text answer is what the grammar reads: a caller's types and attributes are asked that what they take and
--- leave is the text, and where a marker may stand in an attribute's place, that attributes begin as a word does.
+-- What the parsers of nested text accept is what the grammar parses. Of a caller's types and attributes it is required that what they take
+-- and leave is the text and, where a marker may be in place of an attribute, that attributes begin as a word does.
 use Rattle.std.proofs.Common.{◌≡◌, ℕ, Bool, true, false, List, length, ap, arith, length-append}
 use Rattle.irtext_base.specs.Text.{Text}
 use Rattle.irtext_base.specs.Faults.{Fault}
@@ -28,14 +28,14 @@ use Rattle.irtext_parse_spec.proofs.Knot.Found as found
 use Rattle.irtext_parse_spec.proofs.Knot.Heads.{MayUse, ReadHeads, FoundHeads, inside_all}
 use Rattle.irtext_parse_spec.proofs.Knot.Read as read
 
--- a reader that takes and leaves the text leaves no more than the text
+-- a parser that takes and leaves the text leaves no more than the text
 pub leaves_no_more : {X : Type 0} (at : Reader X) → Splits at → LeavesNoMore at
 leaves_no_more at h = record {
   by = λ text. record { by = λ x taken rest e. omega (arith, ap length (h text x taken rest e), length-append taken rest) };
 }
 
 module _ {T A : Type 0} (types_at : Text → Outcome T) (types_written : T → Text) (reading : Text → Outcome A) (written : A → Text) (dialects : List (Text × Table)) where
-  -- the language of the readers
+  -- the language of the parsers
   abbrev pub L : Language ℕ T A
   L = language (texts_of types_at types_written) (texts_of reading written) (format_of dialects)
 
@@ -69,8 +69,8 @@ module _ {T A : Type 0} (types_at : Text → Outcome T) (types_written : T → T
     }
 
     module _ {S : Type 0} (does : Actions T A S) where
-      -- ---- where each registered format reads uniquely
-      -- What an operation's reader reads inside of a region the grammar reads as a tree, and the reader has done what the tree does.
+      -- ---- where each registered format parses uniquely
+      -- What an operation's parser parses inside of a region the grammar parses as a tree, and the parser has done what the tree does.
       pub tree_read : ((id : Id) → IsAccepted dialects id) → (text : Text) (s t : S) (rest : Text) → operation_at dialects types_at (attr_at reading) does true text s ≡ Advanced tt t rest
           → (x : Tree ℕ T A) × reads.reads L x text rest × (t ≡ do_tree (isolated dialects) does x s)
       tree_read accepted text s t rest e =
@@ -78,7 +78,7 @@ module _ {T A : Type 0} (types_at : Text → Outcome T) (types_written : T → T
           (leaves_no_more (attr_at reading) (splits_attr reading splits)) accepted true text s t rest e in
           (k.0, k.1, k.3)
 
-      -- The same of a region, which stands at its `{`.
+      -- The same for a region, which begins at its `{`.
       pub region_read : ((id : Id) → IsAccepted dialects id) → (iso : Bool) (text : Text) (s t : S) (rest : Text) → region_at dialects types_at (attr_at reading) does iso text s ≡ Advanced tt t rest
           → (bs : Blocks (Op ℕ T A) (Head ℕ T A) (Brace ℕ)) × reads.region_read L (shown (length text)) (reads.block_readings L bs) text rest
           × (t ≡ does.leaves iso (length text) (do_blocks (isolated dialects) does bs (does.enters iso s)))
@@ -88,7 +88,7 @@ module _ {T A : Type 0} (types_at : Text → Outcome T) (types_written : T → T
 
       -- ---- where attributes begin as a word does
       module _ (words : NeedsWord reading) where
-        -- What the grammar reads as a tree an operation's reader reads inside of a region, and does what the tree does.
+        -- What the grammar parses as a tree an operation's parser parses inside of a region, and does what the tree does.
         pub tree_found : (x : Tree ℕ T A) (text rest : Text) (s : S) → reads.reads L x text rest → operation_at dialects types_at (attr_at reading) does true text s ≡ Advanced tt (do_tree (isolated dialects) does x s) rest
         tree_found x text rest s r =
             found.tree_found (texts_of types_at types_written) (texts_of reading written) dialects types_at (attr_at reading) does (heads_found words) (leaves_no_more types_at types_split)
@@ -101,7 +101,7 @@ module _ {T A : Type 0} (types_at : Text → Outcome T) (types_written : T → T
             found.region_is_found (texts_of types_at types_written) (texts_of reading written) dialects types_at (attr_at reading) does (heads_found words) (leaves_no_more types_at types_split)
             (leaves_no_more (attr_at reading) (splits_attr reading splits)) iso bs (length text) text rest s r
 
-        -- Where an operation's reader is stuck inside of a region, the grammar reads no tree.
+        -- Where an operation's parser is stuck inside of a region, the grammar parses no tree.
         pub stuck_unread : (text : Text) (s t : S) (cause : Fault) (place : ℕ) → operation_at dialects types_at (attr_at reading) does true text s ≡ Stopped t cause place
             → (x : Tree ℕ T A) (rest : Text) → reads.reads L x text rest → ⊥
         stuck_unread text s t cause place e x rest r = let f = tree_found x text rest s r in cc (e, f)

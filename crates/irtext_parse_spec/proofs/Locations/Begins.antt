@@ -1,4 +1,4 @@
--- Where a location begins, its reader is one that its first character names; elsewhere there is none.
+-- Where a location begins, its parser is one that its first character names; elsewhere there is none.
 use Rattle.std.proofs.Common.{◌≡◌, ◌∙◌, ap, refl, sym, subst, ℕ, zero, suc, ◌≤◌, Bool, true, false, cond, ◌||◌, Option, Some, None, Result, List, [], ◌∷◌, length, codes, arith, true≢false}
 use Rattle.std.specs.Str.{encode_utf8_all}
 use Rattle.irtext_base.specs.Text.{Text, begins}
@@ -15,7 +15,7 @@ use Rattle.irtext_tokens.specs.QuotedTexts.{quoted_at, units_at}
 use Rattle.irtext_parse_spec.specs.Readers.Streams.{itself, replaced}
 use Rattle.irtext_parse_spec.specs.Readers.Locations.{begins_source, begins_location, bytes_at, path_at, source_at, place_at, name_at, WrittenRow, fused_at, named_at, call_site_at, kind_at, location_within, more_within}
 
--- nothing of its kind stands there
+-- the parser's value is missing here: nothing was taken
 abbrev pub is_missing : {X : Type 0} → Outcome X → Bool
 is_missing (Read x taken rest) = false
 is_missing (Missing cause) = true
@@ -26,7 +26,7 @@ missing_prefixed t (Read x taken rest) = refl
 missing_prefixed t (Missing cause) = refl
 missing_prefixed t (Bad cause upto) = refl
 
--- what begins with a thing is missing where that is
+-- a sequence is missing if and only if its first part is missing
 missing_followed : {X Y : Type 0} (o : Outcome X) (k : X → Text → Outcome Y) → is_missing (followed o k) ≡ is_missing o
 missing_followed (Read x taken rest) k = missing_prefixed taken (k x rest)
 missing_followed (Missing cause) k = refl
@@ -37,7 +37,7 @@ missing_mapped f (Read x taken rest) = refl
 missing_mapped f (Missing cause) = refl
 missing_mapped f (Bad cause upto) = refl
 
--- a word is not missing where its first character stands
+-- a word is not missing if the text begins with its first character
 word_begins : (c : ℕ) (word text : Text) → begins (the c) text ≡ true → is_missing (text_at (c ∷ word) text) ≡ false
 word_begins c word [] h = absurd (true≢false (sym h))
 word_begins c word (d ∷ text) h =
@@ -75,7 +75,7 @@ memory text = mapped (λ _. None) (text_at (codes "<in-memory>") text)
 abbrev no_source : Text → Outcome (Option (List ℕ))
 no_source text = Missing (Unexpected (first_of text) ASource)
 
--- where a source begins, its reader does not miss it
+-- where a source begins, its parser does not miss it
 pub source_begins : (text : Text) → begins begins_source text ≡ true → is_missing (source_at text) ≡ false
 source_begins text h = by (begins (the 34) text) refl
   where
@@ -91,19 +91,19 @@ module _ {A : Type 0} (inner : Text → Outcome (Written A)) (more : Text → Ou
   pub is_place : begins begins_source text ≡ true → kind_at inner more attr text ≡ place_at text
   is_place a = rw a refl
 
-  -- where `f` stands and no source, the reader is that of a fused location
+  -- if the text begins with `f` and no source, the parser is that of a fused location
   pub is_fused : begins begins_source text ≡ false → begins (the 102) text ≡ true → kind_at inner more attr text ≡ fused_at inner more attr text
   is_fused a b = rw (a, b) refl
 
-  -- where `n` stands, it is that of a named one
+  -- if it begins with `n`, the parser is that of a named location
   pub is_named : begins begins_source text ≡ false → begins (the 102) text ≡ false → begins (the 110) text ≡ true → kind_at inner more attr text ≡ named_at inner more text
   is_named a b c = rw (a, b, c) refl
 
-  -- where `c` stands, it is that of a call site
+  -- if it begins with `c`, the parser is that of a call site
   pub is_call_site : begins begins_source text ≡ false → begins (the 102) text ≡ false → begins (the 110) text ≡ false → begins (the 99) text ≡ true → kind_at inner more attr text ≡ call_site_at inner more text
   is_call_site a b c d = rw (a, b, c, d) refl
 
-  -- where `?` stands, it is that of an unknown one
+  -- if it begins with `?`, the parser is that of an unknown location
   pub is_unknown : begins begins_source text ≡ false → begins (the 102) text ≡ false → begins (the 110) text ≡ false → begins (the 99) text ≡ false → begins (the 63) text ≡ true
       → kind_at inner more attr text ≡ mapped (λ _. unknown) (text_at (codes "?") text)
   is_unknown a b c d e = rw (a, b, c, d, e) refl
@@ -144,13 +144,13 @@ module _ {A : Type 0} (attr : Text → Outcome (AttrView A)) where
   one_begins zero (c ∷ text) small h = absurd (omega (arith, small))
   one_begins (suc depth) text small h = kind_begins (location_within attr depth) (more_within attr depth) attr text h
 
--- what is not missing is what is demanded
+-- an outcome that is not missing is the same if it is required
 as_it_is : {X : Type 0} (b : Bool) (o : Outcome X) → is_missing o ≡ false → demanded (unless_failed b o) ≡ unless_failed b o
 as_it_is true o e = refl
 as_it_is false (Read x t r) e = refl
 as_it_is false (Missing cause) e = absurd (true≢false e)
 as_it_is false (Bad cause upto) e = refl
 
--- where it is not missing, what may stand there answers as what must
+-- if the value is not missing, the optional parser returns what the parser that requires it returns
 pub may_of_must : {X Y A : Type 0} {see : Y → X} {f : Text → Outcome X} {old new : StreamView} {r : Result Y (ParseFault A)} → is_missing (f old.rest) ≡ false → MustRead itself replaced see f old r new → MayRead itself replaced see f old r new
 may_of_must {see = see} {f = f} {old = old} {new = new} {r = r} e h = record { answers = subst (λ o. Answers itself replaced see o old r new) (as_it_is old.failed (f old.rest) e) h.answers }

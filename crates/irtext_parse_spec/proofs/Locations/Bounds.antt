@@ -1,4 +1,4 @@
--- A bound on the nesting of a location that its text meets changes nothing.
+-- A bound on the nesting of a location changes nothing if the text is within it.
 use Rattle.std.proofs.Common.{◌≡◌, ℕ, zero, suc, ◌≤◌, cond, Option, Result, List, [], ◌∷◌, length, refl, ◌∙◌, ap, ap₂, arith}
 use Rattle.std.proofs.Math.Nat.{le_refl}
 use Rattle.std.specs.Prelude.{codes}
@@ -22,7 +22,7 @@ use Rattle.irtext_parse_spec.proofs.Readers.Honest.{honest_title}
 use Rattle.irtext_parse_spec.proofs.Locations.RestLengths.{Within, leaves_honest, leaves_followed, followed_same, first_same, leaves_word, space_bound}
 use Rattle.irtext_parse_spec.proofs.Locations.LocationRests.{within_metadata, within_location}
 
--- ---- two readers of inner locations that agree on texts of so many characters
+-- ---- two parsers of inner locations that agree on texts of so many characters
 module _ {A : Type 0} (inner other : Text → Outcome (Written A)) (more others : Text → Outcome (WrittenRow A)) (b : ℕ)
     (inner_within : Within b inner)
     (same : (text : Text) → length text ≤ b → inner text ≡ other text) (same_more : (text : Text) → length text ≤ b → more text ≡ others text) where
@@ -37,7 +37,7 @@ module _ {A : Type 0} (inner other : Text → Outcome (Written A)) (more others 
   row_same : (text : Text) → length text ≤ b → row_at inner more text ≡ row_at other others text
   row_same text h = row_of_same (inner text) text (inner_within.leaves text h) ∙ ap (λ o. row_of other others o text) (same text h)
 
-  -- further locations of a list read the same under each bound that their text meets
+  -- further locations of a list are parsed the same under each bound that their text is within
   pub more_same : (text : Text) → length text ≤ suc b → more_at inner more text ≡ more_at other others text
   more_same text h = ap (λ o. cond (begins (the 44) text) o (Read no_location [] text)) (followed_same b _ _ _ (leaves_word b 44 [] text h)
       (λ _ t i. let u = after_space t in let j = space_bound b t i in ap (prefixed (front is_whitespace t)) (followed_same b (inner u) _ _ (inner_within.leaves u j) behind_same ∙ first_same _ _ _ (same u j))))
@@ -64,13 +64,13 @@ module _ {A : Type 0} (inner other : Text → Outcome (Written A)) (more others 
     call_site_same text h = followed_same b _ _ _ (leaves_word b 99 (codes "allsite") text h) (λ _ t i. followed_same b _ _ _ (leaves_honest (honest_spaced (codes "(")) b t i)
         (λ _ u j. followed_same b (inner u) _ _ (inner_within.leaves u j) caller_same ∙ first_same _ _ _ (same u j)))
 
-    -- a location reads the same under each bound that its text meets
+    -- a location is parsed the same under each bound that its text is within
     pub kind_same : (text : Text) → length text ≤ suc b → kind_at inner more attr text ≡ kind_at other others attr text
     kind_same text h = ap (cond (begins begins_source text) _) (ap₂ (cond (begins (the 102) text)) (fused_same text h) (ap₂ (cond (begins (the 110) text)) (named_same text h) (ap₂ (cond (begins (the 99) text)) (call_site_same text h) refl)))
 
--- ---- every bound that the text meets
+-- ---- every bound that the text is within
 module _ {A : Type 0} (attr : Text → Outcome (AttrView A)) (no_more : LeavesNoMore attr) where
-  -- two bounds give one reading
+  -- two bounds give one result
   abbrev Same : ℕ → ℕ → Text → Type 0
   Same m n text = (location_within attr m text ≡ location_within attr n text) × (more_within attr m text ≡ more_within attr n text)
 
@@ -91,11 +91,11 @@ module _ {A : Type 0} (attr : Text → Outcome (AttrView A)) (no_more : LeavesNo
         more_same (location_within attr m) (location_within attr n) (more_within attr m) (more_within attr n) b (within_location no_more m) same same_more text l,
       )
 
-  -- bounds that a text meets make no difference
+  -- bounds that a text is within make no difference
   pub within_enough : (m n : ℕ) (text : Text) → length text ≤ m → length text ≤ n → Same m n text
   within_enough m n text h k = same_within (length text) m n text h k (le_refl (length text))
 
--- what was read at every depth that is enough is read at the depth of the text's length
+-- what was parsed at every depth that is enough is parsed at the depth of the text's length
 pub at_length : {A : Type 0} (attr : Text → Outcome (AttrView A)) {paths : List (List ℕ)} {old new : StreamView} {r : Result (Location A) (ParseFault A)} → MustReadWithin known_location location_over (location_within attr) paths old r new
     → MustReadOver known_location location_over (location_at attr) paths old r new
 at_length attr {old = old} h = let m = h.within (length old.rest) (omega arith) in record { known = m.known; read = record { answers = m.read.answers } }

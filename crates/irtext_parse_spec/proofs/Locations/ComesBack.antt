@@ -1,4 +1,4 @@
--- A location's text is read back as the same location.
+-- A location's text is parsed back as the same location.
 use Rattle.std.proofs.Common.{◌≡◌, ℕ, zero, suc, ◌≤◌, Option, Some, None, List, [], ◌∷◌, ◌++◌, length, refl, sym, ◌∙◌, ap, append_assoc, arith}
 use Rattle.std.proofs.Math.Nat.{le_refl}
 use Rattle.std.specs.Prelude.{codes, IfSome, ⊤}
@@ -23,12 +23,12 @@ use Rattle.irtext_parse_spec.proofs.Locations.GivesBack.{gives_followed, gives_n
 use Rattle.irtext_parse_spec.proofs.Locations.Kinds.{gives_behind, gives_row, kind_place, kind_fused, kind_noted, kind_named, kind_call_site, kind_unknown}
 
 module _ {A : Type 0} where
-  -- behind a location white space at most is taken
+  -- at most white space is taken after a location
   pub left_space : (l : Written A) (rest : Text) → after_space (left_behind l rest) ≡ after_space rest
   left_space (call_site callee caller) rest = after_twice _ rest
   left_space _ rest = refl
 
-  -- and nothing where none stands there
+  -- nothing is taken if no white space follows
   pub left_tight : (l : Written A) (rest : Text) → after_space rest ≡ rest → left_behind l rest ≡ rest
   left_tight (call_site callee caller) rest e = e
   left_tight _ rest e = refl
@@ -42,7 +42,7 @@ module _ {A : Type 0} where
   tight_text text_of _ rest = refl
 
 module _ {A : Type 0} (attr : Text → Outcome (AttrView A)) (text_of : A → Text) where
-  -- the location's text is read back under each bound that its length meets
+  -- the location's text is parsed back under each bound that its length is within
   abbrev IsBack : Written A → Type 0
   IsBack l = (rest : Text) → EndsLocation rest → (n : ℕ) → length (written_text text_of l ++ rest) ≤ n → GivesBack (location_within attr n (written_text text_of l ++ rest)) l (written_text text_of l ++ rest) (left_behind l rest)
 
@@ -185,7 +185,7 @@ module _ {A : Type 0} (attr : Text → Outcome (AttrView A)) (text_of : A → Te
   unknown_back rest ends (suc n) small = kind_unknown (location_within attr n) (more_within attr n) attr rest
 
   mutual
-    -- a location's text is read back
+    -- a location's text is parsed back
     pub location_back : (l : Written A) → AllRead attr text_of l → AllFit l → IsBack l
     location_back (src_pos s at) reads fits = place_back s at fits
     location_back (fused m ls) reads fits = fused_back m ls reads.0 (row_back ls reads.1 fits)
@@ -197,7 +197,7 @@ module _ {A : Type 0} (attr : Text → Outcome (AttrView A)) (text_of : A → Te
     row_back no_location reads fits = tt
     row_back (location l ls) reads fits = (location_back l reads.0 fits.0, row_back ls reads.1 fits.1)
 
-  -- the whole text is read under one bound, so two locations with one text are one
+  -- the whole text is parsed under one bound, so two locations with one text are one
   pub location_same : (l k : Written A) → AllRead attr text_of l → AllFit l → AllRead attr text_of k → AllFit k → written_text text_of l ≡ written_text text_of k → l ≡ k
   location_same l k read_l fits_l read_k fits_k e =
       let at : Text → Outcome (Written A) = λ text. location_within attr (length (text ++ [])) (text ++ []) in

@@ -1,4 +1,4 @@
--- The printed text of an integer is read back.
+-- The printed text of an integer is parsed back.
 use Rattle.std.proofs.Common.{◌≡◌, ℕ, suc, ◌<◌, ◌≤◌, ◌^◌, true, false, cond, Some, None, [], ◌∷◌, ◌++◌, length, refl, ◌∙◌, ap, ap₂, arith}
 use Rattle.std.proofs.lemmas.Bool.Decides.{nat_tests}
 use Rattle.std.proofs.lemmas.Fmt.{decimal_is_IsNumeral}
@@ -16,16 +16,16 @@ use Rattle.irtext_tokens.proofs.Decimals.{fitting-small, Plain, plain}
 use Rattle.irtext_tokens.specs.Tokens.{sign_of, after_sign, fitting, value_of, integer_of, integered, no_integer, integer_at}
 
 -- ---- an integer
--- an integer behind its sign
+-- an integer after its sign
 abbrev integer_from : Text → Text → Outcome ℤ
 integer_from sign t = cond (begins is_ascii_digit t) (integered sign (front is_ascii_digit t) (after is_ascii_digit t) (integer_of sign (value_of (front is_ascii_digit t)))) (no_integer sign t)
 
--- an integer's sign, and what stands behind it
+-- an integer's sign, and what follows it
 integer-from : (text : Text) → integer_at text ≡ integer_from (sign_of text) (after_sign text)
 unfolding integer_at
 integer-from text = refl
 
--- digits of a number that fits are read back behind a sign, where no digit follows
+-- digits of a number that fits are parsed back after a sign, if no digit follows
 digits-integer : (sign ds rest : Text) (n : ℕ) (z : ℤ) → 0 < length ds → list_all is_ascii_digit ds ≡ true → digits_value 10 ds ≡ n → n < 2 ^ 64 → integer_of sign (Some n) ≡ Some z
     → begins is_ascii_digit rest ≡ false → integer_from sign (ds ++ rest) ≡ Read z (sign ++ ds) rest
 digits-integer sign [] rest n z some all v small is stop = absurd (omega (arith, some))
@@ -42,7 +42,7 @@ plain_decimal n rest small = let k = decimal_is_IsNumeral n small in plain (deci
 not_below : (m n : ℕ) → n ≤ m → nat_lt m n ≡ false
 not_below m n h = grind (arith, nat_tests)
 
--- an integer's text is read back where no digit follows
+-- an integer's text is parsed back where no digit follows
 pub integer-here : (z : ℤ) (rest : Text) → FitsSigned w32 z → begins is_ascii_digit rest ≡ false → integer_at (signed_decimal z ++ rest) ≡ Read z (signed_decimal z) rest
 integer-here (pos n) rest fits stop =
     let small : n < 2 ^ 64 = omega arith in

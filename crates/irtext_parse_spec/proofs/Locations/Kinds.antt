@@ -1,4 +1,4 @@
--- A location of each kind is read back where the locations inside it are.
+-- A location of each kind is parsed back where the locations inside it are.
 use Rattle.std.proofs.Common.{◌≡◌, ℕ, Option, Some, None, List, ◌++◌, inr, refl, sym, ◌∙◌, ap}
 use Rattle.std.specs.Prelude.{codes, IfSome}
 use Rattle.std.specs.Str.{chars, IsUtf8}
@@ -20,7 +20,7 @@ use Rattle.irtext_parse_spec.specs.Promises.LocationsBack.{GivesBack, AttrReads,
 use Rattle.irtext_parse_spec.proofs.Locations.GivesBack.{gives_followed, gives_mapped, gives_nothing, gives_text, gives_space, gives_spaced}
 use Rattle.irtext_parse_spec.proofs.Locations.Parts.{gives_position, gives_bytes, gives_source}
 
--- what stands in front of the location that a name is for, and gives the name
+-- what is between a name and the location that it names; the result is the name
 abbrev behind_name : List ℕ → Text → Outcome (List ℕ)
 behind_name name v = followed (spaced_at (codes ",") v) (λ _ w. followed (text_at (codes "loc") w) (λ _ x. followed (spaced_at (codes ":") x) (λ _ y. mapped (λ _. name) (text_at (codes "(") y))))
 
@@ -76,7 +76,7 @@ module _ {A : Type 0} where
       (gives_mapped (λ _. Some a) (text_at (codes ">") end) tt end rest (gives_text (codes ">") rest)))))
 
   module _ (inner : Text → Outcome (Written A)) (more : Text → Outcome (WrittenRow A)) where
-    -- white space behind a location, and those that follow it
+    -- white space after a location, and the locations that follow it
     pub gives_behind : (l : Written A) (ls : WrittenRow A) (text rest : Text) → after_space text ≡ text → GivesBack (more text) ls text rest → GivesBack (behind_location inner more l text) (location l ls) text rest
     gives_behind l ls text rest tight h =
         gives_followed (space_at text) (λ _ t. mapped (location l) (more t)) tt (location l ls) text text rest (gives_space text text tight) (gives_mapped (location l) (more text) ls text rest h)
@@ -94,7 +94,7 @@ module _ {A : Type 0} where
       kind_place None at rest fine fits ends = gives_place None at rest fine fits ends
       kind_place (Some path) at rest fine fits ends = gives_place (Some path) at rest fine fits ends
 
-      -- what stands behind the metadata: locations between `[` and `]`
+      -- what follows the metadata: locations between `[` and `]`
       abbrev listed : Option (AttrView A) → Text → Outcome (Written A)
       listed m v = followed (text_at (codes "[") v) (λ _ w. followed (space_at w) (λ _ x. followed (row_at inner more x) (λ ls y. mapped (λ _. fused m ls) (text_at (codes "]") y))))
 

@@ -1,4 +1,4 @@
--- A location that is read leaves no more than its text, where no attribute does.
+-- A location that is parsed leaves no more than its text, where no attribute does.
 use Rattle.std.proofs.Common.{ℕ, ◌≤◌, [], length, refl}
 use Rattle.irtext_base.specs.Text.{Text}
 use Rattle.irtext_base.specs.Answers.{Outcome, Read, Missing, Bad}

@@ -1,4 +1,4 @@
--- The texts of the parts of a location are read back: a source, a line and a column, and a quoted text.
+-- The texts of the parts of a location are parsed back: a source, a line and a column, and a quoted text.
 use Rattle.std.proofs.Common.{◌≡◌, ℕ, false, Option, Some, None, List, ◌++◌, refl, ◌∙◌, ap, append_assoc}
 use Rattle.std.proofs.lemmas.Str.{encodes-chars}
 use Rattle.std.specs.Prelude.{ℤ, codes, FitsSigned, IfSome}

@@ -1,4 +1,4 @@
--- How much a reading leaves of its text, and that what follows it is seen on such texts alone.
+-- How much of its text a parser leaves, and that what follows it depends on its result only for texts of that length.
 use Rattle.std.proofs.Common.{◌≡◌, ℕ, suc, ◌≤◌, Bool, true, false, cond, ◌∷◌, ◌++◌, length, refl, ap, length-append, arith}
 use Rattle.std.specs.Char.{is_whitespace}
 use Rattle.irtext_base.specs.Text.{Text, front, after, after_space}
@@ -12,11 +12,11 @@ use Rattle.irtext_parse_spec.proofs.Joins.Tokens.{text_read}
 
 -- ---- outcomes
 module _ {X : Type 0} where
-  -- what is read leaves no more than this
+  -- what is parsed leaves no more than this
   pub leaves_read : (b : ℕ) (x : X) (taken rest : Text) → length rest ≤ b → Leaves b (Read x taken rest)
   leaves_read b x taken rest h = record { by = λ y t r e. let f : rest ≡ r = cc e in let j : length rest ≡ length r = ap length f in omega (arith, h, j) }
 
-  -- where nothing is read, nothing is left
+  -- where nothing is parsed, nothing is left
   pub leaves_missing : (b : ℕ) (cause : Fault) → Leaves {X = X} b (Missing cause)
   leaves_missing b cause = record { by = λ x taken rest e. absurd (cc e) }
 
@@ -28,14 +28,14 @@ module _ {X : Type 0} where
   leaves_either b true o p h k = h
   leaves_either b false o p h k = k
 
-  -- the same behind a text that was read
+  -- the same after a prefix that was taken
   pub leaves_prefixed : (b : ℕ) (front : Text) (o : Outcome X) → Leaves b o → Leaves b (prefixed front o)
   leaves_prefixed b front (Read x taken rest) h = leaves_read b x (front ++ taken) rest (h.by x taken rest refl)
   leaves_prefixed b front (Missing cause) h = leaves_bad b cause front
   leaves_prefixed b front (Bad cause upto) h = leaves_bad b cause (front ++ upto)
 
 module _ {X Y : Type 0} where
-  -- one reading behind another
+  -- one parser after another
   pub leaves_followed : (b : ℕ) (o : Outcome X) (next : X → Text → Outcome Y) → Leaves b o → ((x : X) (rest : Text) → length rest ≤ b → Leaves b (next x rest)) → Leaves b (followed o next)
   leaves_followed b (Read x taken rest) next h k = leaves_prefixed b taken (next x rest) (k x rest (h.by x taken rest refl))
   leaves_followed b (Missing cause) next h k = leaves_missing b cause
@@ -46,23 +46,23 @@ module _ {X Y : Type 0} where
   leaves_mapped b see (Missing cause) h = leaves_missing b cause
   leaves_mapped b see (Bad cause upto) h = leaves_bad b cause upto
 
-  -- two readings that agree on what is left are one, behind a third
+  -- two continuations that agree on texts within the bound give the same result after a parser
   pub followed_same : (b : ℕ) (o : Outcome X) (next other : X → Text → Outcome Y) → Leaves b o → ((x : X) (rest : Text) → length rest ≤ b → next x rest ≡ other x rest) → followed o next ≡ followed o other
   followed_same b (Read x taken rest) next other h k = ap (prefixed taken) (k x rest (h.by x taken rest refl))
   followed_same b (Missing cause) next other h k = refl
   followed_same b (Bad cause upto) next other h k = refl
 
-  -- the first reading is another of the same
+  -- the first parse may be replaced by an equal one
   pub first_same : (o p : Outcome X) (next : X → Text → Outcome Y) → o ≡ p → followed o next ≡ followed p next
   first_same o p next e = ap (λ o. followed o next) e
 
--- ---- readers
+-- ---- parsers
 -- of a text no longer than the bound, no more than the bound is left
 pub record Within {X : Type 0} (b : ℕ) (f : Reader X) : Type 0 where
   pub leaves : (text : Text) → length text ≤ b → Leaves b (f text)
 
 module _ {b : ℕ} where
-  -- a reader whose outcomes are of their texts
+  -- a parser whose outcomes are of their texts
   pub within_honest : {X : Type 0} {f : Reader X} → Honest f → Within b f
   within_honest h = record {
     leaves = λ text i. record {
@@ -70,7 +70,7 @@ module _ {b : ℕ} where
     };
   }
 
-  -- a reader that leaves no more than its text
+  -- a parser that leaves no more than its text
   pub within_no_more : {X : Type 0} {f : Reader X} → LeavesNoMore f → Within b f
   within_no_more h = record {
     leaves = λ text i. record {
@@ -78,7 +78,7 @@ module _ {b : ℕ} where
     };
   }
 
-  -- either of two readers
+  -- either of two parsers
   pub within_either : {X : Type 0} {f g : Reader X} (test : Text → Bool)
       → Within b f → Within b g → Within b (either test f g)
   within_either test h k = record {
@@ -96,7 +96,7 @@ module _ {b : ℕ} where
     pub seen : {f : Reader X} (see : X → Y) → Within b f → Within b (f ⇒ see)
     seen see h = record { leaves = λ text i. leaves_mapped b see _ (h.leaves text i) }
 
--- a reader whose outcomes are of their texts leaves no more than a bound on its text
+-- a parser whose outcomes are of their texts leaves no more than a bound on its text
 pub leaves_honest : {X : Type 0} {f : Reader X} → Honest f
     → (b : ℕ) (text : Text) → length text ≤ b → Leaves b (f text)
 leaves_honest h b = (within_honest h).leaves

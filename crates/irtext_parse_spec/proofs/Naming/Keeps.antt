@@ -1,4 +1,4 @@
--- What no item changes stays as it is through a whole tree; a machine that has failed stays so at each item.
+-- What no item changes stays unchanged through a whole tree; a machine that has failed stays failed at each item.
 use Rattle.std.proofs.Common.{◌≡◌, ℕ, Bool, List, [], ◌∷◌, Option, refl}
 use Rattle.irtext_base.specs.Format.{Format, Id}
 use Rattle.irtext_grammar.specs.Grammar.Tree.{Name, Mark, Piece, Part, Head, views}

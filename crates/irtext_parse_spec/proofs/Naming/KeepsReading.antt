@@ -1,4 +1,4 @@
--- What no item changes stays as it is through a whole reading, also through one that is stuck: so a machine that has failed stays so.
+-- What no item changes stays unchanged through a whole parse, also through one that is stuck: so a machine that has failed stays failed.
 use Rattle.std.proofs.Common.{◌≡◌, ◌∙◌, ℕ, zero, suc, Bool, true, false, cond, List, [], ◌∷◌, ◌++◌, length, codes, refl, ap}
 use Rattle.irtext_base.specs.Text.{Text, begins, after_space}
 use Rattle.irtext_base.specs.Reading.{the}
@@ -16,28 +16,28 @@ use Rattle.irtext_parse_spec.specs.Heads.{Step, one, all, front_steps, region_st
 use Rattle.irtext_parse_spec.specs.Reached.{Reached, Advanced, Stopped, came, tells, Actions, Reads, begins_operation, begins_region, begins_block, steps_in, regions_by, more_by, operations_by, blocks_by, front_by, steps_by, end_by, body_by, operation_by, block_by, region_by, region_within, region_at, operation_at}
 use Rattle.irtext_parse_spec.proofs.Naming.Keeps.{Keeps}
 
--- what had been done where the reading came to its end or is stuck
+-- the state at the point where the parse came to its end or is stuck
 abbrev pub done_in : {X S : Type 0} → Reached X S → S
 done_in (Advanced x s rest) = s
 done_in (Stopped s cause place) = s
 
 module _ {S : Type 0} (s : S) where
-  -- a reader that leaves what had been done as it is
+  -- a parser that leaves the state unchanged
   pub record Quiet (reader : Reads S) : Type 0 where
     pub at : (text : Text) → done_in (reader text s) ≡ s
 
-  -- where both leave it as it is, so does one and then the other
+  -- if both leave it unchanged, so does one and then the other
   pub quiet_came : {X Y : Type 0} (o : Reached X S) (next : X → S → Text → Reached Y S) → done_in o ≡ s → ((x : X) (rest : Text) → done_in (next x s rest) ≡ s) → done_in (came o next) ≡ s
   quiet_came (Advanced x t rest) next e h = ap (λ z. done_in (next x z rest)) e ∙ h x rest
   quiet_came (Stopped t cause place) next e h = e
 
-  -- what stands behind what must stand leaves it as it is, or the reading is stuck with it
+  -- what follows a required value leaves the state unchanged, or the parse is stuck with the state unchanged
   pub quiet_tells : {X Y : Type 0} (o : Outcome X) (text : Text) (next : X → Text → Reached Y S) → ((x : X) (rest : Text) → done_in (next x rest) ≡ s) → done_in (tells o text s next) ≡ s
   quiet_tells (Read x taken rest) text next h = h x rest
   quiet_tells (Missing cause) text next h = refl
   quiet_tells (Bad cause upto) text next h = refl
 
-  -- a reading that is begun or not
+  -- a parse that is begun or not
   quiet_if : {X : Type 0} (b : Bool) (o p : Reached X S) → done_in o ≡ s → done_in p ≡ s → done_in (cond b o p) ≡ s
   quiet_if true o p e f = e
   quiet_if false o p e f = f
@@ -47,7 +47,7 @@ module _ {S : Type 0} (s : S) where
   quiet_regions inner q zero text = refl
   quiet_regions inner q (suc n) text = quiet_if (begins_region text) _ _ (quiet_came (inner text s) _ (q.at text) (λ u rest. quiet_regions inner q n (after_space rest))) refl
 
-  -- operations behind `;`
+  -- operations after `;`
   pub quiet_more : (item : Reads S) → Quiet item → (n : ℕ) (text : Text) → done_in (more_by item n text s) ≡ s
   quiet_more item q zero text = refl
   quiet_more item q (suc n) text =
@@ -64,7 +64,7 @@ module _ {S : Type 0} (s : S) where
   quiet_blocks one_block q (suc n) text = quiet_if (begins_block text) _ _ (quiet_came (one_block text s) _ (q.at text) (λ u rest. quiet_blocks one_block q n (after_space rest))) refl
 
 module _ {T A S : Type 0} (dialects : List (Text × Table)) (types_at : Text → Outcome T) (attr : Text → Outcome (AttrView A)) (does : Actions T A S) (s : S) (keeps : Keeps does s) where
-  -- parts in front of the first region
+  -- parts before the first region
   pub quiet_front : (inside : Bool) (ss : List Step) (found : List (Part ℕ T A)) (text : Text) → done_in (front_by dialects types_at attr does inside ss found text s) ≡ s
   quiet_front inside [] found text = refl
   quiet_front inside (step ∷ ss) found text = quiet_tells s ((space_at ▷ piece_at types_at attr inside step) text) text _ (λ p rest. quiet_front inside ss (found ++ tree.piece p ∷ []) rest)
@@ -87,7 +87,7 @@ module _ {T A S : Type 0} (dialects : List (Text × Table)) (types_at : Text →
       ap (λ t. done_in (tells ((space_at ▷ mark_if_at) text) text t (λ m rest. Advanced tt (does.marks m t) rest))) (keeps.closes place names id parts)
       ∙ quiet_tells s ((space_at ▷ mark_if_at) text) text (λ m rest. Advanced tt (does.marks m s) rest) (λ m rest. keeps.marks m)
 
-  -- what stands behind an operation's id
+  -- what follows an operation's id
   pub quiet_body : (inner : Reads S) → Quiet s inner → (inside : Bool) (place : ℕ) (names : List (Name ℕ)) (id : Id) (text : Text) → done_in (body_by dialects types_at attr does inner inside place names id text s) ≡ s
   quiet_body inner q inside place names id text =
       quiet_came s (front_by dialects types_at attr does inside (front_steps (steps_in dialects id)) [] text s) _ (quiet_front inside (front_steps (steps_in dialects id)) [] text) (λ found rest.
@@ -128,7 +128,7 @@ module _ {T A S : Type 0} (dialects : List (Text × Table)) (types_at : Text →
       = record { at = λ rest. quiet_blocks s _ block (length rest) rest } in
       record { at = (quiet_region _ blocks iso).at }
 
-  -- a region's reading leaves what no item changes as it is
+  -- the parse of a region leaves unchanged what no item changes
   pub quiet_region_at : (iso : Bool) → Quiet s (region_at dialects types_at attr does iso)
   quiet_region_at iso = record { at = λ text. (quiet_within (suc (length text)) iso).at text }
 

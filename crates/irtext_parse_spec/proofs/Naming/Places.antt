@@ -1,5 +1,5 @@
--- The places of a tree's items fall along the text that reads as it, so each item has a place of its own, and a function from places to
--- paths says where each stands.
+-- The places of a tree's items decrease along the text that is parsed as the tree, so each item has a place of its own, and a function from
+-- places to paths gives each item's path.
 use Rattle.std.proofs.Common.{◌≡◌, ◌∙◌, ℕ, suc, true, false, cond, ◌≤◌, ◌<◌, ◌==◌, List, [], ◌∷◌, ◌++◌, length, Option, Some, None, codes, ap, arith}
 use Rattle.std.proofs.lemmas.Bool.Decides.{nat_tests}
 use Rattle.std.specs.Prelude.{⊤}
@@ -16,8 +16,8 @@ use Rattle.irtext_grammar.specs.Names.Script.{Path}
 use Rattle.irtext_parse_spec.specs.Naming.{paths_in_regions, paths_in_blocks, paths_in_operations, paths_in, Names}
 use Rattle.irtext_parse_spec.proofs.Naming.Shorter.{Shortens, space_shorter, word_shorter, leaves_identifier, leaves_results_if, leaves_mark_if, leaves_piece, leaves_dictionary_if, leaves_arguments}
 
--- ---- places that fall
--- the places fall along the list, from below the first number, and the second is not above the last
+-- ---- places that decrease
+-- the places decrease along the list, from below the first number, and the second is not above the last
 abbrev pub Falls : ℕ → ℕ → List (ℕ × Path) → Type 0
 Falls high low [] = low ≤ high
 Falls high low (item ∷ items) = (item.0 < high) × Falls item.0 low items
@@ -64,7 +64,7 @@ pub paths_apart : (high low : ℕ) (items : List (ℕ × Path)) → Falls high l
 paths_apart high low [] f = tt
 paths_apart high low (e ∷ es) f = (own_path e es, others_paths e es es (falls_below e.0 low es f.1) (paths_apart e.0 low es f.1))
 
--- ---- readings along which the places of these items fall
+-- ---- readings along which the places of these items decrease
 pub record Spans (R : Reading) (items : List (ℕ × Path)) : Type 0 where
   pub falls : (t u : Text) → R t u → Falls (suc (length t)) (suc (length u)) items
 
@@ -187,7 +187,7 @@ module _ {T A : Type 0} (types : Texts T) (owns : Texts A) (formats : Id → Opt
     operations_span p i no_operations = tt
     operations_span p i (operation o rs os) = (operation_spans (i ∷ p) (i ∷ p) o rs (regions_span (i ∷ p) 0 rs), operations_span p (suc i) os)
 
-  -- the places of the items of a tree that a text reads as fall along the text
+  -- the places of the items of a tree that a text parses as fall along the text
   pub places_fall : (t : Tree ℕ T A) (text rest : Text) → reads.reads L t text rest → Falls (suc (length text)) (suc (length rest)) (paths_in t)
   places_fall t text rest h = (operation_spans [] [] t.own t.regions (regions_span [] 0 t.regions)).falls text rest h
 

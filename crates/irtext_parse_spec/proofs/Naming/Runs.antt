@@ -1,4 +1,4 @@
--- What items come to as they are read is what the machine comes to that reads the script of their tree, event by event.
+-- The effects of items as they are parsed are those of the state machine that runs the script of their tree, event by event.
 use Rattle.std.proofs.Common.{◌≡◌, ◌∙◌, ℕ, suc, Bool, List, [], ◌∷◌, ◌++◌, length, map, Option, Some, None, refl, sym, ap, ap₂, append-nil}
 use Rattle.std.specs.Prelude.{⊤, ◌==◌}
 use Rattle.irtext_base.specs.Format as format
@@ -34,7 +34,7 @@ run_acts (x ∷ xs) then o = run_acts xs then (next o (act x))
 acted_split : (xs ys : List Act) (o : Outcome) → acted (xs ++ ys) o ≡ acted ys (acted (xs ++ []) o)
 acted_split xs ys o = acted_both xs ys o ∙ ap (λ z. acted ys (acted z o)) (sym (append-nil xs))
 
--- ---- what a format says of the parts that it reads
+-- ---- what a format says of the parts that it parses
 -- the places of the operands that have a directive of their own, among directives that may be none
 abbrev operands_seen : List (Option Directive) → List ℕ
 operands_seen [] = []
@@ -89,12 +89,12 @@ module _ {P T A : Type 0} where
   body_by_format (format.custom ds) (tree.canonical ns ls es xs ys) is = absurd is
   body_by_format (format.custom ds) (tree.custom ps) is = refl
 
--- ---- what scripts of regions do, and what states come to
--- a script with another behind it is what a state comes to, and then the other
+-- ---- what scripts of regions do, and the outcomes of the machine
+-- running a script followed by another is applying a function to the outcome, and then running the other
 pub record Does (script : Script → Script) (come : Outcome → Outcome) : Type 0 where
   pub so : (then : Script) (o : Outcome) → run o (events (script then)) ≡ run (come o) (events then)
 
--- so it is of each
+-- it holds of each
 abbrev EachDoes : List (Script → Script) → List (Outcome → Outcome) → Type 0
 EachDoes [] [] = ⊤
 EachDoes (r ∷ rs) (d ∷ ds) = Does r d × EachDoes rs ds
@@ -120,7 +120,7 @@ module _ (T A : Type 0) (formats : Id → Option Format) (path : ℕ → Path) w
         ∙ ap (λ z. run z (events then)) (run_both (events body) (history.leave iso place ∷ []) first ∙ ap (λ z. next z (history.leave iso place)) (h first));
   }
 
-  -- the parts in front of the first region
+  -- the parts before the first region
   front_does : (p : Path) (k l : ℕ) (ps : List (Part ℕ T A)) (rs : List (Script → Script)) (then : Script) (o : Outcome)
       → run o (events (parts_script p k l ps rs then)) ≡ run (acted (views (piece_acts p k l) (front_parts ps)) o) (events (parts_script p k l (region_parts ps) rs then))
   front_does p k l [] rs then o = refl
@@ -232,10 +232,11 @@ module _ (T A : Type 0) (formats : Id → Option Format) (path : ℕ → Path) w
         (regions_do [] 0 (isolated t.own.id) t.regions n.1 f.1)
 
 module _ {T A : Type 0} (formats : Id → Option Format) (path : ℕ → Path) (isolated : Id → Bool) (t : Tree ℕ T A) (names : Names path t) (formed : HaveFormats formats t) where
-  -- what a tree does, and then a script, is what the machine comes to that reads the events of the tree's script with the other behind it
+  -- the actions of a tree, followed by a script, have the outcome of the machine that runs the events of the tree's script followed by that
+  -- script
   pub runs_before : (then : Script) (o : Outcome) → run o (events (tree_script isolated t then)) ≡ run (do_tree isolated (naming formats path) t o) (events then)
   runs_before then o = (tree_does T A formats path isolated t names formed).so then o
 
-  -- what a tree does is what the machine comes to that reads the events of its script
+  -- the actions of a tree have the outcome of the machine that runs the events of its script
   pub runs_script : (o : Outcome) → do_tree isolated (naming formats path) t o ≡ run o (events (tree_script isolated t done))
   runs_script o = sym (runs_before done o)

@@ -1,5 +1,5 @@
--- What a tree does that a text reads as: its operations have their formats, and what its items come to as they are read is what the
--- script of its names comes to.
+-- The actions of a tree that a text parses as: its operations have their formats, and the outcome of its items as they are parsed is that
+-- of the script of its names.
 use Rattle.std.proofs.Common.{◌≡◌, ℕ, Bool, ◌≤◌, Option, length, refl, ap, arith}
 use Rattle.std.specs.Prelude.{⊤}
 use Rattle.irtext_base.specs.Text.{Text, after_space}
@@ -45,22 +45,22 @@ module _ {T A : Type 0} (types : Texts T) (owns : Texts A) (formats : Id → Opt
     operations_formed no_operations a = tt
     operations_formed (operation o rs os) ((t, u, a), d) = let f = operation_formed o rs t u a in (f.0, regions_formed rs f.1, operations_formed os d)
 
-  -- the operations of a tree that a text reads as have bodies of their formats
+  -- the operations of a tree that a text parses as have bodies of their formats
   pub formats_read : (t : Tree ℕ T A) (text rest : Text) → reads.reads L t text rest → HaveFormats formats t
   formats_read t text rest h = let f = operation_formed t.own t.regions text rest h in (f.0, regions_formed t.regions f.1)
 
   module _ (path : ℕ → Path) (isolated : Id → Bool) (t : Tree ℕ T A) (text rest : Text) (names : Names path t) (h : reads.reads L t text rest) where
-    -- what the items of a tree that a text reads as come to is what the script of its names comes to
+    -- the outcome of the items of a tree that a text parses as is that of the script of its names
     pub read_runs : (o : history.Outcome) → do_tree isolated (naming formats path) t o ≡ run o (events (tree_script isolated t done))
     read_runs o = runs_script formats path isolated t names (formats_read t text rest h) o
 
--- ---- values whose readers take a front of the text
+-- ---- values whose parsers take a front of the text
 module _ {X : Type 0} (reading : Text → Outcome X) (written : X → Text) (leaves : (text : Text) (x : X) (taken rest : Text) → reading text ≡ Read x taken rest → length rest ≤ length text) where
   found_shorter : (text rest : Text) (x : X) (o : Outcome X) → reading text ≡ o → standing o ≡ found x rest → length rest ≤ length text
   found_shorter text rest x (Read y taken left) e f = let g : left ≡ rest = cc f in omega (arith, ap length g, leaves text y taken left e)
   found_shorter text rest x (Missing cause) e f = absurd (cc f)
   found_shorter text rest x (Bad cause upto) e f = absurd (cc f)
 
-  -- a reader that leaves no more than the text is one whose values leave no more
+  -- a parser that leaves no more than the text is one whose values leave no more
   pub shortens : Shortens (texts_of reading written)
   shortens = record { by = λ text rest x e. found_shorter text rest x (reading text) refl e }

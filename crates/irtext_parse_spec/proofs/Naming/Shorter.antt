@@ -1,4 +1,4 @@
--- No reading of an item's own parts leaves more than the text that it was read of, where no reading of a type or of an attribute does.
+-- No reading of an item's own parts leaves more than the text that it was parsed from, if no reading of a type or of an attribute does.
 use Rattle.std.proofs.Common.{◌≡◌, ℕ, ◌+◌, Bool, true, false, cond, ◌≤◌, List, [], ◌∷◌, length, map, Option, Some, None, codes, ap, length-append, arith, inl, inr}
 use Rattle.std.specs.Char.{is_whitespace, is_ascii_digit}
 use Rattle.irtext_base.specs.Text.{Text, after, after_space, in_word}
@@ -25,7 +25,7 @@ after_shorter test (c ∷ t) = go (test c) (after_shorter test t)
 pub space_shorter : (t : Text) → length (after_space t) ≤ length t
 space_shorter t = after_shorter is_whitespace t
 
--- a word that was read leaves so many characters fewer
+-- a word that was parsed leaves so many characters fewer
 pub word_shorter : (w t u : Text) → literal w t u → length w + length u ≡ length t
 word_shorter w t u e = omega (arith, ap length e, length-append w u)
 
@@ -64,7 +64,7 @@ leaves_given : (n : Option Text) → Leaves (reads.given_name n)
 leaves_given None = leaves_literal (codes "?")
 leaves_given (Some n) = leaves_identifier n
 
--- no reading of a value leaves more than the text
+-- the parse of a value leaves no more than the text
 pub record Shortens {X : Type 0} (texts : Texts X) : Type 0 where
   pub by : (text rest : Text) (x : X) → texts.outcome text ≡ found x rest → length rest ≤ length text
 
@@ -78,7 +78,7 @@ module _ {T A : Type 0} (types : Texts T) (owns : Texts A) (formats : Id → Opt
   leaves_target : (n : Name ℕ) → Leaves (reads.target L n)
   leaves_target n = record { by = λ t u h. omega (arith, word_shorter (codes "^") t h.0 h.1, (leaves_identifier n.text).by h.0 u h.2.1) }
 
-  -- a mark, where one stands
+  -- a mark, if there is one
   pub leaves_mark_if : (m : Option (Mark ℕ)) → Leaves (reads.mark_if L m)
   leaves_mark_if None = leaves_ends (the 33)
   leaves_mark_if (Some m) = record { by = λ t u h. omega (arith, word_shorter (codes "!") t h.1.0 h.1.1, number_shorter m.index h.1.0 u h.1.2) }
@@ -98,7 +98,7 @@ module _ {T A : Type 0} (types : Texts T) (owns : Texts A) (formats : Id → Opt
   leaves_dictionary : (es : List (Name ℕ × Attribute A)) → Leaves (reads.dictionary L es)
   leaves_dictionary es = leaves_then (leaves_literal (codes "[")) (leaves_then (leaves_list (reads.entry L) leaves_entry 44 reads.no_word es) (leaves_literal (codes "]")))
 
-  -- a dictionary, where one stands
+  -- a dictionary, if there is one
   pub leaves_dictionary_if : (es : Option (List (Name ℕ × Attribute A))) → Leaves (reads.dictionary_if L es)
   leaves_dictionary_if None = leaves_ends (the 91)
   leaves_dictionary_if (Some es) = leaves_dictionary es
@@ -110,7 +110,7 @@ module _ {T A : Type 0} (types : Texts T) (owns : Texts A) (formats : Id → Opt
   pub leaves_arguments : (xs : List (Name ℕ × T)) → Leaves (separated 44 reads.no_word (map (reads.argument L) xs))
   leaves_arguments xs = leaves_list (reads.argument L) leaves_argument 44 reads.no_word xs
 
-  -- what a directive reads, where it is no region
+  -- what a directive parses, where it is no region
   pub leaves_piece : (x : Piece ℕ T A) → Leaves (reads.piece L x)
   leaves_piece (tree.word s) = leaves_literal s
   leaves_piece (tree.operand i n) = leaves_name n
@@ -128,6 +128,6 @@ module _ {T A : Type 0} (types : Texts T) (owns : Texts A) (formats : Id → Opt
   results_shorter ns t u (inl h) = (leaves_then (leaves_list (reads.name L) leaves_name 44 reads.no_word ns) (leaves_literal (codes "="))).by t u h
   results_shorter ns t u (inr h) = omega (arith, ap length h.1)
 
-  -- the names of an operation's results, where they stand
+  -- the names of an operation's results, if there are any
   pub leaves_results_if : (ns : List (Name ℕ)) → Leaves (reads.results_if L ns)
   leaves_results_if ns = record { by = results_shorter ns }

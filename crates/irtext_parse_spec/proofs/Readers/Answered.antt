@@ -1,4 +1,4 @@
--- What a reader has found that answered, and why one refused that did not.
+-- What a parser that succeeded has found, and why one that did not returned an error.
 use Rattle.std.proofs.Common.{◌≡◌, ◌≤◌, Bool, true, false, Ok, Err, [], ◌++◌, refl, sym, ◌∙◌, ap, subst, ◌⊎◌, inl, inr, append-nil, true≢false, length, length-append, arith}
 use Rattle.irtext_base.specs.Text.{Text}
 use Rattle.irtext_base.specs.Stream.{StreamView}
@@ -11,7 +11,7 @@ use Rattle.irtext_parse_spec.specs.Promises.Section.{Moves, IsStarved, Faults}
 use Rattle.irtext_parse_spec.specs.Promises.Supported.{RefusedAs}
 use Rattle.irtext_parse_spec.proofs.Readers.PlainStream.{alone}
 
--- a value was read of the stream's text
+-- a value was parsed from the stream's text
 pub record Answered {X : Type 0} (o : Outcome X) (old : StreamView) (x : X) (new : StreamView) : Type 0 where
   pub fine : old.failed ≡ false
   pub taken : Text
@@ -40,16 +40,16 @@ may_there false (Read y t r) old new x e h = read_there (Read y t r) old new y x
 may_there false (Missing cause) old new x e h = absurd h
 may_there false (Bad cause upto) old new x e h = absurd h
 
--- what must stand there and was answered
+-- a required value that was parsed
 pub answered : {X Y A : Type 0} {see : Y → X} {f : Text → Outcome X} {old new : StreamView} {y : Y} → MustRead {A = A} itself replaced see f old (Ok y) new → Answered (f old.rest) old (see y) new
 answered {see = see} {f = f} {old = old} {new = new} {y = y} h = demanded_there old.failed (f old.rest) old new (see y) refl h.answers
 
--- what may stand there and was answered
+-- an optional value that was parsed
 pub may_answered : {X Y A : Type 0} {see : Y → X} {f : Text → Outcome X} {old new : StreamView} {y : Y} → MayRead {A = A} itself replaced see f old (Ok y) new → Answered (f old.rest) old (see y) new
 may_answered {see = see} {f = f} {old = old} {new = new} {y = y} h = may_there old.failed (f old.rest) old new (see y) refl h.answers
 
 module _ {A : Type 0} where
-  -- want of memory, as each reader reports it
+  -- out of memory, as each parser reports it
   pub starved_fault : {old new : StreamView} {fault : ParseFault A} → Starves itself replaced old fault new → IsStarved fault
   starved_fault h = record { because = h.because; flag = h.committed }
 
@@ -60,7 +60,7 @@ module _ {A : Type 0} where
   demanded_not false (Missing cause) old new fault e (inr h) = inr (cause, [], (refl, refl), record { because = h.because; flag = h.committed; place = h.place })
   demanded_not false (Bad cause upto) old new fault e (inr h) = inr (cause, upto, (refl, refl), record { because = h.because; flag = h.committed; place = h.place })
 
-  -- why what must stand there was not answered
+  -- why a required value was not parsed
   pub not_answered : {X Y : Type 0} {see : Y → X} {f : Text → Outcome X} {old new : StreamView} {fault : ParseFault A} → old.failed ≡ false → MustRead itself replaced see f old (Err fault) new → Faults true (RefusedAs (f old.rest)) old fault
   not_answered {f = f} {old = old} {new = new} {fault = fault} e h = demanded_not old.failed (f old.rest) old new fault e h.answers
 
@@ -68,7 +68,7 @@ module _ {A : Type 0} where
 pub moves_none : (v : StreamView) → Moves v v
 moves_none v = record { taken = []; takes = record { is = ap (λ (p : Text). let w : StreamView = record { passed = p; rest = v.rest; failed = v.failed } in w) (sym (append-nil v.passed)); same = refl } }
 
--- characters taken, and others behind them
+-- characters taken, and others after them
 pub moves_more : {old mid new : StreamView} → Moves old mid → Moves mid new → Moves old new
 moves_more {old = old} {mid = mid} {new = new} h k = record { taken = h.taken ++ k.taken; takes = takes_more itself replaced alone.view_at alone.at_at old mid new h.taken mid.rest k.taken new.rest h.takes k.takes }
 
@@ -76,6 +76,6 @@ moves_more {old = old} {mid = mid} {new = new} h k = record { taken = h.taken ++
 left_of : (t r w : Text) → t ++ r ≡ w → length r ≤ length w
 left_of t r w e = omega (arith, length-append t r, ap length e)
 
--- a reader leaves no more than stood there
+-- a parser leaves no more text than there was
 pub no_longer : {X Y A : Type 0} {see : Y → X} {f : Text → Outcome X} {old new : StreamView} {y : Y} → MustRead {A = A} itself replaced see f old (Ok y) new → length new.rest ≤ length old.rest
 no_longer {old = old} {new = new} h = let a = answered h in left_of a.taken new.rest old.rest a.takes.same

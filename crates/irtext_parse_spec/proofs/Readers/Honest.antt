@@ -1,4 +1,4 @@
--- Readers whose outcomes are of their texts: positions, marks, locations, and what a section's entries say.
+-- Parsers whose outcomes are of their texts: positions, marks, locations, and what a section's entries say.
 use Rattle.std.proofs.Common.{ℕ, Bool, zero, suc, Some, None, [], codes, refl}
 use Rattle.irtext_base.specs.Text.{Text}
 use Rattle.irtext_base.specs.Answers.{Missing}
@@ -17,7 +17,7 @@ use Rattle.irtext_parse_spec.specs.Readers.Locations.{WrittenRow, bytes_at, sour
 pub honest_nothing : {X : Type 0} (x : X) → Honest (nothing x)
 honest_nothing x = record { of = λ text. of_read text x [] text refl }
 
--- nothing at all, where this was demanded
+-- nothing at all, and this was required
 honest_demand : {X : Type 0} (demand : Demand)
     → Honest {X = X} (λ text. Missing (Unexpected (first_of text) demand))
 honest_demand demand = record { of = λ text. of_missing text _ refl }
@@ -39,7 +39,7 @@ pub honest_source : Honest source_at
 honest_source = honest_either _ (seen _ honest_bytes)
     (honest_either _ (seen _ (honest_word (codes "<in-memory>"))) (honest_demand ASource))
 
--- what stands behind the word `name`, up to the location that it is for
+-- what follows the word `name`, up to the location that it names
 pub honest_title : Honest (spaced_at (codes ":") ▷ bytes_at ▶ λ name.
     spaced_at (codes ",") ▷ word (codes "loc") ▷ spaced_at (codes ":") ▷ word (codes "(") ⇒ λ _. name)
 honest_title = ◌then◌ (honest_spaced (codes ":")) (◌so◌ honest_bytes (λ name.
@@ -53,7 +53,7 @@ pub honest_place : {A : Type 0} → Honest (place_at {A = A})
 honest_place = ◌so◌ honest_source (λ s. ◌then◌ (honest_spaced (codes ":")) (seen _ honest_position))
 
 -- ---- locations
--- a property of readers that stays where readers are put together, and that each has whose outcomes are of their texts
+-- a property of parsers that stays where parsers are put together, and that each has whose outcomes are of their texts
 pub record Keeps (P : (X : Type 0) → Reader X → Type 0) : Type 1 where
   pub honest : {X : Type 0} {f : Reader X} → Honest f → P X f
   pub follows : {X Y : Type 0} {f : Reader X} {k : X → Reader Y} → P X f → ((x : X) → P Y (k x)) → P Y (f ▶ k)
@@ -110,7 +110,7 @@ module _ {P : (X : Type 0) → Reader X → Type 0} (k : Keeps P) where
           (k.honest (honest_demand ALocation))))))
 
     mutual
-      -- the reader of locations has it, where that of attributes has it
+      -- the parser of locations has it, where that of attributes has it
       pub keeps_within : (n : ℕ) → P _ (location_within attr n)
       keeps_within zero = k.honest (honest_demand ALocation)
       keeps_within (suc n) = keeps_kind (keeps_within n) (keeps_more_within n)

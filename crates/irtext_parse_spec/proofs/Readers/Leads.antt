@@ -1,4 +1,4 @@
--- A lead, and what stands behind it.
+-- A lead, and what follows it.
 use Rattle.std.proofs.Common.{◌≡◌, ℕ, ◌<◌, arith, length-append, true, not, [], ◌∷◌, length, eqb, refl}
 use Rattle.std.specs.Str.{encode_utf8_all}
 use Rattle.std.specs.Char.{encode_utf8}

@@ -1,4 +1,4 @@
--- A fixed text that is taken whole or not at all, and what stands where it isn't whole.
+-- A fixed text that is taken whole or not at all, and the rest if it is not whole.
 use Rattle.std.proofs.Common.{◌≡◌, ℕ, Bool, true, false, cond, MatchBool, [], ◌∷◌, ◌++◌, refl, sym, ◌∙◌, ap, append_assoc, arith}
 use Rattle.std.specs.Char.{is_whitespace}
 use Rattle.std.proofs.lemmas.Bool.Decides.{nat_tests}
@@ -20,12 +20,12 @@ same_the c d e = grind (arith, nat_tests)
 the-same : (c : ℕ) → the c c ≡ true
 the-same c = grind (arith, nat_tests)
 
--- a text in front of which the word stands begins with it
-starts_whole : (word rest : Text) → starts_with word (word ++ rest) ≡ true
+-- a text with the word as its prefix begins with the word
+pub starts_whole : (word rest : Text) → starts_with word (word ++ rest) ≡ true
 starts_whole [] rest = refl
 starts_whole (c ∷ word) rest = rw (the-same c) (starts_whole word rest)
 
--- where a text begins with the word, the rest stands behind it
+-- if a text begins with the word, it is the word and a rest
 starts_rest : (word text : Text) → starts_with word text ≡ true → (rest : Text) × (text ≡ word ++ rest)
 starts_rest [] text e = (text, refl)
 starts_rest (c ∷ word) [] e = absurd (cc)
@@ -35,13 +35,13 @@ starts_rest (c ∷ word) (d ∷ text) e = go (the c d) refl e (starts_rest word 
     go true b q h = let r = h q in (r.0, ap (λ z. z ∷ text) (same_the c d b) ∙ ap (λ z. c ∷ z) r.1)
     go false b q h = absurd (cc)
 
-starts_not : (word text : Text) → ((rest : Text) → text ≡ word ++ rest → ⊥) → starts_with word text ≡ false
+pub starts_not : (word text : Text) → ((rest : Text) → text ≡ word ++ rest → ⊥) → starts_with word text ≡ false
 starts_not word text h =
     elim (starts_with word text) as (λ b. starts_with word text ≡ b → b ≡ false) [ true ↦ (λ e. let r = starts_rest word text e in absurd (h r.0 r.1)) | false ↦ (λ e. refl) ] refl
 
 module _ {S : Type 0} (view : S → StreamView) (at : S → StreamView → S) where
   module _ (view_at : (s : S) (v : StreamView) → view (at s v) ≡ v) (at_view : (s : S) → at s (view s) ≡ s) (at_at : (s : S) (v w : StreamView) → at (at s v) w ≡ at s w) where
-    -- the word was accepted behind white space, or the stream stays
+    -- the word was accepted after white space, or the stream is unchanged
     pub word_accepted : (word : Text) (old new : S) (b : Bool) → MatchBool b (Comes word (behind_space (view old)) (λ v. new ≡ at old v)) (BeginsOtherwise word (behind_space (view old)).rest × (new ≡ old)) → TakesWord view at word old b new
     word_accepted word old new true h =
         let v = behind_space (view old) in
@@ -53,12 +53,12 @@ module _ {S : Type 0} (view : S → StreamView) (at : S → StreamView → S) wh
         record { tells = sym (ap (starts_with word) h.1 ∙ starts_whole word h.0); left = (mid, refl, rw r k) }
     word_accepted word old new false h = record { tells = sym (starts_not word (after_space (view old).rest) h.0); left = h.1 }
 
-    -- behind white space the word doesn't stand whole, and the stream stays
+    -- the whole word does not follow the white space, and the stream is unchanged
     pub marker_none : (word : Text) (old new : S) (b : Bool) → TakesWord view at word old b new → b ≡ false → (starts_with word (after_space (view old).rest) ≡ false) × (new ≡ old)
     marker_none word old new true w e = absurd (cc)
     marker_none word old new false w e = (sym w.tells, w.left)
 
-    -- the word stands whole, and was taken
+    -- the whole word follows, and was taken
     pub marker_whole : (word : Text) (old new : S) (b : Bool) → TakesWord view at word old b new → b ≡ true
         → (mid : S) × Skips view at old mid × (starts_with word (view mid).rest ≡ true) × Takes view at word (view new).rest mid new
     marker_whole word old new true w e =

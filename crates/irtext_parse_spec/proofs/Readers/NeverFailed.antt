@@ -6,56 +6,56 @@ use Rattle.irtext_base.specs.Faults.{Fault}
 use Rattle.irtext_base.specs.Answers.{Outcome, Read, Missing, Bad, prefixed, followed, mapped}
 use Rattle.irtext_tokens.specs.Infix.{Reader}
 use Rattle.irtext_tokens.specs.ListOutcomes.{or_empty, item_after, items_after, separated_at}
-pub use Rattle.irtext_tokens.proofs.Honest.{ModifiesOnly, NotFailed}
+pub use Rattle.irtext_tokens.proofs.Honest.{CauseIs, NotFailed}
 use Rattle.irtext_tokens.proofs.Honest.{Honest, never_failed, honest_word}
 use Rattle.irtext_parse_spec.specs.Readers.Parts.{behind}
 
--- the reading's cause does not say so
+-- the cause of the outcome is not that the stream had failed
 pub record Fine {X : Type 0} (o : Outcome X) : Type 0 where
-  pub spares : ModifiesOnly NotFailed o
+  pub spares : CauseIs NotFailed o
 
--- no cause of a reader whose outcomes are of their texts does
+-- no cause of a parser whose outcomes are of their texts does
 pub fine_honest : {X : Type 0} {f : Reader X} → Honest f → (text : Text) → Fine (f text)
 fine_honest h text = record { spares = never_failed h text }
 
 module _ {X : Type 0} where
-  -- what is read is no cause
+  -- what is parsed is no cause
   pub fine_read : (x : X) (taken rest : Text) → Fine (Read x taken rest)
   fine_read x taken rest = record { spares = tt }
 
-  -- what is missing for such a cause
+  -- a missing value with a cause other than a failed stream
   pub fine_missing : (cause : Fault) → NotFailed cause → Fine {X = X} (Missing cause)
   fine_missing cause h = record { spares = h }
 
-  -- what is bad for such a cause
+  -- a bad text with a cause other than a failed stream
   pub fine_bad : (cause : Fault) (upto : Text) → NotFailed cause → Fine {X = X} (Bad cause upto)
   fine_bad cause upto h = record { spares = h }
 
-  -- either of two readings
+  -- either of two outcomes
   pub fine_either : (test : Bool) (o p : Outcome X) → Fine o → Fine p → Fine (cond test o p)
   fine_either true o p h k = h
   fine_either false o p h k = k
 
-  -- the same behind a text that was read
+  -- the same after a prefix that was taken
   pub fine_prefixed : (t : Text) (o : Outcome X) → Fine o → Fine (prefixed t o)
   fine_prefixed t (Read x taken rest) h = fine_read _ _ _
   fine_prefixed t (Missing cause) h = fine_bad cause t h.spares
   fine_prefixed t (Bad cause upto) h = fine_bad cause _ h.spares
 
-  -- the same behind a lead
+  -- the same after a lead
   pub fine_behind : (lead : Text) (o : Outcome X) → Fine o → Fine (behind lead o)
   fine_behind [] o h = h
   fine_behind (c ∷ lead) o h = fine_prefixed (c ∷ lead) o h
 
 module _ {X Y : Type 0} where
-  -- the same of one reading and then another
+  -- the same for one parser and then another
   pub fine_followed : (o : Outcome X) (k : X → Text → Outcome Y)
       → Fine o → ((x : X) (t : Text) → Fine (k x t)) → Fine (followed o k)
   fine_followed (Read x taken rest) k h g = fine_prefixed taken (k x rest) (g x rest)
   fine_followed (Missing cause) k h g = fine_missing cause h.spares
   fine_followed (Bad cause upto) k h g = fine_bad cause upto h.spares
 
-  -- the same of what is made of a reading
+  -- the same for a function of what was parsed
   pub fine_mapped : (f : X → Y) (o : Outcome X) → Fine o → Fine (mapped f o)
   fine_mapped f (Read x taken rest) h = fine_read _ _ _
   fine_mapped f (Missing cause) h = fine_missing cause h.spares

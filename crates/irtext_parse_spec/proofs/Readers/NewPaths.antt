@@ -1,8 +1,9 @@
--- What reading a location does to a context, one reading behind another: it may keep more paths.
+-- What the parse of a location does to a context, one parser after another: it may keep more paths.
 use Rattle.std.proofs.Common.{◌∙◌, ap, refl, ℕ}
 use Rattle.irtext_context.specs.Context.{ContextView, KeepsOlder, with_paths}
 use Rattle.irtext_graph.proofs.Made.{same_keeps}
-use Rattle.irtext_parse_spec.specs.Readers.NewPaths.{AddsPaths}
+use Rattle.irtext_parse_state.specs.declared.parsable.state.State.{State}
+use Rattle.irtext_parse_spec.specs.Readers.NewPaths.{AddsPaths, AddsOnlyPaths}
 
 module _ {T A : Type 0} where
   -- nothing is added
@@ -17,6 +18,20 @@ module _ {T A : Type 0} where
     dialects = ap (λ c. c.dialects) h.rest;
   }
 
-  -- the paths of one reading and then of another
+  -- the paths of one parse and then of another
   pub adds_more : {a b c : ContextView T A} → AddsPaths a b → AddsPaths b c → AddsPaths a c
   adds_more {a} {b} {c} h k = record { kept = λ i p e. k.kept i p (h.kept i p e); rest = k.rest ∙ ap (λ (x : ContextView T A). with_paths x c.paths) h.rest }
+
+module _ {T A U : Type 0} where
+  -- nothing is added to the context of a state
+  pub only_none : (s : State T A U) → AddsOnlyPaths s s
+  only_none s = record { lent = refl; rest = record { src = refl; aux_data = refl }; marks = refl; adds = adds_none s.ctx.now }
+
+  -- the paths of one reading and then of another
+  pub only_more : {a b c : State T A U} → AddsOnlyPaths a b → AddsOnlyPaths b c → AddsOnlyPaths a c
+  only_more h k = record {
+    lent = k.lent ∙ h.lent;
+    rest = record { src = k.rest.src ∙ h.rest.src; aux_data = k.rest.aux_data ∙ h.rest.aux_data };
+    marks = k.marks ∙ h.marks;
+    adds = adds_more h.adds k.adds;
+  }

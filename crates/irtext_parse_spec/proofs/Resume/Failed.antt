@@ -1,4 +1,4 @@
--- What no item changes stays as it is through the rest of the text and all that is open: so a machine that has failed stays so.
+-- What no item changes stays unchanged through the rest of the text and all open frames: so a machine that has failed stays failed.
 use Rattle.std.proofs.Common.{◌≡◌, Bool, true, false, List, [], ◌∷◌, Option, Some, None, length, codes, refl, sym, subst}
 use Rattle.irtext_base.specs.Text.{Text, after_space}
 use Rattle.irtext_base.specs.Answers.{Outcome}

@@ -1,4 +1,4 @@
--- What a turn of the innermost thing that is open says of the whole, and how turns are put together.
+-- What a turn of the innermost open frame says of the whole parse, and how turns are put together.
 use Rattle.std.proofs.Common.{◌≡◌, ℕ, ◌-◌, List, [], ◌∷◌, ◌++◌, Option, Some, None, length, arith, refl, ap, sym, ◌∙◌}
 use Rattle.irtext_base.specs.Text.{Text}
 use Rattle.irtext_base.specs.Faults.{Fault}
@@ -11,7 +11,7 @@ use Rattle.irtext_parse_spec.specs.Resume.{Open, Pops, rest_of, resume, Goes, St
 -- ---- what is reached
 
 module _ {X Y S : Type 0} where
-  -- what must stand at a text, and does not
+  -- a required value that is missing or bad at a text
   pub tells_bad : (o : Outcome X) (text : Text) (s : S) (next : X → Text → Reached Y S) (cause : Fault) (upto : Text) → demanded o ≡ Bad cause upto → tells o text s next ≡ Stopped s cause (length text - length upto)
   tells_bad (Read x taken rest) text s next cause upto e = absurd (cc)
   tells_bad (Missing c) text s next cause upto e =
@@ -26,13 +26,13 @@ module _ {X Y S : Type 0} where
       let g : u ≡ upto = cc in
       ap (λ z. Stopped s z (length text - length u)) f ∙ ap (λ (z : Text). Stopped s cause (length text - length z)) g
 
--- one behind another, and that behind a third
+-- one parse after another, and a third after both
 pub came_came : {X Y Z S : Type 0} (o : Reached X S) (k : X → S → Text → Reached Y S) (l : Y → S → Text → Reached Z S) → came (came o k) l ≡ came o (λ x s t. came (k x s t) l)
 came_came (Advanced x s t) k l = refl
 came_came (Stopped s cause place) k l = refl
 
 module _ {T A S : Type 0} (dialects : List (Text × Table)) (types_at : Text → Outcome T) (attr : Text → Outcome (AttrView A)) (does : Actions T A S) where
-  -- what is left of what is open, and of all of it
+  -- the rest of an open frame, and of all
   abbrev left_of : Open T A → Reads S
   left_of = rest_of dialects types_at attr does
 
@@ -54,7 +54,7 @@ module _ {T A S : Type 0} {dialects : List (Text × Table)} {types_at : Text →
   stuck_here {cause = cause} {place = place} e = record { so = ap (resume dialects types_at attr does frames) e ∙ resume_stuck dialects types_at attr does frames s' cause place }
 
   module _ {t' : Text} where
-    -- it goes on as another
+    -- the parse goes on with another frame
     pub goes_as : {g : Open T A} → rest_of dialects types_at attr does f t s ≡ rest_of dialects types_at attr does g t' s' → Goes dialects types_at attr does (Some f) frames s t (Some g) frames s' t'
     goes_as e = record { so = ap (resume dialects types_at attr does frames) e }
 
@@ -63,7 +63,7 @@ module _ {T A S : Type 0} {dialects : List (Text × Table)} {types_at : Text →
         → Goes dialects types_at attr does (Some f) frames s t (Some g) (frames ++ h ∷ []) s' t'
     goes_in {g = g} h e = record { so = ap (resume dialects types_at attr does frames) e ∙ sym (resume_push dialects types_at attr does frames h (rest_of dialects types_at attr does g t' s')) }
 
-    -- it ends, and what waits goes on
+    -- the frame ends, and the frame that waits goes on
     pub goes_out : (next : Option (Open T A)) (others : List (Open T A)) → Pops frames next others → rest_of dialects types_at attr does f t s ≡ Advanced tt s' t' → Goes dialects types_at attr does (Some f) frames s t next others s' t'
     goes_out None others p e = record { so = ap (λ z. resume dialects types_at attr does z (rest_of dialects types_at attr does f t s)) p ∙ e }
     goes_out (Some g) others p e = record {
@@ -71,7 +71,7 @@ module _ {T A S : Type 0} {dialects : List (Text × Table)} {types_at : Text →
           ∙ (ap (resume dialects types_at attr does (others ++ g ∷ [])) e ∙ resume_push dialects types_at attr does others g (Advanced tt s' t'));
     }
 
--- ---- turns one behind another
+-- ---- turns one after another
 module _ {T A S : Type 0} {dialects : List (Text × Table)} {types_at : Text → Outcome T} {attr : Text → Outcome (AttrView A)} {does : Actions T A S} {n : Option (Open T A)} {fr : List (Open T A)} {s : S} {t : Text} where
   module _ {n' : Option (Open T A)} {fr' : List (Open T A)} {s' : S} {t' : Text} (g : Goes dialects types_at attr does n fr s t n' fr' s' t') where
     pub goes_trans : {m : Option (Open T A)} {gr : List (Open T A)} {z : S} {u : Text} → Goes dialects types_at attr does n' fr' s' t' m gr z u → Goes dialects types_at attr does n fr s t m gr z u

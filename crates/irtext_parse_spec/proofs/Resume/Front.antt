@@ -1,4 +1,4 @@
--- The front of an operation, which does nothing, is one reading.
+-- The front of an operation, which has no action, is one parse.
 use Rattle.std.proofs.Common.{◌≡◌, ℕ, ◌-◌, ◌+◌, Bool, true, false, List, [], ◌∷◌, ◌++◌, None, length, length-append, arith, refl, ap, sym, ◌∙◌}
 use Rattle.std.specs.Char.{is_whitespace}
 use Rattle.irtext_base.specs.Text.{Text, front, after}
@@ -21,7 +21,7 @@ use Rattle.irtext_parse_spec.proofs.Exact.Outside.{outside_read}
 use Rattle.irtext_parse_spec.proofs.Resume.Frames.{tells_bad}
 use Rattle.irtext_parse_spec.proofs.Knot.Loops.{tells_found}
 
--- ---- which steps are in front of the first region
+-- ---- which steps are before the first region
 pub in_front : (step : Step) (ss : List Step) → is_flat step ≡ true → (front_steps (step ∷ ss) ≡ step ∷ front_steps ss) × (region_steps (step ∷ ss) ≡ region_steps ss)
 in_front (flat d) ss e = (refl, refl)
 in_front types ss e = (refl, refl)
@@ -34,8 +34,8 @@ behind_front types ss e = absurd (cc)
 behind_front (one i) ss e = (refl, refl)
 behind_front all ss e = (refl, refl)
 
--- ---- the front as one reading
--- white space and what stands behind it are the text
+-- ---- the front as one parser
+-- white space and what follows it are the text
 splits_behind_space : {X : Type 0} {reader : Reader X} → Splits reader → Splits (space_at ▷ reader)
 splits_behind_space {reader = reader} h = splits_followed space_at (λ _. reader) splits_space (λ _. h)
   where
@@ -46,7 +46,7 @@ module _ {T A : Type 0} (types_at : Reader T) (reading : Reader A) (h : Splits t
   splits_inside : (step : Step) → Splits (piece_at types_at (attr_at reading) true step)
   splits_inside step text p taken rest e = (piece_read types_at (λ t. []) reading (λ a. []) (λ id. None) h k step text p taken rest e).1
 
-  -- each piece is read so, inside of some region and outside of each
+  -- what a piece takes and leaves is the text, inside of some region and outside of each
   pub splits_piece : (inside : Bool) (step : Step) → Splits (piece_at types_at (attr_at reading) inside step)
   splits_piece true step text p taken rest e = splits_inside step text p taken rest e
   splits_piece false step text p taken rest e = splits_inside step text p taken rest (outside_read types_at (λ t. []) reading (λ a. []) (λ id. None) h k step text p taken rest e).1
@@ -57,7 +57,7 @@ module _ {X Y S : Type 0} (s : S) (next : X → Text → Reached Y S) where
   tells_prefixed taken rest text (Missing cause) e = ap (Stopped s cause) (omega (arith, e))
   tells_prefixed taken rest text (Bad cause upto) e = ap (Stopped s cause) (omega (arith, e, length-append taken upto))
 
--- one thing and another behind it are told one behind the other
+-- one value required after another, as one requirement or as two
 tells_followed : {W X Y S : Type 0} (o : Outcome W) (k : W → Text → Outcome X) (text : Text) (s : S) (next : X → Text → Reached Y S) → ((w : W) (taken rest : Text) → o ≡ Read w taken rest → taken ++ rest ≡ text)
     → tells (followed o k) text s next ≡ tells o text s (λ w rest. tells (k w rest) rest s next)
 tells_followed (Read w taken rest) k text s next h = tells_prefixed s next taken rest text (k w rest) (omega (arith, ap length (h w taken rest refl), length-append taken rest))
@@ -80,7 +80,7 @@ module _ {T A S : Type 0} (dialects : List (Text × Table)) (types_at : Text →
       tells_same o text s (λ p rest. front_by dialects types_at attr does inside ss (found ++ tree.piece p ∷ []) rest s) (λ p rest. tells (front_at types_at attr inside ss (found ++ tree.piece p ∷ []) rest) rest s (came_to s)) (λ p rest. front_is ss (found ++ tree.piece p ∷ []) rest s)
       ∙ sym (tells_followed o (λ p. front_at types_at attr inside ss (found ++ tree.piece p ∷ [])) text s (came_to s) (splits_behind_space (splits step) text))
 
-  -- it was read
+  -- it was parsed
   pub front_reads : (ss : List Step) (found found' : List (Part ℕ T A)) (text taken rest : Text) (s : S) → front_at types_at attr inside ss found text ≡ Read found' taken rest → front_by dialects types_at attr does inside ss found text s ≡ Advanced found' s rest
   front_reads ss found found' text taken rest s e = front_is ss found text s ∙ tells_found (front_at types_at attr inside ss found text) text s (came_to s) found' taken rest e
 

@@ -1,5 +1,5 @@
--- Two worked rows: an operation with a region of two operations, and one of any number of regions with a piece behind them. Each is read
--- whole, and from points at which the loop would stand; a log is kept of what was done, with the places.
+-- Two worked rows: an operation with a region of two operations, and one of any number of regions with a piece after them. Each is parsed
+-- as a whole, and from points at which the loop would be; a log records what was done, with the places.
 use Rattle.std.proofs.Common.{◌≡◌, ℕ, true, false, List, [], ◌∷◌, ◌++◌, Option, Some, codes, refl}
 use Rattle.irtext_base.specs.Text.{Text}
 use Rattle.irtext_base.specs.Format as format
@@ -19,7 +19,7 @@ use Rattle.irtext_parse_spec.proofs.Resume.Frames.{goes_trans}
 use Rattle.irtext_parse_spec.proofs.Resume.Unbounded.{Unbounded, unbounded}
 use Rattle.irtext_parse_spec.proofs.Resume.Turns.{operation_begins, region_begins, block_begins, first_operation}
 
--- `t.h` has one region, `t.a` all that stand there and a `.` behind them, `t.n` none
+-- `t.h` has one region, `t.a` any number of regions and a `.` after them, `t.n` none
 abbrev known : List (Text × Table)
 known = (
   codes "t",
@@ -66,7 +66,7 @@ row_one : read_all one_region ≡ Advanced tt (1 ∷ 19 ∷ 3 ∷ 7 ∷ 1 ∷ 10
 unfolding word_at id_at
 row_one = refl
 
--- behind its first operation
+-- after its first operation
 row_one_between : read_all one_region ≡ from (Some (a_block false)) (an_operation (holder [] (tree.region 0 ∷ [])) ∷ a_region true 16 ∷ []) (1 ∷ 19 ∷ 3 ∷ 7 ∷ 1 ∷ 10 ∷ 5 ∷ 10 ∷ 6 ∷ []) (codes "; t.n }")
 unfolding word_at id_at
 row_one_between = refl

@@ -1,20 +1,21 @@
--- Each turn of a loop over what is open is one equation of what is left to be read. Where what stands next is read, this lemma is the turn,
--- and beside it stands the one by which the text is at fault there:
+-- Each turn of a loop over the open frames is one equation between two points of the parse. For what the text has at the next position,
+-- the table names the lemma that is the turn, and the lemma by which the text is at fault there:
 --
---   next           what stands there                       turn                   fault
+--   next           what follows                            turn                   fault
 --   to_come        lead and front pieces                   operation_begins       no_lead, no_front
---   an_operation   a piece that a step reads               piece_reads            no_piece
+--   an_operation   a piece that a step parses              piece_reads            no_piece
 --                  one region's brace                      region_begins          no_region
 --                  all regions: a brace                    another_region
 --                  all regions: no brace                   no_more_regions
 --                  no step is left: a mark, or none        operation_ends         no_end
 --   a_region       a block's header                        block_begins           no_block
---                  no block: the brace behind the last     region_ends            no_brace
+--                  no block: the brace after the last      region_ends            no_brace
 --   a_block        the first operation                     first_operation
 --                  `;` and another operation               another_operation
 --                  no operation                            no_operation, no_more_operations
 --
--- What is done in front of what is read is another turn where it fails, at the same text: region_enters, another_enters, operation_closes.
+-- An action that precedes what is parsed is a turn of its own if it fails, at the same text: region_enters, another_enters,
+-- operation_closes.
 use Rattle.std.proofs.Common.{◌≡◌, ℕ, ◌-◌, ◌≤◌, Bool, true, false, cond, List, [], ◌∷◌, ◌++◌, Option, Some, length, codes, refl, ap, sym, ◌∙◌, le_refl}
 use Rattle.std.specs.Char.{is_whitespace}
 use Rattle.std.specs.Prelude.{⊤}
@@ -49,7 +50,7 @@ tight (Missing cause) x taken rest e = absurd (cc)
 tight (Bad cause upto) x taken rest e = absurd (cc)
 
 module _ {T A S : Type 0} (dialects : List (Text × Table)) (types_at : Text → Outcome T) (attr : Text → Outcome (AttrView A)) (does : Actions T A S) where
-  -- what is open goes on as this, or the text is at fault
+  -- the innermost open frame goes on as this, or the text is at fault
   abbrev Turns : Open T A → List (Open T A) → S → Text → Option (Open T A) → List (Open T A) → S → Text → Type 0
   Turns f frames s t = Goes dialects types_at attr does (Some f) frames s t
 
@@ -148,7 +149,7 @@ module _ {T A S : Type 0} (dialects : List (Text × Table)) (types_at : Text →
       pub no_end : (cause : Fault) (upto : Text) → demanded next_mark ≡ Bad cause upto → Stops (an_operation o) frames s t (closed s) cause (length t - length upto)
       no_end cause upto h = stuck_here (by_steps [] e ∙ tells_bad next_mark t (closed s) (behind_mark (closed s)) cause upto h)
 
-      -- it is closed before its mark is read
+      -- it is closed before its mark is parsed
       pub operation_closes : (z : S) → closed s ≡ z → closed z ≡ z → Turns (an_operation o) frames s t (Some (an_operation o)) frames z t
       operation_closes z f g = goes_as (by_steps [] e ∙ (ap (λ u. tells next_mark t u (behind_mark u)) (f ∙ sym g) ∙ sym (ap (λ ss. left_of (an_operation (with_steps o ss o.parts)) t z) e)))
 
@@ -164,7 +165,7 @@ module _ {T A S : Type 0} (dialects : List (Text × Table)) (types_at : Text →
     no_operation next others b p = goes_out next others p (ap (λ z. cond z behind_first (Advanced tt s (after_space t))) b)
 
   module _ (k : Unbounded dialects types_at attr does) where
-    -- no more is left behind white space
+    -- after white space no more text is left than before
     shorter : (t : Text) → length (after_space t) ≤ length t
     shorter t = space_bound (length t) t (le_refl (length t))
 
@@ -172,7 +173,7 @@ module _ {T A S : Type 0} (dialects : List (Text × Table)) (types_at : Text →
     abbrev next_brace : Text → Outcome ⊤
     next_brace = word (codes "{") ▷ space_at
 
-    -- the brace behind a region's blocks
+    -- the brace after a region's blocks
     abbrev and_brace : Bool → ℕ → Reached Unit S → Reached Unit S
     and_brace iso place o = came o (λ _ z left. tells (word (codes "}") left) left z (λ _ end. Advanced tt (does.leaves iso place z) end))
 
@@ -187,7 +188,7 @@ module _ {T A S : Type 0} (dialects : List (Text × Table)) (types_at : Text →
     region_lacks : (iso : Bool) (s : S) (u : Text) (cause : Fault) (upto : Text) → demanded (next_brace u) ≡ Bad cause upto → inner iso u s ≡ Stopped (does.enters iso s) cause (length u - length upto)
     region_lacks iso s u cause upto e = k.region_is iso u s ∙ tells_bad (next_brace u) u (does.enters iso s) (behind_brace iso (length u) (does.enters iso s)) cause upto e
 
-    -- it is entered before its brace is read
+    -- it is entered before its brace is parsed
     entered_once : (iso : Bool) (s z : S) (u : Text) → does.enters iso s ≡ z → does.enters iso z ≡ z → inner iso u s ≡ inner iso u z
     entered_once iso s z u f g = k.region_is iso u s ∙ (ap (λ y. tells (next_brace u) u y (behind_brace iso (length u) y)) (f ∙ sym g) ∙ sym (k.region_is iso u z))
 
@@ -301,7 +302,7 @@ module _ {T A S : Type 0} (dialects : List (Text × Table)) (types_at : Text →
       abbrev behind_semicolon : Text
       behind_semicolon = after_space (without_first (after_space t))
 
-      -- what is left where another operation stands, or none
+      -- the rest of a block, given whether another operation follows
       abbrev by_more : Bool → Reached Unit S
       by_more b = cond b (came (item behind_semicolon s) (λ _ z rest. left_of (a_block false) rest z)) (Advanced tt s (after_space t))
 

@@ -1,4 +1,4 @@
--- What nests, without the bounds by which it is defined: each reader by those of what is inside it alone.
+-- What nests, without the bounds by which it is defined: each parser by those of what is inside it alone.
 use Rattle.std.proofs.Common.{◌≡◌, ◌∙◌, ℕ, suc, ◌≤◌, Bool, true, false, cond, List, [], length, arith, refl, ap, le_refl}
 use Rattle.irtext_base.specs.Text.{Text, begins, after_space}
 use Rattle.irtext_base.specs.Reading.{the}
@@ -25,7 +25,7 @@ pub record Unbounded {T A S : Type 0} (dialects : List (Text × Table)) (types_a
       ≡ cond (begins (the 59) text) (came (operation_at dialects types_at attr does true (after_space (without_first text)) s) (λ _ t rest. more_by (operation_at dialects types_at attr does true) (length rest) (after_space rest) t)) (Advanced tt s text)
 
 module _ {S : Type 0} {test : Text → Bool} {item : Reads S} {loop : ℕ → Reads S} (i : IsLoop test item loop) (ends : test [] ≡ false) (shrink : (b : ℕ) → Shrink b item item) where
-  -- the items are the first and, behind it, the items
+  -- the loop parses the first item and, after it, the other items
   loop_is : (n : ℕ) (text : Text) (s : S) → length text ≤ n → loop n text s ≡ cond (test text) (came (item text s) (λ _ t rest. loop (length rest) (after_space rest) t)) (Advanced tt s text)
   loop_is n text s k = loop_enough i ends shrink n (suc (length text)) text s k (omega arith) ∙ (i.more (length text) text s ∙ ap (λ z. cond (test text) z (Advanced tt s text))
       (came_same (length text) (item text s) (λ _ t rest. loop (length text) (after_space rest) t) (λ _ t rest. loop (length rest) (after_space rest) t) ((shrink (length text)).alike text s (omega arith)).leaves

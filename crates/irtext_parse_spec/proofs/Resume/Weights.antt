@@ -1,4 +1,4 @@
--- Each turn of a loop over what is open is one nearer to its end: it reads some of the text, or less is to be done of what is open.
+-- Each turn of a loop over the open frames is one step nearer to its end: it parses some of the text, or less is left to do in the frames.
 use Rattle.std.proofs.Common.{◌≡◌, ℕ, ◌+◌, ◌<◌, ◌≤◌, Bool, true, false, cond, List, [], ◌∷◌, ◌++◌, Option, Some, None, length, arith, refl, ap, mul-le-mul_left, mul-suc, zero-le, option_and_then, option_map}
 use Rattle.std.specs.Map.{lookup}
 use Rattle.std.specs.Str.{bytes_eq}
@@ -66,7 +66,7 @@ module _ {T A : Type 0} where
   weighs (a_block true) = omega arith
   weighs (a_block false) = omega arith
 
-  -- ---- where some of the text is read, and where none need be
+  -- ---- where some of the text is consumed, and where the text may be unchanged
   module _ (k : ℕ) (next next' : Option (Open T A)) (frames frames' : List (Open T A)) (t t' : Text) where
     nearer_read : length t' < length t → to_do next' frames' < to_do next frames + k → work k next' frames' t' < work k next frames t
     nearer_read l w = let m = mul-le-mul_left k l in let n = mul-suc k (length t') in omega (arith, m, n, w)

@@ -1,4 +1,4 @@
--- What is written of an attribute is read back.
+-- What is written of an attribute is parsed back.
 use Rattle.std.proofs.Common.{◌≡◌, ◌∙◌, ◌≤◌, ℕ, zero, suc, Bool, true, false, cond, Some, None, Option, List, [], ◌∷◌, ◌++◌, map, length, length-append, codes, refl, sym, ap, arith, append_assoc, append-nil, true≢false}
 use Rattle.std.specs.Cmp.Lexicographic.{bytes_decides}
 use Rattle.std.proofs.lemmas.Bool.Decides.{nat_tests}
@@ -20,7 +20,7 @@ use Rattle.irtext_grammar.specs.Spelling.AttrText.{attr_text, IsSpellableAttr}
 use Rattle.irtext_grammar.specs.Spelling.Spellable.{Each, IsIdentifier, IsGiven}
 use Rattle.irtext_grammar.specs.Spelling.Spell.{joined, joined_from, comma, or_question}
 
--- what is behind a front does not begin so
+-- what follows the longest prefix of such characters does not begin with one
 after_begins : (test : ℕ → Bool) (text : Text) → begins test (after test text) ≡ false
 after_begins test [] = refl
 after_begins test (c ∷ text) = elim (test c) as (λ b. test c ≡ b → begins test (cond b (after test text) (c ∷ text)) ≡ false) [ true ↦ (λ e. after_begins test text) | false ↦ (λ e. e) ] refl
@@ -36,7 +36,7 @@ word_back n f w e = identifier_at-identifier n (n ++ f) f (identifier_begins n f
 word_no_question : (c : ℕ) → begins_word c ≡ true → the 63 c ≡ false
 word_no_question c e = grind (arith, nat_tests)
 
--- where a word begins, no `?` stands
+-- where a word begins, the text does not begin with `?`
 pub no_question : (text : Text) → begins begins_word text ≡ true → begins (the 63) text ≡ false
 no_question [] e = refl
 no_question (c ∷ text) e = word_no_question c e
@@ -46,12 +46,12 @@ name_back : (x : Option Text) (f : Text) → IsGiven x → begins in_word f ≡ 
 name_back None f h e = refl
 name_back (Some n) f h e = rw (no_question (n ++ f) (identifier_begins n f h), word_back n f h e) refl
 
--- white space that does not stand there
+-- a text that does not begin with white space has an empty prefix of it
 no_space : (f : Text) → begins is_whitespace f ≡ false → (front is_whitespace f ≡ []) × (after is_whitespace f ≡ f)
 no_space [] e = (refl, refl)
 no_space (c ∷ f) e = rw e (refl, refl)
 
--- no white space stands in front of a given name
+-- a given name does not begin with white space
 name_tight : (x : Option Text) (f : Text) → IsGiven x → after_space (or_question x ++ f) ≡ or_question x ++ f
 name_tight None f h = refl
 name_tight (Some n) f h = word_tight (n ++ f) (identifier_begins n f h)
@@ -122,7 +122,7 @@ module _ (rest : Text) where
         ap (λ z. prefixed (codes "builtin.identifier") (prefixed spaces z)) (ap identifier_at (word_tight (n ++ rest) (identifier_begins n rest h)) ∙ word_back n rest h e),
       )
 
--- what is found of a text was read of it
+-- what the grammar finds in a text was parsed from it
 pub read_there : {X : Type 0} (o : Outcome X) (x : X) (left : Text) → standing o ≡ found x left → (taken : Text) × (o ≡ Read x taken left)
 read_there (Read y t r) x left e =
     let p : y ≡ x = cc in
@@ -137,7 +137,7 @@ missing_there (Missing cause) e = (cause, refl)
 missing_there (Bad cause upto) e = absurd (cc)
 
 module _ {A : Type 0} (reading : Text → Outcome A) (written : A → Text) (lawful : Lawful A (texts_of reading written)) (unreserved : Unreserved A (texts_of reading written)) where
-  -- what is written of an attribute reads as that attribute, before every end
+  -- what is written of an attribute parses as that attribute, before every end
   pub attr_back : (v : AttrView A) (rest : Text) → IsSpellableAttr v → Ends rest → (taken left : Text) × (attr_at reading (attr_text written v ++ rest) ≡ Read v taken left) × (after_space left ≡ after_space rest)
   attr_back (given_names ns) rest h e =
       let text = codes "builtin.given_names [" ++ inside rest ns in

@@ -1,4 +1,4 @@
--- The text of a location whose attributes are kept is read back.
+-- The text of a location whose attributes are kept is parsed back.
 use Rattle.std.proofs.Common.{◌≡◌, ℕ, true, false, Option, Some, None, List, [], ◌∷◌, ◌++◌, length, refl, ap, arith}
 use Rattle.std.proofs.lemmas.Bool.Decides.{nat_tests}
 use Rattle.std.proofs.Math.Nat.{le_refl}
@@ -41,7 +41,7 @@ module _ {A : Type 0} (reading : Text → Outcome A) (text_of : A → Text) (law
   attr_starts (ident n) rest = refl
   attr_starts (own a) rest = lawful.starts a rest
 
-  -- an attribute whose names are identifiers is read back
+  -- an attribute whose names are identifiers is parsed back
   kept_reads : (v : AttrView A) → IsSpellableAttr v → AttrReads (attr_at reading) text_of v
   kept_reads v k = record {
     starts = attr_starts v;
@@ -66,7 +66,7 @@ module _ {A : Type 0} (reading : Text → Outcome A) (text_of : A → Text) (law
     row_read no_location k = tt
     row_read (location l ls) k = (all_read l k.0, row_read ls k.1)
 
-  -- the text of a location that is kept is read back before `]`
+  -- the text of a location that is kept is parsed back before `]`
   written_reads : (l : Written A) → AllFit l → AllHold IsSpellableAttr l → LocationReads (location_standing (attr_at reading)) (locations text_of) (Some (written_text text_of l))
   written_reads l fits kept = (
     no_space text_of l,

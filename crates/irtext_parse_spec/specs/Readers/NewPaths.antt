@@ -12,12 +12,21 @@ use Rattle.irtext_base.specs.Locations.{LocationView, LocationsOf, no_location, 
 use Rattle.irtext_base.specs.declared.location.Location.{Location}
 use Rattle.irtext_base.specs.declared.parsable.fault.ParseFault.{ParseFault}
 use Rattle.irtext_tokens.specs.MustRead.{MustRead, MayRead}
-use Rattle.irtext_parse_spec.specs.Readers.Streams.{itself, replaced}
+use Rattle.irtext_parse_state.specs.States.{marks_of}
+use Rattle.irtext_parse_state.specs.declared.parsable.state.State.{State}
+use Rattle.irtext_parse_spec.specs.Readers.Streams.{itself, replaced, KeepsRest}
 
 -- each path keeps its key, and all else is unchanged
 pub record AddsPaths {T A : Type 0} (old new : ContextView T A) : Type 0 where
   pub kept : KeepsPaths old.paths new.paths
   pub rest : new ≡ with_paths old new.paths
+
+-- paths may have been added to the context, to which the state still refers; the rest of the state and the recorded marks are unchanged
+pub record AddsOnlyPaths {T A U : Type 0} (old new : State T A U) : Type 0 where
+  pub lent : new.ctx.ghost_name ≡ old.ctx.ghost_name
+  pub rest : KeepsRest old new
+  pub marks : marks_of new ≡ marks_of old
+  pub adds : AddsPaths old.ctx.now new.ctx.now
 
 -- the keys of the location's files are below this count
 abbrev pub known_location : {A : Type 0} → ℕ → Location A → Bool

@@ -17,13 +17,13 @@ pub then : {X E P Q : Type 0} (r : Result X E) → (P → Q) → OnOk r P → On
 then (Ok x) f p = f p
 then (Err e) f p = tt
 
--- what follows behind a call whose answer was handed on
+-- what follows a call whose result was returned
 pub behind : {X Y E F P Q : Type 0} (r : Result X E) (answer : Result Y F) → OnOk r (IsOk answer) → OnOk answer P → (P → Q) → OnOk r Q
 behind (Ok x) (Ok y) h p f = f p
 behind (Ok x) (Err e) h p f = absurd (true≢false (sym h))
 behind (Err e) answer h p f = tt
 
--- what is known where a call was refused
+-- what holds if a call returned an error
 pub then-err : {X E : Type 0} {P Q : E → Type 0} (r : Result X E) → ((e : E) → P e → Q e) → IfErr r P → IfErr r Q
 then-err (Ok x) f p = tt
 then-err (Err e) f p = f e p
@@ -57,7 +57,7 @@ spaces-ascii zero i = omega arith
 spaces-ascii (suc n) zero = omega arith
 spaces-ascii (suc n) (suc i) = spaces-ascii n i
 
--- so is a newline in front of them
+-- so is a newline before them
 pub newline-ascii : (n : ℕ) → IsAscii (10 ∷ replicate n 32)
 newline-ascii n zero = omega arith
 newline-ascii n (suc i) = spaces-ascii n i
@@ -100,13 +100,13 @@ opening-whole n few =
     let size : 4 + n - 0 ≡ suc (suc (suc (suc n))) = omega arith in
     ap (λ k. take k (32 ∷ 10 ∷ 123 ∷ 10 ∷ replicate 64 32)) size ∙ ap (λ z. 32 ∷ 10 ∷ 123 ∷ 10 ∷ z) (take-replicate n 64 32 few)
 
--- a slice of them behind the space
+-- a slice of them after the space
 pub opening-behind : (n : ℕ) → n ≤ 64 → slice_range {X = ℕ} (32 ∷ 10 ∷ 123 ∷ 10 ∷ replicate 64 32) 1 (4 + n) ≡ 10 ∷ 123 ∷ 10 ∷ replicate n 32
 opening-behind n few =
     let size : 4 + n - 1 ≡ suc (suc (suc n)) = omega arith in
     ap (λ k. take k (10 ∷ 123 ∷ 10 ∷ replicate 64 32)) size ∙ ap (λ z. 10 ∷ 123 ∷ 10 ∷ z) (take-replicate n 64 32 few)
 
--- bytes, and those behind them
+-- bytes, and those after them
 pub piece : (f0 f1 f2 a r : List ℕ) → f1 ≡ f0 ++ a → f2 ≡ f1 ++ r → f2 ≡ f0 ++ (a ++ r)
 piece f0 f1 f2 a r p q = q ∙ ap (λ z. z ++ r) p ∙ append_assoc f0 a r
 

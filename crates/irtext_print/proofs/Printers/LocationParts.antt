@@ -22,7 +22,7 @@ module _ {A : Type 0} (written : A → Text) (paths : List (List ℕ)) where
   weight_pushed [] p = refl
   weight_pushed (q ∷ ps) p = omega (arith, weight_pushed ps p)
 
-  -- a word in front of what goes on
+  -- a word before what goes on
   pub further : (old mid new : String Global) (w text whole : Text) (small size : ℕ) (before after : List (Part A)) (next : Option (Part A)) → string_bytes mid ≡ string_bytes old ++ encode_utf8_all w
       → whole ≡ w ++ text → small ≤ size → Continues written paths text small before mid after new next → Continues written paths whole size before old after new next
   further old mid new w text whole small size before after next p e l h =
@@ -59,7 +59,7 @@ module _ {A : Type 0} (written : A → Text) (paths : List (List ℕ)) where
   turned old new w whole size before next p e l =
       further old new new w (part_text written paths next) whole (1 + part_weight next) size before before (Some next) p e (omega (arith, l)) (record { text_left = refl; less = omega arith })
 
-  -- a word, and then a location behind which a part waits
+  -- a word, and then a location after which a part waits
   pub entered : {E : Type 0} (r : Result (Option (Part A)) E) (old new : String Global) (w whole : Text) (size : ℕ) (before after : List (Part A)) (next behind : Part A) → string_bytes new ≡ string_bytes old ++ encode_utf8_all w
       → whole ≡ w ++ (part_text written paths next ++ part_text written paths behind) → part_weight next + part_weight behind < size
       → IfOk r (λ n. n ≡ Some next) → OnOk r (after ≡ before ++ behind ∷ []) → IfOk r (Continues written paths whole size before old after new)
@@ -87,7 +87,7 @@ module _ {A : Type 0} (written : A → Text) (paths : List (List ℕ)) where
       regroup : (a b c d : Text) → (a ++ (b ++ c)) ++ d ≡ a ++ (b ++ (c ++ d))
       regroup a b c d = simp append_assoc
 
--- a comma, but not in front of the first
+-- a comma, but not before the first
 pub comma_written : (first : Bool) (old new : List ℕ) → new ≡ old ++ cond first [] comma → new ≡ old ++ encode_utf8_all (cond first [] comma)
 comma_written true old new e = e
 comma_written false old new e = e ∙ ap (λ z. old ++ z) (word comma refl)

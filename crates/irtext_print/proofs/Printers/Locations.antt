@@ -22,6 +22,10 @@ more old mid new t u p q = q ∙ ap (λ z. z ++ encode_utf8_all u) p ∙ append_
 pub worded : (old mid new : List ℕ) (w u : Text) → list_all is_ascii w ≡ true → mid ≡ old ++ w → new ≡ mid ++ encode_utf8_all u → new ≡ old ++ encode_utf8_all (w ++ u)
 worded old mid new w u e p q = more old mid new w u (p ∙ ap (λ z. old ++ z) (word w e)) q
 
+-- what follows a word
+pub unworded : (old new : List ℕ) (w u : Text) → list_all is_ascii w ≡ true → new ≡ old ++ encode_utf8_all (w ++ u) → new ≡ (old ++ w) ++ encode_utf8_all u
+unworded old new w u e q = q ∙ sym (worded old (old ++ w) ((old ++ w) ++ encode_utf8_all u) w u e refl refl)
+
 -- a word at the end
 pub ending : (old mid new : List ℕ) (t w : Text) → list_all is_ascii w ≡ true → mid ≡ old ++ encode_utf8_all t → new ≡ mid ++ w → new ≡ old ++ encode_utf8_all (t ++ w)
 ending old mid new t w e p q = more old mid new t w p (q ∙ ap (λ z. mid ++ z) (word w e))
@@ -31,7 +35,7 @@ pub enclosed : (a t c : Text) (f0 f1 f2 f3 : List ℕ) → list_all is_ascii a �
     → f1 ≡ f0 ++ a → f2 ≡ f1 ++ encode_utf8_all t → f3 ≡ f2 ++ c → f3 ≡ f0 ++ encode_utf8_all (a ++ (t ++ c))
 enclosed a t c f0 f1 f2 f3 i k p q r = worded f0 f1 f3 a (t ++ c) i p (ending f1 f2 f3 t c k q r)
 
--- two texts with a word in front, one between and one behind
+-- two texts with a word before them, one between and one after
 pub two_framed : (a t b u c : Text) (f0 f1 f2 f3 f4 f5 : List ℕ) → list_all is_ascii a ≡ true → list_all is_ascii b ≡ true → list_all is_ascii c ≡ true
     → f1 ≡ f0 ++ a → f2 ≡ f1 ++ encode_utf8_all t → f3 ≡ f2 ++ b → f4 ≡ f3 ++ encode_utf8_all u → f5 ≡ f4 ++ c
     → f5 ≡ f0 ++ encode_utf8_all (a ++ (t ++ (b ++ (u ++ c))))
@@ -47,7 +51,7 @@ abbrev pub left_text : Bool → List Text → Text
 left_text true ts = joined comma ts
 left_text false ts = joined_from comma ts
 
--- the first item, or one behind `, `
+-- the first item, or one after `, `
 pub item_written : (first : Bool) (t : Text) (ts : List Text) (now between next all : List ℕ) → between ≡ now ++ cond first [] comma → next ≡ between ++ encode_utf8_all t
     → now ++ encode_utf8_all (left_text first (t ∷ ts)) ≡ all → next ++ encode_utf8_all (left_text false ts) ≡ all
 item_written true t ts now between next all p q h =

@@ -80,7 +80,7 @@ attribute_text written (GivenNames names) = refl
 attribute_text written (Ident name) = refl
 attribute_text written (Own a) = refl
 
--- one row more is written, behind a comma where it is not the first
+-- one more item is written, after a comma if it is not the first
 pub row_written : (first : Bool) (t : Text) (ts : List Text) (now next all : List ℕ) → next ≡ now ++ encode_utf8_all (cond first [] comma ++ t)
     → now ++ encode_utf8_all (left_text first (t ∷ ts)) ≡ all → next ++ encode_utf8_all (left_text false ts) ≡ all
 row_written true t ts now next all p h = more now next (next ++ encode_utf8_all (joined_from comma ts)) t (joined_from comma ts) p refl ∙ h

@@ -1,4 +1,4 @@
--- Tests on lists and on what is there.
+-- Tests on lists and on optional values.
 use Rattle.std.proofs.Common.{◌≡◌, true, false, true≢false, refl, sym, Option, Some, None, is_some}
 
 -- a value that is there

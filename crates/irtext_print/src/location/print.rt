@@ -103,7 +103,7 @@ pub(super) fn fmt_metadata<A: AttrText<A>>(
 }
 
 /// Appends a source, a line and a column: `<in-memory>: line: 1, column: 21`.
-pub(super) fn fmt_place<T: IrText<A>, A: AttrText<A>>(
+pub(crate) fn fmt_place<T: IrText<A>, A: AttrText<A>>(
     src: Source,
     pos: &SourcePosition,
     ctx: &Context<T, A>,

@@ -1,8 +1,10 @@
 //! Numbers in decimal digits. These calls fail only if out of memory; what was appended up to the error remains.
-ghost use Rattle.std.specs.Prelude.{◌≡◌, ◌+◌, ◌/◌, ◌%◌, ◌<◌, ◌∷◌, ◌++◌, [], OnOk, decimal, string_bytes};
+ghost use Rattle.std.specs.Prelude.{◌≡◌, ◌+◌, ◌/◌, ◌%◌, ◌<◌, ◌≤◌, ◌∷◌, ◌++◌, [], OnOk, decimal, length, string_bytes};
 ghost use Rattle.std.specs.Fmt.{signed_decimal};
+ghost use Rattle.std.specs.Str.{IsAscii};
 ghost use Rattle.irtext_print.specs.Printers.Appended.{AppendsText};
 
+use arrayvec::ArrayString;
 use itoa::Buffer;
 use std::fmt;
 
@@ -11,15 +13,26 @@ const PAIRS: &str = "\
     0001020304050607080910111213141516171819202122232425262728293031323334353637383940414243444546474849\
     5051525354555657585960616263646566676869707172737475767778798081828384858687888990919293949596979899";
 
-/// Appends a number below 100 as two digits.
+/// Returns a number below 100 as two digits.
 #[inline(always)]
-fn fmt_pair(number: usize, f: &mut String) -> fmt::Result
+fn pair(number: usize) -> &'static str
     requires { number < 100 }
-    ensures { OnOk result (string_bytes f.new ≡ string_bytes f.old ++ (48 + number / 10) ∷ (48 + number % 10) ∷ []) }
+    ensures value { result.now ≡ (48 + number / 10) ∷ (48 + number % 10) ∷ [] }
+    ensures len { length result.now ≡ 2 }
 {
     let from = 2 * number;
-    f.push_str(&PAIRS[from..from + 2])?;
-    Ok(())
+    &PAIRS[from..from + 2]
+}
+
+/// Returns a number below 10 as one digit.
+#[inline(always)]
+fn digit(number: usize) -> &'static str
+    requires { number < 10 }
+    ensures value { result.now ≡ decimal number }
+    ensures len { length result.now ≡ 1 }
+{
+    let from = 2 * number + 1;
+    &PAIRS[from..from + 1]
 }
 
 /// Appends a number below 100.
@@ -29,14 +42,47 @@ fn fmt_short(number: usize, f: &mut String) -> fmt::Result
     ensures { OnOk result (string_bytes f.new ≡ string_bytes f.old ++ decimal number) }
 {
     if number >= 10 {
-        return fmt_pair(number, f);
+        f.push_str(pair(number))?;
+        return Ok(());
     }
-    let from = 2 * number + 1;
-    f.push_str(&PAIRS[from..from + 1])?;
+    f.push_str(digit(number))?;
     Ok(())
 }
 
-/// Appends a number below 10,000.
+/// Appends three texts of at most eight bytes together.
+#[inline(always)]
+fn fmt_joined(front: &str, high: &str, low: &str, f: &mut String) -> fmt::Result
+    requires { length front.now + (length high.now + length low.now) ≤ 8 }
+    ensures { OnOk result (string_bytes f.new ≡ string_bytes f.old ++ (front.now ++ (high.now ++ low.now))) }
+{
+    let mut joined: ArrayString<8> = ArrayString::new();
+    joined.push_str(front);
+    joined.push_str(high);
+    joined.push_str(low);
+    f.push_str(joined.as_str())?;
+    Ok(())
+}
+
+/// Appends a text of at most four bytes and a number below 10,000 together.
+#[inline(always)]
+fn fmt_led(front: &str, number: usize, f: &mut String) -> fmt::Result
+    requires few { number < 10000 }
+    requires short { length front.now ≤ 4 }
+    ensures { OnOk result (string_bytes f.new ≡ string_bytes f.old ++ (front.now ++ decimal number)) }
+{
+    if number < 10 {
+        return fmt_joined(front, "", digit(number), f);
+    }
+    if number < 100 {
+        return fmt_joined(front, "", pair(number), f);
+    }
+    if number < 1000 {
+        return fmt_joined(front, digit(number / 100), pair(number % 100), f);
+    }
+    fmt_joined(front, pair(number / 100), pair(number % 100), f)
+}
+
+/// Appends a number below 10,000. Its digits are appended at once.
 #[inline(always)]
 fn fmt_small(number: usize, f: &mut String) -> fmt::Result
     requires { number < 10000 }
@@ -45,8 +91,7 @@ fn fmt_small(number: usize, f: &mut String) -> fmt::Result
     if number < 100 {
         return fmt_short(number, f);
     }
-    fmt_short(number / 100, f)?;
-    fmt_pair(number % 100, f)
+    fmt_led("", number, f)
 }
 
 /// Appends a number of any size.
@@ -59,14 +104,62 @@ fn fmt_any(number: u64, f: &mut String) -> fmt::Result
     Ok(())
 }
 
+/// Appends a number from 10,000 on.
+#[inline(never)]
+fn fmt_large(number: u64, f: &mut String) -> fmt::Result
+    requires { 10000 ≤ number }
+    ensures { OnOk result (AppendsText f.old (decimal number) f.new) }
+{
+    if number >= 1_000_000 {
+        return fmt_any(number, f);
+    }
+    let (high, low) = (number as usize / 100, number as usize % 100);
+    fmt_short(high / 100, f)?;
+    fmt_joined("", pair(high % 100), pair(low), f)
+}
+
+/// Whether so many more bytes fit without an allocation. Nothing rests on the answer: a call that appends tests again.
+#[inline(always)]
+fn has_room(f: &String, bytes: usize) -> bool {
+    f.capacity().wrapping_sub(f.len()) >= bytes
+}
+
+/// Appends a number below 10,000 where no room may be left.
+#[cold]
+#[inline(never)]
+fn fmt_slowly(number: usize, f: &mut String) -> fmt::Result
+    requires { number < 10000 }
+    ensures { OnOk result (string_bytes f.new ≡ string_bytes f.old ++ decimal number) }
+{
+    fmt_small(number, f)
+}
+
 /// Appends a number. Numbers below 10,000 are appended by slices of a fixed text.
+#[inline(never)]
 pub fn fmt_number(number: u64, f: &mut String) -> fmt::Result
     ensures { OnOk result (AppendsText f.old (decimal number) f.new) }
 {
-    if number < 10_000 {
+    if number >= 10_000 {
+        return fmt_large(number, f);
+    }
+    if has_room(f, 4) {
         return fmt_small(number as usize, f);
     }
-    fmt_any(number, f)
+    fmt_slowly(number as usize, f)
+}
+
+/// Appends a text of at most four ASCII bytes and a number, together if the number is below 10,000.
+#[inline(always)]
+pub fn fmt_led_number(front: &str, number: u64, f: &mut String) -> fmt::Result
+    requires short { length front.now ≤ 4 }
+    requires ascii { IsAscii front.now }
+    ensures { OnOk result (AppendsText f.old (front.now ++ decimal number) f.new) }
+{
+    if number < 10_000 && has_room(f, 8) {
+        return fmt_led(front, number as usize, f);
+    }
+    f.push_str(front)?;
+    fmt_number(number, f)
 }
 
 /// Appends a negative number, with its sign.

@@ -1,4 +1,4 @@
--- What stands behind the concrete text of an operation in no block: its mark, and the section.
+-- What follows the concrete text of an operation without a parent block: its mark, and the section.
 use Rattle.std.proofs.Common.{◌≡◌, ◌∙◌, ◌+◌, ◌++◌, ◌∷◌, [], ℕ, List, Bool, true, false, cond, Option, Some, None, option_map, IsSome, map, length, refl, sym, ap, ap₂, arith, codes, append_assoc, append-nil, length-append, true≢false, Result, Ok, Err, OnOk}
 use Rattle.std.proofs.lemmas.List.{length-map}
 use Rattle.std.specs.Prelude.{⊤, ◌==◌, decimal, not}
@@ -35,12 +35,12 @@ pub at_success : {X E P : Type 0} (r : Result X E) → P → OnOk r P
 at_success (Ok x) p = p
 at_success (Err e) p = tt
 
--- nothing was gathered where the test says so
+-- nothing was gathered if the test holds
 pub none_gathered : (gs : List Item) (b : Bool) → b ≡ not (length gs == 0) → b ≡ false → gs ≡ []
 none_gathered [] b e h = refl
 none_gathered (x ∷ gs) b e h = absurd (true≢false (sym (ap not (counted (length gs))) ∙ sym e ∙ h))
 
--- two things that a success says
+-- two facts about a success
 pub both_end : {X E P Q Z : Type 0} (r : Result X E) → (P → Q → Z) → OnOk r P → OnOk r Q → OnOk r Z
 both_end (Ok x) f p q = f p q
 both_end (Err e) f p q = tt
@@ -79,7 +79,7 @@ module _ {T A : Type 0} (types : ir_text.Ghosts T A) (owns : ir_text.Ghosts A A)
         let es = entries_of_regions C (levels s.limit) (seen_regions owns.written ctx rs) in
         sym (length-map within (given_at types owns attributes same ctx)) ∙ (ap length (regions_given C L ctx (levels s.limit) rs) ∙ (length-map es (λ e. Some e) ∙ regions_length C (levels s.limit) (seen_regions owns.written ctx rs)))
 
-    -- the text with the mark, behind the one without
+    -- the text with the mark, after the one without
     pub text_ends : heads.text_under types owns attributes same ctx p s true (length s.gathered)
         ≡ heads.text_under types owns attributes same ctx p s false (length s.gathered) ++ heads.own_mark_at types owns attributes same ctx p true (length (s.gathered ++ heads.items_under types owns attributes same ctx p s false))
     text_ends =
@@ -90,14 +90,14 @@ module _ {T A : Type 0} (types : ir_text.Ghosts T A) (owns : ir_text.Ghosts A A)
         (let a = length-append s.gathered (within ++ []) in let b = length-append within [] in let c = items_counted in omega (arith, a, b, c)) in
         ap₂ ◌++◌ (sym (append-nil _)) (ap mark count)
 
-    -- all items, behind those without the operation
+    -- all items, after those without the operation
     pub items_end : s.gathered ++ heads.items_under types owns attributes same ctx p s true ≡ (s.gathered ++ heads.items_under types owns attributes same ctx p s false) ++ heads.own_items_at types owns attributes same ctx p true
     items_end = regroup s.gathered within (heads.own_items_at types owns attributes same ctx p true)
       where
         regroup : (a b c : List Item) → a ++ (b ++ c) ≡ (a ++ (b ++ [])) ++ c
         regroup a b c = simp (append_assoc, append-nil)
 
-    -- a root was printed: its concrete text, and what stands behind it
+    -- a root was printed: its concrete text, and what follows it
     pub root_ends : (old mid new : List ℕ) (between t : Shown U) → block_round ctx p ≡ None → mid ≡ old ++ encode_utf8_all (heads.text_under types owns attributes same ctx p s false (length s.gathered)) →
         between ≡ gathers s (heads.items_under types owns attributes same ctx p s false) → (heads.MisfitsUnder types owns attributes same ctx p s → ⊥) →
         new ≡ mid ++ encode_utf8_all (end_text types owns attributes same ctx p (gathered_of between)) → t ≡ with_gathered between [] →

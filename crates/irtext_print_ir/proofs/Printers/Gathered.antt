@@ -34,17 +34,17 @@ same_block None (Some b) e = absurd (cc)
 same_block (Some a) None e = absurd (cc)
 same_block (Some a) (Some b) e = cc
 
--- a state that gathered something else is as it was but for that
+-- a state that gathered something else is otherwise unchanged
 pub rests : {U : Type 0} (s t : Shown U) (xs : List Item) → t ≡ with_gathered s xs → t ≡ with_gathered s (gathered_of t)
 rests s t xs e = e ∙ ap (with_gathered s) (sym (ap gathered_of e))
 
--- three things that a success says
+-- three facts about a success
 pub together : {X E P Q R Z : Type 0} (r : Result X E) → (P → Q → R → Z) → OnOk r P → OnOk r Q → OnOk r R → OnOk r Z
 together (Ok x) f p q k = f p q k
 together (Err e) f p q k = tt
 
 module _ {T A U : Type 0} (types : ir_text.Ghosts T A) (owns : ir_text.Ghosts A A) (attributes : attr_text.Ghosts A A) (same : A → A → Bool) (ctx : ContextView T A) (p : Ptr Operation) (s : Shown U) where
-  -- the text with the mark, behind so many
+  -- the text with the mark, after this many marks
   abbrev marked_text : ℕ → Text
   marked_text n = heads.text_under types owns attributes same ctx p s true n
 
@@ -55,7 +55,7 @@ module _ {T A U : Type 0} (types : ir_text.Ghosts T A) (owns : ir_text.Ghosts A 
   abbrev Misfits : Type 0
   Misfits = heads.MisfitsUnder types owns attributes same ctx p s
 
-  -- what stands behind the mark, behind these items
+  -- what follows the mark, after these items
   abbrev behind_mark : List Item → Option (Ptr BasicBlock) → Text
   behind_mark gs o = elim o [ Some b ↦ [] | None ↦ section_at types owns attributes same ctx (gs ++ items) ]
 
@@ -64,7 +64,7 @@ module _ {T A U : Type 0} (types : ir_text.Ghosts T A) (owns : ir_text.Ghosts A 
   kept o = elim o [ Some b ↦ s.gathered ++ items | None ↦ [] ]
 
   module _ (old : List ℕ) (t : Shown U) (new : List ℕ) where
-    -- an operation that stands in a block
+    -- an operation with a parent block
     pub in_block : (b : Ptr BasicBlock) → block_round ctx p ≡ Some b → new ≡ old ++ encode_utf8_all (marked_text (length s.gathered)) → t ≡ gathers s items → (Misfits → ⊥)
         → Printed (root_text types owns attributes same ctx p s) (root_left types owns attributes same ctx p s) Misfits old t new
     in_block b is w k f = record {
@@ -73,7 +73,7 @@ module _ {T A U : Type 0} (types : ir_text.Ghosts T A) (owns : ir_text.Ghosts A 
       fits = f;
     }
 
-    -- an operation that stands in no block
+    -- an operation without a parent block
     pub outermost : (mid : List ℕ) (between : Shown U) → block_round ctx p ≡ None → mid ≡ old ++ encode_utf8_all (marked_text (length s.gathered)) → between ≡ gathers s items → (Misfits → ⊥)
         → new ≡ mid ++ encode_utf8_all (section_at types owns attributes same ctx (gathered_of between)) → t ≡ with_gathered between []
         → Printed (root_text types owns attributes same ctx p s) (root_left types owns attributes same ctx p s) Misfits old t new

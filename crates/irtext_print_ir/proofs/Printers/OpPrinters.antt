@@ -29,7 +29,7 @@ module _ {T A : Type 0} where
       ∙ ap (option_map (λ name. id_text op.id ++ (codes " @" ++ name))) found ∙ ap (λ i. Some (id_text i ++ (codes " @" ++ name))) i in
       subst (λ o. IsSomeAnd o (λ t. new ≡ old ++ encode_utf8_all t)) (sym is) (more old mid new (id_text id) (codes " @" ++ name) p q)
 
-  -- a type is appended behind a header
+  -- a type is appended after a header
   pub typed_appended : (op : OperationView T A) (ty : Text) (old mid between new : List ℕ) → IsSomeAnd (header_of op) (λ t. mid ≡ old ++ encode_utf8_all t) → between ≡ mid ++ codes ": " → new ≡ between ++ encode_utf8_all ty
       → IsSomeAnd (typed_header_of ty op) (λ t. new ≡ old ++ encode_utf8_all t)
   typed_appended op ty old mid between new h p q = go (header_of op) h
@@ -53,7 +53,7 @@ sole_at [] r one at = absurd (omega (arith, one))
 sole_at (q ∷ []) r one at = at
 sole_at (q ∷ (x ∷ rs)) r one at = absurd (omega (arith, one))
 
--- there is no such region where there are more or fewer
+-- there is no sole region if there are more or fewer than one
 pub sole_none : (rs : List (Ptr Region)) → (length rs ≡ 1 → ⊥) → sole rs ≡ None
 sole_none [] h = refl
 sole_none (q ∷ []) h = absurd (h refl)

@@ -1,4 +1,4 @@
--- A fact that a parameter holds truncated may be asked of the walk of a function: an entailment is a proposition.
+-- A fact that a parameter holds truncated may be taken from the walk of a function: an entailment is a proposition.
 use Prim.Native.Nat.{ℕ}
 use mathlib.Core.List.{List}
 use mathlib.Core.Logic.{∥∥₁_elim}

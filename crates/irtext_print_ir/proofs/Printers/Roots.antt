@@ -57,7 +57,7 @@ module _ {T A : Type 0} (C : Printing T A) (L : Language ⊤ T A) (ctx : Context
   elided true xs es h = refl
   elided false xs es h = h
 
-  -- one block in front of others
+  -- one block before others
   block_given : (l : Limit) (b : Ptr BasicBlock) (os : Operations (Ptr Operation) (Ptr BasicBlock) (Ptr Region)) (bs : Blocks (Ptr Operation) (Ptr BasicBlock) (Ptr Region)) (o : Option (BlockView T A)) → block ctx b ≡ o →
       map given (items_in_operations C L ctx l os) ≡ map there (entries_of_operations C l (seen_operations L.owns.written ctx os)) →
       map given (items_in_blocks C L ctx l bs) ≡ map there (entries_of_blocks C l (seen_blocks L.owns.written ctx bs)) →
@@ -71,7 +71,7 @@ module _ {T A : Type 0} (C : Printing T A) (L : Language ⊤ T A) (ctx : Context
       (head_given b view is)
       (two (items_in_operations C L ctx l os) (items_in_blocks C L ctx l bs) (entries_of_operations C l (seen_operations L.owns.written ctx os)) (entries_of_blocks C l (seen_blocks L.owns.written ctx bs)) h k)
 
-  -- one operation in front of others
+  -- one operation before others
   operation_given : (l : Limit) (p : Ptr Operation) (rs : Regions (Ptr Operation) (Ptr BasicBlock) (Ptr Region)) (os : Operations (Ptr Operation) (Ptr BasicBlock) (Ptr Region)) (o : Option (OperationView T A)) → operation ctx p ≡ o →
       map given (items_in_regions C L ctx l rs) ≡ map there (entries_of_regions C l (seen_regions L.owns.written ctx rs)) →
       map given (items_in_operations C L ctx l os) ≡ map there (entries_of_operations C l (seen_operations L.owns.written ctx os)) →

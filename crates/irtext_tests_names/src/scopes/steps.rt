@@ -1,8 +1,9 @@
-//! One step on a tracker, and whether a table of steps has the expected results.
+//! One step on a tracker, and whether the calls of a script have their results.
 ghost use Rattle.std.specs.Prelude.{◌<◌, length};
 
+use irtext_scopes::scopes::DefineFault;
 use irtext_scopes::tracker::NameTracker;
-use irtext_tests_common::calls::Call;
+use irtext_tests_common::calls::{Call, call_of};
 use std::alloc::{AllocError, Global};
 
 pub(crate) type Tracker = NameTracker<u32, u32>;
@@ -16,9 +17,6 @@ pub(crate) enum Answer {
     Holds(u32),
     Lacks,
 }
-
-/// A call, its name, its placeholder or definition, and the result.
-pub(crate) type Row = (Call, &'static str, u32, Answer);
 
 fn entered(tracker: &mut Tracker, isolated: bool) -> Answer {
     match tracker.enter_region(isolated) {
@@ -45,27 +43,27 @@ fn left(tracker: &mut Tracker, isolated: bool, name: usize) -> Answer
 fn used(tracker: &mut Tracker, name: usize, placeholder: u32) -> Result<Answer, AllocError>
     requires { name < length tracker.old.names }
 {
-    if !tracker.has_value_scope() {
-        return Ok(Answer::Refused);
+    if tracker.has_value_scope() && tracker.ssa_use(name).is_none() {
+        tracker.ssa_forward(name, placeholder)?;
     }
-    if let Some(value) = tracker.ssa_use(name) {
-        return Ok(Answer::Holds(value));
-    }
-    tracker.ssa_forward(name, placeholder)?;
-    Ok(Answer::Holds(placeholder))
+    Ok(held(tracker.ssa_use(name)))
 }
 
 fn used_label(tracker: &mut Tracker, name: usize, placeholder: u32) -> Result<Answer, AllocError>
     requires { name < length tracker.old.names }
 {
-    if !tracker.has_label_scope() {
-        return Ok(Answer::Refused);
+    if tracker.has_label_scope() && tracker.block_use(name).is_none() {
+        tracker.block_forward(name, placeholder)?;
     }
-    if let Some(block) = tracker.block_use(name) {
-        return Ok(Answer::Holds(block));
+    Ok(held(tracker.block_use(name)))
+}
+
+/// What a name refers to, or an error if no scope is open.
+fn held(known: Option<u32>) -> Answer {
+    match known {
+        Some(value) => Answer::Holds(value),
+        None => Answer::Refused,
     }
-    tracker.block_forward(name, placeholder)?;
-    Ok(Answer::Holds(placeholder))
 }
 
 fn defined(tracker: &mut Tracker, name: usize, value: u32) -> Answer
@@ -74,11 +72,7 @@ fn defined(tracker: &mut Tracker, name: usize, value: u32) -> Answer
     if !tracker.has_value_scope() {
         return Answer::Refused;
     }
-    match tracker.ssa_def(name, value) {
-        Ok(Some(placeholder)) => Answer::Holds(placeholder),
-        Ok(None) => Answer::Done,
-        Err(_) => Answer::Refused,
-    }
+    replaced(tracker.ssa_def(name, value))
 }
 
 fn defined_label(tracker: &mut Tracker, name: usize, block: u32) -> Answer
@@ -87,7 +81,12 @@ fn defined_label(tracker: &mut Tracker, name: usize, block: u32) -> Answer
     if !tracker.has_label_scope() {
         return Answer::Refused;
     }
-    match tracker.block_def(name, block) {
+    replaced(tracker.block_def(name, block))
+}
+
+/// What a definition replaces, or an error.
+fn replaced(definition: Result<Option<u32>, DefineFault>) -> Answer {
+    match definition {
         Ok(Some(placeholder)) => Answer::Holds(placeholder),
         Ok(None) => Answer::Done,
         Err(_) => Answer::Refused,
@@ -114,14 +113,49 @@ pub(crate) fn step(
     }
 }
 
-/// The number of the first row with another result of a fresh tracker.
-pub(crate) fn differing(alloc: Global, rows: &[Row]) -> Result<Option<usize>, AllocError> {
+/// The number that a text denotes.
+fn number(text: &str) -> Option<u32> {
+    text.parse::<u32>().ok()
+}
+
+/// The call of a word of a script, its name, its placeholder or definition, and the result.
+fn row_of(word: &str) -> Option<(Call, &str, u32, Answer)> {
+    if let Some((called, lacking)) = word.split_once('!') {
+        let (call, name, value) = called_with(called)?;
+        return Some(match lacking {
+            "" => (call, name, value, Answer::Refused),
+            _ => (call, lacking, value, Answer::Lacks),
+        });
+    }
+    let Some((called, held)) = word.split_once('>') else {
+        let (call, name, value) = called_with(word)?;
+        return Some((call, name, value, Answer::Done));
+    };
+    let (call, name, value) = called_with(called)?;
+    Some((call, name, value, Answer::Holds(number(held)?)))
+}
+
+/// The call of a word, its name, and its placeholder or definition, or 0 if there is none.
+fn called_with(word: &str) -> Option<(Call, &str, u32)> {
+    let (called, value) = match word.split_once(':') {
+        Some((called, value)) => (called, number(value)?),
+        None => (word, 0),
+    };
+    let (call, name) = call_of(called);
+    Some((call, name, value))
+}
+
+/// Whether each call of a script on a new tracker has its result.
+pub(crate) fn answers(alloc: Global, script: &str) -> Result<bool, AllocError> {
     let mut tracker: Tracker = NameTracker::new(alloc);
-    for (number, row) in rows.iter().enumerate() {
-        let name = tracker.intern(row.1)?;
-        if step(&mut tracker, row.0, name, row.2)? != row.3 {
-            return Ok(Some(number));
+    for word in script.split(' ') {
+        let Some((call, text, value, answer)) = row_of(word) else {
+            return Ok(false);
+        };
+        let name = tracker.intern(text)?;
+        if step(&mut tracker, call, name, value)? != answer {
+            return Ok(false);
         }
     }
-    Ok(None)
+    Ok(true)
 }

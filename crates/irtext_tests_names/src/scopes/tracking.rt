@@ -1,113 +1,31 @@
 //! What names refer to in scopes that begin, hide one another and end.
-use crate::scopes::steps::Answer::{Done, Holds, Lacks, Refused};
-use crate::scopes::steps::{Row, Tracker, differing};
+use crate::scopes::steps::{Tracker, answers};
 use irtext_scopes::tracker::NameTracker;
-use irtext_tests_common::calls::Call::{
-    Define, DefineLabel, Enter, EnterIsolated, Exit, ExitIsolated, Use, UseLabel,
-};
 use std::test::Fail;
 
-// a name is used before it is defined, and defined once
-const EARLY_USE: &[Row] = &[
-    (EnterIsolated, "", 0, Done),
-    (Use, "x", 100, Holds(100)),
-    (Use, "x", 101, Holds(100)),
-    (Define, "x", 1, Holds(100)),
-    (Use, "x", 102, Holds(1)),
-    (Define, "x", 2, Refused),
-    (Use, "x", 103, Holds(1)),
-    (Define, "y", 3, Done),
-    (Define, "y", 4, Refused),
-    (ExitIsolated, "", 0, Done),
-];
-
-// a region whose operation is isolated hides the names around it, and they are visible again when it is left
-const HIDDEN: &[Row] = &[
-    (EnterIsolated, "", 0, Done),
-    (Define, "x", 1, Done),
-    (Use, "y", 100, Holds(100)),
-    (EnterIsolated, "", 0, Done),
-    (Use, "x", 101, Holds(101)),
-    (Define, "x", 2, Holds(101)),
-    (Define, "y", 3, Done),
-    (Use, "x", 102, Holds(2)),
-    (ExitIsolated, "", 0, Done),
-    (Use, "x", 103, Holds(1)),
-    (Use, "y", 104, Holds(100)),
-    (Define, "x", 4, Refused),
-    (Define, "y", 5, Holds(100)),
-    (ExitIsolated, "", 0, Done),
-    (Use, "x", 105, Refused),
-];
-
-// a region whose operation is not isolated has the names of values around it, and labels of its own
-const SHARED: &[Row] = &[
-    (Enter, "", 0, Refused),
-    (EnterIsolated, "", 0, Done),
-    (Define, "x", 1, Done),
-    (DefineLabel, "b", 10, Done),
-    (Enter, "", 0, Done),
-    (Use, "x", 100, Holds(1)),
-    (Define, "x", 2, Refused),
-    (Define, "z", 3, Done),
-    (UseLabel, "b", 200, Holds(200)),
-    (Exit, "b", 0, Lacks),
-    (Use, "z", 101, Holds(3)),
-    (UseLabel, "b", 201, Holds(10)),
-    (DefineLabel, "b", 11, Refused),
-    (ExitIsolated, "", 0, Done),
-];
-
-// the first name that was mentioned is returned, values before labels, and the scopes are left all the same
-const PENDING: &[Row] = &[
-    (EnterIsolated, "", 0, Done),
-    (EnterIsolated, "", 0, Done),
-    (UseLabel, "b", 200, Holds(200)),
-    (Use, "x", 100, Holds(100)),
-    (Use, "y", 101, Holds(101)),
-    (Use, "z", 102, Holds(102)),
-    (Define, "x", 1, Holds(100)),
-    (ExitIsolated, "y", 0, Lacks),
-    (Use, "y", 103, Holds(103)),
-    (UseLabel, "b", 201, Holds(201)),
-    (UseLabel, "c", 202, Holds(202)),
-    (DefineLabel, "b", 10, Holds(201)),
-    (Define, "y", 2, Holds(103)),
-    (ExitIsolated, "c", 0, Lacks),
-    (DefineLabel, "c", 11, Refused),
+/// Scripts: a call on a name has a placeholder or a definition after `:`, and what the name refers to, or referred to before, after `>`; an
+/// error is `!`, before the name that a region lacks if it is that.
+const SCRIPTS: &[&str] = &[
+    // a name is used before it is defined, and defined once
+    "[ x:100>100 x:101>100 x=:1>100 x:102>1 x=:2! x:103>1 y=:3 y=:4! ]",
+    // a region whose operation is isolated hides the names around it, and they are visible again when it is left
+    "[ x=:1 y:100>100 [ x:101>101 x=:2>101 y=:3 x:102>2 ] x:103>1 y:104>100 x=:4! y=:5>100 ] x:105!",
+    // a region whose operation is not isolated has the names of values around it, and labels of its own
+    "{! [ x=:1 ^b=:10 { x:100>1 x=:2! z=:3 ^b:200>200 }!b z:101>3 ^b:201>10 ^b=:11! ]",
+    // the first name that was mentioned is returned, values before labels, and the scopes are left all the same
+    "[ [ ^b:200>200 x:100>100 y:101>101 z:102>102 x=:1>100 ]!y y:103>103 ^b:201>201 ^c:202>202 ^b=:10>201 y=:2>103 ]!c ^c=:11!",
 ];
 
 #[test]
-fn early_uses(rt: HostRuntime) -> Result<(), Fail> {
-    assert!(rt; differing(rt.alloc(), EARLY_USE)?.is_none());
-    Ok(())
-}
-
-#[test]
-fn hidden_names(rt: HostRuntime) -> Result<(), Fail> {
-    assert!(rt; differing(rt.alloc(), HIDDEN)?.is_none());
-    Ok(())
-}
-
-#[test]
-fn shared_values_and_own_labels(rt: HostRuntime) -> Result<(), Fail> {
-    assert!(rt; differing(rt.alloc(), SHARED)?.is_none());
-    Ok(())
-}
-
-#[test]
-fn first_pending_names(rt: HostRuntime) -> Result<(), Fail> {
-    assert!(rt; differing(rt.alloc(), PENDING)?.is_none());
-    Ok(())
-}
-
-#[test]
-fn numbers_of_names(rt: HostRuntime) -> Result<(), Fail> {
+fn names_have_numbers_and_scripts_their_results(rt: HostRuntime) -> Result<(), Fail> {
     let mut tracker: Tracker = NameTracker::new(rt.alloc());
     let first = tracker.intern("first")?;
     let second = tracker.intern("second")?;
     let again = tracker.intern("first")?;
     assert!(rt; first == 0 && second == 1 && again == 0);
     assert!(rt; tracker.num_names() == 2 && tracker.name(1) == "second");
+    for script in SCRIPTS {
+        assert!(rt; answers(rt.alloc(), script)?, "{script}");
+    }
     Ok(())
 }

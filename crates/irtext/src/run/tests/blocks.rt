@@ -380,15 +380,9 @@ const ELIDED: &[(&[u8], &[u8])] = &[
 ];
 
 #[test]
-fn roots_with_blocks_are_read_and_printed(rt: HostRuntime) {
+fn roots_with_blocks_are_parsed_and_printed_twice(rt: HostRuntime) {
     for row in ACCEPTED {
         check(&rt, &["fmt"], row.0, 0, row.1, b"");
-    }
-}
-
-#[test]
-fn what_was_printed_is_printed_again(rt: HostRuntime) {
-    for row in ACCEPTED {
         check(&rt, &["fmt"], row.1, 0, row.1, b"");
     }
 }

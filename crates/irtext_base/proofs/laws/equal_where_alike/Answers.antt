@@ -1,4 +1,4 @@
--- Equality that a derive gives of attributes, and that of locations: what it asks of two is what their views ask.
+-- Equality that a derive defines for attributes, and that of locations: two are equal if their views are.
 use Rattle.std.proofs.Common.{◌≡◌, Bool, refl}
 use Rattle.std.proofs.lemmas.Slice.Eq.{bytes_eq-Decides, slice_eq-Decides}
 use Rattle.std.specs.Bool.{Decides}

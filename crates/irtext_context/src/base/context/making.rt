@@ -121,7 +121,11 @@ impl<T: IrText<A>, A: AttrText<A>> Making<T, A> for Context<T, A> {
         ensures err { OnErr result (self.new ≡ self.old) }
         ensures kept { (mark : ℕ) → mark ≤ self.old.graph.made → KeepsOlder mark self.old self.new }
     {
-        self.make_operation_with(id, attributes, loc, Few::none(), &[], &[])
+        self.graph.make_bare_operation(Some(OperationData {
+            id,
+            attributes,
+            loc,
+        }))
     }
 
     fn make_operation_with(

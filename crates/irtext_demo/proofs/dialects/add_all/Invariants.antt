@@ -3,7 +3,7 @@ use Rattle.irtext_base.specs.declared.result.Cause.{Cause}
 use Rattle.irtext_demo.specs.DemoDialects.{demo_op, with_all, RefusesOne}
 use Rattle.irtext_demo.proofs.dialects.add_all.Given as goal
 
--- what is left to be registered makes the same of what was registered so far as all make of what was there, and refuses it for the same reasons
+-- registering what is left after what was registered so far gives the same as registering all at the start, and fails for the same reasons
 abbrev pub invariant-loop-demo : goal.invariant-loop-demo
 invariant-loop-demo g l = record {
   left : with_all l.ctx.dialects (map demo_op (drop l.demo-index l.demos)) ≡ with_all l.fn.ctx.dialects (map demo_op l.demos);

@@ -13,7 +13,7 @@ use Rattle.irtext_parse_nested.proofs.Marking.{gains_nothing}
 use Rattle.irtext_parse_state.specs.States.{marks_of}
 use Rattle.irtext_parse_nested.proofs.blocks.block_begin.Goals as goal
 
--- ---- no header stands there
+-- ---- the text has no header there
 pub returns-in_err-label-clause-refused : goal.returns-in_err-label-clause-refused
 returns-in_err-label-clause-refused g c =
     rw (handed_on c.from_residual.result c.from_residual.ensures.1)
@@ -58,7 +58,7 @@ returns-in_err-label-clause-values g c = ap length c.in_err-label.ensures.names.
 pub returns-in_err-label-clause-labels : goal.returns-in_err-label-clause-labels
 returns-in_err-label-clause-labels g c = ap length c.in_err-label.ensures.names.labels
 
--- ---- a key is refused
+-- ---- a key is an error
 pub head_made-requires-clause-label : goal.head_made-requires-clause-label
 head_made-requires-clause-label g c = label_known g.T.IrText.reading (attr_at g.A.IrText.reading) c.args.names.now c.head_parse.new.names c.args.s.now c.head_parse.new.stream c.in_ok-label.field-0 c.in_ok-label.ensures.read c.in_ok-label.ensures.names c.in_ok-label.ensures.distinct
 
@@ -185,7 +185,7 @@ pub returns-in_err-head_named-clause-kept : goal.returns-in_err-head_named-claus
 returns-in_err-head_named-clause-kept g c = λ m le closed sound new.
     opened_kept g.T.IrText.reading (attr_at g.A.IrText.reading) c.args.names.now c.head_parse.new.names c.args.s.now c.head_parse.new.stream c.in_ok-label.field-0 c.in_ok-label.ensures.read c.in_ok-label.ensures.names c.in_ok-label.ensures.distinct c.head_made.new.s.state c.args.region c.in_ok-block.block c.in_ok-block.ensures.makes c.head_named.new.s.state.ctx.now m closed sound (c.in_ok-block.ensures.kept m le new) (λ there waits. c.in_err-head_named.ensures.kept m there waits)
 
--- ---- where it is refused, its mark may be noted
+-- ---- after an error, its mark may be recorded
 pub returns-in_err-label-clause-unnoted : goal.returns-in_err-label-clause-unnoted
 returns-in_err-label-clause-unnoted g c = rw (handed_on c.from_residual.result c.from_residual.ensures.1) (gains_nothing refl)
 

@@ -14,14 +14,14 @@ use Rattle.irtext_parse_nested.proofs.Losing.{loses_more}
 use Rattle.irtext_parse_nested.proofs.Marking.{on_ok, always_err, if_err, gains_nothing, gains_mark}
 use Rattle.irtext_parse_nested.proofs.blocks.head_named.Goals as goal
 
--- ---- an argument is refused
+-- ---- an argument is an error
 pub returns-in_err-arguments_defined-clause-refused : goal.returns-in_err-arguments_defined-clause-refused
 returns-in_err-arguments_defined-clause-refused g c = rw (handed_on c.from_residual.result c.from_residual.ensures.1) (elim c.in_err-arguments_defined.ensures.refused [ inl starved ↦ inl starved | inr r ↦ inr (same_argument r) ])
 
 pub returns-in_err-arguments_defined-clause-labels : goal.returns-in_err-arguments_defined-clause-labels
 returns-in_err-arguments_defined-clause-labels g c = ap length c.in_err-arguments_defined.ensures.names.1
 
--- ---- the mark is refused
+-- ---- the mark is an error
 pub returns-in_err-note_mark-clause-refused : goal.returns-in_err-note_mark-clause-refused
 returns-in_err-note_mark-clause-refused g c =
     let a = c.in_ok-arguments_defined.ensures in
@@ -106,7 +106,7 @@ returns-clause-kept g c = λ m closed h.
     kept_twice c.args.s.now.state.ctx.now c.arguments_defined.new.s.state.ctx.now c.note_mark.new.s.state.ctx.now c.label_defined.new.s.state.ctx.now m e closed (a.kept m closed h)
     (λ closed_there. c.label_defined.ensures.kept m closed_there (same_sound c.arguments_defined.new.names c.arguments_defined.new.s.state c.note_mark.new.s.state e m (a.sound m h)))
 
--- ---- where it is refused, its mark may be noted
+-- ---- after an error, its mark may be recorded
 pub returns-in_err-arguments_defined-clause-unnoted : goal.returns-in_err-arguments_defined-clause-unnoted
 returns-in_err-arguments_defined-clause-unnoted g c = rw (handed_on c.from_residual.result c.from_residual.ensures.1) (gains_nothing c.in_err-arguments_defined.ensures.marks)
 

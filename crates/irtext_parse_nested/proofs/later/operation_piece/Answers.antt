@@ -8,7 +8,7 @@ use Rattle.irtext_parse_nested.proofs.LaterRead.{next_missing, next_commits, nex
 use Rattle.irtext_parse_nested.proofs.Marking.{on_ok, on_both, always_ok, if_err}
 use Rattle.irtext_parse_nested.proofs.later.operation_piece.Goals as goal
 
--- ---- no piece could be read
+-- ---- no piece could be parsed
 pub returns-in_err-piece-clause-refused : goal.returns-in_err-piece-clause-refused
 returns-in_err-piece-clause-refused g c = rw (handed_on c.from_residual.result c.from_residual.ensures.1)
     (next_missing g.T.IrText.reading (attr_at g.A.IrText.reading) c.args.s.now c.args.names.now c.args.names.now c.args.begun.now c.requires.fine g.met.T.IrText.sincere g.A.IrText.reading refl g.met.A.IrText.sincere c.in_err-piece.ensures.read)

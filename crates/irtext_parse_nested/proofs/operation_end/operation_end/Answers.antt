@@ -14,7 +14,7 @@ use Rattle.irtext_parse_nested.proofs.Ended.{end_read, end_marked, end_unread, e
 use Rattle.irtext_parse_nested.proofs.Marking.{on_both, on_err, always_ok, if_err, gains_nothing}
 use Rattle.irtext_parse_nested.proofs.operation_end.operation_end.Goals as goal
 
--- ---- the results are refused
+-- ---- the results are an error
 pub returns-in_err-close-clause-refused : goal.returns-in_err-close-clause-refused
 returns-in_err-close-clause-refused g c = rw (handed_on c.from_residual.result c.from_residual.ensures.1) (λ o is. elim c.in_err-close.ensures.refused [ inl starved ↦ inl starved | inr f ↦ inr (no_results (f o is)) ])
 
@@ -48,7 +48,7 @@ returns-in_err-close-clause-spares g c = rw (handed_on c.from_residual.result c.
 pub returns-in_err-close-clause-noted : goal.returns-in_err-close-clause-noted
 returns-in_err-close-clause-noted g c = rw (handed_on c.from_residual.result c.from_residual.ensures.1) tt
 
--- ---- no mark can be read
+-- ---- no mark can be parsed
 pub returns-in_err-mark-clause-refused : goal.returns-in_err-mark-clause-refused
 returns-in_err-mark-clause-refused g c =
     let same = c.in_ok-close.ensures.stream in
@@ -87,7 +87,7 @@ returns-in_err-mark-clause-spares g c = rw (handed_on c.from_residual-in_err-mar
 pub returns-in_err-mark-clause-noted : goal.returns-in_err-mark-clause-noted
 returns-in_err-mark-clause-noted g c = rw (handed_on c.from_residual-in_err-mark.result c.from_residual-in_err-mark.ensures.1) tt
 
--- ---- the mark is noted, or was before
+-- ---- the mark is recorded, or was before
 pub returns-clause-ends : goal.returns-clause-ends
 returns-clause-ends g c =
     on_both c.note_mark.result (λ n e o is. end_read g.T.IrText.reading (attr_at g.A.IrText.reading) o c.args.begun.now c.args.names.now c.close.new.names c.args.s.now c.close.new.s.state (item.Operation c.args.begun.now.op) (marks_of c.close.new.s.state) (c.in_ok-close.ensures.closes o is) refl
@@ -126,7 +126,7 @@ returns-clause-noted g c =
     on_both c.note_mark.result (λ n e mark taken is. end_noted c.args.s.now c.close.new.s.state (item.Operation c.args.begun.now.op) c.close.new.s.stream _ c.in_ok-close.ensures.stream c.in_ok-close.ensures.marks c.note_mark.new.s c.in_ok-mark.mark e c.in_ok-mark.ensures n mark taken is)
     c.note_mark.ensures.notes c.note_mark.ensures.stream
 
--- ---- where it is refused, no mark is noted
+-- ---- after an error, no mark is recorded
 pub returns-in_err-close-clause-unnoted : goal.returns-in_err-close-clause-unnoted
 returns-in_err-close-clause-unnoted g c = rw (handed_on c.from_residual.result c.from_residual.ensures.1) (gains_nothing c.in_err-close.ensures.marks)
 

@@ -4,7 +4,7 @@ use Rattle.irtext_parse_nested.specs.declared.operation_parts.NotGathered.{NotGa
 use Rattle.irtext_parse_nested.specs.Gathered.{KeepsScopes, CanGather, Gathers, RefusesGathering}
 use Rattle.irtext_parse_nested.proofs.operation_parts.custom_gathered.Given as goal
 
--- the words behind the last piece are so many
+-- this many words follow the last piece
 abbrev pub invariant-loop-found : goal.invariant-loop-found
 invariant-loop-found g l = record {
   words : ℕ;

@@ -13,11 +13,11 @@ use Rattle.irtext_parse_pieces.proofs.arguments.argument_parse.Goals as goal
 abbrev stream : (g : given.Over) → Lens g.row.S.Denot
 stream g = let m = g.met.S.CharStream in lens g.S.CharStream.view g.S.CharStream.at m.view_at m.at_view m.at_at
 
--- what stands behind the colon
+-- what follows the colon
 abbrev behind_colon : {T : Type 0} → (Text → Outcome T) → Name ℕ → Unit {0} → Text → Outcome (Name ℕ × T)
 behind_colon types n u t = mapped (λ t. (n, t)) (types t)
 
--- what stands behind the name
+-- what follows the name
 abbrev behind_name : {T : Type 0} → (Text → Outcome T) → Name ℕ → Text → Outcome (Name ℕ × T)
 behind_name types n t = followed (spaced_at (codes ":") t) (behind_colon types n)
 

@@ -19,11 +19,11 @@ use Rattle.irtext_parse_pieces.proofs.entries.bracketed_parse.Goals as goal
 abbrev stream : (g : given.Over) → Lens g.row.S.Denot
 stream g = let m = g.met.S.CharStream in lens g.S.CharStream.view g.S.CharStream.at m.view_at m.at_view m.at_at
 
--- what stands behind the entries
+-- what follows the entries
 abbrev behind_entries : {A : Type 0} → List (Name ℕ × Attribute A) → Text → Outcome (List (Name ℕ × Attribute A))
 behind_entries es t = mapped (λ _. es) (text_at (codes "]") t)
 
--- what stands behind the opening bracket
+-- what follows the opening bracket
 abbrev behind_bracket : {A : Type 0} → (Text → Outcome (AttrView A)) → Unit {0} → Text → Outcome (List (Name ℕ × Attribute A))
 behind_bracket attr u t = followed (space_at t) (λ _ u. followed (separated_at 44 (pair_at attr) u) behind_entries)
 

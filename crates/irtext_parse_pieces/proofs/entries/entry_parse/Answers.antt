@@ -17,11 +17,11 @@ use Rattle.irtext_parse_pieces.proofs.entries.entry_parse.Goals as goal
 abbrev stream : (g : given.Over) → Lens g.row.S.Denot
 stream g = let m = g.met.S.CharStream in lens g.S.CharStream.view g.S.CharStream.at m.view_at m.at_view m.at_at
 
--- what stands behind the colon
+-- what follows the colon
 abbrev behind_colon : {A : Type 0} → (Text → Outcome (AttrView A)) → Name ℕ → Unit {0} → Text → Outcome (Name ℕ × Attribute A)
 behind_colon attr key u t = mapped (λ a. (key, a)) (attribute_at attr t)
 
--- what stands behind the key
+-- what follows the key
 abbrev behind_key : {A : Type 0} → (Text → Outcome (AttrView A)) → Name ℕ → Text → Outcome (Name ℕ × Attribute A)
 behind_key attr key t = followed (spaced_at (codes ":") t) (behind_colon attr key)
 

@@ -12,7 +12,7 @@ use Rattle.irtext_parse_pieces.proofs.entries.more_entries.Given as goal
 abbrev stream : (g : goal.Over) → Lens g.row.S.Denot
 stream g = let m = g.met.S.CharStream in lens g.S.CharStream.view g.S.CharStream.at m.view_at m.at_view m.at_at
 
--- the entries found so far stand for those of the text
+-- the entries found so far represent those of the text
 abbrev pub invariant-loop-stream : goal.invariant-loop-stream
 invariant-loop-stream g l =
     (entry : Name ℕ × Attribute g.row.A.Denot) → IsEntry (whole (g.S.CharStream.view l.fn.stream)) l.fn.first entry → (g.S.CharStream.view l.fn.stream).failed ≡ false

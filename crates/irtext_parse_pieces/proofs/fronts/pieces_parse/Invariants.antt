@@ -12,7 +12,7 @@ use Rattle.irtext_parse_pieces.proofs.fronts.pieces_parse.Given as goal
 abbrev stream : (g : goal.Over) → Lens g.row.S.Denot
 stream g = let m = g.met.S.CharStream in lens g.S.CharStream.view g.S.CharStream.at m.view_at m.at_view m.at_at
 
--- what is left of the steps reads what is left of the text, and as many pieces were found as steps were passed
+-- what is left of the steps parses what is left of the text, and as many pieces were found as steps were passed
 abbrev pub invariant-loop-step : goal.invariant-loop-step
 invariant-loop-step g l =
     let steps = steps_of (format_of l.format) in

@@ -28,32 +28,32 @@ stream g = let m = g.met.S.CharStream in lens g.S.CharStream.view g.S.CharStream
 abbrev head_of : {T A : Type 0} → Name ℕ → List (Name ℕ × T) → Option (List (Name ℕ × Attribute A)) → Option (Mark ℕ) → Head ℕ T A
 head_of label arguments attributes mark = record { label = label; arguments = arguments; attributes = attributes; mark = mark }
 
--- a header without parts, where none was read
+-- a header without parts, for when none was parsed
 abbrev headless : {T A : Type 0} → Head ℕ T A
 headless = head_of nobody [] None None
 
 module _ {T A : Type 0} (types : Text → Outcome T) (attr : Text → Outcome (AttrView A)) where
-  -- what stands behind the mark, with the white space
+  -- what follows the mark, with the white space
   abbrev behind_mark : Name ℕ → List (Name ℕ × T) → Option (List (Name ℕ × Attribute A)) → Option (Mark ℕ) → Text → Outcome (Head ℕ T A)
   behind_mark label arguments attributes mark t = followed (space_at t) (λ _ u. mapped (λ _. head_of label arguments attributes mark) (text_at (codes ":") u))
 
-  -- what stands behind the dictionary, with the white space
+  -- what follows the dictionary, with the white space
   abbrev behind_attributes : Name ℕ → List (Name ℕ × T) → Option (List (Name ℕ × Attribute A)) → Text → Outcome (Head ℕ T A)
   behind_attributes label arguments attributes t = followed (space_at t) (λ _ u. followed (mark_if_at u) (behind_mark label arguments attributes))
 
-  -- what stands behind the closing parenthesis
+  -- what follows the closing parenthesis
   abbrev behind_closing : Name ℕ → List (Name ℕ × T) → Unit {0} → Text → Outcome (Head ℕ T A)
   behind_closing label arguments w t = followed (space_at t) (λ _ u. followed (dictionary_if attr u) (behind_attributes label arguments))
 
-  -- what stands behind the arguments
+  -- what follows the arguments
   abbrev behind_arguments : Name ℕ → List (Name ℕ × T) → Text → Outcome (Head ℕ T A)
   behind_arguments label arguments t = followed (text_at (codes ")") t) (behind_closing label arguments)
 
-  -- what stands behind the opening parenthesis
+  -- what follows the opening parenthesis
   abbrev behind_opening : Name ℕ → Unit {0} → Text → Outcome (Head ℕ T A)
   behind_opening label w t = followed (separated_at 44 (argument_at types attr) t) (behind_arguments label)
 
-  -- what stands behind the label
+  -- what follows the label
   abbrev behind_label : Name ℕ → Text → Outcome (Head ℕ T A)
   behind_label label t = followed (spaced_at (codes "(") t) (behind_opening label)
 

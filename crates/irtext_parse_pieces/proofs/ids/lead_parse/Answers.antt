@@ -16,7 +16,7 @@ use Rattle.irtext_parse_pieces.proofs.ids.lead_parse.Goals as goal
 abbrev stream : (g : given.Over) → Lens g.row.S.Denot
 stream g = let m = g.met.S.CharStream in lens g.S.CharStream.view g.S.CharStream.at m.view_at m.at_view m.at_at
 
--- what stands behind the results
+-- what follows the results
 abbrev behind_results : List (Name ℕ) → Text → Outcome (List (Name ℕ))
 behind_results x v = mapped (λ _. x) (space_at v)
 

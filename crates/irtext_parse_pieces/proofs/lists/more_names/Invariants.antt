@@ -10,7 +10,7 @@ use Rattle.irtext_parse_pieces.proofs.lists.more_names.Given as goal
 abbrev stream : (g : goal.Over) → Lens g.row.S.Denot
 stream g = let m = g.met.S.CharStream in lens g.S.CharStream.view g.S.CharStream.at m.view_at m.at_view m.at_at
 
--- the names found so far stand for those of the text
+-- the names found so far represent those of the text
 abbrev pub invariant-loop-kind : goal.invariant-loop-kind
 invariant-loop-kind g l =
     NamesRead l.fn.names l.names

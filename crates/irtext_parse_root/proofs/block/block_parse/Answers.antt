@@ -5,7 +5,7 @@ use Rattle.irtext_parse_spec.specs.Promises.Section.{indices_of}
 use Rattle.irtext_parse_root.proofs.BlockHeads.{no_words, head_read, read_missed, read_refusal, unread_missed, unread_refusal, misses_fresh}
 use Rattle.irtext_parse_root.proofs.block.block_parse.Goals as goal
 
--- ---- the header is read
+-- ---- the header is parsed
 pub header_fault-requires-clause-words : goal.header_fault-requires-clause-words
 header_fault-requires-clause-words g c = c.header_parse.ensures.names.words (no_words c.new-names.ensures.names)
 

@@ -9,7 +9,7 @@ use Rattle.irtext_parse_root.specs.Levels.{Level, AreAllNew, left_to_do}
 use Rattle.irtext_parse_root.specs.Turned.{Carries, Arrives}
 use Rattle.irtext_parse_root.proofs.items.items_parse.Given as goal
 
--- what was open at the start came to what is open now, and what is older stands as it did
+-- the frames that were open at the start led to those that are open now, and older objects are unchanged
 abbrev pub invariant-loop-next : goal.invariant-loop-next
 invariant-loop-next g l = record {
   lent : l.s.state.ctx.ghost_name ≡ l.fn.s.state.ctx.ghost_name;

@@ -19,7 +19,7 @@ use Rattle.irtext_parse_root.proofs.WholeRoot.{whole_built, rest_refused}
 use Rattle.irtext_parse_root.proofs.WholeSteps.{reads_whole, misses_whole, whole_refused}
 use Rattle.irtext_parse_root.proofs.whole.ended_parse.Goals as goal
 
--- ---- the operation was not read
+-- ---- the operation was not parsed
 pub returns-in_err-op-clause-missed : goal.returns-in_err-op-clause-missed
 returns-in_err-op-clause-missed g c = rw (handed_on c.from_residual.result c.from_residual.ensures.1)
     (elim c.in_err-op.ensures.missed [
@@ -34,7 +34,7 @@ returns-in_err-op-clause-unresolved g c = λ fresh. rw (handed_on c.from_residua
     (short g.T.IrText.reading g.T.IrText.written g.met.T.IrText.sincere.reads) (short g.A.IrText.reading g.A.IrText.written g.met.A.IrText.sincere.reads)
     c.args.s.now.state.ctx.now.dialects true c.args.s.now.stream _ (c.in_err-op.ensures.at_fault fresh)))
 
--- ---- what has to follow it was not read
+-- ---- what has to follow it was not parsed
 pub returns-in_err-rest_parse-clause-refused : goal.returns-in_err-rest_parse-clause-refused
 returns-in_err-rest_parse-clause-refused g c = rw (handed_on c.from_residual-in_err-rest_parse.result c.from_residual-in_err-rest_parse.ensures.1)
     (demanded_refusal (λ e. sym (ap (λ v. v.failed) c.in_ok-op.ensures.moves.takes.is) ∙ e) c.in_err-rest_parse.ensures.refused)
@@ -77,7 +77,7 @@ returns-in_err-rest_parse-clause-kept g c = rw (handed_on c.from_residual-in_err
     (λ none. let m = e.leaves (record { marks = marks_none (marks_of old.state) c.has_marks-earlier.result c.has_marks-earlier.ensures none; fine = c.requires.fine }) in
     all_newer old.state.ctx.now.graph.made old.state.ctx.now mid.state.ctx.now e.older e.kept (IsLocated old.state.src (whole old.stream)) m.leaves.items m.leaves.whole c.in_ok-op.op m.leaves.tree m.leaves.held (marks_of mid.state) m.carried)))
 
--- ---- both were read
+-- ---- both were parsed
 pub returns-clause-read : goal.returns-clause-read
 returns-clause-read g c = reads_whole g.T.IrText.reading (attr_at g.A.IrText.reading) c.in_ok-op.op c.args.s.now c.tree_parse.new.s c.in_ok-op.ensures.read c.rest_parse.new.s c.in_ok-rest_parse.ensures.read
 

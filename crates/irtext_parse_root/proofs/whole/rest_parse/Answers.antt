@@ -43,7 +43,7 @@ returns-then-not-has_marks-clause-kept g c = λ mark n. same-keeps mark _ _ refl
 pub returns-then-not-has_marks-clause-unchanged : goal.returns-then-not-has_marks-clause-unchanged
 returns-then-not-has_marks-clause-unchanged g c = λ mark n. always_err c.end_demanded.result (same-keeps mark _ _ refl)
 
--- ---- the section was not read
+-- ---- the section was not parsed
 pub returns-in_err-entries-clause-missed : goal.returns-in_err-entries-clause-missed
 returns-in_err-entries-clause-missed g c = λ fine.
     let noted = noted_there (marks_of c.args.s.now.state) c.has_marks.result c.has_marks.ensures c.if-not-has_marks.false in
@@ -55,12 +55,12 @@ returns-in_err-entries-clause-refused g c =
     rw (handed_on c.from_residual.result c.from_residual.ensures.1) (demands (λ text. (fine_section g.A.IrText.reading g.met.A.IrText.sincere (indices_of marks) (rules_of marks) text).spares) c.in_err-entries.ensures.read.read)
 
 pub returns-in_err-entries-clause-kept : goal.returns-in_err-entries-clause-kept
-returns-in_err-entries-clause-kept g c = λ mark n. adds_kept mark c.in_err-entries.ensures.adds
+returns-in_err-entries-clause-kept g c = λ mark n. adds_kept mark c.in_err-entries.ensures.only.adds
 
 pub returns-in_err-entries-clause-unchanged : goal.returns-in_err-entries-clause-unchanged
-returns-in_err-entries-clause-unchanged g c = λ mark n. rw (handed_on c.from_residual.result c.from_residual.ensures.1) (adds_kept mark c.in_err-entries.ensures.adds)
+returns-in_err-entries-clause-unchanged g c = λ mark n. rw (handed_on c.from_residual.result c.from_residual.ensures.1) (adds_kept mark c.in_err-entries.ensures.only.adds)
 
--- ---- the text goes on behind it
+-- ---- the text goes on after it
 pub returns-in_err-end_demanded-clause-missed : goal.returns-in_err-end_demanded-clause-missed
 returns-in_err-end_demanded-clause-missed g c = λ fine.
     let old = c.args.s.now in
@@ -80,11 +80,11 @@ returns-in_err-end_demanded-clause-refused g c =
     (record { committed = e.committed; fails = e.fails; failed = λ f. sym (ap (λ v. v.failed) a.takes.is) ∙ e.failed f })
 
 pub returns-in_err-end_demanded-clause-kept : goal.returns-in_err-end_demanded-clause-kept
-returns-in_err-end_demanded-clause-kept g c = λ mark n. adds_kept mark c.in_ok-entries.ensures.adds
+returns-in_err-end_demanded-clause-kept g c = λ mark n. adds_kept mark c.in_ok-entries.ensures.only.adds
 
 pub returns-in_err-end_demanded-clause-unchanged : goal.returns-in_err-end_demanded-clause-unchanged
 returns-in_err-end_demanded-clause-unchanged g c = λ mark n.
-    rw (handed_on c.from_residual-in_err-end_demanded.result c.from_residual-in_err-end_demanded.ensures.1) (adds_kept mark c.in_ok-entries.ensures.adds)
+    rw (handed_on c.from_residual-in_err-end_demanded.result c.from_residual-in_err-end_demanded.ensures.1) (adds_kept mark c.in_ok-entries.ensures.only.adds)
 
 -- ---- the items get what their entries give
 pub returns-clause-read : goal.returns-clause-read
@@ -92,7 +92,7 @@ returns-clause-read g c =
     let old = c.args.s.now in
     let noted = noted_there (marks_of old.state) c.has_marks.result c.has_marks.ensures c.if-not-has_marks.false in
     let e = c.section_given.ensures in
-    section_ends g.row.A.Denot (attr_at g.A.IrText.reading) old c.section_checked.new.s c.in_ok-entries.entries c.in_ok-entries.ensures.read c.in_ok-entries.ensures.adds noted c.end_demanded-2.new.stream c.in_ok-end_demanded.ensures.ends
+    section_ends g.row.A.Denot (attr_at g.A.IrText.reading) old c.section_checked.new.s c.in_ok-entries.entries c.in_ok-entries.ensures.read c.in_ok-entries.ensures.only.adds noted c.end_demanded-2.new.stream c.in_ok-end_demanded.ensures.ends
     c.section_given.new.s c.section_given.result e.gives e.stream e.fresh
 
 pub returns-clause-missed : goal.returns-clause-missed
@@ -102,13 +102,13 @@ pub returns-clause-refused : goal.returns-clause-refused
 returns-clause-refused g c = if_err c.section_given.result (λ fault e. starved_refusal e) c.section_given.ensures.starved
 
 pub returns-clause-marks : goal.returns-clause-marks
-returns-clause-marks g c = on_err c.section_given.result (λ e. e ∙ c.in_ok-entries.ensures.marks) c.section_given.ensures.marks
+returns-clause-marks g c = on_err c.section_given.result (λ e. e ∙ c.in_ok-entries.ensures.only.marks) c.section_given.ensures.marks
 
 pub returns-clause-kept : goal.returns-clause-kept
 returns-clause-kept g c = λ mark n.
-    given_kept g.row.A.Denot (attr_at g.A.IrText.reading) c.args.s.now c.section_checked.new.s c.in_ok-entries.entries c.in_ok-entries.ensures.read c.in_ok-entries.ensures.adds c.section_given.new.s.state.ctx.now mark n (c.section_given.ensures.kept mark)
+    given_kept g.row.A.Denot (attr_at g.A.IrText.reading) c.args.s.now c.section_checked.new.s c.in_ok-entries.entries c.in_ok-entries.ensures.read c.in_ok-entries.ensures.only.adds c.section_given.new.s.state.ctx.now mark n (c.section_given.ensures.kept mark)
 
 pub returns-clause-unchanged : goal.returns-clause-unchanged
 returns-clause-unchanged g c = λ mark n. either_way c.args.earlier
-    (λ e. on_err c.section_given.result (λ k. kept_trans (adds_kept mark c.in_ok-entries.ensures.adds) k) (c.section_given.ensures.unchanged mark e))
+    (λ e. on_err c.section_given.result (λ k. kept_trans (adds_kept mark c.in_ok-entries.ensures.only.adds) k) (c.section_given.ensures.unchanged mark e))
     (λ e. always_err c.section_given.result (returns-clause-kept g c mark (n e)))

@@ -4,7 +4,7 @@ use Rattle.irtext_graph.specs.Back.{IsClosedBelow}
 use Rattle.irtext_parse_section.specs.Applied.{GivesAll, ItemsAreNewer}
 use Rattle.irtext_parse_section.proofs.applied.items_given.Given as goal
 
--- what is left is given behind what was given, and what is older is kept
+-- what is left is given after what was given, and older objects are unchanged
 abbrev pub invariant-loop-entry : goal.invariant-loop-entry
 invariant-loop-entry g l =
     ((new : ContextView g.row.T.Denot g.row.A.Denot) → GivesAll l.fn.once.entries l.entry-iterator.rest.items l.ctx new → GivesAll l.fn.once.entries l.fn.items.items l.fn.ctx new)

@@ -10,7 +10,7 @@ use Rattle.irtext_parse_pieces.proofs.Meanings.{must_refuse}
 use Rattle.irtext_parse_section.proofs.HeadSteps.{a_mark, mark_read, mark_unread}
 use Rattle.irtext_parse_section.proofs.entry.index_parse.Goals as goal
 
--- what stands behind the index
+-- what follows the index
 abbrev behind_index : Mark ℕ → Text → Outcome (Mark ℕ)
 behind_index m t = mapped (λ _. m) (spaced_at (codes "=") t)
 

@@ -1,14 +1,8 @@
-use Rattle.irtext_tokens.proofs.SetBack.{set_back, set_within}
-use Rattle.irtext_tokens.proofs.Steps.{alone}
+use Rattle.irtext_parse_section.proofs.SetBack.{earlier, restored}
 use Rattle.irtext_parse_section.proofs.entry.index_there.Goals as goal
 
 pub reset-requires : goal.reset-requires
-reset-requires c =
-    let old = c.args.stream.now in
-    record { passed = old.passed; rest = old.rest; same = set_within alone old c.marked_digits.new.stream c.in-None.ensures; stands = c.position-place.ensures }
+reset-requires c = earlier c.position-place.result c.args.stream.now c.marked_digits.new.stream c.in-None.ensures c.position-place.ensures
 
 pub returns-in-None : goal.returns-in-None
-returns-in-None c =
-    let old = c.args.stream.now in
-    let mid = c.marked_digits.new.stream in
-    set_back alone old mid c.reset.new.self c.in-None.ensures (c.reset.ensures old.passed old.rest (set_within alone old mid c.in-None.ensures) c.position-place.ensures)
+returns-in-None c = restored c.position-place.result c.args.stream.now c.marked_digits.new.stream c.in-None.ensures c.position-place.ensures c.reset.new.self c.reset.ensures

@@ -7,7 +7,7 @@ use Rattle.irtext_tokens.proofs.Steps.{alone, first, more, refuses, last_spaced}
 use Rattle.irtext_parse_pieces.proofs.EntrySteps.{first_refused}
 use Rattle.irtext_parse_section.proofs.given.end_missed.Goals as goal
 
--- what stands behind the bracket
+-- what follows the bracket
 abbrev behind_bracket : Unit {0} → Text → Outcome (Unit {0})
 behind_bracket u t = followed (text_at (codes ",") t) (λ _ v. space_at v)
 

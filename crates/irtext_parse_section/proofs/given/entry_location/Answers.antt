@@ -20,15 +20,15 @@ use Rattle.irtext_parse_section.specs.Entries.{location_end_at}
 use Rattle.irtext_parse_section.proofs.PlainEntries.{end_mapped}
 use Rattle.irtext_parse_section.proofs.given.entry_location.Goals as goal
 
--- what stands behind an entry's location
+-- what follows an entry's location
 abbrev behind_location : {A : Type 0} → Written A → Text → Outcome (Option (Written A))
 behind_location l text = followed (spaced_at (codes "]") text) (λ _ t. followed (text_at (codes ",") t) (λ _ u. mapped (λ _. Some l) (space_at u)))
 
--- an entry's location, where `@` stands
+-- an entry's location, after `@`
 abbrev located : {A : Type 0} → (Text → Outcome (AttrView A)) → Text → Outcome (Option (Written A))
 located attr text = followed (text_at (codes "@[") text) (λ _ t. followed (space_at t) (λ _ u. followed (location_at attr u) behind_location))
 
--- it stands behind `@[` and white space
+-- it follows `@[` and white space
 abbrev placed : {A : Type 0} → (Text → Outcome (AttrView A)) → Text → Outcome (Option (Written A))
 placed attr text = followed (location_at attr text) behind_location
 

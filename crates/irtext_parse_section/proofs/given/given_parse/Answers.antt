@@ -16,7 +16,7 @@ use Rattle.irtext_parse_spec.specs.Entries.{pairs_at}
 use Rattle.irtext_parse_section.specs.Said.{rule_for, ArePairs}
 use Rattle.irtext_parse_section.proofs.given.given_parse.Goals as goal
 
--- what stands behind the location
+-- what follows the location
 abbrev behind_location : {A : Type 0} → (Text → Outcome (AttrView A)) → Rule A → Option (Written A) → Text → Outcome (Option (Written A) × List (Name ℕ × Item ℕ A))
 behind_location attr rule l t = mapped (λ ps. (l, ps)) (pairs_at attr rule t)
 

@@ -18,11 +18,11 @@ use Rattle.irtext_parse_section.specs.Said.{rule_for, IsPair}
 use Rattle.irtext_parse_section.proofs.PairSteps.{kept_at}
 use Rattle.irtext_parse_section.proofs.pairs.bracketed_parse.Goals as goal
 
--- what stands behind the pairs
+-- what follows the pairs
 abbrev behind_pairs : {A : Type 0} → List (Name ℕ × Item ℕ A) → Text → Outcome (List (Name ℕ × Item ℕ A))
 behind_pairs ps t = mapped (λ _. ps) (text_at (codes "]") t)
 
--- what stands behind the opening bracket
+-- what follows the opening bracket
 abbrev behind_bracket : {A : Type 0} → (Text → Outcome (AttrView A)) → Rule A → Unit {0} → Text → Outcome (List (Name ℕ × Item ℕ A))
 behind_bracket attr rule u t = followed (space_at t) (λ _ u. followed (separated_at 44 (kept_at attr rule) u) behind_pairs)
 
@@ -42,8 +42,8 @@ returns-in_err-pairs g c =
 pub returns-in_err-text_demanded-2 : goal.returns-in_err-text_demanded-2
 unfolding pairs_at
 returns-in_err-text_demanded-2 g c =
-    let attr = attr_at g.A.IrText.reading in
     let rule = rule_for c.args.of_block in
+    let attr = attr_at g.A.IrText.reading in
     let h = c.in_ok-pairs.ensures in
     let ps = h.meant c.in_ok-pairs.pairs in
     let p1 = spaced alone (λ _ u. followed (separated_at 44 (kept_at attr rule) u) behind_pairs) (first alone (behind_bracket attr rule) c.in_ok-text_demanded.ensures) c.skip_white_space.ensures in

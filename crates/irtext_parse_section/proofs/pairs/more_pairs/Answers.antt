@@ -54,9 +54,9 @@ returns-in-Err g c = λ pair means fine.
 
 pub returns-in-Err-pushed : goal.returns-in-Err-pushed
 returns-in-Err-pushed g c = λ pair means fine.
+    let b = sym c.next_is.ensures ∙ c.loop-stream-test.true in
     let item = kept_at (attr_at g.A.IrText.reading) (rule_for c.args.of_block) in
     let p = c.loop-stream.invariant pair means fine in
-    let b = sym c.next_is.ensures ∙ c.loop-stream-test.true in
     let m = insisted_mean alone c.kept_parse-answer.result (Ok c.in_ok-next.next) c.kept_parse-answer.ensures c.in_ok-next.ensures in
     let w = listing_whole alone item b c.take.ensures.after c.skip_white_space.ensures p in
     let h = subst (λ t. MustMean {A = g.row.A.Denot} itself replaced (IsPair t) item c.skip_white_space.new.stream (Ok c.in_ok-next.next) c.committed.new.stream) w m in

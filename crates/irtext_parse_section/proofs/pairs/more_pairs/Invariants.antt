@@ -9,7 +9,7 @@ use Rattle.irtext_parse_section.specs.Said.{rule_for, IsPair}
 use Rattle.irtext_parse_section.proofs.PairSteps.{kept_at}
 use Rattle.irtext_parse_section.proofs.pairs.more_pairs.Given as goal
 
--- the pairs found so far stand for those of the text
+-- the pairs found so far represent those of the text
 abbrev pub invariant-loop-stream : goal.invariant-loop-stream
 invariant-loop-stream g l =
     (pair : Name ℕ × Item ℕ g.row.A.Denot) → IsPair (whole l.fn.stream) l.fn.first pair → l.fn.stream.failed ≡ false

@@ -13,11 +13,11 @@ use Rattle.irtext_parse_spec.specs.Entries.{item_at}
 use Rattle.irtext_parse_section.specs.Said.{IsGiven}
 use Rattle.irtext_parse_section.proofs.pairs.pair_parse.Goals as goal
 
--- what stands behind `=`
+-- what follows `=`
 abbrev behind_equals : {A : Type 0} → (Text → Outcome (AttrView A)) → Name ℕ → Unit {0} → Text → Outcome (Name ℕ × Item ℕ A)
 behind_equals attr key u t = mapped (λ i. (key, i)) (item_at attr t)
 
--- what stands behind the key
+-- what follows the key
 abbrev behind_key : {A : Type 0} → (Text → Outcome (AttrView A)) → Name ℕ → Text → Outcome (Name ℕ × Item ℕ A)
 behind_key attr key t = followed (spaced_at (codes "=") t) (behind_equals attr key)
 

@@ -10,6 +10,7 @@ use Rattle.irtext_parse_state.specs.States.{marks_of}
 use Rattle.irtext_grammar.specs.Grammar.Section.{Entry}
 use Rattle.irtext_grammar.specs.Names.Acts.{Rule}
 use Rattle.irtext_parse_spec.specs.Promises.Section.{indices_of}
+use Rattle.irtext_parse_spec.proofs.Readers.NewPaths.{only_none}
 use Rattle.irtext_parse_pieces.proofs.EntrySteps.{first_refused}
 use Rattle.irtext_parse_pieces.proofs.Meanings.{must_refuse, must_whole}
 use Rattle.irtext_parse_spec.specs.Entries.{entries_after}
@@ -17,7 +18,7 @@ use Rattle.irtext_parse_section.specs.Entries.{AreEntriesOver}
 use Rattle.irtext_parse_section.specs.Said.{rules_of}
 use Rattle.irtext_parse_section.proofs.section.all_parse.Goals as goal
 
--- what stands behind the section's first word
+-- what follows the section's first word
 abbrev behind_word : {A : Type 0} → (Text → Outcome (AttrView A)) → List ℕ → (ℕ → Rule A) → Unit {0} → Text → Outcome (List (Entry ℕ A (Written A)))
 behind_word attr marks rules u t = entries_after attr marks rules (length t) [] t
 
@@ -25,6 +26,9 @@ pub returns-in_err-spaced_text_demanded-clause-read : goal.returns-in_err-spaced
 returns-in_err-spaced_text_demanded-clause-read g c =
     let marks = marks_of c.args.s.now.state in
     rw (handed_on c.from_residual.result c.from_residual.ensures.1) (must_refuse alone (first_refused alone {sees = λ _. []} (behind_word (attr_at g.A.IrText.reading) (indices_of marks) (rules_of marks)) c.in_err-spaced_text_demanded.ensures))
+
+pub returns-in_err-spaced_text_demanded-clause-only : goal.returns-in_err-spaced_text_demanded-clause-only
+returns-in_err-spaced_text_demanded-clause-only g c = only_none c.args.s.now.state
 
 pub entries_parse-requires : goal.entries_parse-requires
 entries_parse-requires g c =

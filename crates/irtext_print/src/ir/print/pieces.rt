@@ -183,7 +183,7 @@ fn fmt_entry<A: AttrText<A>>(
 
 /// Appends the entries that the dictionary prints, with `, ` between them.
 #[inline(always)]
-fn fmt_entries<A: AttrText<A>>(
+pub fn fmt_entries<A: AttrText<A>>(
     attributes: &AttributeDict<A>,
     directives: &[Directive],
     f: &mut String,

@@ -15,6 +15,6 @@ pub returns : goal.returns
 returns g c =
     let L = language_in {T = g.row.T.Denot} {A = g.row.A.Denot} g.T.IrText g.A.IrText c.args.ctx.now in
     then c.fmt_types.result
-    (λ p. front_appended L g.A.AttrText.outlined g.A.AttrText.print_once g.A.PartialEq.eq g.A.IrText.written c.args.ctx.now c.args.op c.attributes.result.now (string_bytes c.args.f.now) (string_bytes c.fmt_uses.new.f) (string_bytes c.fmt_dictionary.new.f) (string_bytes c.fmt_types.new.f)
-    c.attributes.ensures c.in_ok-fmt_uses.ensures c.in_ok-fmt_dictionary.ensures p)
+    (λ p. front_appended L g.A.AttrText.outlined g.A.AttrText.print_once g.A.PartialEq.eq g.A.IrText.written c.args.ctx.now c.args.op c.attributes.result.now (string_bytes c.args.f.now) (string_bytes c.fmt_uses.new.f) (string_bytes c.fmt_entries.new.f) (string_bytes c.fmt_types.new.f)
+    c.attributes.ensures c.in_ok-fmt_uses.ensures c.in_ok-fmt_entries.ensures p)
     c.fmt_types.ensures

@@ -1,51 +1,39 @@
-use Rattle.std.proofs.Common.{◌≡◌, ◌∷◌, ◌++◌, ◌∙◌, [], refl, ap, subst, string_bytes, inl, inr}
-use Rattle.std.specs.Prelude.{Some}
+use Rattle.std.proofs.Common.{refl, inl, inr, option_map, subst, string_bytes}
 use Rattle.irtext_print_ops.specs.Heads as heads
-use Rattle.irtext_print_ops.specs.Steps.{is_in_block, listed}
-use Rattle.irtext_print_ops.specs.Walk.{Steps}
+use Rattle.irtext_print_ops.specs.Walk.{Leads}
 use Rattle.irtext_print_ops.specs.declared.frame.Frame.TheVariants as framed
-use Rattle.irtext_print_ops.proofs.Chained.{left_fits, left_fault, left_inside, left_on, fewer_on}
+use Rattle.irtext_print_ops.proofs.Descents.{fewer_inside, reached_end, reached_fits, reached_fault, reached_on}
 use Rattle.irtext_print_ops.proofs.Refused.{handed_on}
 use Rattle.irtext_print_ops.proofs.step.block_step.Goals as goal
 
-pub loop-inner-init : goal.loop-inner-init
-loop-inner-init g c = record { left = inl (record { same = refl; marks = refl; bytes = refl }); outside = refl }
+pub loop-next-init : goal.loop-next-init
+loop-next-init g c = inl (record { same = refl; marks = refl; stack = refl; bytes = refl })
 
-pub block_turn-requires : goal.block_turn-requires
-block_turn-requires g c =
+pub next_block-requires : goal.next_block-requires
+next_block-requires g c =
     let ctx = c.args.ctx.now in
-    record { fits = left_fits (heads.printing_of g.T.IrText g.A.IrText g.A.AttrText g.A.PartialEq.eq ctx) (heads.language_of g.T.IrText g.A.IrText g.A.AttrText g.A.PartialEq.eq ctx) ctx c.args.width (framed.Block c.args.frame) c.args.items.now.items (string_bytes c.args.f.now) (framed.Block c.loop-inner.left) c.loop-inner.items.items (string_bytes c.loop-inner.f) c.requires.fits c.loop-inner.invariant.left }
+    record { fits = reached_fits (heads.printing_of g.T.IrText g.A.IrText g.A.AttrText g.A.PartialEq.eq ctx) (heads.language_of g.T.IrText g.A.IrText g.A.AttrText g.A.PartialEq.eq ctx) ctx c.args.width (framed.Block c.args.frame) (framed.Block c.loop-next.left) c.args.items.now.items c.loop-next.items.items c.args.frames.now.items c.loop-next.frames.items (string_bytes c.args.f.now) (string_bytes c.loop-next.f) c.requires.fits c.loop-next.invariant }
 
-pub loop-inner-smaller : goal.loop-inner-smaller
-loop-inner-smaller g c =
+pub loop-next-smaller : goal.loop-next-smaller
+loop-next-smaller g c =
     let ctx = c.args.ctx.now in
-    let next : c.in_ok-inner.inner ≡ Some (framed.Block c.in-Block.next) = c.in-Some.is ∙ ap (λ z. Some z) c.in-Block.is in
-    let t = subst (λ z. Steps (heads.printing_of g.T.IrText g.A.IrText g.A.AttrText g.A.PartialEq.eq ctx) (heads.language_of g.T.IrText g.A.IrText g.A.AttrText g.A.PartialEq.eq ctx) ctx c.args.width (framed.Block c.loop-inner.left) c.loop-inner.items.items c.block_turn.new.items.items c.loop-inner.frames.items (c.block_turn.new.frames.items ++ listed z) (string_bytes c.loop-inner.f) (string_bytes c.block_turn.new.f)) next c.in_ok-inner.ensures.steps in
-    fewer_on (heads.printing_of g.T.IrText g.A.IrText g.A.AttrText g.A.PartialEq.eq ctx) (heads.language_of g.T.IrText g.A.IrText g.A.AttrText g.A.PartialEq.eq ctx) ctx c.args.width (framed.Block c.args.frame) c.args.items.now.items (string_bytes c.args.f.now) (framed.Block c.loop-inner.left) (framed.Block c.in-Block.next) c.loop-inner.items.items c.block_turn.new.items.items
-    c.loop-inner.frames.items c.block_turn.new.frames.items (string_bytes c.loop-inner.f) (string_bytes c.block_turn.new.f) t (c.in_ok-inner.ensures.kept (ap (λ z. is_in_block z) next))
+    let d = subst (λ z. Leads (heads.printing_of g.T.IrText g.A.IrText g.A.AttrText g.A.PartialEq.eq ctx) (heads.language_of g.T.IrText g.A.IrText g.A.AttrText g.A.PartialEq.eq ctx) ctx c.args.width (framed.Block c.loop-next.left) (option_map framed.Block z) c.loop-next.items.items c.next_block.new.items.items c.loop-next.frames.items c.next_block.new.frames.items (string_bytes c.loop-next.f) (string_bytes c.next_block.new.f)) c.in-Some.is c.in_ok-next.ensures.steps in
+    fewer_inside (heads.printing_of g.T.IrText g.A.IrText g.A.AttrText g.A.PartialEq.eq ctx) (heads.language_of g.T.IrText g.A.IrText g.A.AttrText g.A.PartialEq.eq ctx) ctx c.args.width (framed.Block c.loop-next.left) (framed.Block c.in-Some.next) c.loop-next.items.items c.next_block.new.items.items c.loop-next.frames.items c.next_block.new.frames.items (string_bytes c.loop-next.f) (string_bytes c.next_block.new.f) d
 
-pub loop-inner-preserved : goal.loop-inner-preserved
-loop-inner-preserved g c =
+pub loop-next-preserved : goal.loop-next-preserved
+loop-next-preserved g c =
     let ctx = c.args.ctx.now in
-    let next : c.in_ok-inner.inner ≡ Some (framed.Block c.in-Block.next) = c.in-Some.is ∙ ap (λ z. Some z) c.in-Block.is in
-    let t = subst (λ z. Steps (heads.printing_of g.T.IrText g.A.IrText g.A.AttrText g.A.PartialEq.eq ctx) (heads.language_of g.T.IrText g.A.IrText g.A.AttrText g.A.PartialEq.eq ctx) ctx c.args.width (framed.Block c.loop-inner.left) c.loop-inner.items.items c.block_turn.new.items.items c.loop-inner.frames.items (c.block_turn.new.frames.items ++ listed z) (string_bytes c.loop-inner.f) (string_bytes c.block_turn.new.f)) next c.in_ok-inner.ensures.steps in
-    let kept = c.in_ok-inner.ensures.kept (ap (λ z. is_in_block z) next) in
-    record {
-      left = inr (left_on (heads.printing_of g.T.IrText g.A.IrText g.A.AttrText g.A.PartialEq.eq ctx) (heads.language_of g.T.IrText g.A.IrText g.A.AttrText g.A.PartialEq.eq ctx) ctx c.args.width (framed.Block c.args.frame) c.args.items.now.items (string_bytes c.args.f.now) (framed.Block c.loop-inner.left) (framed.Block c.in-Block.next) c.loop-inner.items.items c.block_turn.new.items.items
-          c.loop-inner.frames.items c.block_turn.new.frames.items (string_bytes c.loop-inner.f) (string_bytes c.block_turn.new.f) c.loop-inner.invariant.left t kept);
-      outside = kept ∙ c.loop-inner.invariant.outside;
-    }
+    let d = subst (λ z. Leads (heads.printing_of g.T.IrText g.A.IrText g.A.AttrText g.A.PartialEq.eq ctx) (heads.language_of g.T.IrText g.A.IrText g.A.AttrText g.A.PartialEq.eq ctx) ctx c.args.width (framed.Block c.loop-next.left) (option_map framed.Block z) c.loop-next.items.items c.next_block.new.items.items c.loop-next.frames.items c.next_block.new.frames.items (string_bytes c.loop-next.f) (string_bytes c.next_block.new.f)) c.in-Some.is c.in_ok-next.ensures.steps in
+    inr (reached_on (heads.printing_of g.T.IrText g.A.IrText g.A.AttrText g.A.PartialEq.eq ctx) (heads.language_of g.T.IrText g.A.IrText g.A.AttrText g.A.PartialEq.eq ctx) ctx c.args.width (framed.Block c.args.frame) (framed.Block c.loop-next.left) c.args.items.now.items c.loop-next.items.items c.args.frames.now.items c.loop-next.frames.items (string_bytes c.args.f.now) (string_bytes c.loop-next.f) (framed.Block c.in-Some.next) c.next_block.new.items.items c.next_block.new.frames.items (string_bytes c.next_block.new.f) c.loop-next.invariant d)
 
 pub returns-in_default-clause-steps : goal.returns-in_default-clause-steps
 returns-in_default-clause-steps g c =
     let ctx = c.args.ctx.now in
-    let t = subst (λ z. Steps (heads.printing_of g.T.IrText g.A.IrText g.A.AttrText g.A.PartialEq.eq ctx) (heads.language_of g.T.IrText g.A.IrText g.A.AttrText g.A.PartialEq.eq ctx) ctx c.args.width (framed.Block c.loop-inner.left) c.loop-inner.items.items c.block_turn.new.items.items z (c.block_turn.new.frames.items ++ listed c.in_ok-inner.inner) (string_bytes c.loop-inner.f) (string_bytes c.block_turn.new.f)) c.loop-inner.invariant.outside c.in_ok-inner.ensures.steps in
-    left_inside (heads.printing_of g.T.IrText g.A.IrText g.A.AttrText g.A.PartialEq.eq ctx) (heads.language_of g.T.IrText g.A.IrText g.A.AttrText g.A.PartialEq.eq ctx) ctx c.args.width (framed.Block c.args.frame) c.args.items.now.items (string_bytes c.args.f.now) (framed.Block c.loop-inner.left) c.loop-inner.items.items c.block_turn.new.items.items
-    c.args.frames.now.items (c.block_turn.new.frames.items ++ listed c.in_ok-inner.inner) (string_bytes c.loop-inner.f) (string_bytes c.block_turn.new.f) c.loop-inner.invariant.left t
+    let d = subst (λ z. Leads (heads.printing_of g.T.IrText g.A.IrText g.A.AttrText g.A.PartialEq.eq ctx) (heads.language_of g.T.IrText g.A.IrText g.A.AttrText g.A.PartialEq.eq ctx) ctx c.args.width (framed.Block c.loop-next.left) (option_map framed.Block z) c.loop-next.items.items c.next_block.new.items.items c.loop-next.frames.items c.next_block.new.frames.items (string_bytes c.loop-next.f) (string_bytes c.next_block.new.f)) c.in_default.is c.in_ok-next.ensures.steps in
+    reached_end (heads.printing_of g.T.IrText g.A.IrText g.A.AttrText g.A.PartialEq.eq ctx) (heads.language_of g.T.IrText g.A.IrText g.A.AttrText g.A.PartialEq.eq ctx) ctx c.args.width (framed.Block c.args.frame) (framed.Block c.loop-next.left) c.args.items.now.items c.loop-next.items.items c.args.frames.now.items c.loop-next.frames.items (string_bytes c.args.f.now) (string_bytes c.loop-next.f) c.next_block.new.items.items c.next_block.new.frames.items (string_bytes c.next_block.new.f) c.loop-next.invariant d
 
-pub returns-in_default-innermost-clause-steps : goal.returns-in_default-innermost-clause-steps
-returns-in_default-innermost-clause-steps g c =
+pub returns-in_err-next-clause-refused : goal.returns-in_err-next-clause-refused
+returns-in_err-next-clause-refused g c =
     let ctx = c.args.ctx.now in
-    let t = subst (λ z. Steps (heads.printing_of g.T.IrText g.A.IrText g.A.AttrText g.A.PartialEq.eq ctx) (heads.language_of g.T.IrText g.A.IrText g.A.AttrText g.A.PartialEq.eq ctx) ctx c.args.width (framed.Block c.loop-inner.left) c.loop-inner.items.items c.block_turn.new.items.items z (c.block_turn.new.frames.items ++ listed c.in_ok-inner.inner) (string_bytes c.loop-inner.f) (string_bytes c.block_turn.new.f)) c.loop-inner.invariant.outside c.in_ok-inner.ensures.steps in
-    left_inside (heads.printing_of g.T.IrText g.A.IrText g.A.AttrText g.A.PartialEq.eq ctx) (heads.language_of g.T.IrText g.A.IrText g.A.AttrText g.A.PartialEq.eq ctx) ctx c.args.width (framed.Block c.args.frame) c.args.items.now.items (string_bytes c.args.f.now) (framed.Block c.loop-inner.left) c.loop-inner.items.items c.block_turn.new.items.items
-    c.args.frames.now.items (c.block_turn.new.frames.items ++ listed c.in_ok-inner.inner) (string_bytes c.loop-inner.f) (string_bytes c.block_turn.new.f) c.loop-inner.invariant.left t
+    let e = c.in_err-next.field-0.0 in
+    handed_on _ c.from_residual.result e c.from_residual.ensures.1 (λ other. reached_fault (heads.printing_of g.T.IrText g.A.IrText g.A.AttrText g.A.PartialEq.eq ctx) (heads.language_of g.T.IrText g.A.IrText g.A.AttrText g.A.PartialEq.eq ctx) ctx c.args.width (framed.Block c.args.frame) (framed.Block c.loop-next.left) c.args.items.now.items c.loop-next.items.items c.args.frames.now.items c.loop-next.frames.items (string_bytes c.args.f.now) (string_bytes c.loop-next.f) c.loop-next.invariant e (c.in_err-next.ensures.refused other))

@@ -10,7 +10,8 @@ use Rattle.irtext_print_ops.specs.Steps.{left_frames}
 use Rattle.irtext_print_ops.specs.Walk.{Steps}
 use Rattle.irtext_print_ops.specs.declared.frame.Frame.{Frame}
 use Rattle.irtext_print_ops.specs.declared.frame.Frame.TheVariants as framed
-use Rattle.irtext_print_ops.proofs.Chained.{chained, inside_others, all_fit, fault_left}
+use Rattle.irtext_print_ops.proofs.Chained.{chained, all_fit, fault_left}
+use Rattle.irtext_print_ops.proofs.Descents.{entered}
 use Rattle.irtext_print_ops.proofs.Tests.{not_there, is_there}
 use Rattle.irtext_print_ops.proofs.Turned.{block_ended, block_skips, block_begins}
 use Rattle.irtext_print_ops.proofs.Refused.{handed_on, operation_refused}
@@ -21,18 +22,19 @@ returns-then-frame-num_operations-clause-steps g c =
     let ctx = c.args.ctx.now in
     let ops = operations_in ctx.graph c.args.frame.block in
     let none : length ops ≤ c.args.frame.operation = omega (arith, c.if-frame-num_operations.true, c.num_operations.ensures) in
-    subst (λ z. Steps (heads.printing_of g.T.IrText g.A.IrText g.A.AttrText g.A.PartialEq.eq ctx) (heads.language_of g.T.IrText g.A.IrText g.A.AttrText g.A.PartialEq.eq ctx) ctx c.args.width (framed.Block c.args.frame) c.args.items.now.items c.args.items.now.items c.args.frames.now.items z (string_bytes c.args.f.now) (string_bytes c.args.f.now)) (sym (append-nil c.args.frames.now.items))
-    (block_ended (heads.printing_of g.T.IrText g.A.IrText g.A.AttrText g.A.PartialEq.eq ctx) (heads.language_of g.T.IrText g.A.IrText g.A.AttrText g.A.PartialEq.eq ctx) ctx c.args.width
-    c.args.frame c.args.items.now.items c.args.frames.now.items (string_bytes c.args.f.now) (drop_of_length-le ops none))
+    block_ended (heads.printing_of g.T.IrText g.A.IrText g.A.AttrText g.A.PartialEq.eq ctx) (heads.language_of g.T.IrText g.A.IrText g.A.AttrText g.A.PartialEq.eq ctx) ctx c.args.width
+    c.args.frame c.args.items.now.items c.args.frames.now.items (string_bytes c.args.f.now) (drop_of_length-le ops none)
 
 pub returns-then-not-contains_operation-clause-steps : goal.returns-then-not-contains_operation-clause-steps
 returns-then-not-contains_operation-clause-steps g c =
     let ctx = c.args.ctx.now in
     let p = c.get_operation-op.result in
     let ops = operations_in ctx.graph c.args.frame.block in
-    block_skips (heads.printing_of g.T.IrText g.A.IrText g.A.AttrText g.A.PartialEq.eq ctx) (heads.language_of g.T.IrText g.A.IrText g.A.AttrText g.A.PartialEq.eq ctx) ctx c.args.width
-    c.args.frame c.args.items.now.items c.args.frames.now.items p (string_bytes c.args.f.now) _ (one_left ops c.args.frame.operation p (sym c.get_operation-op.ensures))
-    (not_there (operation ctx p) c.contains_operation.result c.contains_operation.ensures.stands (search)) c.requires.fits refl
+    let next : Frame = framed.Block (record c.args.frame { operation = c.args.frame.operation + 1 }) in
+    entered (heads.printing_of g.T.IrText g.A.IrText g.A.AttrText g.A.PartialEq.eq ctx) (heads.language_of g.T.IrText g.A.IrText g.A.AttrText g.A.PartialEq.eq ctx) ctx c.args.width (framed.Block c.args.frame) next c.args.items.now.items c.args.items.now.items c.args.frames.now.items c.args.frames.now.items [] (string_bytes c.args.f.now) (string_bytes c.args.f.now) (sym (append-nil c.args.frames.now.items))
+    (block_skips (heads.printing_of g.T.IrText g.A.IrText g.A.AttrText g.A.PartialEq.eq ctx) (heads.language_of g.T.IrText g.A.IrText g.A.AttrText g.A.PartialEq.eq ctx) ctx c.args.width
+    c.args.frame c.args.items.now.items [] p (string_bytes c.args.f.now) (next ∷ []) (one_left ops c.args.frame.operation p (sym c.get_operation-op.ensures))
+    (not_there (operation ctx p) c.contains_operation.result c.contains_operation.ensures.stands (search)) c.requires.fits refl)
 
 pub operation_turns-requires : goal.operation_turns-requires
 operation_turns-requires g c =
@@ -62,7 +64,7 @@ returns-in_default-clause-steps g c =
     c.in_ok-begun.ensures.found c.in_ok-begun.ensures.fits c.in_ok-fmt_between_operations.ensures.text c.in_ok-begun.ensures.text
     (ap (λ b. behind ∷ framed.Operation b ∷ []) c.in_ok-begun.ensures.begun) in
     let turns = subst (λ z. Steps (heads.printing_of g.T.IrText g.A.IrText g.A.AttrText g.A.PartialEq.eq ctx) (heads.language_of g.T.IrText g.A.IrText g.A.AttrText g.A.PartialEq.eq ctx) ctx c.args.width (framed.Operation c.in_ok-begun.begun) c.args.items.now.items c.operation_turns.new.items.items [] (left_frames c.operation_turns.new.frame z) (string_bytes c.begin_operation.new.f) (string_bytes c.operation_turns.new.f)) c.in_default.is c.in_ok-inside.ensures.steps in
-    inside_others (heads.printing_of g.T.IrText g.A.IrText g.A.AttrText g.A.PartialEq.eq ctx) (heads.language_of g.T.IrText g.A.IrText g.A.AttrText g.A.PartialEq.eq ctx) ctx c.args.width (framed.Block c.args.frame) c.args.items.now.items c.operation_turns.new.items.items c.args.frames.now.items (behind ∷ []) (string_bytes c.args.f.now) (string_bytes c.operation_turns.new.f)
+    entered (heads.printing_of g.T.IrText g.A.IrText g.A.AttrText g.A.PartialEq.eq ctx) (heads.language_of g.T.IrText g.A.IrText g.A.AttrText g.A.PartialEq.eq ctx) ctx c.args.width (framed.Block c.args.frame) behind c.args.items.now.items c.operation_turns.new.items.items c.args.frames.now.items c.args.frames.now.items [] (string_bytes c.args.f.now) (string_bytes c.operation_turns.new.f) (sym (append-nil c.args.frames.now.items))
     (chained (heads.printing_of g.T.IrText g.A.IrText g.A.AttrText g.A.PartialEq.eq ctx) (heads.language_of g.T.IrText g.A.IrText g.A.AttrText g.A.PartialEq.eq ctx) ctx c.args.width (framed.Block c.args.frame) (framed.Operation c.in_ok-begun.begun) c.args.items.now.items c.args.items.now.items c.operation_turns.new.items.items (behind ∷ []) [] (string_bytes c.args.f.now) (string_bytes c.begin_operation.new.f) (string_bytes c.operation_turns.new.f) begins turns)
 
 pub returns-clause-steps : goal.returns-clause-steps
@@ -79,11 +81,9 @@ returns-clause-steps g c =
     (ap (λ b. behind ∷ framed.Operation b ∷ []) c.in_ok-begun.ensures.begun) in
     let turns = subst (λ z. Steps (heads.printing_of g.T.IrText g.A.IrText g.A.AttrText g.A.PartialEq.eq ctx) (heads.language_of g.T.IrText g.A.IrText g.A.AttrText g.A.PartialEq.eq ctx) ctx c.args.width (framed.Operation c.in_ok-begun.begun) c.args.items.now.items c.operation_turns.new.items.items [] (left_frames c.operation_turns.new.frame z) (string_bytes c.begin_operation.new.f) (string_bytes c.operation_turns.new.f)) c.in-Some.is c.in_ok-inside.ensures.steps in
     let inner = framed.Operation c.operation_turns.new.frame ∷ framed.Region c.in-Some.inside ∷ [] in
-    subst (λ z. Steps (heads.printing_of g.T.IrText g.A.IrText g.A.AttrText g.A.PartialEq.eq ctx) (heads.language_of g.T.IrText g.A.IrText g.A.AttrText g.A.PartialEq.eq ctx) ctx c.args.width (framed.Block c.args.frame) c.args.items.now.items c.operation_turns.new.items.items c.args.frames.now.items z (string_bytes c.args.f.now) (string_bytes c.operation_turns.new.f))
-    (sym (ap (λ z. z ++ framed.Region c.in-Some.inside ∷ []) (c.in_ok-open-2.ensures.ok ∙ ap (λ z. z ++ framed.Operation c.operation_turns.new.frame ∷ []) c.in_ok-open.ensures.ok)
-    ∙ (append_assoc (c.args.frames.now.items ++ behind ∷ []) (framed.Operation c.operation_turns.new.frame ∷ []) (framed.Region c.in-Some.inside ∷ []) ∙ append_assoc c.args.frames.now.items (behind ∷ []) inner)))
-    (inside_others (heads.printing_of g.T.IrText g.A.IrText g.A.AttrText g.A.PartialEq.eq ctx) (heads.language_of g.T.IrText g.A.IrText g.A.AttrText g.A.PartialEq.eq ctx) ctx c.args.width (framed.Block c.args.frame) c.args.items.now.items c.operation_turns.new.items.items c.args.frames.now.items (behind ∷ inner) (string_bytes c.args.f.now) (string_bytes c.operation_turns.new.f)
-    (chained (heads.printing_of g.T.IrText g.A.IrText g.A.AttrText g.A.PartialEq.eq ctx) (heads.language_of g.T.IrText g.A.IrText g.A.AttrText g.A.PartialEq.eq ctx) ctx c.args.width (framed.Block c.args.frame) (framed.Operation c.in_ok-begun.begun) c.args.items.now.items c.args.items.now.items c.operation_turns.new.items.items (behind ∷ []) inner (string_bytes c.args.f.now) (string_bytes c.begin_operation.new.f) (string_bytes c.operation_turns.new.f) begins turns))
+    entered (heads.printing_of g.T.IrText g.A.IrText g.A.AttrText g.A.PartialEq.eq ctx) (heads.language_of g.T.IrText g.A.IrText g.A.AttrText g.A.PartialEq.eq ctx) ctx c.args.width (framed.Block c.args.frame) (framed.Region c.in-Some.inside) c.args.items.now.items c.operation_turns.new.items.items c.args.frames.now.items c.open-2.new.frames.items (behind ∷ framed.Operation c.operation_turns.new.frame ∷ []) (string_bytes c.args.f.now) (string_bytes c.operation_turns.new.f)
+    (c.in_ok-open-2.ensures.ok ∙ (ap (λ z. z ++ framed.Operation c.operation_turns.new.frame ∷ []) c.in_ok-open.ensures.ok ∙ append_assoc c.args.frames.now.items (behind ∷ []) (framed.Operation c.operation_turns.new.frame ∷ [])))
+    (chained (heads.printing_of g.T.IrText g.A.IrText g.A.AttrText g.A.PartialEq.eq ctx) (heads.language_of g.T.IrText g.A.IrText g.A.AttrText g.A.PartialEq.eq ctx) ctx c.args.width (framed.Block c.args.frame) (framed.Operation c.in_ok-begun.begun) c.args.items.now.items c.args.items.now.items c.operation_turns.new.items.items (behind ∷ []) inner (string_bytes c.args.f.now) (string_bytes c.begin_operation.new.f) (string_bytes c.operation_turns.new.f) begins turns)
 
 pub returns-in_err-inside-clause-refused : goal.returns-in_err-inside-clause-refused
 returns-in_err-inside-clause-refused g c =

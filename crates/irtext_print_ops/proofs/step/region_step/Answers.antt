@@ -1,13 +1,13 @@
-use Rattle.std.proofs.Common.{append-nil, ◌++◌, ◌∷◌, [], sym, ap, subst, string_bytes, arith, true, length, ◌≤◌, ◌+◌, ◌^◌}
+use Rattle.std.proofs.Common.{◌∷◌, [], refl, sym, subst, string_bytes, arith, true, false, length, ◌≤◌, ◌+◌, ◌^◌}
 use Rattle.std.proofs.Math.ListN.{drop_of_length-le}
 use Rattle.irtext_dict.proofs.Drops.{one_left}
 use Rattle.irtext_graph.specs.Graph.{children, parent}
 use Rattle.irtext_graph.specs.Nested.{Nested}
 use Rattle.irtext_graph.specs.Parts.{blocks}
-use Rattle.irtext_print_ops.specs.Walk.{Steps}
 use Rattle.irtext_print_ops.specs.Heads as heads
 use Rattle.irtext_print_ops.specs.declared.frame.Frame.TheVariants as framed
 use Rattle.irtext_print_ops.proofs.Turned.{block_stands, region_ended, region_begins}
+use Rattle.irtext_print_ops.proofs.Descents.{entered}
 use Rattle.irtext_print_ops.proofs.Refused.{handed_on, block_refused}
 use Rattle.irtext_print_ops.proofs.step.region_step.Goals as goal
 
@@ -16,9 +16,8 @@ returns-then-frame-num_blocks-clause-steps g c =
     let ctx = c.args.ctx.now in
     let bks = blocks ctx.graph c.args.frame.region in
     let none : length bks ≤ c.args.frame.block = omega (arith, c.if-frame-num_blocks.true, c.num_blocks.ensures) in
-    subst (λ z. Steps (heads.printing_of g.T.IrText g.A.IrText g.A.AttrText g.A.PartialEq.eq ctx) (heads.language_of g.T.IrText g.A.IrText g.A.AttrText g.A.PartialEq.eq ctx) ctx c.args.width (framed.Region c.args.frame) c.args.items.now.items c.args.items.now.items c.args.frames.now.items z (string_bytes c.args.f.now) (string_bytes c.fmt_closing.new.f)) (sym (append-nil c.args.frames.now.items))
-    (region_ended (heads.printing_of g.T.IrText g.A.IrText g.A.AttrText g.A.PartialEq.eq ctx) (heads.language_of g.T.IrText g.A.IrText g.A.AttrText g.A.PartialEq.eq ctx) ctx c.args.width
-    c.args.frame c.args.items.now.items c.args.frames.now.items (string_bytes c.args.f.now) (string_bytes c.fmt_closing.new.f) (drop_of_length-le bks none) c.in_ok-fmt_closing.ensures.text)
+    region_ended (heads.printing_of g.T.IrText g.A.IrText g.A.AttrText g.A.PartialEq.eq ctx) (heads.language_of g.T.IrText g.A.IrText g.A.AttrText g.A.PartialEq.eq ctx) ctx c.args.width
+    c.args.frame c.args.items.now.items c.args.frames.now.items (string_bytes c.args.f.now) (string_bytes c.fmt_closing.new.f) (drop_of_length-le bks none) c.in_ok-fmt_closing.ensures.text
 
 pub fmt_block_head-requires : goal.fmt_block_head-requires
 fmt_block_head-requires g c =
@@ -41,13 +40,14 @@ returns-clause-steps g c =
     let ctx = c.args.ctx.now in
     let b = c.get_block-block.result in
     let bks = blocks ctx.graph c.args.frame.region in
-    let s : Steps (heads.printing_of g.T.IrText g.A.IrText g.A.AttrText g.A.PartialEq.eq ctx) (heads.language_of g.T.IrText g.A.IrText g.A.AttrText g.A.PartialEq.eq ctx) ctx c.args.width (framed.Region c.args.frame) c.args.items.now.items c.fmt_block_mark.new.items.items c.args.frames.now.items (c.open.new.frames.items ++ framed.Block (record { block = b; operation = 0; first = true; indent = c.in_ok-indent.indent; limit = c.args.frame.limit }) ∷ []) (string_bytes c.args.f.now) (string_bytes c.fmt_colon.new.f) =
-    region_begins (heads.printing_of g.T.IrText g.A.IrText g.A.AttrText g.A.PartialEq.eq ctx) (heads.language_of g.T.IrText g.A.IrText g.A.AttrText g.A.PartialEq.eq ctx) ctx c.args.width
-    c.args.frame c.args.items.now.items c.args.frames.now.items b c.in_ok-indent.indent c.in_ok-inner.inner c.fmt_block_mark.new.items.items (string_bytes c.args.f.now) (string_bytes c.fmt_between_blocks.new.f) (string_bytes c.fmt_block_head.new.f) (string_bytes c.fmt_block_mark.new.f) (string_bytes c.fmt_colon.new.f) (c.open.new.frames.items ++ framed.Block (record { block = b; operation = 0; first = true; indent = c.in_ok-indent.indent; limit = c.args.frame.limit }) ∷ [])
+    let next = framed.Region (record c.args.frame { block = c.args.frame.block + 1; first = false }) in
+    let inner = framed.Block (record { block = b; operation = 0; first = true; indent = c.in_ok-indent.indent; limit = c.args.frame.limit }) in
+    entered (heads.printing_of g.T.IrText g.A.IrText g.A.AttrText g.A.PartialEq.eq ctx) (heads.language_of g.T.IrText g.A.IrText g.A.AttrText g.A.PartialEq.eq ctx) ctx c.args.width (framed.Region c.args.frame) inner c.args.items.now.items c.fmt_block_mark.new.items.items c.args.frames.now.items c.open.new.frames.items (next ∷ []) (string_bytes c.args.f.now) (string_bytes c.fmt_colon.new.f)
+    c.in_ok-open.ensures.ok
+    (region_begins (heads.printing_of g.T.IrText g.A.IrText g.A.AttrText g.A.PartialEq.eq ctx) (heads.language_of g.T.IrText g.A.IrText g.A.AttrText g.A.PartialEq.eq ctx) ctx c.args.width
+    c.args.frame c.args.items.now.items [] b c.in_ok-indent.indent c.in_ok-inner.inner c.fmt_block_mark.new.items.items (string_bytes c.args.f.now) (string_bytes c.fmt_between_blocks.new.f) (string_bytes c.fmt_block_head.new.f) (string_bytes c.fmt_block_mark.new.f) (string_bytes c.fmt_colon.new.f) (next ∷ inner ∷ [])
     c.get_block-block.ensures (one_left bks c.args.frame.block b (sym c.get_block-block.ensures)) (subst (λ z. Nested (children z) (parent z)) c.graph.ensures c.keeps_nesting.ensures.forest) c.requires.fits c.in_ok-indent.ensures.ok c.in_ok-inner.ensures.ok
-    c.in_ok-fmt_between_blocks.ensures.text c.in_ok-fmt_block_head.ensures.text c.in_ok-fmt_block_mark.ensures.text c.in_ok-fmt_colon.ensures.text c.in_ok-fmt_block_mark.ensures.items
-    (ap (λ z. z ++ framed.Block (record { block = b; operation = 0; first = true; indent = c.in_ok-indent.indent; limit = c.args.frame.limit }) ∷ []) c.in_ok-open.ensures.ok) in
-    s
+    c.in_ok-fmt_between_blocks.ensures.text c.in_ok-fmt_block_head.ensures.text c.in_ok-fmt_block_mark.ensures.text c.in_ok-fmt_colon.ensures.text c.in_ok-fmt_block_mark.ensures.items refl)
 
 pub returns-in_err-indent-clause-refused : goal.returns-in_err-indent-clause-refused
 returns-in_err-indent-clause-refused g c =

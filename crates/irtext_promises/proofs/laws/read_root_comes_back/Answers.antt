@@ -6,18 +6,18 @@ use Rattle.irtext_promises.proofs.ReadClosed.{builds_there, stands_there, read_c
 use Rattle.irtext_promises.proofs.laws.read_root_comes_back.Goals as goal
 
 pub returns-clause-closed : goal.returns-clause-closed
-returns-clause-closed g c p before after x width n limit bytes built counters printed =
-    read_closed (texts_of g.T.IrText.reading g.T.IrText.written) g.A.IrText.reading g.A.IrText.written g.A.AttrText.outlined g.A.AttrText.print_once g.A.PartialEq.eq p before after x built counters printed.sees printed.fits printed.kept.distinct
+returns-clause-closed g c p before after x width n limit bytes root =
+    read_closed (texts_of g.T.IrText.reading g.T.IrText.written) g.A.IrText.reading g.A.IrText.written g.A.AttrText.outlined g.A.AttrText.print_once g.A.PartialEq.eq p before after x root.read root.counters root.printed.sees root.printed.fits root.printed.kept.distinct
 
 pub returns-clause-stands : goal.returns-clause-stands
-returns-clause-stands g c p before after x width n limit bytes built counters printed = (
+returns-clause-stands g c p before after x width n limit bytes root = (
   _,
-  builds_there (texts_of g.T.IrText.reading g.T.IrText.written) g.A.IrText.reading g.A.IrText.written g.A.AttrText.outlined g.A.AttrText.print_once g.A.PartialEq.eq p before after x built counters printed.sees printed.fits,
-  stands_there (texts_of g.T.IrText.reading g.T.IrText.written) g.A.IrText.reading g.A.IrText.written g.A.AttrText.outlined g.A.AttrText.print_once g.A.PartialEq.eq p before after x built counters printed.sees printed.fits,
+  builds_there (texts_of g.T.IrText.reading g.T.IrText.written) g.A.IrText.reading g.A.IrText.written g.A.AttrText.outlined g.A.AttrText.print_once g.A.PartialEq.eq p before after x root.read root.counters root.printed.sees root.printed.fits,
+  stands_there (texts_of g.T.IrText.reading g.T.IrText.written) g.A.IrText.reading g.A.IrText.written g.A.AttrText.outlined g.A.AttrText.print_once g.A.PartialEq.eq p before after x root.read root.counters root.printed.sees root.printed.fits,
 )
 
 pub returns-clause-whole : goal.returns-clause-whole
-returns-clause-whole g c p before after x width n bytes built counters printed q old new stands same b =
-    let closed = read_closed (texts_of g.T.IrText.reading g.T.IrText.written) g.A.IrText.reading g.A.IrText.written g.A.AttrText.outlined g.A.AttrText.print_once g.A.PartialEq.eq p before after x built counters printed.sees printed.fits printed.kept.distinct in
+returns-clause-whole g c p before after x width n bytes root q old new stands same b =
+    let closed = read_closed (texts_of g.T.IrText.reading g.T.IrText.written) g.A.IrText.reading g.A.IrText.written g.A.AttrText.outlined g.A.AttrText.print_once g.A.PartialEq.eq p before after x root.read root.counters root.printed.sees root.printed.fits root.printed.kept.distinct in
     stands_whole (texts_of g.T.IrText.reading g.T.IrText.written) g.A.IrText.reading g.A.IrText.written g.met.T.IrText.lawful g.met.A.IrText.lawful g.met.A.AttrText.unreserved g.A.AttrText.outlined g.A.AttrText.print_once g.A.PartialEq.eq
-    (sound g.A.PartialEq.eq g.met.A.IrText.decides refl) (reflexive g.A.PartialEq.eq g.met.A.IrText.decides refl) after.state.ctx.now p x width n bytes printed closed.0 old stands same closed.1 q new b
+    (sound g.A.PartialEq.eq g.met.A.IrText.decides refl) (reflexive g.A.PartialEq.eq g.met.A.IrText.decides refl) after.state.ctx.now p x width n bytes root.printed closed.0 old stands same closed.1 q new b

@@ -13,15 +13,15 @@ set_head-requires g c =
 
 pub loop-bindings-preserved-in-Pending : goal.loop-bindings-preserved-in-Pending
 loop-bindings-preserved-in-Pending g c =
-    let h = c.loop-bindings.heads.items in
-    let b = c.in-Some.b in
-    let bs = c.pop.new.self.items in
     let k = c.loop-bindings.invariant.gone in
     let is = c.in-Some.ensures.items in
+    let b = c.in-Some.b in
+    let bs = c.pop.new.self.items in
+    let h = c.loop-bindings.heads.items in
     record {
+      gone = (b ∷ k.0, k.1 ∙ (ap (λ z. z ++ k.0) is ∙ append_assoc bs (b ∷ []) k.0), sym (ap (λ z. option_or (if_pending b.name z) (first_pending (entries_of k.0))) c.in-Pending.is));
       chained = taken_chained h c.set_head.new.heads.items bs b (subst (Chained h) is c.loop-bindings.invariant.chained) c.set_head.ensures;
       low = let t = c.loop-bindings-test.true in let e = ap (λ (z : List (Binding g.row.V.Denot)). length z) is in let n = length-append bs (b ∷ []) in search rules;
-      gone = (b ∷ k.0, k.1 ∙ (ap (λ z. z ++ k.0) is ∙ append_assoc bs (b ∷ []) k.0), sym (ap (λ z. option_or (if_pending b.name z) (first_pending (entries_of k.0))) c.in-Pending.is));
     }
 
 pub loop-bindings-preserved : goal.loop-bindings-preserved

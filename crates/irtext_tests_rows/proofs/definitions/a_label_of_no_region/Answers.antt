@@ -8,7 +8,7 @@ use Rattle.irtext_grammar.specs.Grammar.Reads.{results}
 use Rattle.irtext_tests_rows.specs.Demo.{counted_demo}
 use Rattle.irtext_tests_rows.proofs.definitions.a_label_of_no_region.Goals as goal
 
--- no names and `=` stand before the id
+-- the id is not preceded by names and `=`
 no_results : (ns : List (Name ℕ)) (left : Text) → results counted_demo ns (codes "test.br ^a") left → ⊥
 no_results [] left (m, (none, same), e) = true≢false none
 no_results (n ∷ []) left (m, (k, (at, (first, word, behind)), (stops, same)), e) =

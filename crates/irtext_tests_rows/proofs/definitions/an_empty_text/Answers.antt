@@ -6,7 +6,7 @@ use Rattle.irtext_grammar.specs.Grammar.Reads.{results}
 use Rattle.irtext_tests_rows.specs.Trees.{only_modules}
 use Rattle.irtext_tests_rows.proofs.definitions.an_empty_text.Goals as goal
 
--- behind names that an empty text would begin with, nothing is left
+-- after names that an empty text would begin with, nothing is left
 after_nothing : (ns : List (Name ℕ)) (m : Text) → results only_modules ns [] m → after_space m ≡ []
 after_nothing [] m (k, a, b) = absurd (true≢false (ap (begins (λ c. c == 61)) (sym b ∙ ap after_space a.1)))
 after_nothing (n ∷ ns) m (k, (k', a, b), c) = absurd (true≢false (sym a.1.0))

@@ -6,6 +6,6 @@ use Rattle.irtext_base.proofs.location.sources.note_sources.Given as goal
 abbrev pub decreases-loop-next : goal.decreases-loop-next
 decreases-loop-next g l = left_weight l.waits.items
 
--- what is noted so far, and then of what waits, is all that is to be noted
+-- what is recorded so far, and then of what waits, is all that is to be recorded
 abbrev pub invariant-loop-next : goal.invariant-loop-next
 invariant-loop-next g l = left_noted l.found.items l.waits.items ≡ all_noted l.fn.found.items (location_view l.fn.location)

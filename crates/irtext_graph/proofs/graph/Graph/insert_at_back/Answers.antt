@@ -1,8 +1,7 @@
 use Rattle.irtext_graph.proofs.Views.{lives_at, can_at, moved_seen, refused_seen}
 use Rattle.irtext_graph.proofs.Frames.{inserted-keeps}
-use Rattle.irtext_graph.proofs.Logs.{logged_same, moved_what}
-use Rattle.irtext_graph.proofs.Sounds.{sound_moved}
-use Rattle.irtext_graph.proofs.Numbers.{what_kept}
+use Rattle.irtext_graph.proofs.Logs.{moved_what}
+use Rattle.irtext_graph.proofs.Numbers.{moved_kept}
 use Rattle.irtext_graph.proofs.graph.Graph.insert_at_back.Goals as goal
 
 pub insert_last-requires-clause-holder : goal.insert_last-requires-clause-holder
@@ -17,13 +16,7 @@ insert_last-requires-clause-can g c = can_at c.self.inside.made c.self.inside.co
 pub invariant_of-self : goal.invariant_of-self
 invariant_of-self g c =
     let s = c.insert_last.ensures in
-    let x = c.self.inside.objects in
-    let y = c.insert_last.new.self in
-    record {
-      sound = sound_moved x y s.data c.self.inside.made c.self.invariant.sound s.forest s.places;
-      logged = logged_same c.self.inside.made c.self.inside.log.items x y c.self.invariant.logged (moved_what x y c.args.k c.args.c c.insert_last.result s.ok s.err);
-      numbered = what_kept c.self.inside.made c.self.inside.made c.self.inside.counters x y (moved_what x y c.args.k c.args.c c.insert_last.result s.ok s.err) c.self.invariant.numbered;
-    }
+    moved_kept c.self.inside.made c.self.inside.counters c.self.inside.log.items c.self.inside.objects c.insert_last.new.self s.data s.forest s.places (moved_what c.self.inside.objects c.insert_last.new.self c.args.k c.args.c c.insert_last.result s.ok s.err) c.self.invariant
 
 pub returns-clause-ok : goal.returns-clause-ok
 returns-clause-ok g c = rw (← c.self.view_is) (moved_seen c.self.inside.made c.self.inside.counters c.self.inside.objects c.insert_last.new.self c.args.k c.args.c c.insert_last.result c.insert_last.ensures.places c.insert_last.ensures.ok)

@@ -1,26 +1,22 @@
-use Rattle.std.proofs.Common.{◌∙◌, refl, sym, subst, arith}
-use Rattle.irtext_graph.specs.Numbers.{AreNumbered}
-use Rattle.irtext_graph.proofs.Logs.{logged_list, noted_list, logged_kept, block_noted, block_ages as same_ages}
-use Rattle.irtext_graph.proofs.Sounds.{sound_same, sound_block}
-use Rattle.irtext_graph.proofs.Made.{same_keeps, blocks_same, block_made, block-keeps}
+use Rattle.std.proofs.Common.{◌∙◌, refl, arith}
+use Rattle.irtext_graph.proofs.Logs.{noted_list, block_noted}
+use Rattle.irtext_graph.proofs.Sounds.{sound_block}
+use Rattle.irtext_graph.proofs.Made.{on_err, same_keeps, same_slots, slots_kept, slots_seen, block_made, block-keeps}
 use Rattle.irtext_graph.proofs.Numbers.{block_numbers}
 use Rattle.irtext_graph.proofs.graph.Graph.make_block.Goals as goal
 
 pub invariant_of-self-in_err-p : goal.invariant_of-self-in_err-p
 invariant_of-self-in_err-p g c =
-    let x = c.self.inside.objects in
-    let y = record x { blocks = c.insert.new.self } in
-    record {
-      sound = sound_same c.self.inside.made x (record x { blocks = c.insert.new.self }) refl c.in_err-p.ensures.err refl c.self.invariant.sound;
-      logged = logged_list c.self.inside.made c.self.inside.log.items c.make_room.new.log.items y c.make_room.ensures.same (logged_kept c.self.inside.made c.self.inside.log.items x y c.self.invariant.logged (same_ages x c.insert.new.self c.in_err-p.ensures.err));
-      numbered = subst (λ v. AreNumbered v) (sym (blocks_same c.self.inside.made c.self.inside.counters x c.insert.new.self c.in_err-p.ensures.err c.in_err-p.ensures.err_free)) c.self.invariant.numbered;
-    }
+    slots_kept c.self.inside.made c.self.inside.counters c.self.inside.log.items c.make_room.new.log.items c.self.inside.objects _ c.make_room.ensures.same same_slots (record { items = c.in_err-p.ensures.err; free = c.in_err-p.ensures.err_free }) same_slots c.self.invariant
 
 pub returns-in_err-make_room-clause-kept : goal.returns-in_err-make_room-clause-kept
 returns-in_err-make_room-clause-kept g c = λ m up. same_keeps m _ _ c.self.view_is
 
+pub returns-in_err-p-clause-err : goal.returns-in_err-p-clause-err
+returns-in_err-p-clause-err g c = on_err _ (slots_seen c.self.inside.made c.self.inside.counters c.self.inside.objects (record c.self.inside.objects { blocks = c.insert.new.self }) same_slots (record { items = c.in_err-p.ensures.err; free = c.in_err-p.ensures.err_free }) same_slots ∙ c.self.view_is)
+
 pub returns-in_err-p-clause-kept : goal.returns-in_err-p-clause-kept
-returns-in_err-p-clause-kept g c = λ m up. same_keeps m _ _ (blocks_same c.self.inside.made c.self.inside.counters c.self.inside.objects c.insert.new.self c.in_err-p.ensures.err c.in_err-p.ensures.err_free ∙ c.self.view_is)
+returns-in_err-p-clause-kept g c = λ m up. same_keeps m _ _ (slots_seen c.self.inside.made c.self.inside.counters c.self.inside.objects (record c.self.inside.objects { blocks = c.insert.new.self }) same_slots (record { items = c.in_err-p.ensures.err; free = c.in_err-p.ensures.err_free }) same_slots ∙ c.self.view_is)
 
 pub invariant_of-self-2 : goal.invariant_of-self-2
 invariant_of-self-2 g c =
@@ -29,15 +25,15 @@ invariant_of-self-2 g c =
       sound = sound_block c.self.inside.objects c.self.inside.made c.insert.new.self c.in_ok-p.p _ e.inserts refl c.new.ensures c.in_ok-arguments.ensures.unused refl c.self.invariant.sound (omega arith) (e.few c.self.invariant.sound.few_blocks);
       logged = block_noted c.self.inside.made c.self.inside.log.items c.note.new.log.items c.self.inside.objects c.insert.new.self c.in_ok-p.p _ (noted_list c.self.inside.log.items c.make_room.new.log.items c.note.new.log.items _ c.make_room.ensures.same c.note.ensures) c.self.invariant.logged e.inserts.updates refl;
       numbered = block_numbers _ _ c.in_ok-p.p c.args.value c.args.types
-          (block_made c.self.inside.made c.self.inside.counters c.in-Some.next c.self.inside.objects c.insert.new.self c.in_ok-p.p _ c.args.value c.args.types e.inserts refl refl c.new.ensures refl
-          c.in_ok-arguments.ensures.values (omega (arith, c.in-Some.ensures.1, c.len.ensures)))
+          (block_made c.self.inside.made c.self.inside.counters c.in_ok-next.next c.self.inside.objects c.insert.new.self c.in_ok-p.p _ c.args.value c.args.types e.inserts refl refl c.new.ensures refl
+          c.in_ok-arguments.ensures.values (omega (arith, c.in_ok-next.ensures, c.len.ensures)))
           c.self.invariant.numbered;
     }
 
 pub returns-clause-made : goal.returns-clause-made
 returns-clause-made g c =
-    rw (← c.self.view_is) (block_made c.self.inside.made c.self.inside.counters c.in-Some.next c.self.inside.objects c.insert.new.self c.in_ok-p.p _ c.args.value c.args.types c.in_ok-p.ensures.inserts refl refl c.new.ensures refl
-    c.in_ok-arguments.ensures.values (omega (arith, c.in-Some.ensures.1, c.len.ensures)))
+    rw (← c.self.view_is) (block_made c.self.inside.made c.self.inside.counters c.in_ok-next.next c.self.inside.objects c.insert.new.self c.in_ok-p.p _ c.args.value c.args.types c.in_ok-p.ensures.inserts refl refl c.new.ensures refl
+    c.in_ok-arguments.ensures.values (omega (arith, c.in_ok-next.ensures, c.len.ensures)))
 
 pub returns-clause-kept : goal.returns-clause-kept
 returns-clause-kept g c = λ m up. block-keeps m _ _ c.in_ok-p.p c.args.value c.args.types up (returns-clause-made g c)

@@ -4,27 +4,19 @@ use Rattle.irtext_graph.specs.declared.new_uses.Side.TheVariants.{Operands, Succ
 use Rattle.irtext_graph.specs.Uses.{val}
 use Rattle.irtext_graph.specs.Used.{without_uses}
 use Rattle.irtext_graph.specs.Linking.{site_of}
-use Rattle.irtext_graph.specs.Numbers.{AreNumbered}
 use Rattle.irtext_graph.specs.declared.object.Defined.TheVariants.{OfValue, OfBlock}
 use Rattle.irtext_graph.proofs.UsesSeen.{head_there}
-use Rattle.irtext_graph.proofs.Sounds.{sound_same}
 use Rattle.irtext_graph.proofs.SameSeen.{same_there, same_stands}
 use Rattle.irtext_graph.proofs.Linkings.{blank, linked_here, there_here, free_here, heads_named, stands_here, named_by, named_in, side_apart, sound_linked}
-use Rattle.irtext_graph.proofs.Logs.{logged_list, noted_list, logged_kept, operation_noted, operation_ages as same_ages}
+use Rattle.irtext_graph.proofs.Logs.{noted_list, operation_noted}
 use Rattle.irtext_graph.proofs.LogsSeen.{logged_bare}
-use Rattle.irtext_graph.proofs.Made.{on_err, same_keeps, operations_same, operation_made, operation_made_seen, operation-keeps}
+use Rattle.irtext_graph.proofs.Made.{on_err, same_keeps, same_slots, slots_kept, slots_seen, operation_made, operation_made_seen, operation-keeps}
 use Rattle.irtext_graph.proofs.Numbers.{operation_numbers}
 use Rattle.irtext_graph.proofs.graph.Graph.make_operation.Goals as goal
 
 pub invariant_of-self-in_err-p : goal.invariant_of-self-in_err-p
 invariant_of-self-in_err-p g c =
-    let x = c.self.inside.objects in
-    let y = record x { operations = c.insert.new.self } in
-    record {
-      sound = sound_same c.self.inside.made x (record x { operations = c.insert.new.self }) c.in_err-p.ensures.err refl refl c.self.invariant.sound;
-      logged = logged_list c.self.inside.made c.self.inside.log.items c.make_room.new.log.items y c.make_room.ensures.same (logged_kept c.self.inside.made c.self.inside.log.items x y c.self.invariant.logged (same_ages x c.insert.new.self c.in_err-p.ensures.err));
-      numbered = subst (λ v. AreNumbered v) (sym (operations_same c.self.inside.made c.self.inside.counters x c.insert.new.self c.in_err-p.ensures.err c.in_err-p.ensures.err_free)) c.self.invariant.numbered;
-    }
+    slots_kept c.self.inside.made c.self.inside.counters c.self.inside.log.items c.make_room.new.log.items c.self.inside.objects _ c.make_room.ensures.same (record { items = c.in_err-p.ensures.err; free = c.in_err-p.ensures.err_free }) same_slots same_slots c.self.invariant
 
 pub returns-in_err-make_room-clause-err : goal.returns-in_err-make_room-clause-err
 returns-in_err-make_room-clause-err g c = on_err _ c.self.view_is
@@ -33,10 +25,10 @@ pub returns-in_err-make_room-clause-kept : goal.returns-in_err-make_room-clause-
 returns-in_err-make_room-clause-kept g c = λ m up. same_keeps m _ _ c.self.view_is
 
 pub returns-in_err-p-clause-err : goal.returns-in_err-p-clause-err
-returns-in_err-p-clause-err g c = on_err _ (operations_same c.self.inside.made c.self.inside.counters c.self.inside.objects c.insert.new.self c.in_err-p.ensures.err c.in_err-p.ensures.err_free ∙ c.self.view_is)
+returns-in_err-p-clause-err g c = on_err _ (slots_seen c.self.inside.made c.self.inside.counters c.self.inside.objects (record c.self.inside.objects { operations = c.insert.new.self }) (record { items = c.in_err-p.ensures.err; free = c.in_err-p.ensures.err_free }) same_slots same_slots ∙ c.self.view_is)
 
 pub returns-in_err-p-clause-kept : goal.returns-in_err-p-clause-kept
-returns-in_err-p-clause-kept g c = λ m up. same_keeps m _ _ (operations_same c.self.inside.made c.self.inside.counters c.self.inside.objects c.insert.new.self c.in_err-p.ensures.err c.in_err-p.ensures.err_free ∙ c.self.view_is)
+returns-in_err-p-clause-kept g c = λ m up. same_keeps m _ _ (slots_seen c.self.inside.made c.self.inside.counters c.self.inside.objects (record c.self.inside.objects { operations = c.insert.new.self }) (record { items = c.in_err-p.ensures.err; free = c.in_err-p.ensures.err_free }) same_slots same_slots ∙ c.self.view_is)
 
 pub attach_all-requires-clause-linked : goal.attach_all-requires-clause-linked
 attach_all-requires-clause-linked g c = linked_here c.self.inside.objects c.self.inside.made c.insert.new.self c.in_ok-p.p _ c.in_ok-p.ensures.inserts _ _ _ _ _ (blank _ _ _ _ _ _ _ _ _ c.blank_operation-blank.ensures.parent c.blank_operation-blank.ensures.children c.blank_operation-blank.ensures.value c.blank_operation-blank.ensures.operands c.blank_operation-blank.ensures.successors c.blank_operation-blank.ensures.results c.in_ok-used.ensures (c.in_ok-led_to.ensures ∙ c.in_ok-leads.ensures) c.in_ok-results.ensures) c.self.invariant.sound.uses
@@ -88,8 +80,8 @@ invariant_of-self-2 g c =
       logged = logged_bare (c.self.inside.made + 1) c.note.new.log.items (record x { operations = c.insert.new.self }) c.attach_all-2.new.self (ap without_uses (two.seen ∙ one.seen))
           (operation_noted c.self.inside.made c.self.inside.log.items c.note.new.log.items x c.insert.new.self c.in_ok-p.p _ (noted_list c.self.inside.log.items c.make_room.new.log.items c.note.new.log.items _ c.make_room.ensures.same c.note.ensures) c.self.invariant.logged e.inserts.updates refl);
       numbered = operation_numbers _ _ c.in_ok-p.p _ _ _ _
-          (operation_made_seen c.self.inside.made c.self.inside.counters c.in-Some.next x (record x { operations = c.insert.new.self }) c.attach_all-2.new.self c.in_ok-p.p _ _ _ _ (two.seen ∙ one.seen)
-          (operation_made c.self.inside.made c.self.inside.counters c.in-Some.next x c.insert.new.self c.in_ok-p.p _ _ _ _ _ e.inserts refl (blank _ _ _ _ _ _ _ _ _ c.blank_operation-blank.ensures.parent c.blank_operation-blank.ensures.children c.blank_operation-blank.ensures.value c.blank_operation-blank.ensures.operands c.blank_operation-blank.ensures.successors c.blank_operation-blank.ensures.results c.in_ok-used.ensures (c.in_ok-led_to.ensures ∙ c.in_ok-leads.ensures) c.in_ok-results.ensures) (omega (arith, c.in-Some.ensures.1, c.len.ensures))))
+          (operation_made_seen c.self.inside.made c.self.inside.counters c.in_ok-next.next x (record x { operations = c.insert.new.self }) c.attach_all-2.new.self c.in_ok-p.p _ _ _ _ (two.seen ∙ one.seen)
+          (operation_made c.self.inside.made c.self.inside.counters c.in_ok-next.next x c.insert.new.self c.in_ok-p.p _ _ _ _ _ e.inserts refl (blank _ _ _ _ _ _ _ _ _ c.blank_operation-blank.ensures.parent c.blank_operation-blank.ensures.children c.blank_operation-blank.ensures.value c.blank_operation-blank.ensures.operands c.blank_operation-blank.ensures.successors c.blank_operation-blank.ensures.results c.in_ok-used.ensures (c.in_ok-led_to.ensures ∙ c.in_ok-leads.ensures) c.in_ok-results.ensures) (omega (arith, c.in_ok-next.ensures, c.len.ensures))))
           c.self.invariant.numbered;
     }
   where
@@ -102,10 +94,10 @@ invariant_of-self-2 g c =
 pub returns-clause-made : goal.returns-clause-made
 returns-clause-made g c =
     rw (← c.self.view_is)
-    (operation_made_seen c.self.inside.made c.self.inside.counters c.in-Some.next c.self.inside.objects (record c.self.inside.objects { operations = c.insert.new.self }) c.attach_all-2.new.self c.in_ok-p.p _ _ _ _
+    (operation_made_seen c.self.inside.made c.self.inside.counters c.in_ok-next.next c.self.inside.objects (record c.self.inside.objects { operations = c.insert.new.self }) c.attach_all-2.new.self c.in_ok-p.p _ _ _ _
     (c.attach_all-2.ensures.seen ∙ c.attach_all.ensures.seen)
-    (operation_made c.self.inside.made c.self.inside.counters c.in-Some.next c.self.inside.objects c.insert.new.self c.in_ok-p.p _ _ _ _ _ c.in_ok-p.ensures.inserts refl (blank _ _ _ _ _ _ _ _ _ c.blank_operation-blank.ensures.parent c.blank_operation-blank.ensures.children c.blank_operation-blank.ensures.value c.blank_operation-blank.ensures.operands c.blank_operation-blank.ensures.successors c.blank_operation-blank.ensures.results c.in_ok-used.ensures (c.in_ok-led_to.ensures ∙ c.in_ok-leads.ensures) c.in_ok-results.ensures)
-    (omega (arith, c.in-Some.ensures.1, c.len.ensures))))
+    (operation_made c.self.inside.made c.self.inside.counters c.in_ok-next.next c.self.inside.objects c.insert.new.self c.in_ok-p.p _ _ _ _ _ c.in_ok-p.ensures.inserts refl (blank _ _ _ _ _ _ _ _ _ c.blank_operation-blank.ensures.parent c.blank_operation-blank.ensures.children c.blank_operation-blank.ensures.value c.blank_operation-blank.ensures.operands c.blank_operation-blank.ensures.successors c.blank_operation-blank.ensures.results c.in_ok-used.ensures (c.in_ok-led_to.ensures ∙ c.in_ok-leads.ensures) c.in_ok-results.ensures)
+    (omega (arith, c.in_ok-next.ensures, c.len.ensures))))
 
 pub returns-clause-kept : goal.returns-clause-kept
 returns-clause-kept g c = λ m up. operation-keeps m _ _ c.in_ok-p.p _ _ _ _ up (returns-clause-made g c)

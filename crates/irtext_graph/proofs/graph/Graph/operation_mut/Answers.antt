@@ -1,7 +1,6 @@
-use Rattle.std.proofs.Common.{◌∙◌, refl, ap}
+use Rattle.std.proofs.Common.{refl, ap}
 use Rattle.std.specs.Option.{option_map}
-use Rattle.irtext_graph.specs.Data.{with_operation_data}
-use Rattle.irtext_graph.proofs.Data.{data_kept, data_seen}
+use Rattle.irtext_graph.proofs.Data.{data_kept, data_lent}
 use Rattle.irtext_graph.proofs.PartsSeen.{operation_there, operation_seen}
 use Rattle.irtext_graph.proofs.graph.Graph.operation_mut.Goals as goal
 
@@ -14,12 +13,5 @@ invariant_of-self-lent g c = λ w.
 
 pub returns : goal.returns
 returns g c =
-    let x = c.self.inside.objects in
-    let n = c.content_mut.result.now in
-    let e = c.content_mut.ensures.value in (
-      (refl, λ w. data_seen x c.args.op n e w c.self.inside.made c.self.inside.counters ∙ ap (λ v. with_operation_data v c.args.op w) c.self.view_is),
-      record {
-        lends = tt;
-        value = rw (← c.self.view_is) (ap (option_map (λ c. c.data_of)) (operation_seen c.self.inside.made c.self.inside.counters x c.args.op n e));
-      },
-    )
+    let value = ap (option_map (λ c. c.data_of)) (operation_seen c.self.inside.made c.self.inside.counters c.self.inside.objects c.args.op c.content_mut.result.now c.content_mut.ensures.value) in
+    ((refl, λ w. data_lent c.self.inside.objects c.args.op c.content_mut.result.now c.content_mut.ensures.value w c.self.inside.made c.self.inside.counters _ c.self.view_is), record { lends = tt; value = rw (← c.self.view_is) value })

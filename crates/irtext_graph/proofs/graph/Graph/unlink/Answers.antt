@@ -2,9 +2,7 @@ use Rattle.std.proofs.Common.{◌∙◌, sym, ap, slice_get}
 use Rattle.std.specs.List.{remove}
 use Rattle.irtext_graph.proofs.Views.{lives_at, up_seen, kids_seen, keeps_seen}
 use Rattle.irtext_graph.proofs.Frames.{unlinked-keeps}
-use Rattle.irtext_graph.proofs.Logs.{logged_same}
-use Rattle.irtext_graph.proofs.Sounds.{sound_moved}
-use Rattle.irtext_graph.proofs.Numbers.{what_kept}
+use Rattle.irtext_graph.proofs.Numbers.{moved_kept}
 use Rattle.irtext_graph.proofs.graph.Graph.unlink.Goals as goal
 
 pub unlink-requires-clause-lives : goal.unlink-requires-clause-lives
@@ -13,13 +11,7 @@ unlink-requires-clause-lives g c = lives_at c.self.inside.made c.self.inside.cou
 pub invariant_of-self : goal.invariant_of-self
 invariant_of-self g c =
     let s = c.unlink.ensures in
-    let x = c.self.inside.objects in
-    let y = c.unlink.new.self in
-    record {
-      sound = sound_moved x y s.all_data c.self.inside.made c.self.invariant.sound s.forest s.places;
-      logged = logged_same c.self.inside.made c.self.inside.log.items x y c.self.invariant.logged s.data;
-      numbered = what_kept c.self.inside.made c.self.inside.made c.self.inside.counters x y s.data c.self.invariant.numbered;
-    }
+    moved_kept c.self.inside.made c.self.inside.counters c.self.inside.log.items c.self.inside.objects c.unlink.new.self s.all_data s.forest s.places s.data c.self.invariant
 
 pub returns-clause-unlinks : goal.returns-clause-unlinks
 returns-clause-unlinks g c =

@@ -1,20 +1,14 @@
 use Rattle.std.proofs.Common.{arith, refl}
 use Rattle.irtext_graph.specs.Nest.{children_in}
-use Rattle.irtext_graph.proofs.Arenas.{replaced, same_view}
-use Rattle.irtext_graph.proofs.Children.{links_with, other_children}
+use Rattle.irtext_graph.proofs.Arenas.{places_kept, replaced, same_view}
+use Rattle.irtext_graph.proofs.Children.{links_with}
 use Rattle.irtext_graph.proofs.nest.Arena+Nest+P+C+D.note.Goals as goal
 
 pub returns-clause-places : goal.returns-clause-places
-returns-clause-places g c = (other_children c.args.self.now c.args.p c.content_mut.result.now _ refl refl c.content_mut.ensures.value).places
-
-pub returns-clause-ups : goal.returns-clause-ups
-returns-clause-ups g c = (other_children c.args.self.now c.args.p c.content_mut.result.now _ refl refl c.content_mut.ensures.value).ups
+returns-clause-places g c = places_kept c.args.self.now c.args.p c.content_mut.result.now _ c.content_mut.ensures.value
 
 pub returns-clause-kids : goal.returns-clause-kids
 returns-clause-kids g c = λ q. same_view children_in (replaced c.args.self.now c.args.p c.content_mut.result.now _ c.content_mut.ensures.value) (λ b. refl) q
-
-pub returns-clause-data : goal.returns-clause-data
-returns-clause-data g c = (other_children c.args.self.now c.args.p c.content_mut.result.now _ refl refl c.content_mut.ensures.value).datums
 
 pub returns-clause-links : goal.returns-clause-links
 returns-clause-links g c = let x = c.content_mut.result.now in let k = links_with c.args.self.now c.args.p x (record x { noted = c.args.index }) c.content_mut.ensures.value in omega (arith, k)

@@ -1,22 +1,13 @@
-use Rattle.std.proofs.Common.{◌≡◌, ap, arith, refl, length}
+use Rattle.std.proofs.Common.{◌≡◌, ap, arith, length}
 use Rattle.irtext_few.specs.Growing.{listed}
 use Rattle.irtext_graph.specs.Nest.{kids, children_in}
-use Rattle.irtext_graph.proofs.Arenas.{stood}
-use Rattle.irtext_graph.proofs.Children.{links_with, other_children}
+use Rattle.irtext_graph.proofs.Arenas.{stood, places_kept}
+use Rattle.irtext_graph.proofs.Children.{links_with}
 use Rattle.std.proofs.lemmas.List.Edits.{length-remove}
 use Rattle.irtext_graph.proofs.nest.Arena+Nest+P+C+D.remove_child.Goals as goal
 
 pub returns-clause-places : goal.returns-clause-places
-returns-clause-places g c = (other_children c.args.self.now c.args.p c.content_mut.result.now _ refl refl c.content_mut.ensures.value).places
-
-pub returns-clause-ups : goal.returns-clause-ups
-returns-clause-ups g c = (other_children c.args.self.now c.args.p c.content_mut.result.now _ refl refl c.content_mut.ensures.value).ups
-
-pub returns-clause-data : goal.returns-clause-data
-returns-clause-data g c = (other_children c.args.self.now c.args.p c.content_mut.result.now _ refl refl c.content_mut.ensures.value).datums
-
-pub returns-clause-others : goal.returns-clause-others
-returns-clause-others g c = (other_children c.args.self.now c.args.p c.content_mut.result.now _ refl refl c.content_mut.ensures.value).others
+returns-clause-places g c = places_kept c.args.self.now c.args.p c.content_mut.result.now _ c.content_mut.ensures.value
 
 pub returns-clause-less : goal.returns-clause-less
 returns-clause-less g c =

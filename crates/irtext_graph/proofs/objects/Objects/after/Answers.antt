@@ -4,7 +4,7 @@ use Rattle.irtext_graph.specs.Nested.{Within}
 use Rattle.irtext_graph.specs.Objects.{up, kids, Lives}
 use Rattle.irtext_graph.proofs.Depth.{depth_of}
 use Rattle.irtext_graph.proofs.Nests.{some_eq}
-use Rattle.irtext_graph.proofs.Erased.{up_lives, parent_inside}
+use Rattle.irtext_graph.proofs.Erased.{up_lives, parent_inside, holder_inside}
 use Rattle.irtext_graph.proofs.Places.{depth-less, parent_lives}
 use Rattle.irtext_graph.proofs.Afters.{rest, leaf_left, first_left, next_rest, last_rest, end_rest, child_inside, none_behind, empty_list}
 use Rattle.irtext_graph.proofs.objects.Objects.after.Goals as goal
@@ -45,11 +45,9 @@ pub returns-then-i-count-clause-next : goal.returns-then-i-count-clause-next
 returns-then-i-count-clause-next g c =
     let x = c.args.self.now in
     let k = c.in-Some.k in
-    let i = c.index_in-i.result in
     let ne : c.loop-o.at ≢ c.args.o = λ e. let yes = c.same_object.ensures.1 e in let none = c.loop-o-test.true in absurd (cc) in
-    let p = parent_inside x c.args.o c.loop-o.at c.loop-o.invariant.inside ne in
-    let e : up x c.loop-o.at ≡ Some k = sym c.parent_of.ensures ∙ c.in-Some.is in
-    let w : Within (up x) c.args.o k = subst (Within (up x) c.args.o) (some_eq (sym p.1 ∙ e)) p.2 in
+    let w = holder_inside x c.args.o c.loop-o.at k c.loop-o.invariant.inside ne (sym c.parent_of.ensures ∙ c.in-Some.is) in
+    let i = c.index_in-i.result in
     let z : suc i ≡ i + 1 = omega arith in
     let f : slice_get (kids x k) (suc i) ≡ Some c.child_at-then-i-count.result = ap (slice_get (kids x k)) z ∙ c.child_at-then-i-count.ensures in
     c.loop-o.invariant.next ∙ ap (λ ys. c.args.q ∷ ys) (next_rest x c.args.o c.loop-o.at k c.child_at-then-i-count.result i c.requires.forest ne w c.index_in-i.ensures f)
@@ -60,8 +58,7 @@ returns-then-i-count-clause-found g c = λ r e.
     let k = c.in-Some.k in
     let d = c.child_at-then-i-count in
     let ne : c.loop-o.at ≢ c.args.o = λ e. let yes = c.same_object.ensures.1 e in let none = c.loop-o-test.true in absurd (cc) in
-    let p = parent_inside x c.args.o c.loop-o.at c.loop-o.invariant.inside ne in
-    let w : Within (up x) c.args.o k = subst (Within (up x) c.args.o) (some_eq (sym p.1 ∙ sym c.parent_of.ensures ∙ c.in-Some.is)) p.2 in
+    let w = holder_inside x c.args.o c.loop-o.at k c.loop-o.invariant.inside ne (sym c.parent_of.ensures ∙ c.in-Some.is) in
     subst (Within (up x) c.args.o) (some_eq e) (child_inside x c.args.o k d.result w (c.requires.forest.down k (c.index_in-i.result + 1) d.result d.ensures))
 
 pub returns-then-i-count-clause-lives : goal.returns-then-i-count-clause-lives
@@ -83,14 +80,12 @@ loop-o-preserved g c =
     let x = c.args.self.now in
     let k = c.in-Some.k in
     let i = c.index_in-i.result in
-    let ne : c.loop-o.at ≢ c.args.o = λ e. let yes = c.same_object.ensures.1 e in let none = c.loop-o-test.true in absurd (cc) in
-    let p = parent_inside x c.args.o c.loop-o.at c.loop-o.invariant.inside ne in
     let e : up x c.loop-o.at ≡ Some k = sym c.parent_of.ensures ∙ c.in-Some.is in
-    let w : Within (up x) c.args.o k = subst (Within (up x) c.args.o) (some_eq (sym p.1 ∙ e)) p.2 in
+    let ne : c.loop-o.at ≢ c.args.o = λ e. let yes = c.same_object.ensures.1 e in let none = c.loop-o-test.true in absurd (cc) in
     let f : slice_get (kids x k) (suc i) ≡ None = none_behind (kids x k) (suc i) (let n = c.child_count-count.ensures in let m = c.if-i-count.false in omega (arith, n, m)) in
     record {
       lives = parent_lives x c.loop-o.at k c.requires.forest e;
-      inside = w;
+      inside = holder_inside x c.args.o c.loop-o.at k c.loop-o.invariant.inside ne e;
       next = c.loop-o.invariant.next ∙ ap (λ ys. c.args.q ∷ ys) (last_rest x c.args.o c.loop-o.at k i c.requires.forest ne c.index_in-i.ensures f);
     }
 

@@ -33,13 +33,13 @@ set_next_of-requires-clause-stands g c =
 
 pub returns-clause-linked : goal.returns-clause-linked
 returns-clause-linked g c =
+    let d = c.use_of-o.result.def in
+    let read = c.use_of-o.ensures in
+    let u = c.args.u in
+    let used : val c.args.self.now u ≡ Some d = used_def _ _ read c.requires.used in
     let s0 = c.set_links.ensures in
     let s1 = c.set_prev_of.ensures in
     let s2 = c.set_next_of.ensures in
-    let u = c.args.u in
-    let d = c.use_of-o.result.def in
-    let read = c.use_of-o.ensures in
-    let used : val c.args.self.now c.args.u ≡ Some d = used_def _ _ read c.requires.used in
     detached eq_site site_tells eq_defined defined_tells c.requires.linked (record {
       used = used;
       gone = s2.values u ∙ s1.values u ∙ ap def_of (s0.here ∙ ap (option_map (relinked _)) read);

@@ -20,19 +20,19 @@ use Rattle.irtext_parse_section.proofs.FrameSteps.{row_starts, row_is_empty}
 use Rattle.irtext_parse_section.proofs.location.nested.fused_opened.Goals as goal
 
 module _ {A : Type 0} where
-  -- what stands behind the bracket
+  -- what follows the bracket
   abbrev opened : Option (AttrView A) → Unit {0} → Text → Outcome (ProgressOf Source A)
   opened m u text = row_opening_at m text
 
-  -- what stands behind metadata, or where there is none
+  -- what follows the metadata, or the position where there is none
   abbrev behind_metadata : Option (AttrView A) → Text → Outcome (ProgressOf Source A)
   behind_metadata m text = followed (text_at (codes "[") text) (λ _ t. followed (space_at t) (opened m))
 
-  -- what stands behind the word and white space
+  -- what follows the word and white space
   abbrev behind_word : (Text → Outcome (AttrView A)) → Unit {0} → Text → Outcome (ProgressOf Source A)
   behind_word attr u text = followed (metadata_at attr text) behind_metadata
 
-  -- the bracket was passed, and the white space behind it
+  -- the bracket was consumed, and the white space after it
   bracket_passed : (attr : Text → Outcome (AttrView A)) {metadata : Option (AttrObj A)} {old s0 s1 s2 s3 now : StreamView} → MustRead {A = A} itself replaced (λ u. u) (text_at (codes "fused")) old (Ok tt) s0 → Takes itself replaced (front is_whitespace s0.rest) (after is_whitespace s0.rest) s0 s1
       → MustRead {A = A} itself replaced attr_view_in (metadata_at attr) s1 (Ok metadata) s2 → MustRead {A = A} itself replaced (λ u. u) (text_at (codes "[")) s2 (Ok tt) s3 → Takes itself replaced (front is_whitespace s3.rest) (after is_whitespace s3.rest) s3 now
       → Passed alone (fused_opening_at attr {S = Source}) (row_opening_at (attr_view_in metadata)) old now

@@ -11,11 +11,11 @@ use Rattle.irtext_parse_spec.proofs.Readers.PlainStream.{alone}
 use Rattle.irtext_parse_spec.proofs.Readers.Steps.{starts, more, spaced, refuses, refuses_seen, last_seen}
 use Rattle.irtext_parse_section.proofs.location.nested.metadata_demanded.Goals as goal
 
--- what stands behind the attribute
+-- what follows the attribute
 abbrev behind : {A : Type 0} → AttrView A → Text → Outcome (Option (AttrView A))
 behind a text = followed (space_at text) (λ _ t. mapped (λ _. Some a) (text_at (codes ">") t))
 
--- an attribute where `<` stands
+-- an attribute, after `<`
 abbrev between : {A : Type 0} → (Text → Outcome (AttrView A)) → Text → Outcome (Option (AttrView A))
 between attr text = followed (text_at (codes "<") text) (λ _ t. followed (space_at t) (λ _ u. followed (attr u) behind))
 

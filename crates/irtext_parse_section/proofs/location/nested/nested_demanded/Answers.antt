@@ -12,7 +12,7 @@ use Rattle.irtext_parse_section.proofs.FrameSteps.{attr_leaves, SoFar, begun, no
 use Rattle.irtext_parse_section.proofs.location.nested.nested_demanded.Given as given
 use Rattle.irtext_parse_section.proofs.location.nested.nested_demanded.Goals as goal
 
--- the reading of a caller's attributes
+-- the parser of a caller's attributes
 abbrev attr : (g : given.Over) → Text → Outcome (AttrView g.row.A.Denot)
 attr g = attr_at g.A.IrText.reading
 

@@ -4,7 +4,7 @@ use Rattle.irtext_parse_spec.specs.Readers.NewPaths.{AddsPaths}
 use Rattle.irtext_parse_section.proofs.FrameSteps.{attr_leaves, SoFar}
 use Rattle.irtext_parse_section.proofs.location.nested.nested_demanded.Given as goal
 
--- what is open and what was read are all that was read
+-- the open frames and what was parsed are all that was parsed
 abbrev pub invariant-loop-progress : goal.invariant-loop-progress
 invariant-loop-progress g l = record {
   adds : AddsPaths l.fn.ctx l.ctx;

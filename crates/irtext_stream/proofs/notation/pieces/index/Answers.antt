@@ -16,7 +16,7 @@ pub returns-in-Err : goal.returns-in-Err
 returns-in-Err c =
     let old = c.args.stream.now in
     let mid = c.skip.new.self in
-    let s = since_is is_ascii_digit old mid c.position-place.result c.text_since.result.now c.skip.ensures c.position-place.ensures c.text_since.ensures in
     let p = passed_front is_ascii_digit old mid c.skip.ensures in
+    let s = since_is is_ascii_digit old mid c.position-place.result c.text_since.result.now c.skip.ensures c.position-place.ensures c.text_since.ensures in
     let q = index_err c.args.expected old c.text_since.result.now c.in-Err.field-0 s c.in-Err.ensures.value.0 in
     lacks_back old mid c.position-place.result c.args.expected (index_at c.args.expected old.rest) c.lack_at.result q p.1 c.position-place.ensures c.lack_at.ensures

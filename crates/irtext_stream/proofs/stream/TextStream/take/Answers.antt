@@ -5,7 +5,7 @@ use Rattle.irtext_stream.specs.Stream.{first_of}
 use Rattle.irtext_stream.proofs.Bytes.{OneMore, one_more, next_by_byte}
 use Rattle.irtext_stream.proofs.stream.TextStream.take.Goals as goal
 
--- the place behind a byte that is a character
+-- the place after a byte that is a character
 one_byte : (bs cs : List ℕ) (o b : ℕ) → cs ≡ bs → IsUtf8 (take o bs) → IsUtf8 (drop o bs) → o < length cs → b ≡ get_or cs o 0 → b < 128 → (Some b ≡ first_of (chars (drop o bs))) × OneMore bs o 1 b
 one_byte bs cs o b same f u l e h =
     let is : b ≡ get_or bs o 0 = e ∙ ap (λ z. get_or z o 0) same in

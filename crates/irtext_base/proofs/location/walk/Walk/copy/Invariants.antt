@@ -3,7 +3,7 @@ use Rattle.irtext_base.specs.Locations.{location_view}
 use Rattle.irtext_base.specs.Walks.{Reached, taken, resume, begun, work}
 use Rattle.irtext_base.proofs.location.walk.Walk.copy.Given as goal
 
--- what is at hand, inside what is open, comes to the copy of the whole
+-- what is at hand, inside the open frames, becomes the copy of the whole
 abbrev pub invariant-loop-turn : goal.invariant-loop-turn
 invariant-loop-turn g l =
     let rule = g.M.NewSources.rule l.self.sources.now in

@@ -1,4 +1,5 @@
--- The field says only that a proof of `can_print` exists. An entailment is a proposition, so the proof may be asked of the walk that Rattle made.
+-- The field says only that a proof of `can_print` exists. An entailment is a proposition, so the proof may be taken from the walk that
+-- Rattle made.
 use prog.Wp.{WpFn}
 use Rattle.irtext_print_ir.proofs.Printers.Requirements.{asks_more}
 use Rattle.irtext_print_ir.proofs.printable.displayable.Displayable.can_be_printed.Statement.{statement}

@@ -8,11 +8,11 @@ use Rattle.irtext_tokens.proofs.ListOutcomes.{separated_stands}
 use Rattle.irtext_tokens.proofs.Steps.{lens, starts, never_missing, spaced, more, refuses, refuses_seen, last_seen}
 use Rattle.irtext_tokens.proofs.irfmt.parsers.attributes.given_names.Goals as goal
 
--- what stands behind the names
+-- what follows the names
 abbrev behind_names : List (Option Text) → Text → Outcome (List (Option Text))
 behind_names names t = mapped (λ _. names) (text_at (codes "]") t)
 
--- what stands behind the opening bracket
+-- what follows the opening bracket
 abbrev behind_bracket : Unit {0} → Text → Outcome (List (Option Text))
 behind_bracket u t = followed (space_at t) (λ _ u. followed (names_at u) behind_names)
 

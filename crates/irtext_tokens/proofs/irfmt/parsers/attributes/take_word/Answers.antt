@@ -14,7 +14,7 @@ use Rattle.irtext_tokens.proofs.irfmt.parsers.attributes.take_word.Goals as goal
 abbrev stream : (g : given.Over) → Lens g.row.S.Denot
 stream g = let m = g.met.S.CharStream in lens g.S.CharStream.view g.S.CharStream.at m.view_at m.at_view m.at_at
 
--- the word was passed, and whether a dotted word goes on behind it
+-- the word was consumed, and whether a dotted word continues after it
 record Accepted {S : Type 0} (l : Lens S) (word : List ℕ) (goes_on : Bool) (old mid : S) : Type 0 where
   pub rest : List ℕ
   pub takes : Takes l.view l.at word rest old mid

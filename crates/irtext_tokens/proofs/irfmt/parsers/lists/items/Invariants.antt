@@ -2,7 +2,7 @@ use Rattle.std.proofs.Common.{length}
 use Rattle.irtext_tokens.specs.Lists.{Calls, Items, prepended}
 use Rattle.irtext_tokens.proofs.irfmt.parsers.lists.items.Given as goal
 
--- whatever the calls to come give, those from the beginning give with the items found so far in front
+-- the results of the calls to come are those of the calls from the beginning, with the items found so far before them
 abbrev pub invariant-loop-x : goal.invariant-loop-x
 invariant-loop-x g l =
     goal.F-IsAlwaysCallable g l.item

@@ -2,7 +2,7 @@ use Rattle.std.proofs.Common.{length}
 use Rattle.irtext_tokens.specs.Lists.{Calls, TailAfter}
 use Rattle.irtext_tokens.proofs.irfmt.parsers.lists.tail.Given as goal
 
--- whatever follows gives, what follows from the beginning gives with the items found so far in front
+-- the results of what follows are those of what follows from the beginning, with the items found so far before them
 abbrev pub invariant-loop-sep : goal.invariant-loop-sep
 invariant-loop-sep g l =
     goal.F-IsAlwaysCallable g l.item

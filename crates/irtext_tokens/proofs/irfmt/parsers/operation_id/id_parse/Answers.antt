@@ -13,7 +13,7 @@ use Rattle.irtext_tokens.proofs.irfmt.parsers.operation_id.id_parse.Goals as goa
 abbrev stream : (g : given.Over) → Lens g.row.S.Denot
 stream g = let m = g.met.S.CharStream in lens g.S.CharStream.view g.S.CharStream.at m.view_at m.at_view m.at_at
 
--- what stands behind the dialect
+-- what follows the dialect
 abbrev behind_dialect : Text → Text → Outcome Id
 behind_dialect dialect text = followed (text_at (codes ".") text) (λ _ t. mapped (id_with dialect) (identifier_at t))
 

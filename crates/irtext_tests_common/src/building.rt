@@ -1,0 +1,184 @@
+//! Operations and blocks of a context: how they are made, put into one another, and given attributes and locations.
+use crate::contexts::{Ctx, named};
+use irtext_base::base::{AttrObj, OpId};
+use irtext_base::format::OpFormat;
+use irtext_base::location::{Location, Source};
+use irtext_base::parsable::SourcePosition;
+use irtext_base::result::Result as Answer;
+use irtext_context::base::{
+    BasicBlock, BlockAccess, Item, NewBlock, NewOperation, Operation, OperationAccess, Ptr, Value,
+};
+use irtext_context::dialect::{Dialect, DialectName};
+use irtext_demo::{Characters, DemoAttr, DemoType};
+use irtext_few::Few;
+use irtext_graph::held::HasGraph;
+use irtext_graph::object::Object;
+use std::alloc::Global;
+use std::test::Fail;
+
+/// The id of these two words.
+pub fn id(alloc: Global, dialect: &str, name: &str) -> Result<OpId, Fail> {
+    Ok(OpId {
+        dialect: named(alloc, dialect)?,
+        name: named(alloc, name)?,
+    })
+}
+
+fn add(ctx: &mut Ctx, dialect: &DialectName, id: OpId, format: OpFormat) -> Answer<(), DemoAttr> {
+    Dialect::register(ctx, dialect)?.add_op(id, format, false)
+}
+
+/// Registers the operation of these two words with this format.
+pub fn register(
+    alloc: Global,
+    ctx: &mut Ctx,
+    dialect: &str,
+    name: &str,
+    format: OpFormat,
+) -> Result<(), Fail> {
+    let id = id(alloc, dialect, name)?;
+    let dialect = DialectName::from(named(alloc, dialect)?);
+    Ok(add(ctx, &dialect, id, format).ok().ok_or("refused")?)
+}
+
+/// Makes an operation, if what it uses is live.
+pub fn operation(
+    ctx: &mut Ctx,
+    id: OpId,
+    types: Few<DemoType>,
+    operands: &[Value],
+    successors: &[Ptr<BasicBlock>],
+    regions: usize,
+) -> Result<Ptr<Operation>, Fail> {
+    if !ctx.graph().contains_values(operands) || !ctx.graph().contains_blocks(successors) {
+        return Err(Fail::from("no such value or block"));
+    }
+    let answer = Operation::new(ctx, id, types, operands, successors, regions);
+    Ok(answer.ok().ok_or("refused")?)
+}
+
+/// Makes a block with this label, or none if it is empty, and arguments of these types.
+pub fn block(
+    alloc: Global,
+    ctx: &mut Ctx,
+    label: &str,
+    types: Few<DemoType>,
+) -> Result<Ptr<BasicBlock>, Fail> {
+    let label = if label.is_empty() {
+        None
+    } else {
+        Some(named(alloc, label)?)
+    };
+    Ok(BasicBlock::new(ctx, label, types).ok().ok_or("refused")?)
+}
+
+/// Puts an operation, or a placeholder, last into a block.
+pub fn into_block(ctx: &mut Ctx, op: Ptr<Operation>, block: Ptr<BasicBlock>) -> Result<(), Fail> {
+    let stands = ctx.graph().contains(Object::TheOperation(op));
+    if !stands || !ctx.contains_block(block) || !op.can_insert_at_back(block, ctx) {
+        return Err(Fail::from("not to be inserted"));
+    }
+    Ok(op.insert_at_back(block, ctx)?)
+}
+
+/// Puts a block last into a region of an operation.
+pub fn into_region(
+    ctx: &mut Ctx,
+    block: Ptr<BasicBlock>,
+    op: Ptr<Operation>,
+    index: usize,
+) -> Result<(), Fail> {
+    if !ctx.contains_operation(op) || index >= op.num_regions(ctx) {
+        return Err(Fail::from("no such region"));
+    }
+    let region = op.get_region(ctx, index);
+    if !ctx.contains_region(region) || !ctx.contains_block(block) {
+        return Err(Fail::from("no such block"));
+    }
+    if !block.can_insert_at_back(region, ctx) {
+        return Err(Fail::from("not to be inserted"));
+    }
+    Ok(block.insert_at_back(region, ctx)?)
+}
+
+/// Gives an operation or a block an attribute.
+pub fn give(
+    alloc: Global,
+    ctx: &mut Ctx,
+    item: Item,
+    key: &str,
+    attr: AttrObj<DemoAttr>,
+) -> Result<(), Fail> {
+    let key = named(alloc, key)?;
+    let answer = match item {
+        Item::Operation(op) if ctx.contains_operation(op) => op.set_attribute(ctx, key, attr),
+        Item::Block(block) if ctx.contains_block(block) => block.set_attribute(ctx, key, attr),
+        _ => return Err(Fail::from("no such item")),
+    };
+    Ok(answer.ok().ok_or("refused")?)
+}
+
+/// Gives an operation an attribute.
+pub fn give_operation(
+    alloc: Global,
+    ctx: &mut Ctx,
+    op: Ptr<Operation>,
+    key: &str,
+    attr: AttrObj<DemoAttr>,
+) -> Result<(), Fail> {
+    give(alloc, ctx, Item::Operation(op), key, attr)
+}
+
+/// The attribute for a letter: a given name, one that is outlined, a text, or an identifier; each is `x`.
+pub fn attribute(alloc: Global, letter: char) -> Result<AttrObj<DemoAttr>, Fail> {
+    match letter {
+        'g' => one_name(alloc, "x"),
+        'n' => note(alloc, "x"),
+        't' => Ok(AttrObj::Own(DemoAttr::String(characters(alloc, "x")?))),
+        _ => Ok(AttrObj::Ident(named(alloc, "x")?)),
+    }
+}
+
+/// The attribute of one given name.
+pub fn one_name(alloc: Global, name: &str) -> Result<AttrObj<DemoAttr>, Fail> {
+    let mut names = Vec::new(alloc);
+    names.push(Some(named(alloc, name)?))?;
+    Ok(AttrObj::GivenNames(names))
+}
+
+fn characters(alloc: Global, text: &str) -> Result<Characters, Fail> {
+    Ok(Characters::new(String::from_str(alloc, text)?))
+}
+
+/// The attribute of a debug note, which is printed in the section.
+pub fn note(alloc: Global, text: &str) -> Result<AttrObj<DemoAttr>, Fail> {
+    Ok(AttrObj::Own(DemoAttr::Debug(characters(alloc, text)?)))
+}
+
+/// A column of the first line of a text in memory.
+pub fn at(column: i32) -> Location<DemoAttr> {
+    Location::SrcPos {
+        src: Source::InMemory,
+        pos: SourcePosition { line: 1, column },
+    }
+}
+
+/// Gives an operation or a block a location: a column of the first line of a text in memory.
+pub fn place(ctx: &mut Ctx, item: Item, column: i32) -> Result<(), Fail> {
+    match item {
+        Item::Operation(op) if ctx.contains_operation(op) => op.set_loc(ctx, at(column)),
+        Item::Block(block) if ctx.contains_block(block) => block.set_loc(ctx, at(column)),
+        _ => return Err(Fail::from("no such item")),
+    }
+    Ok(())
+}
+
+/// Erases an operation or a block that nothing outside of it uses.
+pub fn erase(ctx: &mut Ctx, item: Item) -> Result<(), Fail> {
+    match item {
+        Item::Operation(op) if ctx.contains_operation(op) && op.can_erase(ctx) => op.erase(ctx),
+        Item::Block(block) if ctx.contains_block(block) && block.can_erase(ctx) => block.erase(ctx),
+        _ => return Err(Fail::from("not to be erased")),
+    }
+    Ok(())
+}

@@ -1,0 +1,7 @@
+use Rattle.irtext_tests_graph.proofs.Kept.{keeps_thrice}
+use Rattle.irtext_tests_graph.proofs.tests.back.makes_three.Goals as goal
+
+pub returns : goal.returns
+returns c = record {
+  kept = keeps_thrice _ _ _ _ c.in_ok-make_operation.ensures.kept c.in_ok-make_block.ensures.kept c.in_ok-make_region.ensures.kept;
+}

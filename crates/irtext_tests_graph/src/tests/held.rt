@@ -1,0 +1,162 @@
+//! The calls on pointers, over a type that holds a graph and something else.
+ghost use Rattle.std.specs.Prelude.{refl, IsTrue};
+ghost use Rattle.irtext_graph.specs.Graph.{IsLive};
+ghost use Rattle.irtext_graph.specs.declared.object.Object.TheVariants.{TheOperation, TheBlock, TheRegion};
+
+use crate::tests::checks::Numbers;
+use irtext_few::Few;
+use irtext_graph::arena::Ptr;
+use irtext_graph::graph::Graph;
+use irtext_graph::held::HasGraph;
+use irtext_graph::object::{BasicBlock, Object, Operation, Region};
+use std::alloc::{AllocError, Global};
+use std::test::Fail;
+
+/// A graph and a number.
+#[derive(Drop)]
+pub(crate) struct Holder {
+    pub(crate) graph: Numbers,
+    number: u32,
+}
+
+impl HasGraph for Holder {
+    type O = u32;
+
+    type B = u32;
+
+    type T = u8;
+
+    ghost graph = { λ h. h.graph };
+
+    ghost with_graph = { λ h g. record h { graph = g } };
+
+    ghost with_own = { λ h. refl };
+
+    ghost graph_with = { λ h g. refl };
+
+    fn graph(&self) -> &Numbers {
+        &self.graph
+    }
+
+    fn graph_mut(&mut self) -> &mut Numbers {
+        &mut self.graph
+    }
+}
+
+/// Whether a check of an empty graph beside a number succeeds, and leaves the number.
+pub(crate) fn holds_held<F: FnOnce(&mut Holder) -> Result<bool, AllocError> + Drop>(
+    alloc: Global,
+    check: F,
+) -> Result<bool, AllocError>
+    requires { F.IsAlwaysCallable check }
+{
+    let mut holder = Holder {
+        graph: Graph::new(alloc),
+        number: 7,
+    };
+    Ok(check(&mut holder)? && holder.number == 7)
+}
+
+/// An operation, a region in it, a block in that, and an operation in the block.
+#[derive(Clone, Copy)]
+struct Chain {
+    op: Ptr<Operation>,
+    region: Ptr<Region>,
+    block: Ptr<BasicBlock>,
+    inner: Ptr<Operation>,
+}
+
+/// Whether all objects of the chain are live.
+fn stand(holder: &Holder, chain: Chain) -> bool
+    ensures op { IsTrue result → IsLive holder.now.graph (TheOperation chain.op) }
+    ensures region { IsTrue result → IsLive holder.now.graph (TheRegion chain.region) }
+    ensures block { IsTrue result → IsLive holder.now.graph (TheBlock chain.block) }
+    ensures inner { IsTrue result → IsLive holder.now.graph (TheOperation chain.inner) }
+{
+    holder.graph.contains(Object::TheOperation(chain.op))
+        && holder.graph.contains(Object::TheRegion(chain.region))
+        && holder.graph.contains(Object::TheBlock(chain.block))
+        && holder.graph.contains(Object::TheOperation(chain.inner))
+}
+
+/// Puts each object of the chain last into the one before it if that is allowed, and returns whether it was.
+fn put_together(holder: &mut Holder, c: Chain) -> Result<bool, AllocError> {
+    if !stand(holder, c) || !c.region.can_insert_at_back(c.op, holder) {
+        return Ok(false);
+    }
+    c.region.insert_at_back(c.op, holder)?;
+    if !stand(holder, c) || !c.block.can_insert_at_back(c.region, holder) {
+        return Ok(false);
+    }
+    c.block.insert_at_back(c.region, holder)?;
+    if !stand(holder, c) || !c.inner.can_insert_at_back(c.block, holder) {
+        return Ok(false);
+    }
+    c.inner.insert_at_back(c.block, holder)?;
+    Ok(true)
+}
+
+/// Whether each object of the chain names those around it.
+fn looks_up(holder: &Holder, c: Chain) -> bool {
+    if !stand(holder, c) {
+        return false;
+    }
+    let of_inner = c.inner.get_parent_block(holder) == Some(c.block)
+        && c.inner.get_parent_region(holder) == Some(c.region)
+        && c.inner.get_parent_op(holder) == Some(c.op);
+    let of_block = c.block.get_parent_region(holder) == Some(c.region)
+        && c.block.get_parent_op(holder) == Some(c.op)
+        && c.block.get_parent_block(holder) == None;
+    let of_region = c.region.get_parent_op(holder) == Some(c.op)
+        && c.region.get_parent_block(holder) == None
+        && c.region.get_parent_region(holder) == None;
+    of_inner && of_block && of_region && c.op.get_parent_op(holder) == None
+}
+
+/// Whether each object of the chain has the next as its only child.
+fn looks_down(holder: &Holder, c: Chain) -> bool {
+    stand(holder, c)
+        && c.op.num_regions(holder) == 1
+        && c.op.get_region(holder, 0) == c.region
+        && c.region.num_blocks(holder) == 1
+        && c.region.get_block(holder, 0) == c.block
+        && c.block.num_operations(holder) == 1
+        && c.block.get_operation(holder, 0) == c.inner
+}
+
+/// Detaches the three inner ones from their parents, and returns whether no parent has a child left.
+fn comes_apart(holder: &mut Holder, c: Chain) -> bool {
+    if holder.graph.contains(Object::TheOperation(c.inner)) {
+        c.inner.unlink(holder);
+    }
+    if holder.graph.contains(Object::TheBlock(c.block)) {
+        c.block.unlink(holder);
+    }
+    if holder.graph.contains(Object::TheRegion(c.region)) {
+        c.region.unlink(holder);
+    }
+    stand(holder, c)
+        && c.op.num_regions(holder) == 0
+        && c.region.num_blocks(holder) == 0
+        && c.block.num_operations(holder) == 0
+}
+
+/// Makes a chain, looks at it from both ends, and takes it apart.
+fn goes_round(holder: &mut Holder) -> Result<bool, AllocError> {
+    let chain = Chain {
+        op: holder.graph.make_operation(1, Few::none(), &[], &[])?,
+        region: holder.graph.make_region()?,
+        block: holder.graph.make_block(2, Few::none())?,
+        inner: holder.graph.make_operation(3, Few::none(), &[], &[])?,
+    };
+    let put = put_together(holder, chain)?;
+    let seen = looks_up(holder, chain) && looks_down(holder, chain);
+    let apart = comes_apart(holder, chain);
+    Ok(put && seen && apart)
+}
+
+#[test]
+fn each_call_on_pointers_once(rt: HostRuntime) -> Result<(), Fail> {
+    assert!(rt; holds_held(rt.alloc(), goes_round)?);
+    Ok(())
+}

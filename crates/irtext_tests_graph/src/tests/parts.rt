@@ -1,0 +1,141 @@
+//! The view of one object: data, operands, successors, results and arguments, each call once, and lists of any length.
+use crate::tests::checks::{Numbers, holds};
+use crate::tests::nesting::erased;
+use irtext_few::Few;
+use irtext_graph::arena::Ptr;
+use irtext_graph::graph::Graph;
+use irtext_graph::object::{BasicBlock, Object, Operation, Value};
+use std::alloc::{AllocError, Global};
+use std::test::Fail;
+
+/// Whether the value is live, with this type and this number.
+pub(crate) fn is_value(graph: &Numbers, v: Value, of_type: u8, number: u64) -> bool {
+    graph.contains_value(v) && *graph.type_of(v) == of_type && graph.number_of(v) == number
+}
+
+/// Whether the object is live, with this data and so many results or arguments; a region has none.
+pub(crate) fn has_own(graph: &Numbers, object: Object, value: u32, count: usize) -> bool {
+    if !graph.contains(object) {
+        return false;
+    }
+    match object {
+        Object::TheOperation(p) => *graph.operation(p) == value && graph.num_results(p) == count,
+        Object::TheBlock(b) => *graph.block(b) == value && graph.num_arguments(b) == count,
+        Object::TheRegion(_) => count == 0,
+    }
+}
+
+/// Whether the operation is live, and uses these values and these blocks.
+pub(crate) fn uses(
+    graph: &Numbers,
+    op: Ptr<Operation>,
+    operands: &[Value],
+    successors: &[Ptr<BasicBlock>],
+) -> bool {
+    if !graph.contains(Object::TheOperation(op)) {
+        return false;
+    }
+    if graph.num_operands(op) != operands.len() || graph.num_successors(op) != successors.len() {
+        return false;
+    }
+    for (i, v) in operands.iter().enumerate() {
+        if graph.get_operand(op, i) != *v {
+            return false;
+        }
+    }
+    for (i, b) in successors.iter().enumerate() {
+        if graph.get_successor(op, i) != *b {
+            return false;
+        }
+    }
+    true
+}
+
+/// A block with two arguments, an operation with a result, and one that uses all of these, and the block twice.
+fn has_parts(graph: &mut Numbers) -> Result<bool, AllocError> {
+    let block = graph.make_block(7, Few::two(10, 11))?;
+    let first = graph.make_operation(8, Few::one(12), &[], &[])?;
+    let left = Value::Argument(block, 0);
+    let right = Value::Argument(block, 1);
+    let result = Value::Result(first, 0);
+    let operands = [right, result, right];
+    let successors = [block, block];
+    if !graph.contains_values(&operands) || !graph.contains_blocks(&successors) {
+        return Ok(false);
+    }
+    let second = graph.make_operation(9, Few::none(), &operands, &successors)?;
+    let values = is_value(graph, left, 10, 0)
+        && is_value(graph, right, 11, 1)
+        && is_value(graph, result, 12, 2);
+    let data = has_own(graph, Object::TheBlock(block), 7, 2)
+        && has_own(graph, Object::TheOperation(first), 8, 1);
+    let none = !graph.contains_value(Value::Argument(block, 2))
+        && !graph.contains_value(Value::Result(second, 0));
+    let used = uses(graph, first, &[], &[]) && uses(graph, second, &operands, &successors);
+    Ok(values && data && none && used)
+}
+
+/// Whether the value is live, with this type.
+fn has_type(graph: &Numbers, v: Value, of_type: u8) -> bool {
+    graph.contains_value(v) && *graph.type_of(v) == of_type
+}
+
+/// Whether the results of an operation are so many, with their indices as types.
+fn has_results(graph: &Numbers, op: Ptr<Operation>, count: u8) -> bool {
+    let mut typed = has_own(graph, Object::TheOperation(op), 0, count as usize);
+    for i in 0..count {
+        typed = typed && has_type(graph, Value::Result(op, i as usize), i);
+    }
+    typed
+}
+
+/// An operation with so many results, from a vector of types, and one that uses them all; the first is erased after the second.
+fn has_so_many(graph: &mut Numbers, alloc: Global, count: u8) -> Result<bool, AllocError> {
+    let mut types = Vec::new(alloc);
+    for i in 0..count {
+        types.push(i)?;
+    }
+    let op = graph.make_operation(0, Few::from_vec(types), &[], &[])?;
+    let mut values = Vec::new(alloc);
+    for i in 0..count {
+        values.push(Value::Result(op, i as usize))?;
+    }
+    if !graph.contains_values(&values) {
+        return Ok(false);
+    }
+    let user = graph.make_operation(0, Few::none(), &values, &[])?;
+    let all = has_results(graph, op, count) && uses(graph, user, &values, &[]);
+    let too_early = count > 0 && erased(graph, Object::TheOperation(op));
+    let gone = erased(graph, Object::TheOperation(user));
+    let rest = count == 0 || erased(graph, Object::TheOperation(op));
+    Ok(all && !too_early && gone && rest)
+}
+
+/// The same for none and for up to four results.
+fn has_any_number(graph: &mut Numbers, alloc: Global) -> Result<bool, AllocError> {
+    let mut all = true;
+    for count in 0..5 {
+        all = has_so_many(graph, alloc, count)? && all;
+    }
+    Ok(all)
+}
+
+/// Writes the data of an operation and of a block, and returns whether they are there and everything else is unchanged.
+fn writes(graph: &mut Numbers) -> Result<bool, AllocError> {
+    let block = graph.make_block(1, Few::one(10))?;
+    let op = graph.make_operation(2, Few::one(11), &[Value::Argument(block, 0)], &[block])?;
+    *graph.operation_mut(op) = 20;
+    *graph.block_mut(block) = 10;
+    let data = has_own(graph, Object::TheOperation(op), 20, 1)
+        && has_own(graph, Object::TheBlock(block), 10, 1);
+    Ok(data && uses(graph, op, &[Value::Argument(block, 0)], &[block]))
+}
+
+#[test]
+fn each_part_once_and_lists_of_any_length(rt: HostRuntime) -> Result<(), Fail> {
+    let alloc = rt.alloc();
+    assert!(rt; holds(Graph::new(alloc), writes)?);
+    assert!(rt; holds(Graph::new(alloc), has_parts)?);
+    assert!(rt; holds(Graph::new(alloc), |graph| has_any_number(graph, alloc))?);
+    Ok(())
+}

@@ -1,0 +1,300 @@
+//! The calls on pointers and values that return uses, and those that return lists, over a type that holds a graph: each once.
+ghost use Rattle.std.specs.Prelude.{IsTrue};
+ghost use Rattle.irtext_graph.specs.Graph.{IsLive};
+ghost use Rattle.irtext_graph.specs.declared.object.Object.TheVariants.{TheOperation, TheBlock, TheRegion};
+
+use crate::tests::checks::Numbers;
+use crate::tests::held::{Holder, holds_held};
+use irtext_few::Few;
+use irtext_graph::arena::Ptr;
+use irtext_graph::object::{BasicBlock, Object, Operation, Region, Value};
+use irtext_graph_queries::block::BlockParts;
+use irtext_graph_queries::operation::OperationParts;
+use irtext_graph_queries::region::RegionParts;
+use irtext_graph_queries::value::{UseSite, ValueUses};
+use std::alloc::AllocError;
+use std::test::Fail;
+
+/// An operation with a region of two blocks, the first of which has two arguments and two operations: one with two results, and
+/// one that uses the first of these twice, an argument, and the second block.
+#[derive(Clone, Copy)]
+struct Scene {
+    root: Ptr<Operation>,
+    region: Ptr<Region>,
+    first: Ptr<BasicBlock>,
+    second: Ptr<BasicBlock>,
+    maker: Ptr<Operation>,
+    user: Ptr<Operation>,
+}
+
+/// Puts an object last into another, if that is allowed.
+fn put(graph: &mut Numbers, k: Object, c: Object) -> Result<(), AllocError> {
+    let fits = match (k, c) {
+        (Object::TheOperation(_), Object::TheRegion(_)) => true,
+        (Object::TheRegion(_), Object::TheBlock(_)) => true,
+        (Object::TheBlock(_), Object::TheOperation(_)) => true,
+        _ => false,
+    };
+    if fits && graph.contains(k) && graph.contains(c) && graph.can_insert_at_back(k, c) {
+        return graph.insert_at_back(k, c);
+    }
+    Ok(())
+}
+
+/// An operation that uses these values and blocks, if they are live.
+fn make_using(
+    graph: &mut Numbers,
+    operands: &[Value],
+    successors: &[Ptr<BasicBlock>],
+) -> Result<Option<Ptr<Operation>>, AllocError> {
+    if !graph.contains_values(operands) || !graph.contains_blocks(successors) {
+        return Ok(None);
+    }
+    let p = graph.make_operation(3, Few::none(), operands, successors)?;
+    Ok(Some(p))
+}
+
+/// An operation that uses the first result of another twice, an argument of a block, and a block.
+fn make_user(
+    graph: &mut Numbers,
+    maker: Ptr<Operation>,
+    first: Ptr<BasicBlock>,
+    second: Ptr<BasicBlock>,
+) -> Result<Ptr<Operation>, AllocError> {
+    let result = Value::Result(maker, 0);
+    let argument = Value::Argument(first, 1);
+    match make_using(graph, &[result, argument, result], &[second])? {
+        Some(p) => Ok(p),
+        None => Ok(maker),
+    }
+}
+
+/// Makes all of a scene and puts it together.
+fn make_scene(graph: &mut Numbers) -> Result<Scene, AllocError> {
+    let root = graph.make_operation(1, Few::none(), &[], &[])?;
+    let region = graph.make_region()?;
+    let first = graph.make_block(4, Few::two(10, 11))?;
+    let second = graph.make_block(5, Few::none())?;
+    let maker = graph.make_operation(2, Few::two(12, 13), &[], &[])?;
+    let user = make_user(graph, maker, first, second)?;
+    put(graph, Object::TheOperation(root), Object::TheRegion(region))?;
+    put(graph, Object::TheRegion(region), Object::TheBlock(first))?;
+    put(graph, Object::TheRegion(region), Object::TheBlock(second))?;
+    put(graph, Object::TheBlock(first), Object::TheOperation(maker))?;
+    put(graph, Object::TheBlock(first), Object::TheOperation(user))?;
+    Ok(Scene {
+        root,
+        region,
+        first,
+        second,
+        maker,
+        user,
+    })
+}
+
+/// Whether all of a scene is live.
+fn stands(holder: &Holder, s: Scene) -> bool
+    ensures root { IsTrue result → IsLive holder.now.graph (TheOperation s.root) }
+    ensures region { IsTrue result → IsLive holder.now.graph (TheRegion s.region) }
+    ensures first { IsTrue result → IsLive holder.now.graph (TheBlock s.first) }
+    ensures second { IsTrue result → IsLive holder.now.graph (TheBlock s.second) }
+    ensures maker { IsTrue result → IsLive holder.now.graph (TheOperation s.maker) }
+    ensures user { IsTrue result → IsLive holder.now.graph (TheOperation s.user) }
+{
+    let graph = &holder.graph;
+    graph.contains(Object::TheOperation(s.root))
+        && graph.contains(Object::TheRegion(s.region))
+        && graph.contains(Object::TheBlock(s.first))
+        && graph.contains(Object::TheBlock(s.second))
+        && graph.contains(Object::TheOperation(s.maker))
+        && graph.contains(Object::TheOperation(s.user))
+}
+
+/// The children of each object, as lists.
+fn lists_children(holder: &Holder, s: Scene) -> Result<bool, AllocError> {
+    if !stands(holder, s) {
+        return Ok(false);
+    }
+    let regions = s.root.regions(holder)?;
+    let blocks = s.region.blocks(holder)?;
+    let operations = s.first.operations(holder)?;
+    let entry = s.region.get_entry_block(holder) == Some(s.first);
+    Ok(
+        entry
+            && regions.as_slice() == [s.region].as_slice()
+            && blocks.as_slice() == [s.first, s.second].as_slice()
+            && operations.as_slice() == [s.maker, s.user].as_slice(),
+    )
+}
+
+/// The index of a region in its operation, if it is in one.
+fn index_of_region(holder: &Holder, region: Ptr<Region>) -> Option<usize> {
+    let o = Object::TheRegion(region);
+    if !holder.graph.contains(o) || holder.graph.get_parent(o).is_none() {
+        return None;
+    }
+    Some(region.find_index_in_parent(holder))
+}
+
+/// The index of a block in its region, if it is in one.
+fn index_of_block(holder: &Holder, block: Ptr<BasicBlock>) -> Option<usize> {
+    let o = Object::TheBlock(block);
+    if !holder.graph.contains(o) || holder.graph.get_parent(o).is_none() {
+        return None;
+    }
+    Some(block.find_index_in_parent(holder))
+}
+
+/// The index of an operation in its block, if it is in one.
+fn index_of_operation(holder: &Holder, op: Ptr<Operation>) -> Option<usize> {
+    let o = Object::TheOperation(op);
+    if !holder.graph.contains(o) || holder.graph.get_parent(o).is_none() {
+        return None;
+    }
+    Some(op.find_index_in_parent(holder))
+}
+
+/// The object so many levels around another, if that one is live.
+fn stands_round(holder: &Holder, o: Object, levels: usize) -> Option<Object> {
+    if !holder.graph.contains(o) {
+        return None;
+    }
+    holder.graph.ancestor(o, levels)
+}
+
+/// The index of each object, and the objects around it.
+fn finds(holder: &Holder, s: Scene) -> bool {
+    let user = Object::TheOperation(s.user);
+    let indices = index_of_region(holder, s.region) == Some(0)
+        && index_of_block(holder, s.second) == Some(1)
+        && index_of_operation(holder, s.user) == Some(1)
+        && index_of_operation(holder, s.root) == None;
+    indices
+        && stands_round(holder, user, 3) == Some(Object::TheOperation(s.root))
+        && stands_round(holder, user, 4) == None
+}
+
+/// The operands and the successors, one by one and as lists.
+fn lists_uses(holder: &Holder, s: Scene) -> Result<bool, AllocError> {
+    if !stands(holder, s) {
+        return Ok(false);
+    }
+    let result = Value::Result(s.maker, 0);
+    let operands = s.user.operands(holder)?;
+    let successors = s.user.successors(holder)?;
+    if s.user.get_num_operands(holder) != 3 || s.user.get_num_successors(holder) != 1 {
+        return Ok(false);
+    }
+    let each = s.user.get_operand(holder, 2) == result
+        && s.user.get_successor(holder, 0) == s.second;
+    Ok(
+        each && operands.as_slice() == [result, Value::Argument(s.first, 1), result].as_slice()
+            && successors.as_slice() == [s.second].as_slice(),
+    )
+}
+
+/// The results with their types, one by one and as lists.
+fn lists_results(holder: &Holder, s: Scene) -> Result<bool, AllocError> {
+    if !stands(holder, s) || s.maker.get_num_results(holder) != 2 {
+        return Ok(false);
+    }
+    let results = s.maker.results(holder)?;
+    let types = s.maker.result_types(holder)?;
+    let mut sum: u8 = 0;
+    for of_type in &types {
+        sum = sum.wrapping_add(**of_type);
+    }
+    let second = s.maker.get_result(holder, 1);
+    let typed = *s.maker.get_type(holder, 1) == 13 && *second.get_type(holder) == 13;
+    Ok(typed && sum == 25 && results.as_slice() == [Value::Result(s.maker, 0), second].as_slice())
+}
+
+/// The arguments, one by one and as a list, and the predecessors of a block.
+fn lists_arguments(holder: &Holder, s: Scene) -> Result<bool, AllocError> {
+    if !stands(holder, s) || s.first.get_num_arguments(holder) != 2 {
+        return Ok(false);
+    }
+    let arguments = s.first.arguments(holder)?;
+    let one = s.first.get_argument(holder, 0);
+    let preds = s.second.preds(holder)?;
+    let counted = s.second.has_pred(holder)
+        && s.second.num_preds(holder) == 1
+        && !s.first.has_pred(holder);
+    Ok(
+        counted
+            && preds.as_slice() == [s.first].as_slice()
+            && arguments.as_slice() == [one, Value::Argument(s.first, 1)].as_slice(),
+    )
+}
+
+/// Whether a value is live and has so many uses, all by one operation.
+fn is_used(
+    holder: &Holder,
+    v: Value,
+    count: usize,
+    user: Ptr<Operation>,
+) -> Result<bool, AllocError> {
+    if !holder.graph.contains_value(v) {
+        return Ok(false);
+    }
+    let uses = v.uses(holder)?;
+    let mut all = uses.len() == count;
+    for u in &uses {
+        all = all && u.user() == user;
+    }
+    Ok(all && v.num_uses(holder) == count && v.has_use(holder) == (count > 0))
+}
+
+/// Replaces one value by another, if both are live.
+fn replace(holder: &mut Holder, v: Value, w: Value) -> bool {
+    if !holder.graph.contains_value(v) || !holder.graph.contains_value(w) {
+        return false;
+    }
+    v.replace_all_uses(holder, w);
+    true
+}
+
+/// The uses of a result before and after the other replaces it.
+fn changes_hands(holder: &mut Holder, s: Scene) -> Result<bool, AllocError> {
+    let (one, two) = (Value::Result(s.maker, 0), Value::Result(s.maker, 1));
+    let before = is_used(holder, one, 2, s.user)? && is_used(holder, two, 0, s.user)?;
+    let done = replace(holder, one, two);
+    let after = is_used(holder, one, 0, s.user)? && is_used(holder, two, 2, s.user)?;
+    Ok(before && done && after)
+}
+
+/// Erases an operation if that is allowed, and returns whether it was.
+fn erases(holder: &mut Holder, op: Ptr<Operation>) -> bool {
+    if !holder.graph.contains(Object::TheOperation(op)) || !op.can_erase(holder) {
+        return false;
+    }
+    op.erase(holder);
+    true
+}
+
+/// An object that is used cannot be erased before its uses are dropped; then everything is erased.
+fn goes(holder: &mut Holder, s: Scene) -> bool {
+    let early = erases(holder, s.maker);
+    if holder.graph.contains(Object::TheOperation(s.user)) {
+        s.user.drop_all_uses(holder);
+    }
+    let late = erases(holder, s.maker);
+    let root = erases(holder, s.root);
+    !early && late && root && holder.graph.num_live() == 0
+}
+
+/// All of it, over one scene.
+fn goes_round(holder: &mut Holder) -> Result<bool, AllocError> {
+    let s = make_scene(&mut holder.graph)?;
+    let children = lists_children(holder, s)? && finds(holder, s);
+    let lists = lists_uses(holder, s)? && lists_results(holder, s)? && lists_arguments(holder, s)?;
+    let changed = changes_hands(holder, s)?;
+    let gone = goes(holder, s);
+    Ok(children && lists && changed && gone)
+}
+
+#[test]
+fn each_use_and_list_once(rt: HostRuntime) -> Result<(), Fail> {
+    assert!(rt; holds_held(rt.alloc(), goes_round)?);
+    Ok(())
+}
