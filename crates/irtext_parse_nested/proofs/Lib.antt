@@ -15,6 +15,7 @@ pub mod RegionBegun
 pub mod BlockKept
 pub mod StepParts
 pub mod Steady
+pub mod Gathering
 pub mod Gathers
 pub mod Pieces
 pub mod Words

@@ -9,6 +9,7 @@ ghost use Rattle.irtext_grammar.specs.Graphs.Build.{put_all};
 ghost use Rattle.irtext_grammar.specs.Grammar.Tree.{ident};
 ghost use Rattle.irtext_grammar.specs.Names.Acts.{may_hold};
 ghost use Rattle.irtext_names.specs.Tied.{MatchesGraph};
+ghost use Rattle.irtext_parse_pieces.specs.Canonical.{pieces_of};
 ghost use Rattle.irtext_parse_pieces.specs.declared.pieces.ReadPiece.TheVariants as read;
 ghost use Rattle.irtext_parse_nested.specs.declared.operation_parts.NotGathered.TheVariants.{Memory};
 ghost use Rattle.irtext_parse_nested.specs.Gathered.{entry_read, refused_at, GathersAlone, RefusesAlone, MayAllHold, RefusesEntries, IsNothing, CanGather, KeepsScopes, Gathers, RefusesGathering};
@@ -24,8 +25,9 @@ use irtext_dict::base::AttributeDict;
 use irtext_few::Few;
 use irtext_graph::graph::Graph;
 use irtext_graph::object::Value;
+use irtext_parse_pieces::canonical::CanonicalPieces;
 use irtext_parse_pieces::entries::{Key, ReadEntry};
-use irtext_parse_pieces::found::Pieces;
+use irtext_parse_pieces::found::{CustomPieces, Form, Pieces};
 use irtext_parse_pieces::names::{ReadName, Symbol};
 use irtext_parse_pieces::pieces::ReadPiece;
 use std::alloc::{AllocError, Global};
@@ -353,6 +355,57 @@ fn piece_gathered<T: Drop, A: Drop>(
     }
 }
 
+/// The same as `gather`, for the pieces of a custom format.
+fn custom_gathered<T: Drop, A: Drop>(
+    alloc: Global,
+    names: &mut Names,
+    graph: &mut Objects<T, A>,
+    gathered: &mut Gathered<T, A>,
+    key: &Option<Identifier>,
+    pieces: CustomPieces<T, A>,
+) -> Result<(), NotGathered>
+    requires can { CanGather names.old gathered.old.operands.list.items gathered.old.successors.list.items pieces }
+    requires tied { MatchesGraph names.old.values names.old.labels graph.old }
+    requires key { IfSome key.now (λ k. k ≡ sym_name_key) }
+    ensures gathers { OnOk result (Gathers pieces names.old graph.old gathered.old names.new graph.new gathered.new) }
+    ensures refused { IfErr result (RefusesGathering pieces names.old graph.old) }
+    ensures steady { KeepsScopes names.old names.new graph.old graph.new }
+{
+    for found in pieces.into_found() {
+        let (_, piece) = found;
+        piece_gathered(alloc, names, graph, gathered, key, piece)?;
+    }
+    Ok(())
+}
+
+/// The same as `gather`, for the pieces of the canonical form.
+fn canonical_gathered<T: Drop, A: Drop>(
+    names: &mut Names,
+    graph: &mut Objects<T, A>,
+    gathered: &mut Gathered<T, A>,
+    pieces: CanonicalPieces<T, A>,
+) -> Result<(), NotGathered>
+    requires can { CanGather names.old gathered.old.operands.list.items gathered.old.successors.list.items (pieces_of pieces) }
+    requires tied { MatchesGraph names.old.values names.old.labels graph.old }
+    ensures gathers { OnOk result (Gathers (pieces_of pieces) names.old graph.old gathered.old names.new graph.new gathered.new) }
+    ensures refused { IfErr result (RefusesGathering (pieces_of pieces) names.old graph.old) }
+    ensures steady { KeepsScopes names.old names.new graph.old graph.new }
+{
+    let CanonicalPieces {
+        operands,
+        successors,
+        entries,
+        inputs,
+        results,
+    } = pieces;
+    operands_gathered(names, graph, gathered, operands)?;
+    successors_gathered(names, graph, gathered, successors)?;
+    dictionary_gathered(gathered, entries)?;
+    types_gathered(gathered, inputs);
+    types_gathered(gathered, results);
+    Ok(())
+}
+
 /// Uses the names of the pieces, and stores what they give the operation, one after another. Fails at the first reserved key of a
 /// dictionary or at the first name for which no scope of its kind is open, or if an allocation fails; what precedes the error was used
 /// then.
@@ -371,9 +424,13 @@ pub fn gather<T: Drop, A: Drop>(
     ensures refused { IfErr result (RefusesGathering pieces names.old graph.old) }
     ensures steady { KeepsScopes names.old names.new graph.old graph.new }
 {
-    for found in pieces.into_found() {
-        let (_, piece) = found;
-        piece_gathered(alloc, names, graph, gathered, key, piece)?;
+    match pieces.into_form() {
+        Form::Canonical(pieces) => canonical_gathered(
+            names,
+            graph,
+            gathered,
+            Box::into_inner(pieces),
+        ),
+        Form::Custom(pieces) => custom_gathered(alloc, names, graph, gathered, key, pieces),
     }
-    Ok(())
 }

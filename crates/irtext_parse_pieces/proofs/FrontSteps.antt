@@ -27,20 +27,20 @@ use Rattle.irtext_parse_pieces.proofs.Listings.{each_on, each_more}
 use Rattle.irtext_parse_pieces.proofs.PieceSteps.{no_tree, plain_there, piece_refused}
 use Rattle.irtext_parse_pieces.proofs.Meanings.{stands_on, must_refuse, passed_whole}
 
-followed_prefixed : {X Y : Type 0} (t : Text) (o : Outcome X) (k : X → Text → Outcome Y) → followed (prefixed t o) k ≡ prefixed t (followed o k)
+pub followed_prefixed : {X Y : Type 0} (t : Text) (o : Outcome X) (k : X → Text → Outcome Y) → followed (prefixed t o) k ≡ prefixed t (followed o k)
 followed_prefixed t (Read x taken rest) k = sym (prefixed-prefixed t taken (k x rest))
 followed_prefixed t (Missing cause) k = refl
 followed_prefixed t (Bad cause upto) k = refl
 
 -- one parser, a second and a third
-followed_followed : {X Y V : Type 0} (o : Outcome X) (k : X → Text → Outcome Y) (n : Y → Text → Outcome V) → followed (followed o k) n ≡ followed o (λ x t. followed (k x t) n)
+pub followed_followed : {X Y V : Type 0} (o : Outcome X) (k : X → Text → Outcome Y) (n : Y → Text → Outcome V) → followed (followed o k) n ≡ followed o (λ x t. followed (k x t) n)
 followed_followed (Read x taken rest) k n = followed_prefixed taken (k x rest) n
 followed_followed (Missing cause) k n = refl
 followed_followed (Bad cause upto) k n = refl
 
 module _ {T A : Type 0} where
   -- a piece represents the same when more names are added
-  piece_on : (names more : List Text) (text : Text) → KeepsNames names more → (r : ReadPiece T A) (p : Piece ℕ T A) → IsPiece names text r p → IsPiece more text r p
+  pub piece_on : (names more : List Text) (text : Text) → KeepsNames names more → (r : ReadPiece T A) (p : Piece ℕ T A) → IsPiece names text r p → IsPiece more text r p
   piece_on names more text k read.Word p h = h
   piece_on names more text k (read.Operand i n) p h = (h.0, h.1, stands_on names more n h.0 k refl h.2)
   piece_on names more text k (read.Operands ns) p h = (h.0, h.1, each_on (StandsFor names text) (StandsFor more text) (λ y x s. stands_on names more y x k refl s) ns h.0 h.2)

@@ -1,4 +1,5 @@
 -- Steps of the parsers of names.
+pub mod CanonicalSteps
 pub mod EntrySteps
 pub mod FormatSteps
 pub mod Founds
@@ -12,5 +13,4 @@ pub mod MarkSteps
 pub mod Meanings
 pub mod NameSteps
 pub mod PieceSteps
-pub mod Runs
 pub mod WordSteps

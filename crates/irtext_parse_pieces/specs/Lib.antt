@@ -1,6 +1,8 @@
 -- Names, lists, dictionaries, headers and pieces as they were parsed, with what they represent.
 pub mod Arguments
+pub mod Canonical
 pub mod Entries
+pub mod Forms
 pub mod Found
 pub mod Fronts
 pub mod Headers

@@ -1,18 +1,21 @@
 //! The pieces that were parsed before an operation's first region. Words, which are fixed texts, are only counted.
-ghost use Rattle.std.specs.Prelude.{◌≡◌, ◌++◌, ◌∷◌, ◌+◌, ◌<◌, ◌^◌, ℕ, [], length, OnOk, OnErr};
+ghost use Rattle.std.specs.Prelude.{◌≡◌, ◌++◌, ◌∷◌, ◌+◌, ◌<◌, ◌^◌, ℕ, [], length, IfOk, OnOk, OnErr};
 ghost use Rattle.irtext_parse_pieces.specs.declared.pieces.ReadPiece.TheVariants as read;
+ghost use Rattle.irtext_parse_pieces.specs.Canonical.{pieces_of};
 ghost use Rattle.irtext_parse_pieces.specs.Found.{with_words};
+ghost use Rattle.irtext_parse_pieces.specs.Forms.{form_pieces};
 
+use crate::canonical::CanonicalPieces;
 use crate::pieces::ReadPiece;
 use std::alloc::{AllocError, Global};
 use std::marker::Model;
 
-/// The capacity that the first piece allocates, in pieces that are not words: enough for the canonical form.
+/// The capacity that the first piece allocates, in pieces that are not words.
 const ROOM: usize = 5;
 
-/// Pieces in the order of the text, including words. A word is not stored.
+/// The pieces of a custom format, as they are parsed one after the other. A word is not stored.
 #[derive(Drop)]
-pub struct Pieces<T, A> {
+pub struct CustomPieces<T, A> {
     /// The pieces that are not words, each with the number of words between the piece before and it.
     found: Vec<(usize, ReadPiece<T, A>)>,
     /// The number of words after the last of these.
@@ -21,7 +24,7 @@ pub struct Pieces<T, A> {
     count: usize,
 }
 
-impl<T, A> Model for Pieces<T, A> {
+impl<T, A> Model for CustomPieces<T, A> {
     ghost use Rattle.std.specs.Prelude.{◌≡◌, List, length};
     ghost use Rattle.irtext_parse_pieces.specs.declared.pieces.ReadPiece.{ReadPiece};
     ghost use Rattle.irtext_parse_pieces.specs.Found.{with_words};
@@ -31,6 +34,31 @@ impl<T, A> Model for Pieces<T, A> {
     ghost view = { λ p. with_words p.found.items p.words };
 
     ghost invariant = { λ p. p.count ≡ length (with_words p.found.items p.words) };
+}
+
+/// Pieces by the form of their operation.
+#[derive(Drop)]
+pub enum Form<T, A> {
+    /// Those of the canonical form.
+    Canonical(Box<CanonicalPieces<T, A>>),
+    /// Those of a custom format.
+    Custom(CustomPieces<T, A>),
+}
+
+/// Pieces in the order of the text, including words.
+#[derive(Drop)]
+pub struct Pieces<T, A> {
+    form: Form<T, A>,
+}
+
+impl<T, A> Model for Pieces<T, A> {
+    ghost use Rattle.std.specs.Prelude.{List};
+    ghost use Rattle.irtext_parse_pieces.specs.declared.pieces.ReadPiece.{ReadPiece};
+    ghost use Rattle.irtext_parse_pieces.specs.Forms.{form_pieces};
+
+    ghost Value = { List (ReadPiece T A) };
+
+    ghost view = { λ p. form_pieces p.form };
 }
 
 /// Appends an item. The first one allocates `ROOM` at once. If an allocation fails, nothing changes.
@@ -45,9 +73,9 @@ fn push_roomy<X: Drop>(items: &mut Vec<X>, item: X) -> Result<(), AllocError>
     Ok(())
 }
 
-impl<T, A> Pieces<T, A> {
+impl<T, A> CustomPieces<T, A> {
     /// Returns the number of pieces.
-    pub fn len(&self) -> usize
+    pub(crate) fn len(&self) -> usize
         ensures { result ≡ length self.now }
     {
         self.count
@@ -61,12 +89,12 @@ impl<T, A> Pieces<T, A> {
     }
 }
 
-impl<T: Drop, A: Drop> Pieces<T, A> {
+impl<T: Drop, A: Drop> CustomPieces<T, A> {
     /// Returns an empty list. It allocates nothing yet.
-    pub fn none(alloc: Global) -> Pieces<T, A>
+    pub(crate) fn none(alloc: Global) -> CustomPieces<T, A>
         ensures { result ≡ [] }
     {
-        Pieces {
+        CustomPieces {
             found: Vec::new(alloc),
             words: 0,
             count: 0,
@@ -74,7 +102,7 @@ impl<T: Drop, A: Drop> Pieces<T, A> {
     }
 
     /// Appends a word.
-    pub fn push_word(&mut self)
+    pub(crate) fn push_word(&mut self)
         requires { length self.old + 1 < 2 ^ 64 }
         ensures { self.new ≡ self.old ++ read.Word ∷ [] }
     {
@@ -83,7 +111,7 @@ impl<T: Drop, A: Drop> Pieces<T, A> {
     }
 
     /// Appends a piece. If an allocation fails, the contents are unspecified.
-    pub fn push(&mut self, piece: ReadPiece<T, A>) -> Result<(), AllocError>
+    pub(crate) fn push(&mut self, piece: ReadPiece<T, A>) -> Result<(), AllocError>
         requires { length self.old + 1 < 2 ^ 64 }
         ensures { OnOk result (self.new ≡ self.old ++ piece ∷ []) }
     {
@@ -91,5 +119,50 @@ impl<T: Drop, A: Drop> Pieces<T, A> {
         self.words = 0;
         self.count = self.count + 1;
         Ok(())
+    }
+}
+
+impl<T, A> Pieces<T, A> {
+    /// Returns the pieces of a custom format.
+    pub(crate) fn custom(pieces: CustomPieces<T, A>) -> Pieces<T, A>
+        ensures { result ≡ pieces }
+    {
+        Pieces {
+            form: Form::Custom(pieces),
+        }
+    }
+
+    /// Returns the number of pieces.
+    pub fn len(&self) -> usize
+        ensures { result ≡ length self.now }
+    {
+        match &self.form {
+            Form::Canonical(_) => 17,
+            Form::Custom(pieces) => pieces.len(),
+        }
+    }
+
+    /// Returns the pieces by the form of their operation.
+    pub fn into_form(self) -> Form<T, A>
+        ensures { form_pieces result ≡ self }
+    {
+        self.form
+    }
+}
+
+impl<T: Drop, A: Drop> Pieces<T, A> {
+    /// Returns the pieces of the canonical form. Fails only if an allocation fails.
+    pub(crate) fn canonical(
+        alloc: Global,
+        pieces: CanonicalPieces<T, A>,
+    ) -> Result<Pieces<T, A>, AllocError>
+        ensures { IfOk result (λ all. all ≡ pieces_of pieces) }
+    {
+        match Box::new(alloc, pieces) {
+            Ok(boxed) => Ok(Pieces {
+                form: Form::Canonical(boxed),
+            }),
+            Err(_) => Err(AllocError),
+        }
     }
 }

@@ -1,16 +1,18 @@
 //! Parsing of the parts of an operation that its format has before its first region.
-ghost use Rattle.std.specs.Prelude.{◌≡◌, ◌+◌, ◌<◌, ◌^◌, ◌∷◌, [], Bool, List, false, length, drop, slice_get, option_map, IfOk, IfSome, MatchBool, Ok};
+ghost use Rattle.std.specs.Prelude.{◌≡◌, ◌+◌, ◌<◌, ◌^◌, Bool, List, false, length, IfOk, MatchBool, Ok};
 ghost use Rattle.irtext_base.specs.Faults.{characters};
 ghost use Rattle.irtext_base.specs.Text.{Text};
 ghost use Rattle.irtext_format_check.specs.Directives.{format_of};
 ghost use Rattle.irtext_stream.specs.Stream.{Comes};
 ghost use Rattle.irtext_tokens.specs.AttrTexts.{attr_at};
 ghost use Rattle.irtext_parse_spec.specs.Heads.{canonical_steps, steps_of, front_steps, piece_at};
-ghost use Rattle.irtext_parse_pieces.specs.Fronts.{MustFront, MustFind, RanOne, Ran, RunsOn};
+ghost use Rattle.irtext_parse_pieces.specs.Canonical.{canonical_front};
+ghost use Rattle.irtext_parse_pieces.specs.Fronts.{MustFront, MustFind};
 ghost use Rattle.irtext_parse_pieces.specs.Named.{NamesRead};
 ghost use Rattle.irtext_parse_pieces.specs.Steps.{seen_step};
 
-use crate::found::Pieces;
+use crate::canonical::canonical_parse;
+use crate::found::{CustomPieces, Pieces};
 use crate::keys::Keys;
 use crate::pieces::step_parse;
 use crate::steps::{FormatStep, reads_piece, step_there, word_of};
@@ -48,7 +50,7 @@ fn text_taken<S: CharStream>(stream: &mut S, text: &str) -> bool
 fn word_found<S: CharStream, T: IrText<A>, A: AttrText<A>>(
     stream: &mut S,
     step: FormatStep<'_>,
-    found: &mut Pieces<T, A>,
+    found: &mut CustomPieces<T, A>,
 ) -> bool
     requires { length found.old + 1 < 2 ^ 64 }
     ensures { MatchBool result
@@ -67,115 +69,6 @@ fn word_found<S: CharStream, T: IrText<A>, A: AttrText<A>>(
     true
 }
 
-/// Consumes white space and a fixed text if the whole of it comes next, and appends it to the pieces. Returns whether it did; otherwise
-/// nothing changes.
-#[inline(always)]
-fn word_ran<S: CharStream, T: IrText<A>, A: AttrText<A>>(
-    stream: &mut S,
-    text: &str,
-    found: &mut Pieces<T, A>,
-) -> bool
-    requires { length found.old + 1 < 2 ^ 64 }
-    ensures { RanOne S.view S.at (characters text.now) found.old found.new stream.old result stream.new }
-{
-    if !stream.accept_spaced(text) {
-        return false;
-    }
-    found.push_word();
-    true
-}
-
-/// Consumes those of two fixed texts that come next, one after another with white space before each, and appends them to the pieces. Stops
-/// at the first that does not come.
-#[inline(always)]
-fn two_ran<S: CharStream, T: IrText<A>, A: AttrText<A>>(
-    stream: &mut S,
-    first: &str,
-    second: &str,
-    found: &mut Pieces<T, A>,
-)
-    requires { length found.old + 2 < 2 ^ 64 }
-    ensures { Ran S.view S.at (characters first.now ∷ characters second.now ∷ []) found.old found.new stream.old stream.new }
-{
-    if !word_ran(stream, first, found) {
-        return;
-    }
-    word_ran(stream, second, found);
-}
-
-/// The same for three texts.
-#[inline(always)]
-fn three_ran<S: CharStream, T: IrText<A>, A: AttrText<A>>(
-    stream: &mut S,
-    first: &str,
-    second: &str,
-    third: &str,
-    found: &mut Pieces<T, A>,
-)
-    requires { length found.old + 3 < 2 ^ 64 }
-    ensures { Ran S.view S.at (characters first.now ∷ characters second.now ∷ characters third.now ∷ []) found.old found.new stream.old stream.new }
-{
-    if !word_ran(stream, first, found) {
-        return;
-    }
-    two_ran(stream, second, third, found);
-}
-
-/// Consumes the fixed texts of the canonical form that come next, from the step after the pieces found up to one that is no text, and
-/// appends them to the pieces. Stops at the first that does not come.
-#[inline(always)]
-fn canonical_ran<S: CharStream, T: IrText<A>, A: AttrText<A>>(
-    stream: &mut S,
-    found: &mut Pieces<T, A>,
-)
-    ensures { RunsOn S.view S.at (drop (length found.old) canonical_steps) found.old found.new stream.old stream.new }
-{
-    match found.len() {
-        0 => {
-            word_ran(stream, "(", found);
-        }
-        2 => two_ran(stream, ")", "[", found),
-        5 => {
-            word_ran(stream, "]", found);
-        }
-        7 => three_ran(stream, ":", "<", "(", found),
-        11 => three_ran(stream, ")", "->", "(", found),
-        15 => two_ran(stream, ")", ">", found),
-        _ => {}
-    }
-}
-
-/// Consumes the fixed texts of the canonical form that come next, as `canonical_ran` does; in any other format nothing changes. Makes no
-/// error: the step at which it stops is parsed as any other.
-#[inline(always)]
-fn words_ran<S: CharStream, T: IrText<A>, A: AttrText<A>>(
-    stream: &mut S,
-    format: &OpFormat,
-    found: &mut Pieces<T, A>,
-)
-    ensures { RunsOn S.view S.at (drop (length found.old) (steps_of (format_of format.now))) found.old found.new stream.old stream.new }
-{
-    match format {
-        OpFormat::Canonical => canonical_ran(stream, found),
-        OpFormat::Custom(_) => {}
-    }
-}
-
-/// Consumes the fixed texts that come next, and returns the step after the pieces found then, as `step_there` does.
-#[inline(always)]
-fn next_step<'f, S: CharStream, T: IrText<A>, A: AttrText<A>>(
-    stream: &mut S,
-    format: &'f OpFormat,
-    found: &mut Pieces<T, A>,
-) -> Option<FormatStep<'f>>
-    ensures ran { RunsOn S.view S.at (drop (length found.old) (steps_of (format_of format.now))) found.old found.new stream.old stream.new }
-    ensures step { option_map seen_step result ≡ slice_get (steps_of (format_of format.now)) (length found.new) }
-    ensures fits { IfSome result (λ _. length found.new + 1 < 2 ^ 64) }
-{
-    words_ran(stream, format, found);
-    step_there(format, found.len())
-}
-
 /// Parses what a step of a format describes, which is no region, and appends it to the pieces. Every error is committed.
 #[inline(always)]
 fn step_found<S: OwnStream, V: Copy, B: Copy, T: IrText<A>, A: AttrText<A>>(
@@ -184,7 +77,7 @@ fn step_found<S: OwnStream, V: Copy, B: Copy, T: IrText<A>, A: AttrText<A>>(
     step: FormatStep<'_>,
     inside: bool,
     keys: &mut Keys,
-    found: &mut Pieces<T, A>,
+    found: &mut CustomPieces<T, A>,
 ) -> ParseResult<(), A>
     requires { length found.old + 1 < 2 ^ 64 }
     ensures read { MustFind S.CharStream.view S.CharStream.at names.new.names
@@ -210,14 +103,14 @@ fn pieces_parse<S: OwnStream, V: Copy, B: Copy, T: IrText<A>, A: AttrText<A>>(
     format: &OpFormat,
     inside: bool,
     keys: &mut Keys,
-) -> ParseResult<Pieces<T, A>, A>
+) -> ParseResult<CustomPieces<T, A>, A>
     ensures read { (S.CharStream.view stream.old).failed ≡ false → MustFront S.CharStream.view S.CharStream.at names.new.names
         T.IrText.reading (attr_at A.IrText.reading) inside (steps_of (format_of format.now)) stream.old result stream.new }
     ensures count { IfOk result (λ found. length found ≡ length (front_steps (steps_of (format_of format.now)))) }
     ensures names { NamesRead names.old names.new }
 {
-    let mut found = Pieces::none(stream.allocator());
-    while let Some(step) = next_step(stream, format, &mut found) {
+    let mut found = CustomPieces::none(stream.allocator());
+    while let Some(step) = step_there(format, found.len()) {
         if !reads_piece(step) {
             return Ok(found);
         }
@@ -228,6 +121,26 @@ fn pieces_parse<S: OwnStream, V: Copy, B: Copy, T: IrText<A>, A: AttrText<A>>(
         step_found(stream, names, step, inside, keys, &mut found)?;
     }
     Ok(found)
+}
+
+/// Parses the canonical form up to its regions.
+#[inline(always)]
+fn canonical_pieces<S: OwnStream, V: Copy, B: Copy, T: IrText<A>, A: AttrText<A>>(
+    stream: &mut S,
+    names: &mut NameTracker<V, B>,
+    inside: bool,
+    keys: &mut Keys,
+) -> ParseResult<Pieces<T, A>, A>
+    ensures read { (S.CharStream.view stream.old).failed ≡ false → MustFront S.CharStream.view S.CharStream.at names.new.names
+        T.IrText.reading (attr_at A.IrText.reading) inside canonical_steps stream.old result stream.new }
+    ensures count { IfOk result (λ found. length found ≡ length canonical_front) }
+    ensures names { NamesRead names.old names.new }
+{
+    let pieces = canonical_parse(stream, names, inside, keys)?;
+    match Pieces::canonical(stream.allocator(), pieces) {
+        Ok(pieces) => Ok(pieces),
+        Err(AllocError) => Err(out_of_memory(stream)),
+    }
 }
 
 /// Parses what the steps of a format describe, up to the first step that parses regions, one piece for each step, with white space before
@@ -249,5 +162,11 @@ pub fn front_parse<S: OwnStream, V: Copy, B: Copy, T: IrText<A>, A: AttrText<A>>
     if stream.has_failed() {
         return Err(refuse(stream, Cause::StreamFailed));
     }
-    pieces_parse(stream, names, format, inside, keys)
+    match format {
+        OpFormat::Canonical => canonical_pieces(stream, names, inside, keys),
+        OpFormat::Custom(_) => {
+            let pieces = pieces_parse(stream, names, format, inside, keys)?;
+            Ok(Pieces::custom(pieces))
+        }
+    }
 }

@@ -3,6 +3,7 @@
 #![tactic(auto)]
 
 pub mod arguments;
+pub mod canonical;
 pub mod entries;
 pub mod found;
 pub mod fronts;

@@ -11,5 +11,5 @@ stream g = let m = g.met.S.CharStream in lens g.S.CharStream.view g.S.CharStream
 pub returns-then-has_failed-clause-read : goal.returns-then-has_failed-clause-read
 returns-then-has_failed-clause-read g c = must_fail (stream g) [] (sym c.has_failed.ensures ∙ c.if-has_failed.true) c.refuse.ensures
 
-pub returns-clause-read : goal.returns-clause-read
-returns-clause-read g c = c.pieces_parse.ensures.read (sym c.has_failed.ensures ∙ c.if-has_failed.false)
+pub returns-in_ok-pieces-in-Custom-clause-read : goal.returns-in_ok-pieces-in-Custom-clause-read
+returns-in_ok-pieces-in-Custom-clause-read g c = rw c.custom.ensures (c.in_ok-pieces-in-Custom.ensures.read (sym c.has_failed.ensures ∙ c.if-has_failed.false))

@@ -7,7 +7,6 @@ use Rattle.irtext_parse_spec.specs.Heads.{steps_of}
 use Rattle.irtext_parse_pieces.proofs.Meanings.{names_none, names_more}
 use Rattle.irtext_parse_pieces.proofs.FormatSteps.{Counts, next_left, none_left, count_none, count_all, count_more, fewer_left, left_more, front_over, front_ended}
 use Rattle.irtext_parse_pieces.proofs.FrontSteps.{Fronting, front_begins, front_more, front_refused, front_ends}
-use Rattle.irtext_parse_pieces.proofs.Runs.{counts_on, fronting_on, fewer_behind}
 use Rattle.irtext_parse_pieces.specs.Steps.{seen_step}
 use Rattle.irtext_parse_pieces.proofs.fronts.pieces_parse.Given as given
 use Rattle.irtext_parse_pieces.proofs.fronts.pieces_parse.Goals as goal
@@ -31,65 +30,65 @@ pub returns-then-not-reads_piece-clause-read : goal.returns-then-not-reads_piece
 returns-then-not-reads_piece-clause-read g c = λ fine.
     let steps = steps_of (format_of c.args.format.now) in
     let step = seen_step c.in-Some.step in
-    let n = length c.next_step.new.found in
-    let there : slice_get steps n ≡ Some step = sym c.in-Some.ensures.step in
+    let n = length c.loop-step.found in
+    let there : slice_get steps n ≡ Some step = rw c.len.ensures at (sym c.in-Some.ensures.step) in
     let over = front_ended (drop n steps) (drop (suc n) steps) step (next_left steps n step there) (sym c.reads_piece.ensures ∙ c.if-not-reads_piece.true) in
-    front_ends (stream g) g.T.IrText.reading (attr_at g.A.IrText.reading) c.args.inside over (fronting_on (stream g) steps c.in-Some.ensures.ran g.T.IrText.reading (attr_at g.A.IrText.reading) c.args.inside c.loop-step.names.names c.args.stream.now (c.loop-step.invariant.2 fine))
+    front_ends (stream g) g.T.IrText.reading (attr_at g.A.IrText.reading) c.args.inside over (c.loop-step.invariant.2 fine)
 
 pub returns-then-not-reads_piece-clause-count : goal.returns-then-not-reads_piece-clause-count
 returns-then-not-reads_piece-clause-count g c =
     let steps = steps_of (format_of c.args.format.now) in
     let step = seen_step c.in-Some.step in
-    let n = length c.next_step.new.found in
-    let there : slice_get steps n ≡ Some step = sym c.in-Some.ensures.step in
+    let n = length c.loop-step.found in
+    let there : slice_get steps n ≡ Some step = rw c.len.ensures at (sym c.in-Some.ensures.step) in
     let over = front_ended (drop n steps) (drop (suc n) steps) step (next_left steps n step there) (sym c.reads_piece.ensures ∙ c.if-not-reads_piece.true) in
-    count_all steps (drop n steps) n over (counts_on (stream g) steps c.in-Some.ensures.ran c.loop-step.invariant.1)
+    count_all steps (drop n steps) n over c.loop-step.invariant.1
 
 pub word_found-requires : goal.word_found-requires
-word_found-requires g c = c.in-Some.ensures.fits
+word_found-requires g c = rw c.len.ensures at c.in-Some.ensures.fits
 
 pub loop-step-preserved-then-word_found : goal.loop-step-preserved-then-word_found
 loop-step-preserved-then-word_found g c =
     let l = stream g in
     let steps = steps_of (format_of c.args.format.now) in
     let step = seen_step c.in-Some.step in
-    let found = c.next_step.new.found in
+    let found = c.loop-step.found in
     let new = c.word_found.new in
     let names = c.loop-step.names in
     let read = c.if-word_found.ensures names.names c.args.inside in
     let n = length found in
-    let there : slice_get steps n ≡ Some step = sym c.in-Some.ensures.step in
+    let there : slice_get steps n ≡ Some step = rw c.len.ensures at (sym c.in-Some.ensures.step) in
     let flat = sym c.reads_piece.ensures ∙ c.if-not-reads_piece.false in (
       c.loop-step.invariant.0,
-      subst (λ z. Counts (length z) steps (drop (length z) steps)) (sym read.means.1) (count_more steps found read.means.0 step there flat (counts_on (stream g) steps c.in-Some.ensures.ran c.loop-step.invariant.1)),
+      subst (λ z. Counts (length z) steps (drop (length z) steps)) (sym read.means.1) (count_more steps found read.means.0 step there flat c.loop-step.invariant.1),
       λ fine.
           subst (λ left. Fronting l g.T.IrText.reading (attr_at g.A.IrText.reading) c.args.inside names.names steps left c.args.stream.now new.stream new.found)
           (left_more steps found read.means.0 ∙ ap (λ z. drop (length z) steps) (sym read.means.1))
-          (front_more l g.T.IrText.reading (attr_at g.A.IrText.reading) c.args.inside (drop (suc n) steps) step names.names (next_left steps n step there) flat (fronting_on (stream g) steps c.in-Some.ensures.ran g.T.IrText.reading (attr_at g.A.IrText.reading) c.args.inside c.loop-step.names.names c.args.stream.now (c.loop-step.invariant.2 fine)) c.skip_white_space.ensures (names_none names).kept read),
+          (front_more l g.T.IrText.reading (attr_at g.A.IrText.reading) c.args.inside (drop (suc n) steps) step names.names (next_left steps n step there) flat (c.loop-step.invariant.2 fine) c.skip_white_space.ensures (names_none names).kept read),
     )
 
 pub loop-step-smaller-then-word_found : goal.loop-step-smaller-then-word_found
 loop-step-smaller-then-word_found g c =
     let steps = steps_of (format_of c.args.format.now) in
     let step = seen_step c.in-Some.step in
-    let there : slice_get steps (length c.next_step.new.found) ≡ Some step = sym c.in-Some.ensures.step in
+    let there : slice_get steps (length c.loop-step.found) ≡ Some step = rw c.len.ensures at (sym c.in-Some.ensures.step) in
     let read = c.if-word_found.ensures c.loop-step.names.names c.args.inside in
-    let fewer = fewer_left steps c.next_step.new.found read.means.0 step there _ read.means.1 in
-    omega (arith, fewer, fewer_behind (stream g) steps c.in-Some.ensures.ran)
+    let fewer = fewer_left steps c.loop-step.found read.means.0 step there _ read.means.1 in
+    omega (arith, fewer)
 
 pub step_found-requires : goal.step_found-requires
-step_found-requires g c = subst (λ z. length z + 1 < 2 ^ 64) (sym c.if-word_found.ensures.1) c.in-Some.ensures.fits
+step_found-requires g c = subst (λ z. length z + 1 < 2 ^ 64) (sym c.if-word_found.ensures.1) (rw c.len.ensures at c.in-Some.ensures.fits)
 
 pub returns-in_err-step_found-clause-read : goal.returns-in_err-step_found-clause-read
 returns-in_err-step_found-clause-read g c = λ fine.
     let steps = steps_of (format_of c.args.format.now) in
     let step = seen_step c.in-Some.step in
-    let n = length c.next_step.new.found in
-    let there : slice_get steps n ≡ Some step = sym c.in-Some.ensures.step in
+    let n = length c.loop-step.found in
+    let there : slice_get steps n ≡ Some step = rw c.len.ensures at (sym c.in-Some.ensures.step) in
     let read0 = rw c.if-word_found.ensures.0 at c.in_err-step_found.ensures.read in
     let read = rw c.if-word_found.ensures.1 at read0 in
     rw (handed_on c.from_residual.result c.from_residual.ensures.1)
-    (front_refused (stream g) g.T.IrText.reading (attr_at g.A.IrText.reading) c.args.inside (drop (suc n) steps) step (next_left steps n step there) (sym c.reads_piece.ensures ∙ c.if-not-reads_piece.false) (fronting_on (stream g) steps c.in-Some.ensures.ran g.T.IrText.reading (attr_at g.A.IrText.reading) c.args.inside c.loop-step.names.names c.args.stream.now (c.loop-step.invariant.2 fine)) c.skip_white_space.ensures read)
+    (front_refused (stream g) g.T.IrText.reading (attr_at g.A.IrText.reading) c.args.inside (drop (suc n) steps) step (next_left steps n step there) (sym c.reads_piece.ensures ∙ c.if-not-reads_piece.false) (c.loop-step.invariant.2 fine) c.skip_white_space.ensures read)
 
 pub returns-in_err-step_found-clause-names : goal.returns-in_err-step_found-clause-names
 returns-in_err-step_found-clause-names g c = names_more _ _ _ c.loop-step.invariant.0 c.in_err-step_found.ensures.names
@@ -99,41 +98,41 @@ loop-step-preserved g c =
     let l = stream g in
     let steps = steps_of (format_of c.args.format.now) in
     let step = seen_step c.in-Some.step in
-    let found = c.next_step.new.found in
+    let found = c.loop-step.found in
     let new = c.step_found.new in
     let read0 = rw c.if-word_found.ensures.0 at c.in_ok-step_found.ensures.read in
     let read = rw c.if-word_found.ensures.1 at read0 in
     let n = length found in
     let names = new.names.names in
-    let there : slice_get steps n ≡ Some step = sym c.in-Some.ensures.step in
+    let there : slice_get steps n ≡ Some step = rw c.len.ensures at (sym c.in-Some.ensures.step) in
     let flat = sym c.reads_piece.ensures ∙ c.if-not-reads_piece.false in (
       names_more _ _ _ c.loop-step.invariant.0 c.in_ok-step_found.ensures.names,
-      subst (λ z. Counts (length z) steps (drop (length z) steps)) (sym read.means.1) (count_more steps found read.means.0 step there flat (counts_on (stream g) steps c.in-Some.ensures.ran c.loop-step.invariant.1)),
+      subst (λ z. Counts (length z) steps (drop (length z) steps)) (sym read.means.1) (count_more steps found read.means.0 step there flat c.loop-step.invariant.1),
       λ fine.
           subst (λ left. Fronting l g.T.IrText.reading (attr_at g.A.IrText.reading) c.args.inside names steps left c.args.stream.now new.stream new.found)
           (left_more steps found read.means.0 ∙ ap (λ z. drop (length z) steps) (sym read.means.1))
-          (front_more l g.T.IrText.reading (attr_at g.A.IrText.reading) c.args.inside (drop (suc n) steps) step names (next_left steps n step there) flat (fronting_on (stream g) steps c.in-Some.ensures.ran g.T.IrText.reading (attr_at g.A.IrText.reading) c.args.inside c.loop-step.names.names c.args.stream.now (c.loop-step.invariant.2 fine)) c.skip_white_space.ensures c.in_ok-step_found.ensures.names.kept read),
+          (front_more l g.T.IrText.reading (attr_at g.A.IrText.reading) c.args.inside (drop (suc n) steps) step names (next_left steps n step there) flat (c.loop-step.invariant.2 fine) c.skip_white_space.ensures c.in_ok-step_found.ensures.names.kept read),
     )
 
 pub loop-step-smaller : goal.loop-step-smaller
 loop-step-smaller g c =
     let steps = steps_of (format_of c.args.format.now) in
     let step = seen_step c.in-Some.step in
-    let there : slice_get steps (length c.next_step.new.found) ≡ Some step = sym c.in-Some.ensures.step in
+    let there : slice_get steps (length c.loop-step.found) ≡ Some step = rw c.len.ensures at (sym c.in-Some.ensures.step) in
     let read = rw c.if-word_found.ensures.1 at c.in_ok-step_found.ensures.read in
-    let fewer = fewer_left steps c.next_step.new.found read.means.0 step there _ read.means.1 in
-    omega (arith, fewer, fewer_behind (stream g) steps c.in-Some.ensures.ran)
+    let fewer = fewer_left steps c.loop-step.found read.means.0 step there _ read.means.1 in
+    omega (arith, fewer)
 
 pub returns-clause-read : goal.returns-clause-read
 returns-clause-read g c = λ fine.
     let steps = steps_of (format_of c.args.format.now) in
-    let n = length c.next_step.new.found in
-    let none : slice_get steps n ≡ None = sym c.in_default.ensures.step in
-    front_ends (stream g) g.T.IrText.reading (attr_at g.A.IrText.reading) c.args.inside (front_over (drop n steps) (none_left steps n none)) (fronting_on (stream g) steps c.in_default.ensures.ran g.T.IrText.reading (attr_at g.A.IrText.reading) c.args.inside c.loop-step.names.names c.args.stream.now (c.loop-step.invariant.2 fine))
+    let n = length c.loop-step.found in
+    let none : slice_get steps n ≡ None = rw c.len.ensures at (sym c.in_default.ensures.step) in
+    front_ends (stream g) g.T.IrText.reading (attr_at g.A.IrText.reading) c.args.inside (front_over (drop n steps) (none_left steps n none)) (c.loop-step.invariant.2 fine)
 
 pub returns-clause-count : goal.returns-clause-count
 returns-clause-count g c =
     let steps = steps_of (format_of c.args.format.now) in
-    let n = length c.next_step.new.found in
-    let none : slice_get steps n ≡ None = sym c.in_default.ensures.step in
-    count_all steps (drop n steps) n (front_over (drop n steps) (none_left steps n none)) (counts_on (stream g) steps c.in_default.ensures.ran c.loop-step.invariant.1)
+    let n = length c.loop-step.found in
+    let none : slice_get steps n ≡ None = rw c.len.ensures at (sym c.in_default.ensures.step) in
+    count_all steps (drop n steps) n (front_over (drop n steps) (none_left steps n none)) c.loop-step.invariant.1

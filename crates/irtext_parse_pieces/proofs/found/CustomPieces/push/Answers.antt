@@ -1,7 +1,7 @@
 use Rattle.std.proofs.Common.{◌++◌, ◌∷◌, ◌+◌, [], sym, ◌∙◌, ap}
 use Rattle.irtext_parse_pieces.specs.Found.{with_words}
 use Rattle.irtext_parse_pieces.proofs.Founds.{piece_more, one_longer}
-use Rattle.irtext_parse_pieces.proofs.found.Pieces.push.Goals as goal
+use Rattle.irtext_parse_pieces.proofs.found.CustomPieces.push.Goals as goal
 
 pub invariant_of-self-2 : goal.invariant_of-self-2
 invariant_of-self-2 g c =

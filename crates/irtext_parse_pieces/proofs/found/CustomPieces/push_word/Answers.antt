@@ -2,7 +2,7 @@ use Rattle.std.proofs.Common.{◌≡◌, ◌++◌, ◌∷◌, ◌+◌, [], lengt
 use Rattle.irtext_parse_pieces.specs.declared.pieces.ReadPiece.TheVariants as read
 use Rattle.irtext_parse_pieces.specs.Found.{with_words}
 use Rattle.irtext_parse_pieces.proofs.Founds.{word_more, words_within, one_longer, next_number}
-use Rattle.irtext_parse_pieces.proofs.found.Pieces.push_word.Goals as goal
+use Rattle.irtext_parse_pieces.proofs.found.CustomPieces.push_word.Goals as goal
 
 pub overflow_add-self : goal.overflow_add-self
 overflow_add-self g c =

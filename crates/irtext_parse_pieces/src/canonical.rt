@@ -1,0 +1,182 @@
+//! Parsing of the canonical form up to its regions.
+ghost use Rattle.std.specs.Prelude.{◌≡◌, List, false};
+ghost use Rattle.irtext_base.specs.Faults.{characters};
+ghost use Rattle.irtext_base.specs.Text.{Text};
+ghost use Rattle.irtext_tokens.specs.AttrTexts.{attr_at};
+ghost use Rattle.irtext_tokens.specs.Infix.{◌▷◌};
+ghost use Rattle.irtext_tokens.specs.MustRead.{MustRead};
+ghost use Rattle.irtext_tokens.specs.Tokens.{space_at, text_at};
+ghost use Rattle.irtext_parse_pieces.specs.Canonical.{canonical_front, operand_steps, successor_steps, dictionary_steps, type_steps, input_steps, result_steps, operand_pieces, successor_pieces, dictionary_pieces, type_pieces, input_pieces, result_pieces, pieces_of, MustSteps};
+ghost use Rattle.irtext_parse_pieces.specs.Named.{NamesRead};
+
+use crate::entries::{ReadEntry, dictionary_parse};
+use crate::keys::Keys;
+use crate::lists::{NameKind, names_parse};
+use crate::names::ReadName;
+use crate::types::types_parse;
+use irtext_base::parsable::{CharStream, ParseResult};
+use irtext_base::text::{AttrText, IrText};
+use irtext_few::Few;
+use irtext_scopes::tracker::NameTracker;
+use irtext_tokens::irfmt::demanded::text_demanded;
+use irtext_tokens::irfmt::parsers::skip_white_space;
+use irtext_tokens::parsable::OwnStream;
+
+/// What the canonical form has before its regions.
+#[derive(Drop)]
+pub struct CanonicalPieces<T, A> {
+    /// The names of the operands.
+    pub operands: Few<ReadName>,
+    /// The labels of the successors.
+    pub successors: Few<ReadName>,
+    /// The entries of the dictionary.
+    pub entries: Vec<ReadEntry<A>>,
+    /// The types of the operands.
+    pub inputs: Few<T>,
+    /// The types of the results.
+    pub results: Few<T>,
+}
+
+/// The slow path of `word_parse`, for a text that does not come next as a whole.
+#[cold]
+#[inline(never)]
+fn word_missed<S: CharStream, A>(stream: &mut S, text: &str) -> ParseResult<(), A>
+    ensures { (S.view stream.old).failed ≡ false → MustRead S.view S.at (λ u. u) (space_at ▷ text_at (characters text.now)) stream.old result stream.new }
+{
+    skip_white_space(stream);
+    text_demanded(stream, text)
+}
+
+/// Parses a fixed text, with white space before it, on a stream that has not failed. Every error is committed.
+#[inline(always)]
+fn word_parse<S: CharStream, A>(stream: &mut S, text: &str) -> ParseResult<(), A>
+    ensures { (S.view stream.old).failed ≡ false → MustRead S.view S.at (λ u. u) (space_at ▷ text_at (characters text.now)) stream.old result stream.new }
+{
+    if stream.accept_spaced(text) {
+        return Ok(());
+    }
+    word_missed(stream, text)
+}
+
+/// Parses the names of the operands, in parentheses.
+#[inline(always)]
+fn operands_parse<S: OwnStream, V: Copy, B: Copy, T: IrText<A>, A: AttrText<A>>(
+    stream: &mut S,
+    names: &mut NameTracker<V, B>,
+    inside: bool,
+) -> ParseResult<Few<ReadName>, A>
+    ensures read { (S.CharStream.view stream.old).failed ≡ false → MustSteps S.CharStream.view S.CharStream.at names.new.names T.IrText.reading (attr_at A.IrText.reading) inside
+        operand_steps operand_pieces stream.old result stream.new }
+    ensures names { NamesRead names.old names.new }
+{
+    word_parse(stream, "(")?;
+    skip_white_space(stream);
+    let operands = names_parse(stream, names, NameKind::Value, inside)?;
+    word_parse(stream, ")")?;
+    Ok(operands)
+}
+
+/// Parses the labels of the successors, in brackets.
+#[inline(always)]
+fn successors_parse<S: OwnStream, V: Copy, B: Copy, T: IrText<A>, A: AttrText<A>>(
+    stream: &mut S,
+    names: &mut NameTracker<V, B>,
+    inside: bool,
+) -> ParseResult<Few<ReadName>, A>
+    ensures read { (S.CharStream.view stream.old).failed ≡ false → MustSteps S.CharStream.view S.CharStream.at names.new.names T.IrText.reading (attr_at A.IrText.reading) inside
+        successor_steps successor_pieces stream.old result stream.new }
+    ensures names { NamesRead names.old names.new }
+{
+    word_parse(stream, "[")?;
+    skip_white_space(stream);
+    let successors = names_parse(stream, names, NameKind::Block, inside)?;
+    word_parse(stream, "]")?;
+    Ok(successors)
+}
+
+/// Parses the dictionary.
+#[inline(always)]
+fn entries_parse<S: OwnStream, T: IrText<A>, A: AttrText<A>>(
+    stream: &mut S,
+    keys: &mut Keys,
+    inside: bool,
+) -> ParseResult<Vec<ReadEntry<A>>, A>
+    ensures { (names : List Text) → (S.CharStream.view stream.old).failed ≡ false → MustSteps S.CharStream.view S.CharStream.at names T.IrText.reading (attr_at A.IrText.reading) inside
+        dictionary_steps dictionary_pieces stream.old result stream.new }
+{
+    skip_white_space(stream);
+    dictionary_parse(stream, keys)
+}
+
+/// Parses types, in parentheses.
+#[inline(always)]
+fn parenthesized_parse<S: OwnStream, T: IrText<A>, A: AttrText<A>>(
+    stream: &mut S,
+    inside: bool,
+) -> ParseResult<Few<T>, A>
+    ensures { (names : List Text) → (S.CharStream.view stream.old).failed ≡ false → MustSteps S.CharStream.view S.CharStream.at names T.IrText.reading (attr_at A.IrText.reading) inside
+        type_steps type_pieces stream.old result stream.new }
+{
+    word_parse(stream, "(")?;
+    skip_white_space(stream);
+    let types = types_parse(stream)?;
+    word_parse(stream, ")")?;
+    Ok(types)
+}
+
+/// Parses `:`, `<` and the types of the operands.
+#[inline(always)]
+fn inputs_parse<S: OwnStream, T: IrText<A>, A: AttrText<A>>(
+    stream: &mut S,
+    inside: bool,
+) -> ParseResult<Few<T>, A>
+    ensures { (names : List Text) → (S.CharStream.view stream.old).failed ≡ false → MustSteps S.CharStream.view S.CharStream.at names T.IrText.reading (attr_at A.IrText.reading) inside
+        input_steps input_pieces stream.old result stream.new }
+{
+    word_parse(stream, ":")?;
+    word_parse(stream, "<")?;
+    parenthesized_parse(stream, inside)
+}
+
+/// Parses `->`, the types of the results and `>`.
+#[inline(always)]
+fn results_parse<S: OwnStream, T: IrText<A>, A: AttrText<A>>(
+    stream: &mut S,
+    inside: bool,
+) -> ParseResult<Few<T>, A>
+    ensures { (names : List Text) → (S.CharStream.view stream.old).failed ≡ false → MustSteps S.CharStream.view S.CharStream.at names T.IrText.reading (attr_at A.IrText.reading) inside
+        result_steps result_pieces stream.old result stream.new }
+{
+    word_parse(stream, "->")?;
+    let types = parenthesized_parse(stream, inside)?;
+    word_parse(stream, ">")?;
+    Ok(types)
+}
+
+/// Parses the canonical form up to its regions, on a stream that has not failed. `inside` says whether it is inside of a region; outside of
+/// every region no name can be used. Keys of the dictionary may share their texts with those that are kept at their places. Every error
+/// is committed.
+#[inline(always)]
+pub(crate) fn canonical_parse<S: OwnStream, V: Copy, B: Copy, T: IrText<A>, A: AttrText<A>>(
+    stream: &mut S,
+    names: &mut NameTracker<V, B>,
+    inside: bool,
+    keys: &mut Keys,
+) -> ParseResult<CanonicalPieces<T, A>, A>
+    ensures read { (S.CharStream.view stream.old).failed ≡ false → MustSteps S.CharStream.view S.CharStream.at names.new.names T.IrText.reading (attr_at A.IrText.reading) inside
+        canonical_front pieces_of stream.old result stream.new }
+    ensures names { NamesRead names.old names.new }
+{
+    let operands = operands_parse::<S, V, B, T, A>(stream, names, inside)?;
+    let successors = successors_parse::<S, V, B, T, A>(stream, names, inside)?;
+    let entries = entries_parse::<S, T, A>(stream, keys, inside)?;
+    let inputs = inputs_parse(stream, inside)?;
+    let results = results_parse(stream, inside)?;
+    Ok(CanonicalPieces {
+        operands,
+        successors,
+        entries,
+        inputs,
+        results,
+    })
+}
