@@ -62,7 +62,7 @@ use Rattle.irtext_parse_nested.specs.declared.operation_parts.NotGathered.{NotGa
 use Rattle.irtext_parse_nested.specs.declared.operation_parts.NotGathered.TheVariants as refusal
 use Rattle.irtext_parse_nested.specs.Beginning.{FrontStands, LacksFront, lacks_lead, lacks_piece, SaysGather, NotGatheredAs, starved, refused, types_made, PlacedIn, MakesOf, ArePartsOf, HasBegun, ComesInto}
 use Rattle.irtext_parse_nested.specs.OpenOperation.{HasNoType, ReadNeither, IsBegun, pledge_of}
-use Rattle.irtext_parse_nested.specs.Coming.{IsStep}
+use Rattle.irtext_parse_pieces.specs.Coming.{IsStep}
 use Rattle.irtext_parse_nested.specs.Gathered.{FailsUses, operand_place, operand_list, successor_place, successor_list, placed_type, type_list, stored_of, last_list, CanGather, RefusesGathering, FailsAt}
 use Rattle.irtext_parse_nested.specs.Items.{Names, Pledge, Made, AreMadeAt, StandsAs, IsFailure, ActsWith, ActFails}
 use Rattle.irtext_parse_nested.specs.Located.{IsLocated}

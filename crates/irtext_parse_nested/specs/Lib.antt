@@ -1,6 +1,5 @@
 -- What the parsers of nested text promise each other: the names, and the open frames.
 pub mod Items
-pub mod Coming
 pub mod OpenOperation
 pub mod Read
 pub mod Definitions

@@ -20,7 +20,7 @@ use Rattle.irtext_parse_pieces.specs.Named.{Leaves, StandsFor, Each}
 use Rattle.irtext_parse_nested.specs.declared.frame.BegunOperation.{BegunOperation}
 use Rattle.irtext_parse_nested.specs.declared.frame.BegunRegion.{BegunRegion}
 use Rattle.irtext_parse_nested.specs.declared.frame.BegunBlock.{BegunBlock}
-use Rattle.irtext_parse_nested.specs.Coming.{IsStep}
+use Rattle.irtext_parse_pieces.specs.Coming.{IsStep}
 use Rattle.irtext_parse_nested.specs.Items.{Pledge}
 
 -- the part gives no result its type

@@ -1,11 +1,11 @@
 //! The frames of the parser of nested text: an operation, a region or a block that was begun.
 
-use crate::coming::Coming;
 use irtext_base::base::OpId;
 use irtext_base::parsable::Place;
 use irtext_context::base::{BasicBlock, Operation, Ptr, Region};
 use irtext_few::Few;
 use irtext_graph::object::Value;
+use irtext_parse_pieces::coming::Coming;
 use irtext_parse_pieces::names::ReadName;
 use irtext_scopes::tracker::NameTracker;
 

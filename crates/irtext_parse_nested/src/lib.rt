@@ -6,8 +6,6 @@
 pub mod beginning;
 pub mod block_labels;
 pub mod blocks;
-pub mod coming;
-mod counting;
 pub mod definitions;
 mod dictionary;
 pub mod frame;

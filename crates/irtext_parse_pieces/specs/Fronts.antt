@@ -37,12 +37,6 @@ ComeSpaced [] v w = w ≡ v
 ComeSpaced (t ∷ ts) v w = Comes t (behind_space v) (λ u. ComeSpaced ts u w)
 
 module _ {S T A : Type 0} (view : S → StreamView) (at : S → StreamView → S) where
-  -- the text was consumed, with white space before it, and appended to the pieces; or nothing changed
-  abbrev pub RanOne : Text → List (ReadPiece T A) → List (ReadPiece T A) → S → Bool → S → Type 0
-  RanOne t found more old result new = MatchBool result
-      (Comes t (behind_space (view old)) (λ v. new ≡ at old v) × (more ≡ found ++ read.Word ∷ []))
-      ((new ≡ old) × (more ≡ found))
-
   -- the first of these texts, as many as these, were consumed, with white space before each, and appended to the pieces
   pub record Ran (all : List Text) (found more : List (ReadPiece T A)) (old new : S) : Type 0 where
     pub texts : List Text
@@ -52,13 +46,6 @@ module _ {S T A : Type 0} (view : S → StreamView) (at : S → StreamView → S
     pub come : ComeSpaced texts (view old) behind
     pub reached : new ≡ at old behind
     pub appended : more ≡ found ++ only_words (length texts)
-
-  -- the first of these steps are texts, of which the first were consumed and appended to the pieces
-  pub record RunsOn (left : List Step) (found more : List (ReadPiece T A)) (old new : S) : Type 0 where
-    pub all : List Text
-    pub rest : List Step
-    pub are : left ≡ map (λ t. flat (word t)) all ++ rest
-    pub ran : Ran all found more old new
 
   -- the result is the list of pieces that the steps parse, or their fault
   abbrev pub MustFront : List Text → (Text → Outcome T) → (Text → Outcome (AttrView A)) → Bool → List Step → S → Result (List (ReadPiece T A)) (ParseFault A) → S → Type 0

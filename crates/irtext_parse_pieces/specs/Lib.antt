@@ -1,6 +1,7 @@
 -- Names, lists, dictionaries, headers and pieces as they were parsed, with what they represent.
 pub mod Arguments
 pub mod Canonical
+pub mod Coming
 pub mod Entries
 pub mod Forms
 pub mod Found

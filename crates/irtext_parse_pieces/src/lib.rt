@@ -4,6 +4,8 @@
 
 pub mod arguments;
 pub mod canonical;
+pub mod coming;
+pub mod counting;
 pub mod entries;
 pub mod found;
 pub mod fronts;

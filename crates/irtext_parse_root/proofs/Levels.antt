@@ -21,7 +21,7 @@ use Rattle.irtext_parse_pieces.proofs.Meanings.{stands_on}
 use Rattle.irtext_parse_nested.specs.declared.frame.BegunOperation.{BegunOperation}
 use Rattle.irtext_parse_nested.specs.Beginning.{HasBegun}
 use Rattle.irtext_parse_nested.specs.OpenOperation.{IsBegun}
-use Rattle.irtext_parse_nested.specs.Coming.{IsStep}
+use Rattle.irtext_parse_pieces.specs.Coming.{IsStep}
 use Rattle.irtext_parse_nested.specs.Items.{KeepsLive}
 use Rattle.irtext_parse_root.specs.declared.frames.Frame.{Frame}
 use Rattle.irtext_parse_root.specs.declared.frames.Frame.TheVariants as framed

@@ -18,8 +18,8 @@ use Rattle.irtext_parse_spec.specs.Unchanged.{OwnSoFar, own_of}
 use Rattle.irtext_parse_nested.specs.declared.frame.BegunOperation.{BegunOperation}
 use Rattle.irtext_parse_nested.specs.Beginning.{IsPartOf, ArePartsOf, HasBegun}
 use Rattle.irtext_parse_nested.specs.OpenOperation.{HasNoType, ReadNeither, IsBegun}
-use Rattle.irtext_parse_nested.specs.declared.coming.Coming.TheVariants as comes
-use Rattle.irtext_parse_nested.specs.Coming.{IsStep}
+use Rattle.irtext_parse_pieces.specs.declared.coming.Coming.TheVariants as comes
+use Rattle.irtext_parse_pieces.specs.Coming.{IsStep}
 
 put_both : {V : Type 0} (es xs ys : List (Text × V)) → put_all es (xs ++ ys) ≡ put_all (put_all es xs) ys
 put_both es [] ys = refl

@@ -39,7 +39,7 @@ use Rattle.irtext_parse_nested.specs.Items.{Names}
 use Rattle.irtext_parse_nested.specs.Read.{begun_by, EndsRegion}
 use Rattle.irtext_parse_root.specs.declared.frames.Frame.{Frame}
 use Rattle.irtext_parse_root.specs.declared.frames.Frame.TheVariants as framed
-use Rattle.irtext_parse_nested.specs.declared.coming.Coming.TheVariants as comes
+use Rattle.irtext_parse_pieces.specs.declared.coming.Coming.TheVariants as comes
 use Rattle.irtext_parse_root.specs.Here.{AreHere, Base, AreLevels, StandsInBlock, Nest, IsHere}
 use Rattle.irtext_parse_root.specs.Levels.{Level, at_operation, at_region, at_block, outward, open_of, first_frame, next_of, waiting, isolated_in, regions_in, left_to_do, AreNewFrames}
 use Rattle.irtext_parse_root.specs.Told.{told}

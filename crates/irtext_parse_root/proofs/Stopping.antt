@@ -30,7 +30,7 @@ use Rattle.irtext_parse_nested.specs.Ends.{numbers_of}
 use Rattle.irtext_parse_nested.specs.Items.{Names, doing}
 use Rattle.irtext_parse_nested.specs.Read as read
 use Rattle.irtext_parse_nested.specs.Read.{RefusesOperation, RefusesPiece, RefusesEnd, RefusesRegion, RefusesRegionEnd, RefusesBlock}
-use Rattle.irtext_parse_nested.specs.declared.coming.Coming.TheVariants as comes
+use Rattle.irtext_parse_pieces.specs.declared.coming.Coming.TheVariants as comes
 use Rattle.irtext_parse_root.specs.declared.frames.Frame.{Frame}
 use Rattle.irtext_parse_root.specs.declared.frames.Frame.TheVariants as framed
 use Rattle.irtext_parse_root.specs.Here.{Base, IsHere, AreHere}

@@ -29,13 +29,13 @@ use Rattle.irtext_parse_spec.specs.Reached.{steps_in}
 use Rattle.irtext_parse_spec.specs.Resume.{OpenOperation, with_steps}
 use Rattle.irtext_parse_spec.specs.Grows.{RegionCame, OperationGains, RegionGains, BlockCame, OwnBecame}
 use Rattle.irtext_parse_spec.specs.Unchanged.{OwnSoFar, HasOwn, HasUses, ModifiesOnly}
-use Rattle.irtext_parse_nested.specs.declared.coming.Coming.{Coming}
+use Rattle.irtext_parse_pieces.specs.declared.coming.Coming.{Coming}
 use Rattle.irtext_parse_nested.specs.declared.frame.BegunOperation.{BegunOperation}
 use Rattle.irtext_parse_nested.specs.declared.frame.BegunRegion.{BegunRegion}
 use Rattle.irtext_parse_nested.specs.declared.frame.BegunBlock.{BegunBlock}
 use Rattle.irtext_parse_nested.specs.Beginning.{HasBegun, ComesInto}
 use Rattle.irtext_parse_nested.specs.OpenOperation.{IsBegun, IsRegion}
-use Rattle.irtext_parse_nested.specs.Coming.{IsStep}
+use Rattle.irtext_parse_pieces.specs.Coming.{IsStep}
 use Rattle.irtext_parse_nested.specs.Ends.{noted_as}
 use Rattle.irtext_parse_nested.specs.Items.{Names}
 use Rattle.irtext_parse_nested.specs.Located.{IsLocated}

@@ -5,15 +5,15 @@ ghost use Rattle.irtext_format_check.specs.Directives.{format_of};
 ghost use Rattle.irtext_grammar.specs.Contexts.Formats.{isolated};
 ghost use Rattle.irtext_parse_spec.specs.Heads.{steps_of};
 ghost use Rattle.irtext_parse_spec.specs.Reached.{steps_in};
-ghost use Rattle.irtext_parse_nested.specs.Coming.{IsStep};
-ghost use Rattle.irtext_parse_nested.specs.declared.coming.Coming.TheVariants as comes;
+ghost use Rattle.irtext_parse_pieces.specs.Coming.{IsStep};
+ghost use Rattle.irtext_parse_pieces.specs.declared.coming.Coming.TheVariants as comes;
 ghost use Rattle.irtext_parse_root.specs.Turns.{IsNext};
 
 use irtext_base::format::OpFormat;
 use irtext_base::text::{AttrText, IrText};
 use irtext_context::base::Context;
-use irtext_parse_nested::coming::{Coming, kind_of};
 use irtext_parse_nested::frame::BegunOperation;
+use irtext_parse_pieces::coming::{Coming, kind_of};
 use irtext_parse_pieces::steps::step_at;
 
 /// What comes next in an operation, whether the operation is isolated from above, and the index of the step after it.

@@ -20,7 +20,7 @@ ghost use Rattle.irtext_parse_nested.specs.Items.{IsSound};
 ghost use Rattle.irtext_parse_nested.specs.Read.{RefusesOperation, RefusesPiece, RefusesEnd, RefusesRegion, RefusesRegionEnd, RefusesBlock};
 ghost use Rattle.irtext_parse_root.specs.Turned.{IsSoundOnce, Remains};
 ghost use Rattle.irtext_parse_root.specs.Turns.{IsNext, Begins, Continues, Ends, Enters, Leaves, Heads};
-ghost use Rattle.irtext_parse_nested.specs.declared.coming.Coming.TheVariants as comes;
+ghost use Rattle.irtext_parse_pieces.specs.declared.coming.Coming.TheVariants as comes;
 
 use irtext_base::parsable::ParseResult;
 use irtext_base::text::{AttrText, IrText};

@@ -3,7 +3,7 @@ use Rattle.irtext_tokens.proofs.Exits.{handed_on}
 use Rattle.irtext_format_check.specs.Directives.{format_of}
 use Rattle.irtext_parse_spec.specs.Heads.{steps_of}
 use Rattle.irtext_parse_pieces.proofs.Meanings.{names_more}
-use Rattle.irtext_parse_nested.specs.Coming.{IsStep}
+use Rattle.irtext_parse_pieces.specs.Coming.{IsStep}
 use Rattle.irtext_parse_nested.proofs.FrontRead.{lead_lacks, lead_unread, piece_lacks, piece_commits, front_stands, steps_are, isolated_is}
 use Rattle.irtext_parse_nested.proofs.beginning.front_read.Goals as goal
 

@@ -3,7 +3,7 @@ use Rattle.std.specs.Prelude.{IfSome}
 use Rattle.irtext_grammar.specs.Contexts.Formats.{isolated}
 use Rattle.irtext_grammar.specs.Contexts.Held.{whole}
 use Rattle.irtext_parse_spec.specs.Reached.{steps_in}
-use Rattle.irtext_parse_nested.specs.Coming.{IsStep}
+use Rattle.irtext_parse_pieces.specs.Coming.{IsStep}
 use Rattle.irtext_parse_root.proofs.Stopping.{operation_there}
 use Rattle.irtext_parse_root.proofs.steps.operation_step.Goals as goal
 

@@ -4,8 +4,8 @@ use Rattle.irtext_tokens.specs.AttrTexts.{attr_at}
 use Rattle.irtext_parse_spec.specs.Heads.{Step}
 use Rattle.irtext_parse_spec.specs.Reached.{steps_in}
 use Rattle.irtext_parse_nested.specs.Later.{IsFlatNext}
-use Rattle.irtext_parse_nested.specs.Coming.{IsStep}
-use Rattle.irtext_parse_nested.specs.declared.coming.Coming.TheVariants as comes
+use Rattle.irtext_parse_pieces.specs.Coming.{IsStep}
+use Rattle.irtext_parse_pieces.specs.declared.coming.Coming.TheVariants as comes
 use Rattle.irtext_parse_root.proofs.Handing.{goes_given, remains_same}
 use Rattle.irtext_parse_root.proofs.turns.go_on.Goals as goal
 

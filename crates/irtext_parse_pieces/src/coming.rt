@@ -3,10 +3,10 @@ ghost use Rattle.std.specs.Prelude.{slice_get, Some};
 ghost use Rattle.irtext_format_check.specs.Directives.{format_of};
 ghost use Rattle.irtext_parse_spec.specs.Heads.{steps_of};
 ghost use Rattle.irtext_parse_pieces.specs.Steps.{seen_step};
-ghost use Rattle.irtext_parse_nested.specs.Coming.{IsStep};
+ghost use Rattle.irtext_parse_pieces.specs.Coming.{IsStep};
 
+use crate::steps::{FormatStep, step_at};
 use irtext_base::format::{Directive, OpFormat};
-use irtext_parse_pieces::steps::{FormatStep, step_at};
 
 /// What comes next in an open operation.
 #[derive(Clone, Copy)]
@@ -49,7 +49,7 @@ pub fn kind_of(step: FormatStep<'_>) -> Coming
 }
 
 /// Returns what the step of a format at this index parses; after the last step comes the end.
-pub(crate) fn coming_at(format: &OpFormat, index: usize) -> Coming
+pub fn coming_at(format: &OpFormat, index: usize) -> Coming
     ensures { IsStep result (slice_get (steps_of (format_of format.now)) index) }
 {
     match step_at(format, index) {

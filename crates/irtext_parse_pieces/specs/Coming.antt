@@ -2,8 +2,8 @@
 use Rattle.std.specs.Prelude.{◌≡◌, ℕ, true, Option, Some, None, ⊤}
 use Rattle.irtext_parse_spec.specs.Heads.{Step, one, all}
 use Rattle.irtext_parse_spec.specs.Resume.{is_flat}
-use Rattle.irtext_parse_nested.specs.declared.coming.Coming.{Coming}
-use Rattle.irtext_parse_nested.specs.declared.coming.Coming.TheVariants as comes
+use Rattle.irtext_parse_pieces.specs.declared.coming.Coming.{Coming}
+use Rattle.irtext_parse_pieces.specs.declared.coming.Coming.TheVariants as comes
 
 -- the next step is of this kind
 abbrev pub IsStep : Coming → Option Step → Type 0

@@ -9,7 +9,7 @@ use irtext_base::format::OpFormat;
 const CANONICAL: usize = 18;
 
 /// Returns the number of steps of a format: its directives, or the steps of the canonical form.
-pub(crate) fn step_count(format: &OpFormat) -> usize
+pub fn step_count(format: &OpFormat) -> usize
     ensures { result ≡ length (steps_of (format_of format.now)) }
 {
     match format {
