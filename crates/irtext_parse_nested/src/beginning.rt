@@ -303,7 +303,8 @@ fn begin_gathered<T: IrText<A>, A: AttrText<A>, U>(
     requires are { (text : Text) × (parts : List (Part ℕ T A)) × Each (IsPart names.old.names text) front.pieces parts }
     requires tied { MatchesGraph names.old.values names.old.labels s.old.state.ctx.now.graph }
     requires key { IfSome front.key (λ key. key ≡ sym_name_key) }
-    requires block { IfSome block (λ b. IsSome (contexts.block s.old.state.ctx.now b) × IsSome (parent s.old.state.ctx.now.graph (TheBlock b))) }
+    requires block { IfSome block (λ b. IsSome (contexts.block s.old.state.ctx.now b)
+        × IsSome (parent s.old.state.ctx.now.graph (TheBlock b))) }
     ensures lent { s.new.state.ctx.ghost_name ≡ s.old.state.ctx.ghost_name }
     ensures rest { KeepsRest s.old.state s.new.state }
     ensures marks { marks_of s.new.state ≡ marks_of s.old.state }
@@ -356,7 +357,8 @@ fn begin_bare<T: IrText<A>, A: AttrText<A>, U>(
 ) -> ParseResult<BegunOperation, A>
     requires bare { front.pieces ≡ [] }
     requires tied { MatchesGraph names.now.values names.now.labels s.old.state.ctx.now.graph }
-    requires block { IfSome block (λ b. IsSome (contexts.block s.old.state.ctx.now b) × IsSome (parent s.old.state.ctx.now.graph (TheBlock b))) }
+    requires block { IfSome block (λ b. IsSome (contexts.block s.old.state.ctx.now b)
+        × IsSome (parent s.old.state.ctx.now.graph (TheBlock b))) }
     ensures lent { s.new.state.ctx.ghost_name ≡ s.old.state.ctx.ghost_name }
     ensures rest { KeepsRest s.old.state s.new.state }
     ensures marks { marks_of s.new.state ≡ marks_of s.old.state }
@@ -407,7 +409,8 @@ fn begin_read<T: IrText<A>, A: AttrText<A>, U>(
     requires are { (text : Text) × (parts : List (Part ℕ T A)) × Each (IsPart names.old.names text) front.pieces parts }
     requires tied { MatchesGraph names.old.values names.old.labels s.old.state.ctx.now.graph }
     requires key { IfSome front.key (λ key. key ≡ sym_name_key) }
-    requires block { IfSome block (λ b. IsSome (contexts.block s.old.state.ctx.now b) × IsSome (parent s.old.state.ctx.now.graph (TheBlock b))) }
+    requires block { IfSome block (λ b. IsSome (contexts.block s.old.state.ctx.now b)
+        × IsSome (parent s.old.state.ctx.now.graph (TheBlock b))) }
     ensures lent { s.new.state.ctx.ghost_name ≡ s.old.state.ctx.ghost_name }
     ensures rest { KeepsRest s.old.state s.new.state }
     ensures marks { marks_of s.new.state ≡ marks_of s.old.state }
@@ -439,7 +442,8 @@ pub fn operation_begin<T: IrText<A>, A: AttrText<A>, U>(
 ) -> ParseResult<BegunOperation, A>
     requires fine { s.old.stream.failed ≡ false }
     requires tied { MatchesGraph names.old.values names.old.labels s.old.state.ctx.now.graph }
-    requires block { IfSome block (λ b. IsSome (contexts.block s.old.state.ctx.now b) × IsSome (parent s.old.state.ctx.now.graph (TheBlock b))) }
+    requires block { IfSome block (λ b. IsSome (contexts.block s.old.state.ctx.now b)
+        × IsSome (parent s.old.state.ctx.now.graph (TheBlock b))) }
     ensures lent { s.new.state.ctx.ghost_name ≡ s.old.state.ctx.ghost_name }
     ensures rest { KeepsRest s.old.state s.new.state }
     ensures marks { marks_of s.new.state ≡ marks_of s.old.state }

@@ -195,7 +195,8 @@ pub fn operation_piece<T: IrText<A>, A: AttrText<A>, U>(
     ensures marks { marks_of s.new.state ≡ marks_of s.old.state }
     ensures moves { OnOk result (Moves s.old.stream s.new.stream) }
     ensures goes_on { OnOk result (GoesOn T.IrText.reading (attr_at A.IrText.reading) names.old s.old begun.old begun.new names.new s.new) }
-    ensures refused { IfErr result (λ fault. (o : OpenOperation T A) (step : Step) (ss : List Step) → IsBegun names.old.names (whole s.old.stream) s.old.state.ctx.now begun.old o → o.steps ≡ step ∷ ss
+    ensures refused { IfErr result (λ fault. (o : OpenOperation T A) (step : Step) (ss : List Step) →
+        IsBegun names.old.names (whole s.old.stream) s.old.state.ctx.now begun.old o → o.steps ≡ step ∷ ss
         → UnlessMemory (RefusesPiece T.IrText.reading (attr_at A.IrText.reading) o step names.old s.old) fault) }
     ensures committed { IfErr result (λ fault. fault.committed ≡ true) }
     ensures spares { OnOk result (ModifiesOnly (TheOperation begun.old.op ∷ []) s.old.state.ctx.now s.new.state.ctx.now) }

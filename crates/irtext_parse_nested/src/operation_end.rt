@@ -131,7 +131,8 @@ fn results_defined<T: IrText<A>, A: AttrText<A>, U>(
     ensures stream { OnOk result (s.new.stream ≡ s.old.stream) }
     ensures closes { OnOk result ((o : OpenOperation T A) → IsBegun names.old.names (whole s.old.stream) s.old.state.ctx.now begun.now o
         → Acts (closes_at o s.old.state) names.old s.old.state (pledge_of begun.now o.place ∷ []) names.new s.new.state []) }
-    ensures refused { IfErr result (UnlessMemory (λ f. (o : OpenOperation T A) → IsBegun names.old.names (whole s.old.stream) s.old.state.ctx.now begun.now o
+    ensures refused { IfErr result (UnlessMemory (λ f. (o : OpenOperation T A) →
+        IsBegun names.old.names (whole s.old.stream) s.old.state.ctx.now begun.now o
         → ActFails (whole s.old.stream) (closes_at o s.old.state) names.old s.old.state (pledge_of begun.now o.place ∷ []) f)) }
     ensures committed { IfErr result (λ f. f.committed ≡ true) }
     ensures lasts { KeepsLive s.old.state.ctx.now s.new.state.ctx.now }
@@ -206,7 +207,8 @@ fn close<T: IrText<A>, A: AttrText<A>, U>(
     ensures stream { OnOk result (s.new.stream ≡ s.old.stream) }
     ensures closes { OnOk result ((o : OpenOperation T A) → IsBegun names.old.names (whole s.old.stream) s.old.state.ctx.now begun.now o
         → Acts (closes_at o s.old.state) names.old s.old.state (pledge_of begun.now o.place ∷ []) names.new s.new.state []) }
-    ensures refused { IfErr result (UnlessMemory (λ f. (o : OpenOperation T A) → IsBegun names.old.names (whole s.old.stream) s.old.state.ctx.now begun.now o
+    ensures refused { IfErr result (UnlessMemory (λ f. (o : OpenOperation T A) →
+        IsBegun names.old.names (whole s.old.stream) s.old.state.ctx.now begun.now o
         → ActFails (whole s.old.stream) (closes_at o s.old.state) names.old s.old.state (pledge_of begun.now o.place ∷ []) f)) }
     ensures committed { IfErr result (λ f. f.committed ≡ true) }
     ensures lasts { KeepsLive s.old.state.ctx.now s.new.state.ctx.now }
@@ -281,7 +283,8 @@ pub fn operation_end<T: IrText<A>, A: AttrText<A>, U>(
     ensures rest { KeepsRest s.old.state s.new.state }
     ensures ends { OnOk result ((o : OpenOperation T A) → IsBegun names.old.names (whole s.old.stream) s.old.state.ctx.now begun.now o
         → EndsOperation T.IrText.reading (attr_at A.IrText.reading) o begun.now names.old s.old names.new s.new) }
-    ensures refused { IfErr result (λ fault. (o : OpenOperation T A) → IsBegun names.old.names (whole s.old.stream) s.old.state.ctx.now begun.now o
+    ensures refused { IfErr result (λ fault. (o : OpenOperation T A) →
+        IsBegun names.old.names (whole s.old.stream) s.old.state.ctx.now begun.now o
         → UnlessMemory (RefusesEnd T.IrText.reading (attr_at A.IrText.reading) o begun.now names.old s.old) fault) }
     ensures committed { IfErr result (λ fault. fault.committed ≡ true) }
     ensures own { OnOk result (BecomesNamed (IsLocated s.old.state.src (whole s.old.stream)) names.old.names (whole s.old.stream) begun.now.names

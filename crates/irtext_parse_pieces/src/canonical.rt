@@ -41,7 +41,8 @@ pub struct CanonicalPieces<T, A> {
 #[cold]
 #[inline(never)]
 fn word_missed<S: CharStream, A>(stream: &mut S, text: &str) -> ParseResult<(), A>
-    ensures { (S.view stream.old).failed ≡ false → MustRead S.view S.at (λ u. u) (space_at ▷ text_at (characters text.now)) stream.old result stream.new }
+    ensures { (S.view stream.old).failed ≡ false → MustRead S.view S.at (λ u. u)
+        (space_at ▷ text_at (characters text.now)) stream.old result stream.new }
 {
     skip_white_space(stream);
     text_demanded(stream, text)
@@ -50,7 +51,8 @@ fn word_missed<S: CharStream, A>(stream: &mut S, text: &str) -> ParseResult<(), 
 /// Parses a fixed text, with white space before it, on a stream that has not failed. Every error is committed.
 #[inline(always)]
 fn word_parse<S: CharStream, A>(stream: &mut S, text: &str) -> ParseResult<(), A>
-    ensures { (S.view stream.old).failed ≡ false → MustRead S.view S.at (λ u. u) (space_at ▷ text_at (characters text.now)) stream.old result stream.new }
+    ensures { (S.view stream.old).failed ≡ false → MustRead S.view S.at (λ u. u)
+        (space_at ▷ text_at (characters text.now)) stream.old result stream.new }
 {
     if stream.accept_spaced(text) {
         return Ok(());
@@ -65,7 +67,9 @@ fn operands_parse<S: OwnStream, V: Copy, B: Copy, T: IrText<A>, A: AttrText<A>>(
     names: &mut NameTracker<V, B>,
     inside: bool,
 ) -> ParseResult<Few<ReadName>, A>
-    ensures read { (S.CharStream.view stream.old).failed ≡ false → MustSteps S.CharStream.view S.CharStream.at names.new.names T.IrText.reading (attr_at A.IrText.reading) inside
+    ensures read { (S.CharStream.view stream.old).failed ≡ false →
+        MustSteps S.CharStream.view S.CharStream.at names.new.names T.IrText.reading
+        (attr_at A.IrText.reading) inside
         operand_steps operand_pieces stream.old result stream.new }
     ensures names { NamesRead names.old names.new }
 {
@@ -83,7 +87,9 @@ fn successors_parse<S: OwnStream, V: Copy, B: Copy, T: IrText<A>, A: AttrText<A>
     names: &mut NameTracker<V, B>,
     inside: bool,
 ) -> ParseResult<Few<ReadName>, A>
-    ensures read { (S.CharStream.view stream.old).failed ≡ false → MustSteps S.CharStream.view S.CharStream.at names.new.names T.IrText.reading (attr_at A.IrText.reading) inside
+    ensures read { (S.CharStream.view stream.old).failed ≡ false →
+        MustSteps S.CharStream.view S.CharStream.at names.new.names T.IrText.reading
+        (attr_at A.IrText.reading) inside
         successor_steps successor_pieces stream.old result stream.new }
     ensures names { NamesRead names.old names.new }
 {
@@ -101,7 +107,8 @@ fn entries_parse<S: OwnStream, T: IrText<A>, A: AttrText<A>>(
     keys: &mut Keys,
     inside: bool,
 ) -> ParseResult<Vec<ReadEntry<A>>, A>
-    ensures { (names : List Text) → (S.CharStream.view stream.old).failed ≡ false → MustSteps S.CharStream.view S.CharStream.at names T.IrText.reading (attr_at A.IrText.reading) inside
+    ensures { (names : List Text) → (S.CharStream.view stream.old).failed ≡ false →
+        MustSteps S.CharStream.view S.CharStream.at names T.IrText.reading (attr_at A.IrText.reading) inside
         dictionary_steps dictionary_pieces stream.old result stream.new }
 {
     skip_white_space(stream);
@@ -114,7 +121,8 @@ fn parenthesized_parse<S: OwnStream, T: IrText<A>, A: AttrText<A>>(
     stream: &mut S,
     inside: bool,
 ) -> ParseResult<Few<T>, A>
-    ensures { (names : List Text) → (S.CharStream.view stream.old).failed ≡ false → MustSteps S.CharStream.view S.CharStream.at names T.IrText.reading (attr_at A.IrText.reading) inside
+    ensures { (names : List Text) → (S.CharStream.view stream.old).failed ≡ false →
+        MustSteps S.CharStream.view S.CharStream.at names T.IrText.reading (attr_at A.IrText.reading) inside
         type_steps type_pieces stream.old result stream.new }
 {
     word_parse(stream, "(")?;
@@ -130,7 +138,8 @@ fn inputs_parse<S: OwnStream, T: IrText<A>, A: AttrText<A>>(
     stream: &mut S,
     inside: bool,
 ) -> ParseResult<Few<T>, A>
-    ensures { (names : List Text) → (S.CharStream.view stream.old).failed ≡ false → MustSteps S.CharStream.view S.CharStream.at names T.IrText.reading (attr_at A.IrText.reading) inside
+    ensures { (names : List Text) → (S.CharStream.view stream.old).failed ≡ false →
+        MustSteps S.CharStream.view S.CharStream.at names T.IrText.reading (attr_at A.IrText.reading) inside
         input_steps input_pieces stream.old result stream.new }
 {
     word_parse(stream, ":")?;
@@ -144,7 +153,8 @@ fn results_parse<S: OwnStream, T: IrText<A>, A: AttrText<A>>(
     stream: &mut S,
     inside: bool,
 ) -> ParseResult<Few<T>, A>
-    ensures { (names : List Text) → (S.CharStream.view stream.old).failed ≡ false → MustSteps S.CharStream.view S.CharStream.at names T.IrText.reading (attr_at A.IrText.reading) inside
+    ensures { (names : List Text) → (S.CharStream.view stream.old).failed ≡ false →
+        MustSteps S.CharStream.view S.CharStream.at names T.IrText.reading (attr_at A.IrText.reading) inside
         result_steps result_pieces stream.old result stream.new }
 {
     word_parse(stream, "->")?;
@@ -163,7 +173,9 @@ pub(crate) fn canonical_parse<S: OwnStream, V: Copy, B: Copy, T: IrText<A>, A: A
     inside: bool,
     keys: &mut Keys,
 ) -> ParseResult<CanonicalPieces<T, A>, A>
-    ensures read { (S.CharStream.view stream.old).failed ≡ false → MustSteps S.CharStream.view S.CharStream.at names.new.names T.IrText.reading (attr_at A.IrText.reading) inside
+    ensures read { (S.CharStream.view stream.old).failed ≡ false →
+        MustSteps S.CharStream.view S.CharStream.at names.new.names T.IrText.reading
+        (attr_at A.IrText.reading) inside
         canonical_front pieces_of stream.old result stream.new }
     ensures names { NamesRead names.old names.new }
 {

@@ -100,7 +100,8 @@ pub(crate) fn end<T: IrText<A>, A: AttrText<A>, U>(
     requires begun { (o : OpenOperation T A) × IsBegun names.old.names (whole s.old.stream) s.old.state.ctx.now begun.now o }
     ensures lent { s.new.state.ctx.ghost_name ≡ s.old.state.ctx.ghost_name }
     ensures ends { OnOk result (Ends T.IrText.reading (attr_at A.IrText.reading) names.old s.old begun.now names.new s.new) }
-    ensures refused { IfErr result (λ fault. (o : OpenOperation T A) → IsBegun names.old.names (whole s.old.stream) s.old.state.ctx.now begun.now o
+    ensures refused { IfErr result (λ fault. (o : OpenOperation T A) →
+        IsBegun names.old.names (whole s.old.stream) s.old.state.ctx.now begun.now o
         → UnlessMemory (RefusesEnd T.IrText.reading (attr_at A.IrText.reading) o begun.now names.old s.old) fault) }
     ensures committed { IfErr result (λ fault. fault.committed ≡ true) }
     ensures remains { OnErr result (Remains s.old.state s.new.state) }

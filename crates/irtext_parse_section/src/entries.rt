@@ -107,7 +107,9 @@ pub(crate) fn entries_parse<T: IrText<A>, A: AttrText<A>, U>(
 ) -> ParseResult<Entries<A>, A>
     requires fine { s.old.stream.failed ≡ false }
     ensures only { AddsOnlyPaths s.old.state s.new.state }
-    ensures read { MustReadEntries (λ t. entries_after (attr_at A.IrText.reading) (indices_of (marks_of s.old.state)) (rules_of (marks_of s.old.state)) (length t) [] t) s.old result s.new }
+    ensures read { MustReadEntries (λ t. entries_after (attr_at A.IrText.reading)
+        (indices_of (marks_of s.old.state)) (rules_of (marks_of s.old.state)) (length t) [] t) s.old result
+        s.new }
 {
     if !next_is(&s.stream, '!') {
         return Ok(Entries::Nothing);

@@ -32,7 +32,8 @@ fn all_parse<T: IrText<A>, A: AttrText<A>, U>(
     s: &mut StateStream<'_, T, A, U>,
 ) -> ParseResult<Entries<A>, A>
     ensures only { AddsOnlyPaths s.old.state s.new.state }
-    ensures read { MustReadEntries (entries_at (attr_at A.IrText.reading) (indices_of (marks_of s.old.state)) (rules_of (marks_of s.old.state))) s.old result s.new }
+    ensures read { MustReadEntries (entries_at (attr_at A.IrText.reading) (indices_of (marks_of s.old.state))
+        (rules_of (marks_of s.old.state))) s.old result s.new }
 {
     spaced_text_demanded(&mut s.stream, "outlined_attributes:")?;
     entries_parse(s)
@@ -44,7 +45,8 @@ pub fn section_checked<T: IrText<A>, A: AttrText<A>, U>(
     s: &mut StateStream<'_, T, A, U>,
 ) -> ParseResult<Entries<A>, A>
     ensures only { AddsOnlyPaths s.old.state s.new.state }
-    ensures read { MustReadEntries (section_at (attr_at A.IrText.reading) (indices_of (marks_of s.old.state)) (rules_of (marks_of s.old.state))) s.old result s.new }
+    ensures read { MustReadEntries (section_at (attr_at A.IrText.reading) (indices_of (marks_of s.old.state))
+        (rules_of (marks_of s.old.state))) s.old result s.new }
 {
     let entries = all_parse(s)?;
     entries_checked(&mut s.stream, &entries)?;

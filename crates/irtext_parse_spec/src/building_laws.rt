@@ -42,13 +42,15 @@ pub fn what_is_built_is_the_tree<T: IrText<A>, A: AttrText<A>>()
 pub fn two_doings_stand_beside<T: IrText<A>, A: AttrText<A>, U, V>()
     ensures tree { (isolated : Id → Bool) (d : Actions T A U) (e : Actions T A V) (x : Tree ℕ T A) (s : U) (t : V) →
         do_tree isolated (both d e) x (s, t) ≡ (do_tree isolated d x s, do_tree isolated e x t) }
-    ensures operation { (dialects : List (Text × Table)) (d : Actions T A U) (e : Actions T A V) (inside : Bool) (text : Text) (s : U) (t : V) →
+    ensures operation { (dialects : List (Text × Table)) (d : Actions T A U) (e : Actions T A V)
+        (inside : Bool) (text : Text) (s : U) (t : V) →
         AreBeside (operation_at dialects T.reading (attr_at A.reading) d inside text s) (operation_at dialects T.reading (attr_at A.reading) e inside text t)
         (operation_at dialects T.reading (attr_at A.reading) (both d e) inside text (s, t)) }
     ensures rest { (dialects : List (Text × Table)) (d : Actions T A U) (e : Actions T A V) (o : Open T A) (text : Text) (s : U) (t : V) →
         AreBeside (rest_of dialects T.reading (attr_at A.reading) d o text s) (rest_of dialects T.reading (attr_at A.reading) e o text t)
         (rest_of dialects T.reading (attr_at A.reading) (both d e) o text (s, t)) }
-    ensures whole { (dialects : List (Text × Table)) (d : Actions T A U) (e : Actions T A V) (next : Option (Open T A)) (frames : List (Open T A)) (s : U) (t : V) (text : Text) →
+    ensures whole { (dialects : List (Text × Table)) (d : Actions T A U) (e : Actions T A V)
+        (next : Option (Open T A)) (frames : List (Open T A)) (s : U) (t : V) (text : Text) →
         AreBeside (whole dialects T.reading (attr_at A.reading) d next frames s text) (whole dialects T.reading (attr_at A.reading) e next frames t text)
         (whole dialects T.reading (attr_at A.reading) (both d e) next frames (s, t) text) }
 {}
