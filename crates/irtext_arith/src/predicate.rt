@@ -59,15 +59,9 @@ impl<A> Part<A> for Predicate {
     ghost use Rattle.irtext_arith.specs.Predicates.{predicate_at, predicate_text};
     ghost use Rattle.irtext_arith.specs.PredicateLaws.{predicate_law, predicate_decides};
 
-    ghost reading = { predicate_at };
+    ghost text = { record { reading = predicate_at; written = predicate_text; ends = ends_text } };
 
-    ghost written = { predicate_text };
-
-    ghost ends = { ends_text };
-
-    ghost law = { predicate_law };
-
-    ghost decides = { predicate_decides };
+    ghost sound = { record { law = predicate_law; decides = predicate_decides } };
 
     fn read(stream: &mut TextStream) -> ParseResult<Predicate, A> {
         table_parse::<Predicate, Predicate, A>(stream, "Unknown predicate ", Expected::Attribute)

@@ -36,7 +36,8 @@ pub trait TryAccess: Sized {
         dialect: &str,
         name: &str,
     ) -> bool
-        ensures id { IsTrue result ↔ (option_map (λ op. op.id) (operation ctx.now (pointer self)) ≡ Some (id_of_texts dialect.now name.now)) }
+        ensures id { IsTrue result ↔ (option_map (λ op. op.id) (operation ctx.now (pointer self)) ≡ Some
+            (id_of_texts dialect.now name.now)) }
         ensures live { IsTrue result → IsSome (operation ctx.now (pointer self)) };
 
     /// Returns the region of the operation at an index, as `get_region` does. Fails with `Text` if the operation has no region with this
@@ -61,12 +62,15 @@ pub trait TryAccess: Sized {
         key: Identifier,
         attr: AttrObj<A>,
     ) -> result::Result<(), A>
-        ensures edits { OnOk result (EditsOperation ctx.old ctx.new (pointer self) (with_attribute key attr)) }
+        ensures edits { OnOk result (EditsOperation ctx.old ctx.new (pointer self)
+            (with_attribute key attr)) }
         ensures live { OnOk result (IsSome (operation ctx.old (pointer self))) }
         ensures allowed { OnOk result (is_reserved_for key attr ≡ false) }
         ensures err { OnErr result (ctx.new ≡ ctx.old) }
-        ensures refused { IfErr result (λ e. RefusesAttribute (operation ctx.old (pointer self)) key attr e.err) }
-        ensures kept { (mark : ℕ) → before mark ctx.old.graph.operations (pointer self) ≡ None → KeepsOlder mark ctx.old ctx.new }
+        ensures refused { IfErr result (λ e. RefusesAttribute (operation ctx.old (pointer self)) key
+            attr e.err) }
+        ensures kept { (mark : ℕ) → before mark ctx.old.graph.operations (pointer self) ≡ None
+            → KeepsOlder mark ctx.old ctx.new }
         ensures kind { IfErr result (λ e. (e.kind ≡ ErrorKind.InvalidArgument) × (e.loc ≡ Unknown)) };
 }
 
@@ -133,12 +137,14 @@ pub trait TryBlockAccess: Sized {
         key: Identifier,
         attr: AttrObj<A>,
     ) -> result::Result<(), A>
-        ensures edits { OnOk result (EditsBlock ctx.old ctx.new (pointer self) (with_block_attribute key attr)) }
+        ensures edits { OnOk result (EditsBlock ctx.old ctx.new (pointer self) (with_block_attribute
+            key attr)) }
         ensures live { OnOk result (IsSome (block ctx.old (pointer self))) }
         ensures allowed { OnOk result (is_reserved_for key attr ≡ false) }
         ensures err { OnErr result (ctx.new ≡ ctx.old) }
         ensures refused { IfErr result (λ e. RefusesAttribute (block ctx.old (pointer self)) key attr e.err) }
-        ensures kept { (mark : ℕ) → before mark ctx.old.graph.blocks (pointer self) ≡ None → KeepsOlder mark ctx.old ctx.new }
+        ensures kept { (mark : ℕ) → before mark ctx.old.graph.blocks (pointer self) ≡ None
+            → KeepsOlder mark ctx.old ctx.new }
         ensures kind { IfErr result (λ e. (e.kind ≡ ErrorKind.InvalidArgument) × (e.loc ≡ Unknown)) };
 }
 

@@ -27,11 +27,14 @@ pub trait TryInsert<K: Kind>: Sized {
         holder: Ptr<H>,
         ctx: &mut Context<T, A>,
     ) -> result::Result<(), A>
-        ensures ok { OnOk result (Appends ctx.old.graph ctx.new.graph (H.object holder) (K.object (pointer self))) }
+        ensures ok { OnOk result (Appends ctx.old.graph ctx.new.graph (H.object holder)
+            (K.object (pointer self))) }
         ensures rest { ctx.new ≡ record ctx.old { graph = ctx.new.graph } }
         ensures err { OnErr result (ctx.new ≡ ctx.old) }
-        ensures refused { IfErr result (λ e. RefusesInsert ctx.old.graph (H.object holder) (K.object (pointer self)) e.err) }
-        ensures kept { (m : ℕ) → IsNew m ctx.old.graph (H.object holder) → IsNew m ctx.old.graph (K.object (pointer self))
+        ensures refused { IfErr result (λ e. RefusesInsert ctx.old.graph (H.object holder)
+            (K.object (pointer self)) e.err) }
+        ensures kept { (m : ℕ) → IsNew m ctx.old.graph (H.object holder) → IsNew m ctx.old.graph
+            (K.object (pointer self))
             → KeepsOlder m ctx.old.graph ctx.new.graph }
         ensures kind { IfErr result (λ e. (e.kind ≡ ErrorKind.InvalidArgument) × (e.loc ≡ Unknown)) };
 }

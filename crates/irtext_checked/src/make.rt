@@ -30,7 +30,8 @@ pub trait TryNewOperation {
         successors: &[Ptr<BasicBlock>],
         num_regions: usize,
     ) -> result::Result<Ptr<Operation>, A>
-        ensures made { IfOk result (λ op. MakesWithRegions num_regions ctx.old ctx.new op id result_types operands.now successors.now) }
+        ensures made { IfOk result (λ op. MakesWithRegions num_regions ctx.old ctx.new op id result_types
+            operands.now successors.now) }
         ensures live { IfOk result (λ op. IsSome (operation ctx.new op)) }
         ensures used { OnOk result (ValuesStand ctx.old operands.now × BlocksStand ctx.old successors.now) }
         ensures registered { OnOk result (IsSome (registered ctx.old.dialects id)) }

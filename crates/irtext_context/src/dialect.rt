@@ -305,7 +305,8 @@ impl Dialect {
 
     /// Returns what the dialect records of an operation, or `None` if it is not registered. It allocates nothing.
     pub fn op(&self, id: &OpId) -> Option<&OpInfo>
-        ensures found { option_map (λ info. known_of info.now) result ≡ lookup (same_id id.now) self.now.entries }
+        ensures found { option_map (λ info. known_of info.now) result ≡ lookup (same_id id.now)
+            self.now.entries }
         ensures accepted { IfSome result (λ info. Accepted (format_of info.now.format)) }
     {
         found(&self.ops, id)

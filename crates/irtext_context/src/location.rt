@@ -59,8 +59,10 @@ fn erase_inside<T: IrText<A>, A: AttrText<A>>(
 pub fn erase_locations<T: IrText<A>, A: AttrText<A>>(ctx: &mut Context<T, A>, op: Ptr<Operation>)
     requires { IsSome (operation ctx.old op) }
     ensures erased { ErasesLocations ctx.old ctx.new op }
-    ensures alone { HoldsNoBlocks ctx.old.graph (TheOperation op) → EditsOperation ctx.old ctx.new op (with_loc Unknown) }
-    ensures kept { (mark : ℕ) → IsNewInside mark ctx.old.graph (TheOperation op) → KeepsOlder mark ctx.old ctx.new }
+    ensures alone { HoldsNoBlocks ctx.old.graph (TheOperation op) → EditsOperation ctx.old ctx.new op
+        (with_loc Unknown) }
+    ensures kept { (mark : ℕ) → IsNewInside mark ctx.old.graph (TheOperation op)
+        → KeepsOlder mark ctx.old ctx.new }
 {
     ctx.graph.keeps_nesting();
     erase_inside(&mut ctx.graph, Object::TheOperation(op));

@@ -245,15 +245,13 @@ impl<A> Part<A> for IntegerType {
     ghost use Rattle.irtext_demo.specs.IntegerTypes.{integer_type_ends};
     ghost use Rattle.irtext_demo.specs.IntegerTypeLaws.{integer_type_law, integer_type_decides};
 
-    ghost reading = { integer_type_at };
+    ghost text = { record {
+      reading = integer_type_at;
+      written = integer_type_text;
+      ends = integer_type_ends;
+    } };
 
-    ghost written = { integer_type_text };
-
-    ghost ends = { integer_type_ends };
-
-    ghost law = { integer_type_law };
-
-    ghost decides = { integer_type_decides };
+    ghost sound = { record { law = integer_type_law; decides = integer_type_decides } };
 
     fn read(stream: &mut TextStream) -> ParseResult<IntegerType, A> {
         match integer_type_parse(stream) {

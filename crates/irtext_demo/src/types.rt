@@ -131,15 +131,9 @@ impl<A> Part<A> for DemoType {
     ghost use Rattle.irtext_demo.specs.Types.{type_at, type_text};
     ghost use Rattle.irtext_demo.specs.TypeLaws.{type_law, type_decides};
 
-    ghost reading = { type_at };
+    ghost text = { record { reading = type_at; written = type_text; ends = ends_text } };
 
-    ghost written = { type_text };
-
-    ghost ends = { ends_text };
-
-    ghost law = { type_law };
-
-    ghost decides = { type_decides };
+    ghost sound = { record { law = type_law; decides = type_decides } };
 
     fn read(stream: &mut TextStream) -> ParseResult<DemoType, A> {
         <DemoType as IrText<A>>::read(stream)

@@ -166,7 +166,8 @@ impl<X> IndexMut<usize> for Lone<X> {
 
     fn index_mut(&mut self, index: usize) -> &mut X
         requires { index < length self.old }
-        ensures* lends { sem 𝓛 (Lends (lone.the_row X.row) X.row self.entry result (slice_set self.old index)) }
+        ensures* lends { sem 𝓛 (Lends (lone.the_row X.row) X.row self.entry result
+            (slice_set self.old index)) }
         ensures value { result.now ≡ slice_index_or self.old index result.now }
     {
         self.items.item_mut(index)

@@ -33,7 +33,8 @@ fn given_to_result<'c, T: IrText<A>, A: AttrText<A>>(
     op: Ptr<Operation>,
     index: usize,
 ) -> Option<&'c Identifier>
-    ensures { option_copied result ≡ option_and_then (λ op. given_at index op.attributes) (operation ctx.now op) }
+    ensures { option_copied result ≡ option_and_then (λ op. given_at index op.attributes)
+        (operation ctx.now op) }
 {
     if !ctx.contains_operation(op) {
         return None;
@@ -69,7 +70,8 @@ pub fn given_name<T: IrText<A>, A: AttrText<A>>(
 
 /// Returns the printed name of a value with this number and this given name, if any. Fails only if an allocation fails.
 fn value_text(alloc: Global, given: Option<&Identifier>, number: u64) -> Result<String, AllocError>
-    ensures { IfOk result (λ s. chars (string_bytes s) ≡ printed.value_name (option_copied given.entry) number) }
+    ensures { IfOk result (λ s. chars (string_bytes s) ≡ printed.value_name
+        (option_copied given.entry) number) }
 {
     match given {
         Some(name) => {
@@ -87,7 +89,8 @@ fn block_text(
     place: u64,
     generation: u32,
 ) -> Result<String, AllocError>
-    ensures { IfOk result (λ s. chars (string_bytes s) ≡ printed.block_name (option_copied label.entry) (place, generation)) }
+    ensures { IfOk result (λ s. chars (string_bytes s) ≡ printed.block_name (option_copied label.entry)
+        (place, generation)) }
 {
     match label {
         Some(label) => {

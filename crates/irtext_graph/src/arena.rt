@@ -103,7 +103,8 @@ impl<X: Drop> Arena<X> {
         born: u64,
         content: X,
     ) -> Result<Ptr<K>, AllocError>
-        ensures inserts { IfOk result (λ p. Inserts self.old self.new p (record { born = born; content = content })) }
+        ensures inserts { IfOk result (λ p. Inserts self.old self.new p
+            (record { born = born; content = content })) }
         ensures few { HasFew self.old → HasFew self.new }
         ensures err { OnErr result (self.new.slots.items ≡ self.old.slots.items) }
         ensures err_free { OnErr result (self.new.free ≡ self.old.free) }
@@ -118,7 +119,8 @@ impl<X: Drop> Arena<X> {
     #[inline(always)]
     fn reusable(&self) -> Option<Freed>
         ensures none { result ≡ None → free_place self.now ≡ None }
-        ensures slot { IfSome result (λ f. slice_get self.now.slots.items f.index ≡ Some (Vacant f.last f.next)) }
+        ensures slot { IfSome result (λ f. slice_get self.now.slots.items f.index ≡ Some
+            (Vacant f.last f.next)) }
         ensures index { IfSome result (λ f. f.index ≡ self.now.free) }
         ensures last { IfSome result (λ f. f.last < 4294967294) }
     {
@@ -161,7 +163,8 @@ impl<X: Drop> Arena<X> {
     /// Stores an object in a new slot. No freed slot can be used again.
     fn insert_last<K>(&mut self, first: u32, born: u64, content: X) -> Result<Ptr<K>, AllocError>
         requires { free_place self.old ≡ None }
-        ensures inserts { IfOk result (λ p. Inserts self.old self.new p (record { born = born; content = content })) }
+        ensures inserts { IfOk result (λ p. Inserts self.old self.new p
+            (record { born = born; content = content })) }
         ensures few { HasFew self.old → HasFew self.new }
         ensures err { OnErr result (self.new.slots.items ≡ self.old.slots.items) }
         ensures err_free { OnErr result (self.new.free ≡ self.old.free) }
@@ -228,8 +231,10 @@ impl<X: Drop> Arena<X> {
         ensures value { result ≡ option_map (λ o. o.content) (get self.old p) }
         ensures updates { Updates self.old self.new p None }
         ensures generations { (i : ℕ) → generation_at self.new i ≡ generation_at self.old i }
-        ensures next { IsSome (get self.old p) → p.generation < 4294967294 → free_place self.new ≡ Some p.index }
-        ensures stored { IsSome (get self.old p) → self.new.slots.items ≡ set self.old.slots.items p.index (Vacant p.generation self.old.free) }
+        ensures next { IsSome (get self.old p) → p.generation < 4294967294
+            → free_place self.new ≡ Some p.index }
+        ensures stored { IsSome (get self.old p) → self.new.slots.items ≡ set self.old.slots.items p.index
+            (Vacant p.generation self.old.free) }
         ensures same { get self.old p ≡ None → self.new.slots.items ≡ self.old.slots.items }
     {
         if !self.contains(p) {

@@ -41,7 +41,8 @@ impl<O: Drop, T: Drop> Arena<Nest<BasicBlock, Region, OperationData<O, T>>> {
         ensures operands { (i : ℕ) → operand_in (get self.new p) i ≡ None }
         ensures successors { (i : ℕ) → successor_in (get self.new p) i ≡ None }
         ensures others { (q : Ptr Operation) → q ≢ p → get self.new q ≡ get self.old q }
-        ensures results { (q : Ptr Operation) (i : ℕ) → result_in (get self.new q) i ≡ result_in (get self.old q) i }
+        ensures results { (q : Ptr Operation) (i : ℕ) → result_in (get self.new q) i ≡ result_in
+            (get self.old q) i }
         ensures edits { Edits (seen self.old) (seen self.new) p without_uses_in }
         ensures places { KeepsPlaces self.old self.new }
     {
@@ -106,7 +107,8 @@ impl<O: Drop, B: Drop, T: Drop> Objects<O, B, T> {
         ensures forest { IsForest self.new }
         ensures linked { AreUsesLinked self.new }
         ensures used { (u : _) → IsSome (use_at self.new u) → IsSome (val self.new u) }
-        ensures inside { (q : _) → Within (up self.old) o q → what self.new q ≡ option_map without_uses (what self.old q) }
+        ensures inside { (q : _) → Within (up self.old) o q → what self.new q ≡ option_map without_uses
+            (what self.old q) }
         ensures others { (q : _) → (Within (up self.old) o q → ⊥) → what self.new q ≡ what self.old q }
         ensures ups { (q : _) → up self.new q ≡ up self.old q }
         ensures kids { (q : _) → kids self.new q ≡ kids self.old q }

@@ -57,7 +57,8 @@ impl<O: Drop, B: Drop, T: Drop> Objects<O, B, T> {
         ensures refused { OnErr result (SameNodes self.old self.new) }
         ensures places { SamePlaces self.old self.new }
         ensures data { SameData self.old self.new }
-        ensures kept { (m : ℕ) → stays m self.old k ≡ false → stays m self.old c ≡ false → KeepsOlder m self.old self.new }
+        ensures kept { (m : ℕ) → stays m self.old k ≡ false → stays m self.old c ≡ false
+            → KeepsOlder m self.old self.new }
     {
         let count = self.child_count(k);
         match self.append(k, c) {
@@ -128,7 +129,8 @@ impl<O: Drop, B: Drop, T: Drop> Objects<O, B, T> {
         ensures free { up self.new c ≡ None }
         ensures ups { (q : _) → q ≢ c → up self.new q ≡ up self.old q }
         ensures kids { (q : _) → up self.old c ≢ Some q → kids self.new q ≡ kids self.old q }
-        ensures left { (k : _) (i : ℕ) → up self.old c ≡ Some k → slice_get (kids self.old k) i ≡ Some c → kids self.new k ≡ remove (kids self.old k) i }
+        ensures left { (k : _) (i : ℕ) → up self.old c ≡ Some k → slice_get (kids self.old k) i ≡ Some c
+            → kids self.new k ≡ remove (kids self.old k) i }
         ensures data { (q : _) → what self.new q ≡ what self.old q }
         ensures links { links self.new ≤ links self.old }
         ensures places { SamePlaces self.old self.new }
@@ -231,12 +233,14 @@ impl<O: Drop, B: Drop, T: Drop> Objects<O, B, T> {
         requires forest { IsForest self.old }
         ensures forest { IsForest self.new }
         ensures gone { (q : _) → Within (up self.old) o q → IsGone self.new q }
-        ensures kept { (q : _) → (Within (up self.old) o q → ⊥) → up self.old o ≢ Some q → SameAt self.old self.new q }
+        ensures kept { (q : _) → (Within (up self.old) o q → ⊥) → up self.old o ≢ Some q
+            → SameAt self.old self.new q }
         ensures parent { (k : _) → up self.old o ≡ Some k → up self.new k ≡ up self.old k }
         ensures whats { (q : _) → (Within (up self.old) o q → ⊥) → what self.new q ≡ what self.old q }
         ensures data { (q : _) → (Within (up self.old) o q → ⊥) → SameDatum self.old self.new q }
         ensures sheds { Sheds self.old self.new }
-        ensures left { (k : _) (i : ℕ) → up self.old o ≡ Some k → slice_get (kids self.old k) i ≡ Some o → kids self.new k ≡ remove (kids self.old k) i }
+        ensures left { (k : _) (i : ℕ) → up self.old o ≡ Some k → slice_get (kids self.old k) i ≡ Some o
+            → kids self.new k ≡ remove (kids self.old k) i }
     {
         self.unlink(o);
         self.erase_all(o)

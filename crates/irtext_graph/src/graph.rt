@@ -235,7 +235,8 @@ impl<O: Drop, B: Drop, T: Drop> Graph<O, B, T> {
     pub fn unlink(&mut self, c: Object)
         requires { IsLive self.old c }
         ensures unlinks { Unlinks self.old self.new c }
-        ensures kept { (m : ℕ) → IsNew m self.old c → ((k : _) → parent self.old c ≡ Some k → IsNew m self.old k) → KeepsOlder m self.old self.new }
+        ensures kept { (m : ℕ) → IsNew m self.old c → ((k : _) → parent self.old c ≡ Some k → IsNew m self.old
+            k) → KeepsOlder m self.old self.new }
     {
         self.objects.unlink(c);
     }
@@ -254,7 +255,8 @@ impl<O: Drop, B: Drop, T: Drop> Graph<O, B, T> {
     pub fn drop_all_uses(&mut self, o: Object)
         requires { IsLive self.old o }
         ensures drops { DropsUses self.old self.new o }
-        ensures kept { (m : ℕ) → ((p : _) → IsInside self.old o (TheOperation p) → IsNew m self.old (TheOperation p))
+        ensures kept { (m : ℕ) → ((p : _) → IsInside self.old o (TheOperation p) → IsNew m self.old
+            (TheOperation p))
             → KeepsOlder m self.old self.new }
     {
         self.objects.drop_all_uses(o);

@@ -35,7 +35,8 @@ pub trait HasGraph {
 
     /// Borrows the graph as `&mut`.
     fn graph_mut(&mut self) -> &mut Graph<Self::O, Self::B, Self::T>
-        ensures* lends { sem 𝓛 (LendsGraph Self.O.row Self.B.row Self.T.row Self.row with_graph self.entry result) }
+        ensures* lends { sem 𝓛 (LendsGraph Self.O.row Self.B.row Self.T.row Self.row with_graph
+            self.entry result) }
         ensures value { result.now ≡ graph self.old };
 
     ghost graph_with: { (c : Self) (g : GraphView Self.O Self.B Self.T) → graph (with_graph c g) ≡ g };
@@ -136,9 +137,11 @@ impl<K: Kind> Ptr<K> {
         requires holder { IsLive (C.graph ctx.old) (H.object holder) }
         requires stands { IsLive (C.graph ctx.old) (K.object self) }
         requires can { CanInsert (C.graph ctx.old) (H.object holder) (K.object self) }
-        ensures ok { OnOk result (Appends (C.graph ctx.old) (C.graph ctx.new) (H.object holder) (K.object self)) }
+        ensures ok { OnOk result (Appends (C.graph ctx.old) (C.graph ctx.new) (H.object holder)
+            (K.object self)) }
         ensures err { OnErr result (ctx.new ≡ ctx.old) }
-        ensures kept { (m : ℕ) → IsNew m (C.graph ctx.old) (H.object holder) → IsNew m (C.graph ctx.old) (K.object self)
+        ensures kept { (m : ℕ) → IsNew m (C.graph ctx.old) (H.object holder) → IsNew m (C.graph ctx.old)
+            (K.object self)
             → KeepsOlder m (C.graph ctx.old) (C.graph ctx.new) }
         ensures rest { ctx.new ≡ C.with_graph ctx.old (C.graph ctx.new) }
     {
@@ -188,7 +191,8 @@ impl<K: Kind> Ptr<K> {
     /// Returns the nearest operation that encloses the object, if there is one.
     pub fn get_parent_op<C: HasGraph>(self, ctx: &C) -> Option<Ptr<Operation>>
         requires { IsLive (C.graph ctx.now) (K.object self) }
-        ensures parent { ancestor (C.graph ctx.now) (to_operation (K.object self)) (K.object self) ≡ option_map TheOperation result }
+        ensures parent { ancestor (C.graph ctx.now) (to_operation (K.object self))
+            (K.object self) ≡ option_map TheOperation result }
         ensures stands { IfSome result (λ p. IsLive (C.graph ctx.now) (TheOperation p)) }
     {
         let o = K::object(self);
@@ -202,7 +206,8 @@ impl<K: Kind> Ptr<K> {
     /// Returns the nearest block that encloses the object, if there is one.
     pub fn get_parent_block<C: HasGraph>(self, ctx: &C) -> Option<Ptr<BasicBlock>>
         requires { IsLive (C.graph ctx.now) (K.object self) }
-        ensures parent { ancestor (C.graph ctx.now) (to_block (K.object self)) (K.object self) ≡ option_map TheBlock result }
+        ensures parent { ancestor (C.graph ctx.now) (to_block (K.object self)) (K.object self) ≡ option_map
+            TheBlock result }
         ensures stands { IfSome result (λ p. IsLive (C.graph ctx.now) (TheBlock p)) }
     {
         let o = K::object(self);
@@ -216,7 +221,8 @@ impl<K: Kind> Ptr<K> {
     /// Returns the nearest region that encloses the object, if there is one.
     pub fn get_parent_region<C: HasGraph>(self, ctx: &C) -> Option<Ptr<Region>>
         requires { IsLive (C.graph ctx.now) (K.object self) }
-        ensures parent { ancestor (C.graph ctx.now) (to_region (K.object self)) (K.object self) ≡ option_map TheRegion result }
+        ensures parent { ancestor (C.graph ctx.now) (to_region (K.object self)) (K.object self) ≡ option_map
+            TheRegion result }
         ensures stands { IfSome result (λ p. IsLive (C.graph ctx.now) (TheRegion p)) }
     {
         let o = K::object(self);

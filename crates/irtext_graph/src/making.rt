@@ -188,7 +188,8 @@ impl<O: Drop, B: Drop, T: Drop> Graph<O, B, T> {
         requires { IsLive self.old (TheOperation op) }
         ensures added { IfOk result (λ r. AddsRegion self.old self.new op r) }
         ensures err { OnErr result (self.new ≡ self.old) }
-        ensures kept { (m : ℕ) → m ≤ self.old.made → before m self.old.operations op ≡ None → KeepsOlder m self.old self.new }
+        ensures kept { (m : ℕ) → m ≤ self.old.made → before m self.old.operations op ≡ None
+            → KeepsOlder m self.old self.new }
     {
         let made = self.made;
         check_limit(made)?;
@@ -272,8 +273,10 @@ impl<O: Drop, B: Drop, T: Drop> Graph<O, B, T> {
         successors: &[Ptr<BasicBlock>],
     ) -> Result<Ptr<Operation>, AllocError>
         requires operands { (i : ℕ) (v : Value) → slice_get operands.now i ≡ Some v → ValueStands self.old v }
-        requires successors { (i : ℕ) (b : Ptr BasicBlock) → slice_get successors.now i ≡ Some b → IsLive self.old (TheBlock b) }
-        ensures made { IfOk result (λ p. MakesOperation self.old self.new p value types operands.now successors.now) }
+        requires successors { (i : ℕ) (b : Ptr BasicBlock) → slice_get successors.now i ≡ Some b
+            → IsLive self.old (TheBlock b) }
+        ensures made { IfOk result (λ p. MakesOperation self.old self.new p value types operands.now
+            successors.now) }
         ensures err { OnErr result (self.new ≡ self.old) }
         ensures kept { (m : ℕ) → m ≤ self.old.made → KeepsOlder m self.old self.new }
     {

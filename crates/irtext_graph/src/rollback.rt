@@ -77,9 +77,11 @@ impl<O: Drop, B: Drop, T: Drop> Objects<O, B, T> {
     fn detach_new(&mut self, o: Object, mark: u64)
         requires linked { AreUsesLinked self.old }
         ensures linked { AreUsesLinked self.new }
-        ensures gone { AtLeast mark (age self.old o) → (u : _) → TheOperation (user u) ≡ o → val self.new u ≡ None }
+        ensures gone { AtLeast mark (age self.old o) → (u : _) → TheOperation (user u) ≡ o
+            → val self.new u ≡ None }
         ensures fewer { (u : _) → val self.old u ≡ None → val self.new u ≡ None }
-        ensures kept { (u : _) → (AtLeast mark (age self.old (TheOperation (user u))) → ⊥) → val self.new u ≡ val self.old u }
+        ensures kept { (u : _) → (AtLeast mark (age self.old (TheOperation (user u))) → ⊥)
+            → val self.new u ≡ val self.old u }
         ensures seen { seen self.new ≡ seen self.old }
     {
         let Object::TheOperation(p) = o else {
@@ -99,9 +101,11 @@ impl<O: Drop, B: Drop, T: Drop> Objects<O, B, T> {
         requires linked { AreUsesLinked self.old }
         requires start { start ≤ length log.now }
         ensures linked { AreUsesLinked self.new }
-        ensures gone { (k : ℕ) (a : _) (u : _) → start ≤ k → slice_get log.now k ≡ Some a → a.object ≡ TheOperation (user u)
+        ensures gone { (k : ℕ) (a : _) (u : _) → start ≤ k → slice_get log.now k ≡ Some a
+            → a.object ≡ TheOperation (user u)
             → AtLeast mark (age self.old a.object) → val self.new u ≡ None }
-        ensures kept { (u : _) → (AtLeast mark (age self.old (TheOperation (user u))) → ⊥) → val self.new u ≡ val self.old u }
+        ensures kept { (u : _) → (AtLeast mark (age self.old (TheOperation (user u))) → ⊥)
+            → val self.new u ≡ val self.old u }
         ensures seen { seen self.new ≡ seen self.old }
     {
         for k in start..log.len() {
@@ -126,7 +130,8 @@ impl<O: Drop, B: Drop, T: Drop> Objects<O, B, T> {
     pub(crate) fn take_out_since(&mut self, log: &[Made], start: usize, mark: u64)
         requires { start ≤ length log.now }
         ensures sheds { ShedsAll mark self.old self.new }
-        ensures gone { (k : ℕ) (a : _) → start ≤ k → slice_get log.now k ≡ Some a → AtLeast mark (age self.new a.object) → ⊥ }
+        ensures gone { (k : ℕ) (a : _) → start ≤ k → slice_get log.now k ≡ Some a
+            → AtLeast mark (age self.new a.object) → ⊥ }
     {
         for k in start..log.len() {
             let o = object_at(log, k);

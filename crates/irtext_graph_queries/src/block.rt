@@ -40,7 +40,8 @@ pub trait BlockParts: Sized {
     /// Returns the arguments of the block, in order.
     fn arguments<C: HasGraph>(self, ctx: &C) -> Result<Vec<Value>, AllocError>
         requires { IsLive (C.graph ctx.now) (TheBlock (pointer self)) }
-        ensures { IfOk result (λ all. all.items ≡ each (Argument (pointer self)) (length (arguments (C.graph ctx.now) (pointer self)))) };
+        ensures { IfOk result (λ all. all.items ≡ each (Argument (pointer self))
+            (length (arguments (C.graph ctx.now) (pointer self)))) };
 
     /// Whether the block is a successor of some operation.
     fn has_pred<C: HasGraph>(self, ctx: &C) -> bool

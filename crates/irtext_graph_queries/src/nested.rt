@@ -24,8 +24,10 @@ pub trait NestedOperations: Sized {
     /// `builtin.module @m { ^a(): test.nop }` the list has the module and `test.nop`. Fails only when out of memory.
     fn all_operations<C: HasGraph>(self, ctx: &C) -> Result<Vec<Ptr<Operation>>, AllocError>
         requires { IsLive (C.graph ctx.now) (object self) }
-        ensures inside { IfOk result (λ all. (p : _) → Among p all.items ↔ IsInside (C.graph ctx.now) (object self) (TheOperation p)) }
-        ensures order { IfOk result (λ all. all.items ≡ operations_among (all_from (C.graph ctx.now) (object self) (Some (object self)))) };
+        ensures inside { IfOk result (λ all. (p : _) → Among p all.items ↔ IsInside (C.graph ctx.now)
+            (object self) (TheOperation p)) }
+        ensures order { IfOk result (λ all. all.items ≡ operations_among (all_from (C.graph ctx.now)
+            (object self) (Some (object self)))) };
 }
 
 /// Appends the object to the list if it is an operation.
@@ -44,7 +46,8 @@ fn list_operations<O: Drop, B: Drop, T: Drop>(
     o: Object,
 ) -> Result<Vec<Ptr<Operation>>, AllocError>
     requires { IsLive graph.now o }
-    ensures inside { IfOk result (λ all. (p : _) → Among p all.items ↔ IsInside graph.now o (TheOperation p)) }
+    ensures inside { IfOk result (λ all. (p : _) → Among p all.items ↔ IsInside graph.now o
+        (TheOperation p)) }
     ensures order { IfOk result (λ all. all.items ≡ operations_among (all_from graph.now o (Some o))) }
 {
     graph.keeps_nesting();

@@ -78,17 +78,20 @@ pub trait OperationParts: Sized {
     /// Returns the results of the operation, in order.
     fn results<C: HasGraph>(self, ctx: &C) -> Result<Vec<Value>, AllocError>
         requires { IsLive (C.graph ctx.now) (TheOperation (pointer self)) }
-        ensures { IfOk result (λ all. all.items ≡ each (Result (pointer self)) (length (results (C.graph ctx.now) (pointer self)))) };
+        ensures { IfOk result (λ all. all.items ≡ each (Result (pointer self))
+            (length (results (C.graph ctx.now) (pointer self)))) };
 
     /// Returns the type of the result of the operation at an index, which must be below their number.
     fn get_type<C: HasGraph>(self, ctx: &C, index: usize) -> &C::T
         requires { index < length (results (C.graph ctx.now) (pointer self)) }
-        ensures { option_map (λ v. v.of_type) (slice_get (results (C.graph ctx.now) (pointer self)) index) ≡ Some result.now };
+        ensures { option_map (λ v. v.of_type) (slice_get (results (C.graph ctx.now) (pointer self)) index) ≡
+            Some result.now };
 
     /// Returns the types of the results of the operation, in order.
     fn result_types<C: HasGraph>(self, ctx: &C) -> Result<Vec<&C::T>, AllocError>
         requires { IsLive (C.graph ctx.now) (TheOperation (pointer self)) }
-        ensures { IfOk result (λ all. map (λ t. t.now) all.items ≡ map (λ v. v.of_type) (results (C.graph ctx.now) (pointer self))) };
+        ensures { IfOk result (λ all. map (λ t. t.now) all.items ≡ map (λ v. v.of_type)
+            (results (C.graph ctx.now) (pointer self))) };
 
     /// Whether a result of the operation is an operand of some operation.
     fn has_use<C: HasGraph>(self, ctx: &C) -> bool
@@ -126,7 +129,8 @@ fn count_results<C: HasGraph>(ctx: &C, op: Ptr<Operation>) -> usize
 fn type_of_operand<C: HasGraph>(ctx: &C, op: Ptr<Operation>, index: usize) -> &C::T
     requires stands { IsLive (C.graph ctx.now) (TheOperation op) }
     requires within { index < length (operands (C.graph ctx.now) op) }
-    ensures { slice_get (map (λ v. option_map (λ t. t.of_type) (value_at (C.graph ctx.now) v)) (operands (C.graph ctx.now) op)) index
+    ensures { slice_get (map (λ v. option_map (λ t. t.of_type) (value_at (C.graph ctx.now) v))
+        (operands (C.graph ctx.now) op)) index
         ≡ Some (Some result.now) }
 {
     let graph = ctx.graph();

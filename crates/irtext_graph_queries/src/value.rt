@@ -66,7 +66,8 @@ pub trait ValueUses: Sized {
     fn replace_all_uses<C: HasGraph>(self, ctx: &mut C, other: Value)
         requires stands { ValueStands (C.graph ctx.old) (value self) }
         requires stands_too { ValueStands (C.graph ctx.old) other }
-        ensures replaces { Replaces (C.graph ctx.old) (C.graph ctx.new) (OfValue (value self)) (OfValue other) }
+        ensures replaces { Replaces (C.graph ctx.old) (C.graph ctx.new) (OfValue (value self))
+            (OfValue other) }
         ensures kept { (m : ℕ) → IsUnusedBelow m (C.graph ctx.old) (OfValue (value self))
             → KeepsOlder m (C.graph ctx.old) (C.graph ctx.new) }
         ensures rest { ctx.new ≡ C.with_graph ctx.old (C.graph ctx.new) };

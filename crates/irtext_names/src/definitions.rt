@@ -38,7 +38,8 @@ pub fn process_parsed_ssa_defs<N: Named, O: Drop, B: Drop, T: Drop>(
     requires known { AreKnown (length names.old.names) (map N.numbered defined.now) }
     requires tied { MatchesGraph names.old.values names.old.labels graph.old }
     requires ready { AreReady op (length defined.now) names.old.values graph.old }
-    ensures defines { OnOk result (DefinesResults op (map N.numbered defined.now) names.old names.new graph.old graph.new) }
+    ensures defines { OnOk result (DefinesResults op (map N.numbered defined.now) names.old names.new
+        graph.old graph.new) }
     ensures fails { IfErr result (λ undefined. undefined.fault ≡ DefineFault.MultipleDefinitions
         → FailsResults op (map N.numbered defined.now) undefined.index names.old graph.old) }
     ensures within { IfErr result (λ undefined. undefined.index < length defined.now) }

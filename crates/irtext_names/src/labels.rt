@@ -36,7 +36,8 @@ pub fn block_opd<O: Drop, B: Drop, T: Drop>(
     requires open { is_open names.old.labels ≡ true }
     requires known { name < length names.old.names }
     requires tied { MatchesGraph names.old.values names.old.labels graph.old }
-    ensures uses { IfOk result (λ b. Uses (MakesLabel value) names.old.labels names.new.labels graph.old graph.new name b) }
+    ensures uses { IfOk result (λ b. Uses (MakesLabel value) names.old.labels names.new.labels graph.old
+        graph.new name b) }
     ensures there { IfOk result (λ b. IsLive graph.new (TheBlock b)) }
     ensures follows { IfOk result (λ b. (w : Word) (u : User) → slice_get names.old.names name ≡ Some w.name
         → TakesUse (use_label w u) names.old names.new graph.old graph.new u (OfBlock b)) }
@@ -74,12 +75,15 @@ pub fn block_def<O: Drop, B: Drop, T: Drop>(
     requires tied { MatchesGraph names.old.values names.old.labels graph.old }
     requires there { IsLive graph.old (TheBlock def) }
     requires no_placeholder { IsNoPlaceholder names.old.labels def }
-    ensures twice { (result ≡ Err DefineFault.MultipleDefinitions) ↔ (is_defined (find name (innermost names.old.labels)) ≡ true) }
+    ensures twice { (result ≡ Err DefineFault.MultipleDefinitions) ↔
+        (is_defined (find name (innermost names.old.labels)) ≡ true) }
     ensures memory { result ≡ Err DefineFault.Memory → find name (innermost names.old.labels) ≡ None }
-    ensures defines { OnOk result (Defines OfBlock names.old.labels names.new.labels graph.old graph.new name def) }
+    ensures defines { OnOk result (Defines OfBlock names.old.labels names.new.labels graph.old graph.new
+        name def) }
     ensures follows { OnOk result ((w : Word) (p : Place) → slice_get names.old.names name ≡ Some w.name
         → TakesDefinition (define_label w p) names.old names.new graph.old graph.new p (OfBlock def)) }
-    ensures fails { result ≡ Err DefineFault.MultipleDefinitions → (w : Word) (p : Place) → slice_get names.old.names name ≡ Some w.name
+    ensures fails { result ≡ Err DefineFault.MultipleDefinitions → (w : Word) (p : Place)
+        → slice_get names.old.names name ≡ Some w.name
         → FailsBy (act (define_label w p)) names.old graph.old (record { cause = MultipleDefinitions w.name; at = Some w.at }) }
     ensures scopes { OnErr result (names.new.labels ≡ names.old.labels) }
     ensures objects { OnErr result (graph.new ≡ graph.old) }

@@ -32,7 +32,8 @@ pub(crate) fn settle<O: Drop, B: Drop, T: Drop>(
     requires alike { AreAlike d e }
     requires differ { d ≢ e }
     ensures settles { Settles graph.old graph.new d e }
-    ensures kept { (m : ℕ) → IsClosedBelow m graph.old → IsNew m graph.old (owner d) → KeepsOlder m graph.old graph.new }
+    ensures kept { (m : ℕ) → IsClosedBelow m graph.old → IsNew m graph.old (owner d) → KeepsOlder m graph.old
+        graph.new }
 {
     graph.replace_all_uses(d, e);
     graph.keeps_nesting();

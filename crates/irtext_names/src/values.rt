@@ -35,7 +35,8 @@ pub fn ssa_opd<O: Drop, B: Drop, T: Drop>(
     requires open { is_open names.old.values ≡ true }
     requires known { name < length names.old.names }
     requires tied { MatchesGraph names.old.values names.old.labels graph.old }
-    ensures uses { IfOk result (λ v. Uses MakesValue names.old.values names.new.values graph.old graph.new name v) }
+    ensures uses { IfOk result (λ v. Uses MakesValue names.old.values names.new.values graph.old
+        graph.new name v) }
     ensures there { IfOk result (λ v. ValueStands graph.new v) }
     ensures follows { IfOk result (λ v. (w : Word) (u : User) → slice_get names.old.names name ≡ Some w.name
         → TakesUse (use_value w u) names.old names.new graph.old graph.new u (OfValue v)) }
@@ -73,12 +74,15 @@ pub fn ssa_def<O: Drop, B: Drop, T: Drop>(
     requires tied { MatchesGraph names.old.values names.old.labels graph.old }
     requires there { ValueStands graph.old def }
     requires no_placeholder { IsNoPlaceholder names.old.values def }
-    ensures twice { (result ≡ Err DefineFault.MultipleDefinitions) ↔ (is_defined (find name (innermost names.old.values)) ≡ true) }
+    ensures twice { (result ≡ Err DefineFault.MultipleDefinitions) ↔
+        (is_defined (find name (innermost names.old.values)) ≡ true) }
     ensures memory { result ≡ Err DefineFault.Memory → find name (innermost names.old.values) ≡ None }
-    ensures defines { OnOk result (Defines OfValue names.old.values names.new.values graph.old graph.new name def) }
+    ensures defines { OnOk result (Defines OfValue names.old.values names.new.values graph.old graph.new
+        name def) }
     ensures follows { OnOk result ((w : Word) (p : Place) → slice_get names.old.names name ≡ Some w.name
         → TakesDefinition (define_value w p) names.old names.new graph.old graph.new p (OfValue def)) }
-    ensures fails { result ≡ Err DefineFault.MultipleDefinitions → (w : Word) (p : Place) → slice_get names.old.names name ≡ Some w.name
+    ensures fails { result ≡ Err DefineFault.MultipleDefinitions → (w : Word) (p : Place)
+        → slice_get names.old.names name ≡ Some w.name
         → FailsBy (act (define_value w p)) names.old graph.old (record { cause = MultipleDefinitions w.name; at = Some w.at }) }
     ensures scopes { OnErr result (names.new.values ≡ names.old.values) }
     ensures objects { OnErr result (graph.new ≡ graph.old) }

@@ -18,8 +18,8 @@ use Rattle.irtext_parse_nested.specs.declared.operation_parts.Gathered.{Gathered
 use Rattle.irtext_parse_nested.specs.Beginning.{types_made}
 use Rattle.irtext_parse_nested.specs.Gathered.{KeepsScopes, IsNothing}
 use Rattle.irtext_parse_nested.specs.Items.{Names, KeepsLive}
-use Rattle.irtext_parse_nested.proofs.Lasting.{block_stands}
-use Rattle.irtext_parse_nested.proofs.UsedStands.{lasts_then, used_lasts, made_lasts, made_new}
+use Rattle.irtext_parse_nested.proofs.Lasting.{lasts_then, block_stands}
+use Rattle.irtext_parse_nested.proofs.UsedStands.{used_lasts, made_lasts, made_new}
 
 -- what holds of a result, and of the state that the call left
 pub if_ok_both : {X E : Type 0} {P R : X → Type 0} {Q : Type 0} (r : Result X E) → ((x : X) → P x → Q → R x) → IfOk r P → OnOk r Q → IfOk r R

@@ -1,6 +1,6 @@
 -- What was parsed before an operation's first region: what its pieces show, which of them can be gathered, and which types and attributes
 -- its body has.
-use Rattle.std.proofs.Common.{◌≡◌, ◌∙◌, ◌+◌, ◌<◌, ℕ, zero, suc, Bool, true, false, not, nat_lt, List, [], ◌∷◌, ◌++◌, drop, length, map, flat_map, slice_get, Some, None, refl, sym, ap, ap₂, subst, arith, true≢false, append-nil, append_assoc, length-append, ltb-true}
+use Rattle.std.proofs.Common.{◌≡◌, ◌∙◌, ◌+◌, ◌<◌, ◌⊎◌, inl, inr, ℕ, zero, suc, Bool, true, false, not, nat_lt, List, [], ◌∷◌, ◌++◌, drop, length, map, flat_map, slice_get, filter_map, Option, Some, None, refl, sym, ap, ap₂, subst, arith, true≢false, append-nil, append_assoc, length-append, ltb-true}
 use Rattle.std.specs.List.{All, list_all}
 use Rattle.irtext_base.specs.Text.{Text}
 use Rattle.irtext_base.specs.Format as format
@@ -8,7 +8,7 @@ use Rattle.irtext_base.specs.Format.{Format, Directive, Accepted, are_places, op
 use Rattle.irtext_base.specs.declared.base.attributes.AttrObj.{AttrObj}
 use Rattle.irtext_format_check.specs.Conditions.{WritesNamesOrType}
 use Rattle.irtext_grammar.specs.Grammar.Tree as tree
-use Rattle.irtext_grammar.specs.Grammar.Tree.{Name, Attribute, ident, Piece, Part, parts_of, views, in_order}
+use Rattle.irtext_grammar.specs.Grammar.Tree.{Name, Attribute, ident, Piece, Part, parts_of, views, in_order, directive_of_piece}
 use Rattle.irtext_grammar.specs.Graphs.Build.{plain_entry, stored}
 use Rattle.irtext_grammar.specs.Names.Acts.{result_types}
 use Rattle.irtext_grammar.proofs.Graphs.FitsFormat.{and_left, and_right}
@@ -23,13 +23,14 @@ use Rattle.irtext_parse_pieces.specs.declared.pieces.ReadPiece.TheVariants as re
 use Rattle.irtext_parse_pieces.specs.Entries.{IsEntry}
 use Rattle.irtext_parse_pieces.specs.Fronts.{IsPart}
 use Rattle.irtext_parse_pieces.specs.Named.{StandsFor, Each}
-use Rattle.irtext_parse_pieces.specs.Pieces.{IsPiece}
+use Rattle.irtext_parse_pieces.specs.Pieces.{IsPiece, seen_attribute}
 use Rattle.irtext_parse_nested.specs.Beginning.{types_made, IsPartOf, ArePartsOf}
 use Rattle.irtext_parse_nested.specs.OpenOperation.{HasNoType, ReadsNeither, ReadNeither}
-use Rattle.irtext_parse_nested.specs.Gathered.{entry_read, operand_place, successor_place, placed_type, type_list, stored_of, last_list, CanUse, CanUseAll, LackOperands, LackSuccessors, OperandsOnce, SuccessorsOnce, CanGather}
+use Rattle.irtext_parse_nested.specs.Gathered.{entry_read, operand_place, successor_place, operand_list, successor_list, placed_type, type_list, stored_of, last_list, CanUse, CanUseAll, LackOperands, LackSuccessors, OperandsOnce, SuccessorsOnce, CanGather}
 use Rattle.irtext_parse_nested.specs.Items.{Names}
 use Rattle.irtext_parse_nested.proofs.Gathers.{map_both, none_left}
-use Rattle.irtext_parse_nested.proofs.StepParts.{AreOfSteps, shown_by_steps, operand_shown, operand_step, successor_shown, successor_step, operands_shown, operands_step, successors_shown, successors_step, types_shown, types_step, operand_agrees, successor_agrees, operands_agree, successors_agree, types_agree, is_early, front_operand_places, front_successor_places, front_operands, front_successors, marked, accepted_places}
+use Rattle.irtext_parse_nested.proofs.Faults.{each_length}
+use Rattle.irtext_parse_nested.proofs.StepParts.{AreOfSteps, directive_of_step, picked, operand_of, successor_of, flag, list_in, OnlyEarly, is_early, shown_by_steps, shown_in_front, flagged, accepted_places}
 
 -- ---- steps
 -- the steps from the first region on follow those before it
@@ -42,31 +43,20 @@ steps_behind (all ∷ ss) = refl
 
 all_neither : (ds : List Directive) → list_all (λ d. not (is_early d)) ds ≡ true → ReadNeither (map step_of ds)
 all_neither [] e = tt
-all_neither (format.word s ∷ ds) e = (λ w. w, all_neither ds e)
 all_neither (format.operand i ∷ ds) e = absurd (true≢false (sym e))
 all_neither (format.operands ∷ ds) e = absurd (true≢false (sym e))
 all_neither (format.successor i ∷ ds) e = absurd (true≢false (sym e))
 all_neither (format.successors ∷ ds) e = absurd (true≢false (sym e))
-all_neither (format.attribute k ∷ ds) e = (λ w. w, all_neither ds e)
-all_neither (format.dictionary ∷ ds) e = (λ w. w, all_neither ds e)
 all_neither (format.result_type i ∷ ds) e = absurd (true≢false (sym e))
 all_neither (format.region i ∷ ds) e = (tt, all_neither ds e)
 all_neither (format.regions ∷ ds) e = (tt, all_neither ds e)
-all_neither (format.header ∷ ds) e = (λ w. w, all_neither ds e)
+all_neither (d ∷ ds) e = (λ w. w, all_neither ds e)
 
 custom_neither : (ds : List Directive) → c7 ds ≡ true → ReadNeither (region_steps (map step_of ds))
 custom_neither [] e = tt
 custom_neither (format.region i ∷ ds) e = (tt, all_neither ds (and_left _ (c7 ds) e))
 custom_neither (format.regions ∷ ds) e = (tt, all_neither ds (and_left _ (c7 ds) e))
-custom_neither (format.word s ∷ ds) e = custom_neither ds e
-custom_neither (format.operand i ∷ ds) e = custom_neither ds e
-custom_neither (format.operands ∷ ds) e = custom_neither ds e
-custom_neither (format.successor i ∷ ds) e = custom_neither ds e
-custom_neither (format.successors ∷ ds) e = custom_neither ds e
-custom_neither (format.attribute k ∷ ds) e = custom_neither ds e
-custom_neither (format.dictionary ∷ ds) e = custom_neither ds e
-custom_neither (format.result_type i ∷ ds) e = custom_neither ds e
-custom_neither (format.header ∷ ds) e = custom_neither ds e
+custom_neither (d ∷ ds) e = custom_neither ds e
 
 -- from the first region on no step of an accepted format parses a name or a type
 pub behind_neither : (f : Format) → Accepted f → ReadNeither (region_steps (steps_of f))
@@ -74,6 +64,19 @@ behind_neither format.canonical a = (tt, tt)
 behind_neither (format.custom ds) a = custom_neither ds (accepted_places ds a).behind
 
 -- ---- what pieces show
+-- the place and the name of an operand or of a successor with a directive of its own, and the names of a list
+abbrev pub single_operand : {T A : Type 0} → Piece ℕ T A → List (ℕ × Name ℕ)
+single_operand p = elim p [ tree.operand i n ↦ (i, n) ∷ [] | _ ↦ [] ]
+
+abbrev pub named_operands : {T A : Type 0} → Piece ℕ T A → List (Name ℕ)
+named_operands p = elim p [ tree.operands ns ↦ ns | _ ↦ [] ]
+
+abbrev pub single_successor : {T A : Type 0} → Piece ℕ T A → List (ℕ × Name ℕ)
+single_successor p = elim p [ tree.successor i n ↦ (i, n) ∷ [] | _ ↦ [] ]
+
+abbrev pub named_successors : {T A : Type 0} → Piece ℕ T A → List (Name ℕ)
+named_successors p = elim p [ tree.successors ns ↦ ns | _ ↦ [] ]
+
 -- of a result with a directive of its own, its type with its place
 abbrev pub typed_shown : {T A : Type 0} → Piece ℕ T A → List (ℕ × T)
 typed_shown p = elim p [ tree.result_type i x ↦ (i, x) ∷ [] | _ ↦ [] ]
@@ -104,33 +107,43 @@ module _ {T A X : Type 0} (G : Piece ℕ T A → List X) where
 
 module _ {T A : Type 0} where
   -- one for each list of types
-  counted : (ps : List (Piece ℕ T A)) → length (flat_map listed_shown ps) ≡ length (flat_map types_shown ps)
+  counted : (ps : List (Piece ℕ T A)) → length (flat_map listed_shown ps) ≡ length (flat_map (λ p. list_in (directive_of_piece p)) ps)
   counted [] = refl
   counted (tree.types ts ∷ ps) = ap suc (counted ps)
-  counted (tree.word s ∷ ps) = counted ps
-  counted (tree.operand i n ∷ ps) = counted ps
-  counted (tree.operands ns ∷ ps) = counted ps
-  counted (tree.successor i n ∷ ps) = counted ps
-  counted (tree.successors ns ∷ ps) = counted ps
-  counted (tree.attribute k a ∷ ps) = counted ps
-  counted (tree.dictionary es ∷ ps) = counted ps
-  counted (tree.result_type i t ∷ ps) = counted ps
-  counted (tree.header n ∷ ps) = counted ps
+  counted (p ∷ ps) = counted ps
 
 -- no list of types is parsed by a directive
-untyped_front : (ds : List Directive) → flat_map types_step (front_steps (map step_of ds)) ≡ []
+untyped_front : (ds : List Directive) → flat_map (λ s. list_in (directive_of_step s)) (front_steps (map step_of ds)) ≡ []
 untyped_front [] = refl
 untyped_front (format.region i ∷ ds) = refl
 untyped_front (format.regions ∷ ds) = refl
-untyped_front (format.word s ∷ ds) = untyped_front ds
-untyped_front (format.operand i ∷ ds) = untyped_front ds
-untyped_front (format.operands ∷ ds) = untyped_front ds
-untyped_front (format.successor i ∷ ds) = untyped_front ds
-untyped_front (format.successors ∷ ds) = untyped_front ds
-untyped_front (format.attribute k ∷ ds) = untyped_front ds
-untyped_front (format.dictionary ∷ ds) = untyped_front ds
-untyped_front (format.result_type i ∷ ds) = untyped_front ds
-untyped_front (format.header ∷ ds) = untyped_front ds
+untyped_front (d ∷ ds) = untyped_front ds
+
+-- nothing of a name is found of a directive after a region
+operand_late : OnlyEarly operand_of
+operand_late (format.operand i) e = absurd (true≢false (sym e))
+operand_late d e = refl
+
+successor_late : OnlyEarly successor_of
+successor_late (format.successor i) e = absurd (true≢false (sym e))
+successor_late d e = refl
+
+operands_late : OnlyEarly (flag is_operands)
+operands_late format.operands e = absurd (true≢false (sym e))
+operands_late d e = refl
+
+successors_late : OnlyEarly (flag is_successors)
+successors_late format.successors e = absurd (true≢false (sym e))
+successors_late d e = refl
+
+-- one for each list of operands or of successors that was parsed
+abbrev operands_of : {T A : Type 0} → ReadPiece T A → List (Unit {0})
+operands_of (read.Operands ns) = tt ∷ []
+operands_of _ = []
+
+abbrev successors_of : {T A : Type 0} → ReadPiece T A → List (Unit {0})
+successors_of (read.Successors ns) = tt ∷ []
+successors_of _ = []
 
 -- ---- parts of lists, and what was parsed for them
 -- ---- which can be gathered
@@ -140,18 +153,9 @@ below_of [] (suc i) t e = absurd (cc)
 below_of (n ∷ ns) zero t e = omega arith
 below_of (n ∷ ns) (suc i) t e = let l = below_of ns i t e in omega (arith, l)
 
--- at most one list of operands, where the pieces show no more
 none_shown : {X : Type 0} (xs ys : List X) → xs ++ ys ≡ [] → (xs ≡ []) × (ys ≡ [])
 none_shown [] ys e = (refl, e)
 none_shown (x ∷ xs) ys e = absurd (cc)
-
--- one item of a list that has one at most leaves none
-last_one : {X : Type 0} (x : X) (xs ys : List X) → xs ≡ x ∷ [] → length (xs ++ ys) < 2 → ys ≡ []
-last_one x xs [] e l = refl
-last_one x xs (y ∷ ys) e l = let n = ap (λ z. length (z ++ y ∷ ys)) e in absurd (omega (arith, l, n))
-
-few_behind : {X : Type 0} (xs ys : List X) → length (xs ++ ys) < 2 → length ys < 2
-few_behind xs ys l = let n = length-append xs ys in omega (arith, l, n)
 
 entries_alike : {A : Type 0} (text : Text) (es : List (Key × AttrObj A)) (ds : List (Name ℕ × Attribute A)) → Each (IsEntry text) es ds → map entry_read es ≡ map plain_entry ds
 entries_alike text [] [] e = refl
@@ -184,139 +188,103 @@ module _ {T A : Type 0} (names : List Text) (text : Text) where
   pieces_of (r ∷ rs) [] e = absurd e
   pieces_of (r ∷ rs) (p ∷ ps) e = (let f : e.0.0 ≡ p = sym (cc e.0.1) in subst (IsPiece names text r) f e.0.2, pieces_of rs ps e.1)
 
-  pub operand_alike : (r : ReadPiece T A) (p : Piece ℕ T A) → IsPiece names text r p → operand_place r ≡ operand_shown p
-  operand_alike read.Word p e = sym (ap operand_shown e.1)
-  operand_alike (read.Operand i n) p e = sym (ap operand_shown e.1)
-  operand_alike (read.Operands ns) p e = sym (ap operand_shown e.1)
-  operand_alike (read.Successor i n) p e = sym (ap operand_shown e.1)
-  operand_alike (read.Successors ns) p e = sym (ap operand_shown e.1)
-  operand_alike (read.Attr k a) p e = sym (ap operand_shown e)
-  operand_alike (read.Dictionary es) p e = sym (ap operand_shown e.1)
-  operand_alike (read.ResultType i t) p e = sym (ap operand_shown e)
-  operand_alike (read.Header s) p e = sym (ap operand_shown e.1)
-  operand_alike (read.Types ts) p e = sym (ap operand_shown e)
+  -- the piece that was parsed
+  abbrev form : (r : ReadPiece T A) (p : Piece ℕ T A) → IsPiece names text r p → Piece ℕ T A
+  form read.Word p e = tree.word e.0
+  form (read.Operand i n) p e = tree.operand i e.0
+  form (read.Operands ns) p e = tree.operands e.0
+  form (read.Successor i n) p e = tree.successor i e.0
+  form (read.Successors ns) p e = tree.successors e.0
+  form (read.Attr k a) p e = tree.attribute k (seen_attribute a)
+  form (read.Dictionary es) p e = tree.dictionary e.0
+  form (read.ResultType i t) p e = tree.result_type i t
+  form (read.Header s) p e = tree.header e.0
+  form (read.Types ts) p e = tree.types ts
 
-  pub successor_alike : (r : ReadPiece T A) (p : Piece ℕ T A) → IsPiece names text r p → successor_place r ≡ successor_shown p
-  successor_alike read.Word p e = sym (ap successor_shown e.1)
-  successor_alike (read.Operand i n) p e = sym (ap successor_shown e.1)
-  successor_alike (read.Operands ns) p e = sym (ap successor_shown e.1)
-  successor_alike (read.Successor i n) p e = sym (ap successor_shown e.1)
-  successor_alike (read.Successors ns) p e = sym (ap successor_shown e.1)
-  successor_alike (read.Attr k a) p e = sym (ap successor_shown e)
-  successor_alike (read.Dictionary es) p e = sym (ap successor_shown e.1)
-  successor_alike (read.ResultType i t) p e = sym (ap successor_shown e)
-  successor_alike (read.Header s) p e = sym (ap successor_shown e.1)
-  successor_alike (read.Types ts) p e = sym (ap successor_shown e)
+  is_form : (r : ReadPiece T A) (p : Piece ℕ T A) (e : IsPiece names text r p) → form r p e ≡ p
+  is_form (read.Attr k a) p e = sym e
+  is_form (read.ResultType i t) p e = sym e
+  is_form (read.Types ts) p e = sym e
+  is_form r p e = sym e.1
 
-  typed_alike : (r : ReadPiece T A) (p : Piece ℕ T A) → IsPiece names text r p → placed_type r ≡ typed_shown p
-  typed_alike read.Word p e = sym (ap typed_shown e.1)
-  typed_alike (read.Operand i n) p e = sym (ap typed_shown e.1)
-  typed_alike (read.Operands ns) p e = sym (ap typed_shown e.1)
-  typed_alike (read.Successor i n) p e = sym (ap typed_shown e.1)
-  typed_alike (read.Successors ns) p e = sym (ap typed_shown e.1)
-  typed_alike (read.Attr k a) p e = sym (ap typed_shown e)
-  typed_alike (read.Dictionary es) p e = sym (ap typed_shown e.1)
-  typed_alike (read.ResultType i t) p e = sym (ap typed_shown e)
-  typed_alike (read.Header s) p e = sym (ap typed_shown e.1)
-  typed_alike (read.Types ts) p e = sym (ap typed_shown e)
+  -- What was parsed and the piece show the same.
+  pub record AreAlike (r : ReadPiece T A) (p : Piece ℕ T A) : Type 0 where
+    pub operand : operand_place r ≡ picked operand_of (directive_of_piece p)
+    pub successor : successor_place r ≡ picked successor_of (directive_of_piece p)
+    pub operands : operands_of r ≡ picked (flag is_operands) (directive_of_piece p)
+    pub successors : successors_of r ≡ picked (flag is_successors) (directive_of_piece p)
+    pub operand_names : length (operand_list r) ≡ length (named_operands p)
+    pub successor_names : length (successor_list r) ≡ length (named_successors p)
+    pub typed : placed_type r ≡ typed_shown p
+    pub listed : type_list r ≡ listed_shown p
 
-  listed_alike : (r : ReadPiece T A) (p : Piece ℕ T A) → IsPiece names text r p → type_list r ≡ listed_shown p
-  listed_alike read.Word p e = sym (ap listed_shown e.1)
-  listed_alike (read.Operand i n) p e = sym (ap listed_shown e.1)
-  listed_alike (read.Operands ns) p e = sym (ap listed_shown e.1)
-  listed_alike (read.Successor i n) p e = sym (ap listed_shown e.1)
-  listed_alike (read.Successors ns) p e = sym (ap listed_shown e.1)
-  listed_alike (read.Attr k a) p e = sym (ap listed_shown e)
-  listed_alike (read.Dictionary es) p e = sym (ap listed_shown e.1)
-  listed_alike (read.ResultType i t) p e = sym (ap listed_shown e)
-  listed_alike (read.Header s) p e = sym (ap listed_shown e.1)
-  listed_alike (read.Types ts) p e = sym (ap listed_shown e)
+  -- the names of a list are as many as were parsed
+  names_alike : (r : ReadPiece T A) (p : Piece ℕ T A) (e : IsPiece names text r p)
+      → (length (operand_list r) ≡ length (named_operands (form r p e))) × (length (successor_list r) ≡ length (named_successors (form r p e)))
+  names_alike (read.Operands ns) p e = (each_length (StandsFor names text) ns e.0 e.2, refl)
+  names_alike (read.Successors ns) p e = (refl, each_length (StandsFor names text) ns e.0 e.2)
+  names_alike r p e = (refl, refl)
+
+  others_alike : (r : ReadPiece T A) (p : Piece ℕ T A) (e : IsPiece names text r p) → (length (operand_list r) ≡ length (named_operands (form r p e)))
+      → (length (successor_list r) ≡ length (named_successors (form r p e))) → AreAlike r (form r p e)
+  others_alike read.Word p e m n = record { operand = refl; successor = refl; operands = refl; successors = refl; operand_names = m; successor_names = n; typed = refl; listed = refl }
+  others_alike r p e m n = record { operand = refl; successor = refl; operands = refl; successors = refl; operand_names = m; successor_names = n; typed = refl; listed = refl }
+
+  pub alike : (r : ReadPiece T A) (p : Piece ℕ T A) → IsPiece names text r p → AreAlike r p
+  alike r p e = let n = names_alike r p e in subst (AreAlike r) (is_form r p e) (others_alike r p e n.0 n.1)
+
+  stored_form : (r : ReadPiece T A) (p : Piece ℕ T A) (e : IsPiece names text r p) → stored_of r ≡ stored (form r p e)
+  stored_form (read.Attr k None) p e = refl
+  stored_form (read.Attr k (Some a)) p e = refl
+  stored_form (read.Dictionary es) p e = entries_alike text es.items e.0 e.2
+  stored_form (read.Header s) p e = ap (λ z. (sym_name_key, ident z) ∷ []) e.2.named
+  stored_form r p e = refl
 
   pub stored_alike : (r : ReadPiece T A) (p : Piece ℕ T A) → IsPiece names text r p → stored_of r ≡ stored p
-  stored_alike read.Word p e = sym (ap stored e.1)
-  stored_alike (read.Operand i n) p e = sym (ap stored e.1)
-  stored_alike (read.Operands ns) p e = sym (ap stored e.1)
-  stored_alike (read.Successor i n) p e = sym (ap stored e.1)
-  stored_alike (read.Successors ns) p e = sym (ap stored e.1)
-  stored_alike (read.Attr k None) p e = sym (ap stored e)
-  stored_alike (read.Attr k (Some a)) p e = sym (ap stored e)
-  stored_alike (read.Dictionary es) p e = entries_alike text es.items e.0 e.2 ∙ sym (ap stored e.1)
-  stored_alike (read.ResultType i t) p e = sym (ap stored e)
-  stored_alike (read.Header s) p e = ap (λ z. (sym_name_key, ident z) ∷ []) e.2.named ∙ sym (ap stored e.1)
-  stored_alike (read.Types ts) p e = sym (ap stored e)
+  stored_alike r p e = stored_form r p e ∙ ap stored (is_form r p e)
 
   can_use : (r : ReadPiece T A) (p : Piece ℕ T A) → IsPiece names text r p → CanUse (length names) r
-  can_use read.Word p e = tt
   can_use (read.Operand i m) p e = below_of names m.name e.0.text e.2.named
   can_use (read.Operands ms) p e = numbers_known names text ms e.0 e.2
   can_use (read.Successor i m) p e = below_of names m.name e.0.text e.2.named
   can_use (read.Successors ms) p e = numbers_known names text ms e.0 e.2
-  can_use (read.Attr k a) p e = tt
-  can_use (read.Dictionary es) p e = tt
-  can_use (read.ResultType i t) p e = tt
-  can_use (read.Header s) p e = tt
-  can_use (read.Types ts) p e = tt
+  can_use r p e = tt
 
   can_use_all : (rs : List (ReadPiece T A)) (ps : List (Piece ℕ T A)) → Each (IsPiece names text) rs ps → CanUseAll (length names) rs
   can_use_all [] ps e = tt
   can_use_all (r ∷ rs) [] e = absurd e
   can_use_all (r ∷ rs) (p ∷ ps) e = (can_use r p e.0, can_use_all rs ps e.1)
 
-  lack_operands : (rs : List (ReadPiece T A)) (ps : List (Piece ℕ T A)) → Each (IsPiece names text) rs ps → flat_map operands_shown ps ≡ [] → LackOperands rs
-  lack_operands [] ps e f = tt
-  lack_operands (r ∷ rs) [] e f = absurd e
-  lack_operands (read.Operands ns ∷ rs) (p ∷ ps) e f = let g = sym (ap operands_shown e.0.1) ∙ (none_shown (operands_shown p) (flat_map operands_shown ps) f).0 in absurd (cc)
-  lack_operands (read.Word ∷ rs) (p ∷ ps) e f = lack_operands rs ps e.1 (none_shown (operands_shown p) (flat_map operands_shown ps) f).1
-  lack_operands (read.Operand i n ∷ rs) (p ∷ ps) e f = lack_operands rs ps e.1 (none_shown (operands_shown p) (flat_map operands_shown ps) f).1
-  lack_operands (read.Successor i n ∷ rs) (p ∷ ps) e f = lack_operands rs ps e.1 (none_shown (operands_shown p) (flat_map operands_shown ps) f).1
-  lack_operands (read.Successors ns ∷ rs) (p ∷ ps) e f = lack_operands rs ps e.1 (none_shown (operands_shown p) (flat_map operands_shown ps) f).1
-  lack_operands (read.Attr k a ∷ rs) (p ∷ ps) e f = lack_operands rs ps e.1 (none_shown (operands_shown p) (flat_map operands_shown ps) f).1
-  lack_operands (read.Dictionary es ∷ rs) (p ∷ ps) e f = lack_operands rs ps e.1 (none_shown (operands_shown p) (flat_map operands_shown ps) f).1
-  lack_operands (read.ResultType i t ∷ rs) (p ∷ ps) e f = lack_operands rs ps e.1 (none_shown (operands_shown p) (flat_map operands_shown ps) f).1
-  lack_operands (read.Header s ∷ rs) (p ∷ ps) e f = lack_operands rs ps e.1 (none_shown (operands_shown p) (flat_map operands_shown ps) f).1
-  lack_operands (read.Types ts ∷ rs) (p ∷ ps) e f = lack_operands rs ps e.1 (none_shown (operands_shown p) (flat_map operands_shown ps) f).1
+-- ---- at most one list of operands, or of successors, where no more are shown
+-- A piece is none of which there is one at most, so what the others lack or have once all do; or it is one.
+abbrev Turns : {T A : Type 0} → (ReadPiece T A → List (Unit {0})) → (List (ReadPiece T A) → Type 0) → (List (ReadPiece T A) → Type 0) → ReadPiece T A → Type 0
+Turns {T} {A} found Lack Once r = ((found r ≡ []) × ((rs : List (ReadPiece T A)) → Lack rs → Lack (r ∷ rs)) × ((rs : List (ReadPiece T A)) → Once rs → Once (r ∷ rs)))
+    ⊎ ((found r ≡ tt ∷ []) × ((rs : List (ReadPiece T A)) → Lack rs → Once (r ∷ rs)))
 
-  lack_successors : (rs : List (ReadPiece T A)) (ps : List (Piece ℕ T A)) → Each (IsPiece names text) rs ps → flat_map successors_shown ps ≡ [] → LackSuccessors rs
-  lack_successors [] ps e f = tt
-  lack_successors (r ∷ rs) [] e f = absurd e
-  lack_successors (read.Successors ns ∷ rs) (p ∷ ps) e f = let g = sym (ap successors_shown e.0.1) ∙ (none_shown (successors_shown p) (flat_map successors_shown ps) f).0 in absurd (cc)
-  lack_successors (read.Word ∷ rs) (p ∷ ps) e f = lack_successors rs ps e.1 (none_shown (successors_shown p) (flat_map successors_shown ps) f).1
-  lack_successors (read.Operand i n ∷ rs) (p ∷ ps) e f = lack_successors rs ps e.1 (none_shown (successors_shown p) (flat_map successors_shown ps) f).1
-  lack_successors (read.Operands ns ∷ rs) (p ∷ ps) e f = lack_successors rs ps e.1 (none_shown (successors_shown p) (flat_map successors_shown ps) f).1
-  lack_successors (read.Successor i n ∷ rs) (p ∷ ps) e f = lack_successors rs ps e.1 (none_shown (successors_shown p) (flat_map successors_shown ps) f).1
-  lack_successors (read.Attr k a ∷ rs) (p ∷ ps) e f = lack_successors rs ps e.1 (none_shown (successors_shown p) (flat_map successors_shown ps) f).1
-  lack_successors (read.Dictionary es ∷ rs) (p ∷ ps) e f = lack_successors rs ps e.1 (none_shown (successors_shown p) (flat_map successors_shown ps) f).1
-  lack_successors (read.ResultType i t ∷ rs) (p ∷ ps) e f = lack_successors rs ps e.1 (none_shown (successors_shown p) (flat_map successors_shown ps) f).1
-  lack_successors (read.Header s ∷ rs) (p ∷ ps) e f = lack_successors rs ps e.1 (none_shown (successors_shown p) (flat_map successors_shown ps) f).1
-  lack_successors (read.Types ts ∷ rs) (p ∷ ps) e f = lack_successors rs ps e.1 (none_shown (successors_shown p) (flat_map successors_shown ps) f).1
+module _ {T A : Type 0} (found : ReadPiece T A → List (Unit {0})) (Lack Once : List (ReadPiece T A) → Type 0) (turns : (r : ReadPiece T A) → Turns found Lack Once r) (lacks : Lack []) (once : Once []) where
+  lacking : (rs : List (ReadPiece T A)) → flat_map found rs ≡ [] → Lack rs
+  lacking [] e = lacks
+  lacking (r ∷ rs) e = go (turns r) (none_shown (found r) (flat_map found rs) e) (λ k. lacking rs k)
+    where
+      go : Turns found Lack Once r → (found r ≡ []) × (flat_map found rs ≡ []) → (flat_map found rs ≡ [] → Lack rs) → Lack (r ∷ rs)
+      go (inl t) n h = t.1 rs (h n.1)
+      go (inr t) n h = absurd (let e = ap length (sym t.0 ∙ n.0) in omega (arith, e))
 
-  operands_once : (rs : List (ReadPiece T A)) (ps : List (Piece ℕ T A)) → Each (IsPiece names text) rs ps → length (flat_map operands_shown ps) < 2 → OperandsOnce [] rs
-  operands_once [] ps e l = tt
-  operands_once (r ∷ rs) [] e l = absurd e
-  operands_once (read.Operands ns ∷ rs) (p ∷ ps) e l = (refl, lack_operands rs ps e.1 (last_one tt (operands_shown p) (flat_map operands_shown ps) (ap operands_shown e.0.1) l))
-  operands_once (read.Word ∷ rs) (p ∷ ps) e l = operands_once rs ps e.1 (few_behind (operands_shown p) (flat_map operands_shown ps) l)
-  operands_once (read.Operand i n ∷ rs) (p ∷ ps) e l = operands_once rs ps e.1 (few_behind (operands_shown p) (flat_map operands_shown ps) l)
-  operands_once (read.Successor i n ∷ rs) (p ∷ ps) e l = operands_once rs ps e.1 (few_behind (operands_shown p) (flat_map operands_shown ps) l)
-  operands_once (read.Successors ns ∷ rs) (p ∷ ps) e l = operands_once rs ps e.1 (few_behind (operands_shown p) (flat_map operands_shown ps) l)
-  operands_once (read.Attr k a ∷ rs) (p ∷ ps) e l = operands_once rs ps e.1 (few_behind (operands_shown p) (flat_map operands_shown ps) l)
-  operands_once (read.Dictionary es ∷ rs) (p ∷ ps) e l = operands_once rs ps e.1 (few_behind (operands_shown p) (flat_map operands_shown ps) l)
-  operands_once (read.ResultType i t ∷ rs) (p ∷ ps) e l = operands_once rs ps e.1 (few_behind (operands_shown p) (flat_map operands_shown ps) l)
-  operands_once (read.Header s ∷ rs) (p ∷ ps) e l = operands_once rs ps e.1 (few_behind (operands_shown p) (flat_map operands_shown ps) l)
-  operands_once (read.Types ts ∷ rs) (p ∷ ps) e l = operands_once rs ps e.1 (few_behind (operands_shown p) (flat_map operands_shown ps) l)
+  once_of : (rs : List (ReadPiece T A)) → length (flat_map found rs) < 2 → Once rs
+  once_of [] l = once
+  once_of (r ∷ rs) l = go (turns r) (λ k. once_of rs k)
+    where
+      go : Turns found Lack Once r → (length (flat_map found rs) < 2 → Once rs) → Once (r ∷ rs)
+      go (inl t) h = t.2 rs (h (let n = length-append (found r) (flat_map found rs) in let e = ap length t.0 in omega (arith, l, n, e)))
+      go (inr t) h = t.1 rs (lacking rs (none_left (flat_map found rs) (let n = length-append (found r) (flat_map found rs) in let e = ap length t.0 in omega (arith, l, n, e))))
 
-  successors_once : (rs : List (ReadPiece T A)) (ps : List (Piece ℕ T A)) → Each (IsPiece names text) rs ps → length (flat_map successors_shown ps) < 2 → SuccessorsOnce [] rs
-  successors_once [] ps e l = tt
-  successors_once (r ∷ rs) [] e l = absurd e
-  successors_once (read.Successors ns ∷ rs) (p ∷ ps) e l = (refl, lack_successors rs ps e.1 (last_one tt (successors_shown p) (flat_map successors_shown ps) (ap successors_shown e.0.1) l))
-  successors_once (read.Word ∷ rs) (p ∷ ps) e l = successors_once rs ps e.1 (few_behind (successors_shown p) (flat_map successors_shown ps) l)
-  successors_once (read.Operand i n ∷ rs) (p ∷ ps) e l = successors_once rs ps e.1 (few_behind (successors_shown p) (flat_map successors_shown ps) l)
-  successors_once (read.Operands ns ∷ rs) (p ∷ ps) e l = successors_once rs ps e.1 (few_behind (successors_shown p) (flat_map successors_shown ps) l)
-  successors_once (read.Successor i n ∷ rs) (p ∷ ps) e l = successors_once rs ps e.1 (few_behind (successors_shown p) (flat_map successors_shown ps) l)
-  successors_once (read.Attr k a ∷ rs) (p ∷ ps) e l = successors_once rs ps e.1 (few_behind (successors_shown p) (flat_map successors_shown ps) l)
-  successors_once (read.Dictionary es ∷ rs) (p ∷ ps) e l = successors_once rs ps e.1 (few_behind (successors_shown p) (flat_map successors_shown ps) l)
-  successors_once (read.ResultType i t ∷ rs) (p ∷ ps) e l = successors_once rs ps e.1 (few_behind (successors_shown p) (flat_map successors_shown ps) l)
-  successors_once (read.Header s ∷ rs) (p ∷ ps) e l = successors_once rs ps e.1 (few_behind (successors_shown p) (flat_map successors_shown ps) l)
-  successors_once (read.Types ts ∷ rs) (p ∷ ps) e l = successors_once rs ps e.1 (few_behind (successors_shown p) (flat_map successors_shown ps) l)
+operands_turn : {T A : Type 0} (r : ReadPiece T A) → Turns operands_of LackOperands (OperandsOnce []) r
+operands_turn (read.Operands ns) = inr (refl, λ rs l. (refl, l))
+operands_turn r = inl (refl, λ rs l. l, λ rs l. l)
+
+successors_turn : {T A : Type 0} (r : ReadPiece T A) → Turns successors_of LackSuccessors (SuccessorsOnce []) r
+successors_turn (read.Successors ns) = inr (refl, λ rs l. (refl, l))
+successors_turn r = inl (refl, λ rs l. l, λ rs l. l)
 
 -- ---- a step parses what it shows
 -- the step is no type of a result, no list of types, or no attribute and no symbol
@@ -332,27 +300,10 @@ is_plain _ = true
 module _ {T A : Type 0} where
   untyped_none : (s : Step) (p : Piece ℕ T A) → is_untyped s ≡ true → IsOfStep s p → typed_shown p ≡ []
   untyped_none (flat d) (tree.result_type i t) u o = absurd (true≢false (sym u ∙ sym (same_step is_untyped (format.result_type i) d o)))
-  untyped_none (flat d) (tree.word s) u o = refl
-  untyped_none (flat d) (tree.operand i n) u o = refl
-  untyped_none (flat d) (tree.operands ns) u o = refl
-  untyped_none (flat d) (tree.successor i n) u o = refl
-  untyped_none (flat d) (tree.successors ns) u o = refl
-  untyped_none (flat d) (tree.attribute k a) u o = refl
-  untyped_none (flat d) (tree.dictionary es) u o = refl
-  untyped_none (flat d) (tree.header n) u o = refl
-  untyped_none (flat d) (tree.types ts) u o = refl
-  untyped_none types (tree.types ts) u o = refl
   untyped_none types (tree.result_type i t) u o = absurd o
-  untyped_none types (tree.word s) u o = refl
-  untyped_none types (tree.operand i n) u o = refl
-  untyped_none types (tree.operands ns) u o = refl
-  untyped_none types (tree.successor i n) u o = refl
-  untyped_none types (tree.successors ns) u o = refl
-  untyped_none types (tree.attribute k a) u o = refl
-  untyped_none types (tree.dictionary es) u o = refl
-  untyped_none types (tree.header n) u o = refl
-  untyped_none (one j) p u o = absurd o
-  untyped_none all p u o = absurd o
+  untyped_none (one j) (tree.result_type i t) u o = absurd o
+  untyped_none all (tree.result_type i t) u o = absurd o
+  untyped_none s p u o = refl
 
   -- the piece stores its entries, where it has any
   abbrev StoresEntries : Piece ℕ T A → Type 0
@@ -361,26 +312,11 @@ module _ {T A : Type 0} where
   plain_stores : (s : Step) (p : Piece ℕ T A) → is_plain s ≡ true → IsOfStep s p → StoresEntries p
   plain_stores (flat d) (tree.attribute k a) u o = absurd (true≢false (sym u ∙ sym (same_step is_plain (format.attribute k) d o)))
   plain_stores (flat d) (tree.header n) u o = absurd (true≢false (sym u ∙ sym (same_step is_plain format.header d o)))
-  plain_stores (flat d) (tree.result_type i t) u o = refl
-  plain_stores (flat d) (tree.word s) u o = refl
-  plain_stores (flat d) (tree.operand i n) u o = refl
-  plain_stores (flat d) (tree.operands ns) u o = refl
-  plain_stores (flat d) (tree.successor i n) u o = refl
-  plain_stores (flat d) (tree.successors ns) u o = refl
-  plain_stores (flat d) (tree.dictionary es) u o = refl
-  plain_stores (flat d) (tree.types ts) u o = refl
-  plain_stores types (tree.types ts) u o = refl
-  plain_stores types (tree.result_type i t) u o = absurd o
-  plain_stores types (tree.word s) u o = absurd o
-  plain_stores types (tree.operand i n) u o = absurd o
-  plain_stores types (tree.operands ns) u o = absurd o
-  plain_stores types (tree.successor i n) u o = absurd o
-  plain_stores types (tree.successors ns) u o = absurd o
   plain_stores types (tree.attribute k a) u o = absurd o
-  plain_stores types (tree.dictionary es) u o = absurd o
   plain_stores types (tree.header n) u o = absurd o
   plain_stores (one j) p u o = absurd o
   plain_stores all p u o = absurd o
+  plain_stores s p u o = refl
 
   all_plain : (inside : Bool) (ss : List Step) (ps : List (Piece ℕ T A)) → list_all is_plain ss ≡ true → AreOfSteps inside ss ps → flat_map stored ps ≡ map plain_entry (flat_map entries_shown ps)
   all_plain inside [] [] e a = refl
@@ -403,14 +339,7 @@ module _ {T A : Type 0} where
   later_one (flat d) tree.regions n o = absurd o
   later_one (flat d) (tree.piece (tree.result_type i t)) n o = absurd (let g : format.result_type i ≡ d = cc o in n (subst WritesNamesOrType g tt))
   later_one (flat d) (tree.piece (tree.types ts)) n o = absurd (cc o)
-  later_one (flat d) (tree.piece (tree.word s)) n o = tt
-  later_one (flat d) (tree.piece (tree.operand i m)) n o = tt
-  later_one (flat d) (tree.piece (tree.operands ns)) n o = tt
-  later_one (flat d) (tree.piece (tree.successor i m)) n o = tt
-  later_one (flat d) (tree.piece (tree.successors ns)) n o = tt
-  later_one (flat d) (tree.piece (tree.attribute k b)) n o = tt
-  later_one (flat d) (tree.piece (tree.dictionary es)) n o = tt
-  later_one (flat d) (tree.piece (tree.header m)) n o = tt
+  later_one (flat d) (tree.piece q) n o = tt
 
   pub all_more : (p : Part ℕ T A) (ps : List (Part ℕ T A)) → HasNoType p → All HasNoType ps → All HasNoType (p ∷ ps)
   all_more p ps h k zero d l = h
@@ -429,35 +358,20 @@ module _ {T A : Type 0} where
   all_behind : (p : Part ℕ T A) (ps : List (Part ℕ T A)) → All HasNoType (p ∷ ps) → All HasNoType ps
   all_behind p ps h = λ i d l. h (suc i) d (omega (arith, l))
 
-  none_typed : (later : List (Part ℕ T A)) → All HasNoType later → views typed_shown later ≡ []
-  none_typed [] h = refl
-  none_typed (tree.region i ∷ ps) h = none_typed ps (all_behind (tree.region i) ps h)
-  none_typed (tree.regions ∷ ps) h = none_typed ps (all_behind tree.regions ps h)
-  none_typed (tree.piece (tree.result_type i t) ∷ ps) h = absurd (all_first (tree.piece (tree.result_type i t)) ps h)
-  none_typed (tree.piece (tree.word s) ∷ ps) h = none_typed ps (all_behind (tree.piece (tree.word s)) ps h)
-  none_typed (tree.piece (tree.operand i n) ∷ ps) h = none_typed ps (all_behind (tree.piece (tree.operand i n)) ps h)
-  none_typed (tree.piece (tree.operands ns) ∷ ps) h = none_typed ps (all_behind (tree.piece (tree.operands ns)) ps h)
-  none_typed (tree.piece (tree.successor i n) ∷ ps) h = none_typed ps (all_behind (tree.piece (tree.successor i n)) ps h)
-  none_typed (tree.piece (tree.successors ns) ∷ ps) h = none_typed ps (all_behind (tree.piece (tree.successors ns)) ps h)
-  none_typed (tree.piece (tree.attribute k a) ∷ ps) h = none_typed ps (all_behind (tree.piece (tree.attribute k a)) ps h)
-  none_typed (tree.piece (tree.dictionary es) ∷ ps) h = none_typed ps (all_behind (tree.piece (tree.dictionary es)) ps h)
-  none_typed (tree.piece (tree.header n) ∷ ps) h = none_typed ps (all_behind (tree.piece (tree.header n)) ps h)
-  none_typed (tree.piece (tree.types ts) ∷ ps) h = absurd (all_first (tree.piece (tree.types ts)) ps h)
+  -- nothing is shown of these
+  pub none_later : {X : Type 0} (G : Piece ℕ T A → List X) → ((q : Piece ℕ T A) → HasNoType (tree.piece q) → G q ≡ []) → (later : List (Part ℕ T A)) → All HasNoType later → views G later ≡ []
+  none_later G quiet [] h = refl
+  none_later G quiet (tree.piece q ∷ ps) h = ap₂ ◌++◌ (quiet q (all_first (tree.piece q) ps h)) (none_later G quiet ps (all_behind (tree.piece q) ps h))
+  none_later G quiet (tree.region i ∷ ps) h = none_later G quiet ps (all_behind (tree.region i) ps h)
+  none_later G quiet (tree.regions ∷ ps) h = none_later G quiet ps (all_behind tree.regions ps h)
 
-  none_listed : (later : List (Part ℕ T A)) → All HasNoType later → views listed_shown later ≡ []
-  none_listed [] h = refl
-  none_listed (tree.region i ∷ ps) h = none_listed ps (all_behind (tree.region i) ps h)
-  none_listed (tree.regions ∷ ps) h = none_listed ps (all_behind tree.regions ps h)
-  none_listed (tree.piece (tree.types ts) ∷ ps) h = absurd (all_first (tree.piece (tree.types ts)) ps h)
-  none_listed (tree.piece (tree.result_type i t) ∷ ps) h = absurd (all_first (tree.piece (tree.result_type i t)) ps h)
-  none_listed (tree.piece (tree.word s) ∷ ps) h = none_listed ps (all_behind (tree.piece (tree.word s)) ps h)
-  none_listed (tree.piece (tree.operand i n) ∷ ps) h = none_listed ps (all_behind (tree.piece (tree.operand i n)) ps h)
-  none_listed (tree.piece (tree.operands ns) ∷ ps) h = none_listed ps (all_behind (tree.piece (tree.operands ns)) ps h)
-  none_listed (tree.piece (tree.successor i n) ∷ ps) h = none_listed ps (all_behind (tree.piece (tree.successor i n)) ps h)
-  none_listed (tree.piece (tree.successors ns) ∷ ps) h = none_listed ps (all_behind (tree.piece (tree.successors ns)) ps h)
-  none_listed (tree.piece (tree.attribute k a) ∷ ps) h = none_listed ps (all_behind (tree.piece (tree.attribute k a)) ps h)
-  none_listed (tree.piece (tree.dictionary es) ∷ ps) h = none_listed ps (all_behind (tree.piece (tree.dictionary es)) ps h)
-  none_listed (tree.piece (tree.header n) ∷ ps) h = none_listed ps (all_behind (tree.piece (tree.header n)) ps h)
+  typed_quiet : (q : Piece ℕ T A) → HasNoType (tree.piece q) → typed_shown q ≡ []
+  typed_quiet (tree.result_type i t) h = absurd h
+  typed_quiet q h = refl
+
+  listed_quiet : (q : Piece ℕ T A) → HasNoType (tree.piece q) → listed_shown q ≡ []
+  listed_quiet (tree.types ts) h = absurd h
+  listed_quiet q h = refl
 
 -- ---- bodies
 -- the types that were made are those by their places if no list was parsed, and otherwise the last list
@@ -497,25 +411,25 @@ module _ {T A : Type 0} (table : List Text) (text : Text) (inside : Bool) (rs : 
   front_part = map (λ p. tree.piece p) ps
 
   typed_is : flat_map placed_type rs ≡ flat_map typed_shown ps
-  typed_is = seen_alike table text placed_type typed_shown (typed_alike table text) rs ps each
+  typed_is = seen_alike table text placed_type typed_shown (λ r p e. (alike table text r p e).typed) rs ps each
 
   listed_is : flat_map type_list rs ≡ flat_map listed_shown ps
-  listed_is = seen_alike table text type_list listed_shown (listed_alike table text) rs ps each
+  listed_is = seen_alike table text type_list listed_shown (λ r p e. (alike table text r p e).listed) rs ps each
 
   -- what is stored of the pieces is what the parts store
   pub stored_is : flat_map stored_of rs ≡ views stored front_part
   stored_is = seen_alike table text stored_of stored (stored_alike table text) rs ps each ∙ sym (views_pieces stored ps)
 
   typed_later : (later : List (Part ℕ T A)) → All HasNoType later → views typed_shown (front_part ++ later) ≡ flat_map placed_type rs
-  typed_later later h = views_both typed_shown front_part later ∙ (ap (λ z. views typed_shown front_part ++ z) (none_typed later h) ∙ (append-nil (views typed_shown front_part) ∙ (views_pieces typed_shown ps ∙ sym typed_is)))
+  typed_later later h = views_both typed_shown front_part later ∙ (ap (λ z. views typed_shown front_part ++ z) (none_later typed_shown typed_quiet later h) ∙ (append-nil (views typed_shown front_part) ∙ (views_pieces typed_shown ps ∙ sym typed_is)))
 
   pub listed_later : (later : List (Part ℕ T A)) → All HasNoType later → views listed_shown (front_part ++ later) ≡ flat_map type_list rs
-  listed_later later h = views_both listed_shown front_part later ∙ (ap (λ z. views listed_shown front_part ++ z) (none_listed later h) ∙ (append-nil (views listed_shown front_part) ∙ (views_pieces listed_shown ps ∙ sym listed_is)))
+  listed_later later h = views_both listed_shown front_part later ∙ (ap (λ z. views listed_shown front_part ++ z) (none_later listed_shown listed_quiet later h) ∙ (append-nil (views listed_shown front_part) ∙ (views_pieces listed_shown ps ∙ sym listed_is)))
 
   -- ---- the form that any operation has
   module _ (of : AreOfSteps inside (front_steps canonical_steps) ps) where
     pub two_lists : length (flat_map type_list rs) ≡ 2
-    two_lists = ap length listed_is ∙ (counted ps ∙ ap length (shown_by_steps types_shown types_step types_agree inside (front_steps canonical_steps) ps of))
+    two_lists = ap length listed_is ∙ (counted ps ∙ ap length (shown_by_steps list_in inside (front_steps canonical_steps) ps of))
 
     none_placed : flat_map placed_type rs ≡ []
     none_placed = typed_is ∙ shown_none typed_shown is_untyped (λ s p u o. untyped_none s p u o) inside (front_steps canonical_steps) ps refl of
@@ -538,8 +452,8 @@ module _ {T A : Type 0} (table : List Text) (text : Text) (inside : Bool) (rs : 
   -- ---- directives
   module _ (ds : List Directive) (of : AreOfSteps inside (front_steps (map step_of ds)) ps) where
     none_in_list : flat_map type_list rs ≡ []
-    none_in_list = none_of_none (flat_map type_list rs) (flat_map types_step (front_steps (map step_of ds))) (untyped_front ds)
-        (ap length listed_is ∙ (counted ps ∙ ap length (shown_by_steps types_shown types_step types_agree inside (front_steps (map step_of ds)) ps of)))
+    none_in_list = none_of_none (flat_map type_list rs) (flat_map (λ s. list_in (directive_of_step s)) (front_steps (map step_of ds))) (untyped_front ds)
+        (ap length listed_is ∙ (counted ps ∙ ap length (shown_by_steps list_in inside (front_steps (map step_of ds)) ps of)))
 
     custom_made : (later : List (Part ℕ T A)) → All HasNoType later → result_types (body_of (Some (format.custom ds)) (front_part ++ later)) ≡ types_made (flat_map placed_type rs) (last_list [] (flat_map type_list rs))
     custom_made later h = ap in_order (typed_later later h) ∙ made_placed (flat_map placed_type rs) (last_list [] (flat_map type_list rs)) (ap (last_list []) none_in_list)
@@ -557,41 +471,41 @@ module _ {T A : Type 0} (table : List Text) (text : Text) (inside : Bool) (rs : 
   stores_are format.canonical of later a = canonical_stored of later a
   stores_are (format.custom ds) of later a = refl
 
-  -- operands and successors that have places have those from 0 on, as many as the format says
-  pub operand_places_are : (f : Format) → Accepted f → AreOfSteps inside (front_steps (steps_of f)) ps → (are_places (flat_map operand_place rs) ≡ true) × (single_operands (Some f) ≡ length (flat_map operand_place rs))
-  operand_places_are format.canonical a of =
-      let e : flat_map operand_place rs ≡ [] = seen_alike table text operand_place operand_shown (operand_alike table text) rs ps each ∙ shown_by_steps operand_shown operand_step operand_agrees inside (front_steps canonical_steps) ps of in
-      (ap are_places e, sym (ap length e))
-  operand_places_are (format.custom ds) a of =
-      let p = accepted_places ds a in
-      let e : flat_map operand_place rs ≡ operand_places ds = seen_alike table text operand_place operand_shown (operand_alike table text) rs ps each
-      ∙ (shown_by_steps operand_shown operand_step operand_agrees inside (front_steps (map step_of ds)) ps of ∙ front_operand_places ds p.behind) in
-      (ap are_places e ∙ and_left (are_places (operand_places ds)) (nat_lt (count is_operands ds) 2) p.operands, sym (ap length e))
+  -- ---- operands and successors
+  module _ {X : Type 0} (found : ReadPiece T A → List X) (of : Directive → Option X) (late : OnlyEarly of)
+      (seen : (r : ReadPiece T A) (p : Piece ℕ T A) → IsPiece table text r p → found r ≡ picked of (directive_of_piece p)) where
+    found_by : (ss : List Step) → AreOfSteps inside ss ps → flat_map found rs ≡ flat_map (λ s. picked of (directive_of_step s)) ss
+    found_by ss a = seen_alike table text found (λ p. picked of (directive_of_piece p)) seen rs ps each ∙ shown_by_steps (picked of) inside ss ps a
 
-  pub successor_places_are : (f : Format) → Accepted f → AreOfSteps inside (front_steps (steps_of f)) ps → (are_places (flat_map successor_place rs) ≡ true) × (single_successors (Some f) ≡ length (flat_map successor_place rs))
-  successor_places_are format.canonical a of =
-      let e : flat_map successor_place rs ≡ [] = seen_alike table text successor_place successor_shown (successor_alike table text) rs ps each ∙ shown_by_steps successor_shown successor_step successor_agrees inside (front_steps canonical_steps) ps of in
-      (ap are_places e, sym (ap length e))
-  successor_places_are (format.custom ds) a of =
-      let p = accepted_places ds a in
-      let e : flat_map successor_place rs ≡ successor_places ds = seen_alike table text successor_place successor_shown (successor_alike table text) rs ps each
-      ∙ (shown_by_steps successor_shown successor_step successor_agrees inside (front_steps (map step_of ds)) ps of ∙ front_successor_places ds p.behind) in
-      (ap are_places e ∙ and_left (are_places (successor_places ds)) (nat_lt (count is_successors ds) 2) p.successors, sym (ap length e))
+    found_in : (ds : List Directive) → Accepted (format.custom ds) → AreOfSteps inside (front_steps (map step_of ds)) ps → flat_map found rs ≡ filter_map of ds
+    found_in ds a o = found_by (front_steps (map step_of ds)) o ∙ shown_in_front of late ds (accepted_places ds a).behind
 
-  few_operands : (f : Format) → Accepted f → AreOfSteps inside (front_steps (steps_of f)) ps → length (flat_map operands_shown ps) < 2
-  few_operands format.canonical a of = let e = ap length (shown_by_steps operands_shown operands_step operands_agree inside (front_steps canonical_steps) ps of) in omega (arith, e)
-  few_operands (format.custom ds) a of =
-      let p = accepted_places ds a in
-      let e = ap length (shown_by_steps operands_shown operands_step operands_agree inside (front_steps (map step_of ds)) ps of ∙ front_operands ds p.behind) ∙ marked is_operands ds in
-      let l = ltb-true (count is_operands ds) 2 (and_right (are_places (operand_places ds)) (nat_lt (count is_operands ds) 2) p.operands) in
-      omega (arith, e, l)
+  -- the places are those from 0 on, as many as the format says
+  abbrev PlacesOf : List ℕ → ℕ → Type 0
+  PlacesOf places count = (are_places places ≡ true) × (count ≡ length places)
 
-  few_successors : (f : Format) → Accepted f → AreOfSteps inside (front_steps (steps_of f)) ps → length (flat_map successors_shown ps) < 2
-  few_successors format.canonical a of = let e = ap length (shown_by_steps successors_shown successors_step successors_agree inside (front_steps canonical_steps) ps of) in omega (arith, e)
-  few_successors (format.custom ds) a of =
-      let p = accepted_places ds a in
-      let e = ap length (shown_by_steps successors_shown successors_step successors_agree inside (front_steps (map step_of ds)) ps of ∙ front_successors ds p.behind) ∙ marked is_successors ds in
-      let l = ltb-true (count is_successors ds) 2 (and_right (are_places (successor_places ds)) (nat_lt (count is_successors ds) 2) p.successors) in
+  same_places : (places others : List ℕ) → places ≡ others → are_places others ≡ true → PlacesOf places (length others)
+  same_places places others e a = (ap are_places e ∙ a, sym (ap length e))
+
+  pub operand_places_are : (f : Format) → Accepted f → AreOfSteps inside (front_steps (steps_of f)) ps → PlacesOf (flat_map operand_place rs) (single_operands (Some f))
+  operand_places_are format.canonical a o = same_places (flat_map operand_place rs) [] (found_by operand_place operand_of operand_late (λ r p e. (alike table text r p e).operand) (front_steps canonical_steps) o) refl
+  operand_places_are (format.custom ds) a o = same_places (flat_map operand_place rs) (operand_places ds) (found_in operand_place operand_of operand_late (λ r p e. (alike table text r p e).operand) ds a o)
+      (and_left (are_places (operand_places ds)) (nat_lt (count is_operands ds) 2) (accepted_places ds a).operands)
+
+  pub successor_places_are : (f : Format) → Accepted f → AreOfSteps inside (front_steps (steps_of f)) ps → PlacesOf (flat_map successor_place rs) (single_successors (Some f))
+  successor_places_are format.canonical a o = same_places (flat_map successor_place rs) [] (found_by successor_place successor_of successor_late (λ r p e. (alike table text r p e).successor) (front_steps canonical_steps) o) refl
+  successor_places_are (format.custom ds) a o = same_places (flat_map successor_place rs) (successor_places ds) (found_in successor_place successor_of successor_late (λ r p e. (alike table text r p e).successor) ds a o)
+      (and_left (are_places (successor_places ds)) (nat_lt (count is_successors ds) 2) (accepted_places ds a).successors)
+
+  -- at most one list is found, where an accepted format has at most one
+  few : (found : ReadPiece T A → List (Unit {0})) (test : Directive → Bool) → OnlyEarly (flag test)
+      → ((r : ReadPiece T A) (p : Piece ℕ T A) → IsPiece table text r p → found r ≡ picked (flag test) (directive_of_piece p))
+      → length (flat_map (λ s. picked (flag test) (directive_of_step s)) (front_steps canonical_steps)) ≡ 1 → ((ds : List Directive) → Accepted (format.custom ds) → nat_lt (count test ds) 2 ≡ true)
+      → (f : Format) → Accepted f → AreOfSteps inside (front_steps (steps_of f)) ps → length (flat_map found rs) < 2
+  few found test late seen one_is fewer format.canonical a o = let e = ap length (found_by found (flag test) late seen (front_steps canonical_steps) o) in omega (arith, e, one_is)
+  few found test late seen one_is fewer (format.custom ds) a o =
+      let e = ap length (found_in found (flag test) late seen ds a o) ∙ flagged test ds in
+      let l = ltb-true (count test ds) 2 (fewer ds a) in
       omega (arith, e, l)
 
 -- all pieces of a front can be gathered
@@ -599,6 +513,8 @@ pub can_gather : {T A : Type 0} (names : Names) (text : Text) (inside : Bool) (r
     → CanGather names [] [] rs
 can_gather names text inside rs ps each f a of = record {
   names_are = can_use_all names.names text rs ps each;
-  operands_once = operands_once names.names text rs ps each (few_operands names.names text inside rs ps each f a of);
-  successors_once = successors_once names.names text rs ps each (few_successors names.names text inside rs ps each f a of);
+  operands_once = once_of operands_of LackOperands (OperandsOnce []) operands_turn tt tt rs (few names.names text inside rs ps each operands_of is_operands operands_late (λ r p e. (alike names.names text r p e).operands) refl
+      (λ ds k. and_right (are_places (operand_places ds)) (nat_lt (count is_operands ds) 2) (accepted_places ds k).operands) f a of);
+  successors_once = once_of successors_of LackSuccessors (SuccessorsOnce []) successors_turn tt tt rs (few names.names text inside rs ps each successors_of is_successors successors_late (λ r p e. (alike names.names text r p e).successors) refl
+      (λ ds k. and_right (are_places (successor_places ds)) (nat_lt (count is_successors ds) 2) (accepted_places ds k).successors) f a of);
 }

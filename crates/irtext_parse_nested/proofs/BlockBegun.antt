@@ -39,7 +39,7 @@ use Rattle.irtext_parse_nested.specs.Items.{KeepsLive}
 use Rattle.irtext_parse_nested.specs.Located.{IsLocated, IsLocatedAt}
 use Rattle.irtext_parse_nested.specs.Placing.{PlacesBlock}
 use Rattle.irtext_parse_nested.proofs.BlockKept.{block_new}
-use Rattle.irtext_parse_nested.proofs.OperationClosed.{lasts_more}
+use Rattle.irtext_parse_nested.proofs.Lasting.{lasts_then}
 use Rattle.irtext_parse_nested.proofs.Faults.{stands_there, named_each}
 use Rattle.irtext_parse_nested.proofs.Headers.{keys_each, arguments_named, arguments_typed}
 use Rattle.irtext_parse_nested.proofs.Lasting.{loses_lasts}
@@ -112,7 +112,7 @@ module _ {T A : Type 0} (old mid : ContextView T A) (r : Ptr Region) (b : Ptr Ba
     begun_new m le = loses.newer m (TheBlock b) (placed_new m le)
 
     pub begun_lasts : new.dialects ≡ mid.dialects → KeepsLive old new
-    begun_lasts same = lasts_more placed_lasts (loses_lasts mid new loses same)
+    begun_lasts same = lasts_then _ _ _ placed_lasts (loses_lasts mid new loses same)
 
     pub begun_spares : ModifiesOnly (TheBlock b ∷ TheRegion r ∷ []) old new
     begun_spares = spares_then old mid new (TheBlock b ∷ TheRegion r ∷ []) placed_spares (spares_fewer mid new (TheBlock b ∷ TheRegion r ∷ []) behind)

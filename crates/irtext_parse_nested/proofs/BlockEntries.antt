@@ -15,9 +15,8 @@ use Rattle.irtext_parse_pieces.specs.declared.entries.Key.{Key}
 use Rattle.irtext_parse_pieces.specs.declared.names.ReadName.{ReadName}
 use Rattle.irtext_parse_nested.specs.declared.operation_parts.NotGathered.{NotGathered}
 use Rattle.irtext_parse_nested.specs.declared.operation_parts.NotGathered.TheVariants as refusal
-use Rattle.irtext_parse_nested.specs.Blocks.{AreAllowed, Forbids}
 use Rattle.irtext_parse_nested.specs.Ends.{numbers_of}
-use Rattle.irtext_parse_nested.specs.Gathered.{MayAllHold, RefusesEntries}
+use Rattle.irtext_parse_nested.specs.Gathered.{MayAllHold, RefusesEntries, AreAllowed, Forbids}
 
 -- ---- one entry
 -- the key is that of a label

@@ -1,5 +1,5 @@
 -- A block that is appended to a region that is no older than a mark keeps all that is older.
-use Rattle.std.proofs.Common.{◌≡◌, ◌≤◌, ◌∙◌, ℕ, Bool, true, false, List, Option, refl, ap, arith, nat_lt, ltb-true}
+use Rattle.std.proofs.Common.{◌≤◌, ◌∙◌, ℕ, List, Option, ap}
 use Rattle.std.specs.Option.{option_map}
 use Rattle.irtext_context.specs.Context.{ContextView, MakesBlock, KeepsOlder}
 use Rattle.irtext_context.specs.declared.base.block.BlockData.{BlockData}
@@ -13,13 +13,7 @@ use Rattle.irtext_graph.specs.Graph.{content_of, IsNew}
 use Rattle.irtext_graph.specs.Objects.{is_older}
 use Rattle.irtext_graph.specs.Store.{get}
 use Rattle.irtext_graph.proofs.Closed.{older_on}
-
-not_below : (a b : ℕ) → b ≤ a → nat_lt a b ≡ false
-not_below a b le = go (nat_lt a b) refl
-  where
-    go : (t : Bool) → nat_lt a b ≡ t → t ≡ false
-    go false e = refl
-    go true e = let l = ltb-true a b e in absurd (omega arith)
+use Rattle.irtext_parse_nested.proofs.Lasting.{not_below}
 
 module _ {T A : Type 0} (old mid new : ContextView T A) (r : Ptr Region) (b : Ptr BasicBlock) (held : BlockData A) (types : List T) (make : MakesBlock old mid b held types) where
   -- the region is as new as it was, and the block is new

@@ -28,10 +28,10 @@ use Rattle.irtext_names.specs.Tied.{MatchesGraph, ArePending}
 use Rattle.irtext_names.specs.Rows.{AreNamed, AreKnown}
 use Rattle.irtext_parse_pieces.specs.declared.entries.Key.{Key}
 use Rattle.irtext_parse_pieces.specs.declared.names.ReadName.{ReadName}
-use Rattle.irtext_parse_nested.specs.Blocks.{AreAllowed, PlacesLabelled, MakesHead}
+use Rattle.irtext_parse_nested.specs.Blocks.{PlacesLabelled, MakesHead}
 use Rattle.irtext_parse_nested.specs.Definitions.{ValuesReady}
 use Rattle.irtext_parse_nested.specs.Ends.{numbers_of}
-use Rattle.irtext_parse_nested.specs.Gathered.{entry_read}
+use Rattle.irtext_parse_nested.specs.Gathered.{entry_read, AreAllowed}
 use Rattle.irtext_parse_nested.specs.Items.{Names, IsSound, BlanksDefine}
 use Rattle.irtext_parse_nested.proofs.Blanks.{blanks_on}
 use Rattle.irtext_parse_nested.proofs.Losing.{blanks_by}

@@ -40,7 +40,7 @@ use Rattle.irtext_parse_pieces.proofs.Meanings.{must_whole}
 use Rattle.irtext_parse_nested.specs.declared.frame.BegunBlock.{BegunBlock}
 use Rattle.irtext_parse_nested.specs.Blocks.{entries_in, RefusesKeys, MakesHead, NamesHead, RefusesHead}
 use Rattle.irtext_parse_nested.specs.Ends.{noted_as}
-use Rattle.irtext_parse_nested.specs.Items.{Names, ActsWith}
+use Rattle.irtext_parse_nested.specs.Items.{Names, ActFails, ActsWith}
 use Rattle.irtext_parse_nested.specs.Read.{heads_of, BeginsBlock, RefusesBlock}
 use Rattle.irtext_parse_nested.proofs.OperationClosed.{noted_is}
 use Rattle.irtext_parse_nested.proofs.Ended.{within_honest, honest_mark}
@@ -108,19 +108,15 @@ module _ {T A U : Type 0} (types_at : Text → Outcome T) (attr : Text → Outco
   pub same_head : (g : Head ℕ T A) (taken : Text) (new : StreamView) → new ≡ v → head_at types_at attr old.stream.rest ≡ Read g taken new.rest → head ≡ g
   same_head g taken new e r = let f = sym there.is ∙ r in cc f
 
+  -- what the header does fails
+  block_refused : (P : ParseFault A → Type 0) → ((fault : ParseFault A) → P fault → ActFails (whole old.stream) (heads_of types_at attr head old) before old.state [] fault)
+      → (fault : ParseFault A) → UnlessMemory P fault → UnlessMemory (RefusesBlock types_at attr before old) fault
+  block_refused P fails fault u = elim u [ inl s ↦ inl s | inr r ↦ inr (inr (head, there.taken, v.rest, there.is, fails fault r)) ]
+
   -- a key of its dictionary is an error
   pub keys_refused : (fault : ParseFault A) → UnlessMemory (RefusesKeys (whole v) (entries_in read.attributes)) fault → UnlessMemory (RefusesBlock types_at attr before old) fault
-  keys_refused fault u = elim u [
-    | inl s ↦ inl s
-    | inr r ↦ inr (inr (
-      head,
-      there.taken,
-      v.rest,
-      there.is,
-      key_fails before names (whole old.stream) old.state.src old.state old.state read head reads distinct is_head fault
-          (subst (λ t. RefusesKeys t (entries_in read.attributes) fault) same_text r),
-    ))
-  ]
+  keys_refused = block_refused (RefusesKeys (whole v) (entries_in read.attributes))
+      (λ fault r. key_fails before names (whole old.stream) old.state.src old.state old.state read head reads distinct is_head fault (subst (λ t. RefusesKeys t (entries_in read.attributes) fault) same_text r))
 
   module _ (m : code.State T A U) (r : Ptr Region) (b : Ptr BasicBlock) (makes : MakesHead names.names old.state.src (whole v) read.label read.arguments (entries_in read.attributes) old.state.ctx.now m.ctx.now r b)
       (same : marks_of m ≡ marks_of old.state) where
@@ -129,17 +125,9 @@ module _ {T A U : Type 0} (types_at : Text → Outcome T) (attr : Text → Outco
 
     -- a name of it is an error, or its mark
     pub names_refused : (fault : ParseFault A) → UnlessMemory (RefusesHead b read.label (map (λ a. a.0) read.arguments) read.mark names m (whole v)) fault → UnlessMemory (RefusesBlock types_at attr before old) fault
-    names_refused fault u = elim u [
-      | inl s ↦ inl s
-      | inr q ↦ inr (inr (
-        head,
-        there.taken,
-        v.rest,
-        there.is,
-        head_fails before names (whole old.stream) old.state.src old.state m read head reads distinct is_head r b made same fault
-            (subst (λ t. RefusesHead b read.label (map (λ a. a.0) read.arguments) read.mark names m t fault) same_text q),
-      ))
-    ]
+    names_refused = block_refused (RefusesHead b read.label (map (λ a. a.0) read.arguments) read.mark names m (whole v))
+        (λ fault q. head_fails before names (whole old.stream) old.state.src old.state m read head reads distinct is_head r b made same fault
+        (subst (λ t. RefusesHead b read.label (map (λ a. a.0) read.arguments) read.mark names m t fault) same_text q))
 
     -- the block was begun
     pub block_begun : (new : StateStream T A U) (after : Names) (begun : BegunBlock) → begun.block ≡ b → begun.first ≡ true → new.stream ≡ v → NamesHead b read.label (map (λ a. a.0) read.arguments) read.mark names m after new.state

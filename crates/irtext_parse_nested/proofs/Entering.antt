@@ -1,14 +1,14 @@
 -- A region that begins and ends: what it does with names, and which errors there are.
-use Rattle.std.proofs.Common.{◌≡◌, ◌∙◌, ◌⊎◌, inl, inr, Bool, true, false, [], codes, length, None, IsSome, Ok, Err, refl, sym, ap, subst}
+use Rattle.std.proofs.Common.{◌≡◌, ◌∙◌, ◌⊎◌, inl, inr, Bool, true, false, [], codes, length, None, Ok, Err, refl, sym, ap, subst}
 use Rattle.irtext_base.specs.Faults as fault
 use Rattle.irtext_base.specs.Faults.{fault_of}
 use Rattle.irtext_base.specs.Locations.{AttrView}
 use Rattle.irtext_base.specs.Stream.{StreamView, IsAt}
 use Rattle.irtext_base.specs.declared.parsable.fault.ParseFault.{ParseFault}
-use Rattle.irtext_context.specs.Context.{operation, AddsRegion}
 use Rattle.irtext_graph.specs.declared.arena.Ptr.{Ptr}
-use Rattle.irtext_graph.specs.declared.object.Operation.{Operation}
 use Rattle.irtext_graph.specs.declared.object.Region.{Region}
+use Rattle.irtext_graph.specs.declared.object.Object.TheVariants.{TheRegion}
+use Rattle.irtext_graph.specs.Graph.{IsLive}
 use Rattle.irtext_tokens.specs.Infix.{Reader, ◌▷◌}
 use Rattle.irtext_tokens.specs.MustRead.{MustRead}
 use Rattle.irtext_tokens.specs.Tokens.{space_at, word}
@@ -32,7 +32,7 @@ use Rattle.irtext_parse_nested.specs.Read.{enters_of, Demands, BeginsRegion, Ref
 use Rattle.irtext_parse_nested.specs.declared.frame.BegunRegion.{BegunRegion}
 use Rattle.irtext_parse_nested.proofs.Ended.{within_honest}
 use Rattle.irtext_parse_nested.proofs.Faults.{must_demand}
-use Rattle.irtext_parse_nested.proofs.RegionBegun.{region_stands, region_there}
+use Rattle.irtext_parse_nested.proofs.NamesLeft.{LeavesNames, stands_left}
 use Rattle.irtext_parse_nested.proofs.Standing.{stands_on, stands_fails}
 
 -- the first brace, with white space after it
@@ -57,13 +57,12 @@ module _ {T A U : Type 0} (types_at : Reader T) (attr : Reader (AttrView A)) (is
     so = λ path items more o h. stands_fails before old.state (enter iso) (record { cause = NotIsolated; at = None }) fails h;
   }))
 
-  module _ (names : Names) (mid : StateStream T A U) (op : Ptr Operation) (r : Ptr Region) (takes : Takes (enter iso) (history.entered iso) before names old.state.ctx.now.graph)
-      (adds : AddsRegion old.state.ctx.now mid.state.ctx.now op r) (has : IsSome (operation old.state.ctx.now op)) (tied : MatchesGraph names.values names.labels old.state.ctx.now.graph)
-      (marks : marks_of mid.state ≡ marks_of old.state) (same : mid.stream ≡ old.stream) where
-    -- it is entered, and is appended to its operation
+  -- the scopes of a region were entered, and it was created by an edit that leaves what names refer to
+  module _ (names : Names) (mid : StateStream T A U) (takes : Takes (enter iso) (history.entered iso) before names old.state.ctx.now.graph) (leaves : LeavesNames old.state.ctx.now.graph mid.state.ctx.now.graph)
+      (tied : MatchesGraph names.values names.labels old.state.ctx.now.graph) (marks : marks_of mid.state ≡ marks_of old.state) (same : mid.stream ≡ old.stream) where
     pub acts_entered : Acts (enters_of types_at attr iso old) before old.state [] names mid.state []
     acts_entered = record {
-      so = λ path items more o h. region_stands old.state.ctx.now mid.state.ctx.now op r adds has names old.state mid.state refl refl marks tied
+      so = λ path items more o h. stands_left old.state.ctx.now mid.state.ctx.now leaves names old.state mid.state refl refl marks tied
           (stands_on before names old.state old.state (enter iso) (history.entered iso) takes (marks_same iso) refl refl h);
     }
 
@@ -75,18 +74,14 @@ module _ {T A U : Type 0} (types_at : Reader T) (attr : Reader (AttrView A)) (is
     ]
 
     -- its brace was parsed
-    pub braced : (b : BegunRegion) (new : StateStream T A U) → new.state ≡ mid.state → MustRead {A = A} itself replaced (λ u. u) brace_at mid.stream (Ok tt) new.stream → b.region ≡ r → b.isolated ≡ iso → Leaves (whole old.stream) b.at (length old.stream.rest)
-        → BeginsRegion types_at attr iso b before old names new
-    braced b new state h region isolated placed =
+    pub braced : (r : Ptr Region) → IsLive mid.state.ctx.now.graph (TheRegion r) → (b : BegunRegion) (new : StateStream T A U) → new.state ≡ mid.state → MustRead {A = A} itself replaced (λ u. u) brace_at mid.stream (Ok tt) new.stream → b.region ≡ r → b.isolated ≡ iso
+        → Leaves (whole old.stream) b.at (length old.stream.rest) → BeginsRegion types_at attr iso b before old names new
+    braced r live b new state h region isolated placed =
         let a = answered (subst (λ s. MustRead {A = A} itself replaced (λ u. u) brace_at s (Ok tt) new.stream) same h) in
         record {
           taken = a.taken;
           read = a.is;
           moves = record { taken = a.taken; takes = a.takes };
-          region = record {
-            is_isolated = isolated;
-            placed = placed;
-            stands = rw (state, region) (region_there old.state.ctx.now mid.state.ctx.now op r adds);
-          };
+          region = record { is_isolated = isolated; placed = placed; stands = rw (state, region) live };
           acts = subst (λ z. Acts (enters_of types_at attr iso old) before old.state [] names z []) (sym state) acts_entered;
         }

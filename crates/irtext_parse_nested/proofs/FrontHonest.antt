@@ -28,7 +28,7 @@ use Rattle.irtext_parse_nested.proofs.Ended.{within_honest}
 use Rattle.irtext_parse_nested.proofs.Faults.{StaysWithin}
 
 -- ---- names
-name_honest : Honest name_at
+pub name_honest : Honest name_at
 name_honest = record { of = λ text. of_mapped text (name_of (length text)) (identifier_at text) ((honest_name _).of text) }
 
 used_honest : Honest (used_at true)
@@ -45,7 +45,7 @@ module _ {T A : Type 0} (types_at : Text → Outcome T) (attr : Text → Outcome
   pair_honest : Honest (pair_at attr)
   pair_honest = ◌so◌ name_honest (λ key. ◌then◌ (honest_spaced (codes ":")) (seen (λ a. (key, a)) (seen _ honest)))
 
-  dictionary_honest : Honest (dictionary_at attr)
+  pub dictionary_honest : Honest (dictionary_at attr)
   unfolding dictionary_at
   dictionary_honest = record { of = λ text. (◌then◌ (honest_word (codes "[")) (◌then◌ honest_space (◌kept◌ (honest_separated 44 (pair_at attr) pair_honest) (honest_word (codes "]"))))).of text }
 
@@ -65,7 +65,7 @@ module _ {T A : Type 0} (types_at : Text → Outcome T) (attr : Text → Outcome
   directive_honest (format.region i) = record { of = λ text. of_missing text _ refl }
   directive_honest format.regions = record { of = λ text. of_missing text _ refl }
 
-  piece_honest : (step : Step) → Honest (piece_at types_at attr true step)
+  pub piece_honest : (step : Step) → Honest (piece_at types_at attr true step)
   piece_honest (flat d) = directive_honest d
   piece_honest types = seen _ (honest_separated 44 types_at honest_types)
   piece_honest (one i) = record { of = λ text. of_missing text _ refl }
@@ -91,7 +91,7 @@ named_of (Read ns taken rest) text h = h
 named_of (Missing cause) text h = of_read text [] [] text refl
 named_of (Bad cause upto) text h = of_read text [] [] text refl
 
-lead_honest : Honest lead_at
+pub lead_honest : Honest lead_at
 lead_honest = ◌then◌ honest_space (◌kept◌ (record { of = λ text. named_of (results_at text) text (results_honest.of text) }) honest_space)
 
 -- a fault of an id after a lead is after the lead, or at its end, or where the lead begins

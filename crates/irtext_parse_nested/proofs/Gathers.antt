@@ -108,21 +108,13 @@ module _ {O B T : Type 0} where
 
 module _ {T A : Type 0} where
   -- ---- which lists are lacking
-  pub no_operands_first : (p : ReadPiece T A) (ps : List (ReadPiece T A)) → LackOperands (p ∷ ps) → LackOperands (p ∷ [])
-  no_operands_first (read.Operands ns) ps l = l
-  no_operands_first _ ps l = tt
+  no_operands_in : (p : ReadPiece T A) (ps : List (ReadPiece T A)) → LackOperands (p ∷ ps) → LackOperands (p ∷ []) × LackOperands ps
+  no_operands_in (read.Operands ns) ps l = absurd l
+  no_operands_in p ps l = (tt, l)
 
-  pub no_operands_behind : (p : ReadPiece T A) (ps : List (ReadPiece T A)) → LackOperands (p ∷ ps) → LackOperands ps
-  no_operands_behind (read.Operands ns) ps l = absurd l
-  no_operands_behind _ ps l = l
-
-  pub no_successors_first : (p : ReadPiece T A) (ps : List (ReadPiece T A)) → LackSuccessors (p ∷ ps) → LackSuccessors (p ∷ [])
-  no_successors_first (read.Successors ns) ps l = l
-  no_successors_first _ ps l = tt
-
-  pub no_successors_behind : (p : ReadPiece T A) (ps : List (ReadPiece T A)) → LackSuccessors (p ∷ ps) → LackSuccessors ps
-  no_successors_behind (read.Successors ns) ps l = absurd l
-  no_successors_behind _ ps l = l
+  no_successors_in : (p : ReadPiece T A) (ps : List (ReadPiece T A)) → LackSuccessors (p ∷ ps) → LackSuccessors (p ∷ []) × LackSuccessors ps
+  no_successors_in (read.Successors ns) ps l = absurd l
+  no_successors_in p ps l = (tt, l)
 
   once_of_none : (vs : List Value) (ps : List (ReadPiece T A)) → LackOperands ps → OperandsOnce vs ps
   once_of_none vs [] l = tt
@@ -195,8 +187,8 @@ module _ {O B T A : Type 0} where
       → Gathers (piece ∷ []) old g x mid h y → Gathers ps mid h y new j z → Gathers (piece ∷ ps) old g x new j z
   gathers_then piece ps {old} {mid} {new} {g} {h} {j} {x} {y} {z} same s t = record {
     uses = uses;
-    operands_unlisted = λ l. t.operands_unlisted (no_operands_behind piece ps l) ∙ s.operands_unlisted (no_operands_first piece ps l);
-    successors_unlisted = λ l. t.successors_unlisted (no_successors_behind piece ps l) ∙ s.successors_unlisted (no_successors_first piece ps l);
+    operands_unlisted = λ l. let n = no_operands_in piece ps l in t.operands_unlisted n.1 ∙ s.operands_unlisted n.0;
+    successors_unlisted = λ l. let n = no_successors_in piece ps l in t.successors_unlisted n.1 ∙ s.successors_unlisted n.0;
     operands_grow = grows_both s.operands_grow t.operands_grow;
     successors_grow = grows_both s.successors_grow t.successors_grow;
     operand_places = t.operand_places ∙ (ap (λ zs. zs ++ flat_map operand_place ps) (s.operand_places ∙ ap (λ zs. map (λ e. e.0) x.operands.single.items ++ zs) (append-nil (operand_place piece))) ∙ append_assoc (map (λ e. e.0) x.operands.single.items) (operand_place piece) (flat_map operand_place ps));

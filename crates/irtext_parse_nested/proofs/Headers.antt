@@ -33,7 +33,8 @@ use Rattle.irtext_parse_pieces.specs.Arguments.{IsArgument}
 use Rattle.irtext_parse_pieces.specs.Entries.{IsKey, IsEntry, AreEntries}
 use Rattle.irtext_parse_pieces.specs.Marks.{IsMarkIf}
 use Rattle.irtext_parse_pieces.specs.Named.{StandsFor, Each, Optional}
-use Rattle.irtext_parse_nested.specs.Blocks.{entries_in, AreAllowed, IsFirstForbidden}
+use Rattle.irtext_parse_nested.specs.Blocks.{entries_in}
+use Rattle.irtext_parse_nested.specs.Gathered.{AreAllowed, IsFirstForbidden}
 use Rattle.irtext_parse_nested.specs.Definitions.{definitions_from, AreMadeAs}
 use Rattle.irtext_parse_nested.specs.Ends.{NotesMark}
 use Rattle.irtext_parse_nested.specs.Items.{Names}

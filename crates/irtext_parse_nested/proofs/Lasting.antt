@@ -1,5 +1,5 @@
 -- The open objects are still live if only placeholders are lost.
-use Rattle.std.proofs.Common.{◌≡◌, ◌<◌, ◌∙◌, ℕ, refl, sym, subst, arith, zero, suc, List, [], ◌∷◌, Option, Some, None, IsSome, length, slice_get}
+use Rattle.std.proofs.Common.{◌≡◌, ◌<◌, ◌≤◌, ◌∙◌, ℕ, Bool, true, false, nat_lt, ltb-true, refl, sym, subst, arith, zero, suc, List, [], ◌∷◌, Option, Some, None, IsSome, length, slice_get}
 use Rattle.std.specs.Prelude.{option_and_then}
 use Rattle.std.specs.Option.{option_map}
 use Rattle.irtext_context.specs.Context.{ContextView, operation, operation_of, view_of, OperationView, block, block_of}
@@ -23,6 +23,38 @@ use Rattle.irtext_names.specs.Tied.{MatchesGraph}
 use Rattle.irtext_parse_nested.specs.Definitions.{ValuesReady, LosesPlaceholders}
 use Rattle.irtext_parse_nested.specs.Items.{KeepsLive}
 
+-- a number is not below one that is no greater
+pub not_below : (a b : ℕ) → b ≤ a → nat_lt a b ≡ false
+not_below a b le = go (nat_lt a b) refl
+  where
+    go : (t : Bool) → nat_lt a b ≡ t → t ≡ false
+    go false e = refl
+    go true e = let l = ltb-true a b e in absurd (omega arith)
+
+-- ---- one after another
+pub lasts_then : {T A : Type 0} (a b c : ContextView T A) → KeepsLive a b → KeepsLive b c → KeepsLive a c
+lasts_then a b c s t = record {
+  operations = λ p h. t.operations p (s.operations p h);
+  results = λ p h. t.results p (s.operations p h) ∙ s.results p h;
+  blocks = λ k h x. let r = s.blocks k h x in let q = t.blocks k r.0 (subst IsSome (sym r.1) x) in (q.0, q.1 ∙ r.1);
+  regions = λ r h. t.regions r (s.regions r h);
+  newer = λ m q le n. let up = s.made in t.newer m q (omega (arith, le, up)) (s.newer m q le n);
+  made = let up = s.made in let on = t.made in omega (arith, up, on);
+  dialects = t.dialects ∙ s.dialects;
+}
+
+pub lasts_itself : {T A : Type 0} (a : ContextView T A) → KeepsLive a a
+lasts_itself a = record {
+  operations = λ p h. h;
+  results = λ p h. refl;
+  blocks = λ k h x. (h, refl);
+  regions = λ r h. h;
+  newer = λ m q le n. n;
+  made = omega arith;
+  dialects = refl;
+}
+
+-- ---- in a context
 slice_there : {X : Type 0} (xs : List X) (i : ℕ) → i < length xs → IsSome (slice_get xs i)
 slice_there [] i l = absurd (omega (arith, l))
 slice_there (x ∷ xs) zero l = refl

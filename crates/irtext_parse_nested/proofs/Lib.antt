@@ -1,5 +1,6 @@
 -- Lemmas on the parsing of nested text: what is unchanged by acts and edits, pieces that are gathered, and the turns of the loop.
 pub mod Standing
+pub mod Apart
 pub mod RegionAdded
 pub mod Losing
 pub mod Blanks
@@ -28,6 +29,7 @@ pub mod Sparing
 pub mod Edited
 pub mod NamesGiven
 pub mod BlockEntries
+pub mod EntriesStored
 pub mod Headers
 pub mod HeadActs
 pub mod OperationClosed
@@ -48,3 +50,5 @@ pub mod BegunSteps
 pub mod LaterPieces
 pub mod LaterRead
 pub mod Ordering
+pub mod NamesLeft
+pub mod RegionCreated

@@ -96,6 +96,16 @@ count_known : {T : Type 0} (ts : List T) → length (known ts) ≡ length ts
 count_known [] = refl
 count_known (t ∷ ts) = ap (λ k. suc k) (count_known ts)
 
+-- those with places of their own, in the order of the places, and those of the list
+placed_count : {X : Type 0} (single : List (ℕ × X)) (before list : List X) (places : List ℕ) (n : ℕ) → map (λ e. e.0) single ≡ places → are_places places ≡ true → before ≡ [] → length list ≡ length before + n
+    → length (in_order single ++ list) ≡ length places + n
+placed_count single before list places n firsts are none listed =
+    let e = length-append (in_order single) list in
+    let o = in_order_length single (ap are_places firsts ∙ are) in
+    let k = ap length (sym firsts) ∙ length_names (λ e. e.0) single in
+    let z = ap length none in
+    omega (arith, e, o, k, z, listed)
+
 -- one more is before, or after
 last_pledge : (w v : Pledge) (more : List Pledge) → Among w (more ++ v ∷ []) → (P : Pledge → Type 0) → ((u : Pledge) → Among u (more ++ []) → P u) → P v → P w
 last_pledge w v [] (inl e) P f h = subst P (sym e) h
@@ -250,20 +260,10 @@ module _ {T A U : Type 0} (types_at : Text → Outcome T) (attr : Text → Outco
     successors_placed = successor_places_are middle.names (whole old.stream) true front.pieces (parts f).pieces (each f) f.format f.accepted (are_of f)
 
     count_vs : length vs ≡ length (flat_map operand_place front.pieces) + length (flat_map operand_list front.pieces)
-    count_vs =
-        let e = length-append (in_order m.gathered.operands.single.items) m.gathered.operands.list.items in
-        let o = in_order_length m.gathered.operands.single.items (ap are_places operand_firsts ∙ operands_placed.0) in
-        let n = ap length (sym operand_firsts) ∙ length_names (λ e. e.0) m.gathered.operands.single.items in
-        let l = m.gathers.operand_count ∙ ap (λ z. length z + length (flat_map operand_list front.pieces)) m.is_none.operands.1 in
-        omega (arith, e, o, n, l)
+    count_vs = placed_count m.gathered.operands.single.items _ m.gathered.operands.list.items _ _ operand_firsts operands_placed.0 m.is_none.operands.1 m.gathers.operand_count
 
     count_bs : length bs ≡ length (flat_map successor_place front.pieces) + length (flat_map successor_list front.pieces)
-    count_bs =
-        let e = length-append (in_order m.gathered.successors.single.items) m.gathered.successors.list.items in
-        let o = in_order_length m.gathered.successors.single.items (ap are_places successor_firsts ∙ successors_placed.0) in
-        let n = ap length (sym successor_firsts) ∙ length_names (λ e. e.0) m.gathered.successors.single.items in
-        let l = m.gathers.successor_count ∙ ap (λ z. length z + length (flat_map successor_list front.pieces)) m.is_none.successors.1 in
-        omega (arith, e, o, n, l)
+    count_bs = placed_count m.gathered.successors.single.items _ m.gathered.successors.list.items _ _ successor_firsts successors_placed.0 m.is_none.successors.1 m.gathers.successor_count
 
     -- it was created with the data that was parsed
     pub front_came : IsLocated old.state.src (whole old.stream) (length old.stream.rest) loc → ComesInto (IsLocated old.state.src (whole old.stream)) old_ctx new_ctx b.op (front_own f) block

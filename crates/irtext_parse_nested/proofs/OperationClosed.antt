@@ -1,5 +1,5 @@
 -- An operation that is closed: its results are defined, and their names are stored as given names.
-use Rattle.std.proofs.Common.{◌≡◌, ◌∙◌, ℕ, List, [], ◌∷◌, map, Option, Some, None, IsSome, arith, refl, sym, ap, subst, append-nil, ◌++◌}
+use Rattle.std.proofs.Common.{◌≡◌, ◌∙◌, ℕ, List, [], ◌∷◌, map, Option, Some, None, IsSome, refl, sym, ap, subst, append-nil, ◌++◌}
 use Rattle.std.specs.Map.{lookup}
 use Rattle.irtext_base.specs.Text.{Text}
 use Rattle.irtext_base.specs.declared.location.Location.{Location}
@@ -31,20 +31,9 @@ use Rattle.irtext_parse_nested.specs.Ends.{closes_at, NotesMark, noted_as, Write
 use Rattle.irtext_parse_nested.specs.Items.{Names, Acts, KeepsLive, IsSound}
 use Rattle.irtext_parse_nested.proofs.Edited.{edited_lasts, edited_sound, edited_stands}
 use Rattle.irtext_parse_nested.proofs.Faults.{named_each}
+use Rattle.irtext_parse_nested.proofs.Lasting.{lasts_then}
 
 module _ {T A : Type 0} where
-  -- the open objects are still live, after two steps
-  pub lasts_more : {a b c : ContextView T A} → KeepsLive a b → KeepsLive b c → KeepsLive a c
-  lasts_more {a} {b} {c} l m = record {
-    operations = λ p h. m.operations p (l.operations p h);
-    results = λ p h. m.results p (l.operations p h) ∙ l.results p h;
-    blocks = λ d h i. let r = l.blocks d h i in let q = m.blocks d r.0 (subst IsSome (sym r.1) i) in (q.0, q.1 ∙ r.1);
-    regions = λ r h. m.regions r (l.regions r h);
-    newer = λ n q le h. let e = l.made in m.newer n q (omega (arith, le, e)) (l.newer n q le h);
-    made = let e = l.made in let f = m.made in omega (arith, e, f);
-    dialects = m.dialects ∙ l.dialects;
-  }
-
   module _ (old mid new : ContextView T A) (op : Ptr Operation) (spares : ModifiesOnly [] old mid) where
     -- all else is unchanged
     pub close_spares : WritesAttributes mid new op → ModifiesOnly (TheOperation op ∷ []) old new
@@ -87,7 +76,7 @@ pub close_sound : {T A U : Type 0} (names : Names) (m z : code.State T A U) (op 
 close_sound names m z op w n h = edited_sound m.ctx.now z.ctx.now op (with_attributes w.left) w.edits names m z refl refl n h
 
 pub close_lasts : {T A : Type 0} (old mid new : ContextView T A) (op : Ptr Operation) → KeepsLive old mid → WritesAttributes mid new op → KeepsLive old new
-close_lasts old mid new op l w = lasts_more l (edited_lasts mid new op (with_attributes w.left) w.edits)
+close_lasts old mid new op l w = lasts_then _ _ _ l (edited_lasts mid new op (with_attributes w.left) w.edits)
 
 -- the mark that was recorded is that of the text
 pub noted_is : {X : Type 0} (text : Text) (x : X) (read : Option ReadMark) (m : Option (Mark ℕ)) (old new : List (ℕ × X)) → IsMarkIf text read m → NotesMark read x old new → new ≡ old ++ noted_as m x

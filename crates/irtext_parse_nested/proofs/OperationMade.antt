@@ -27,7 +27,6 @@ use Rattle.irtext_parse_spec.specs.Grows.{with_last_operation, OperationCame}
 use Rattle.irtext_parse_spec.specs.Unchanged.{OwnSoFar, HasOwn, HasUses, IsThere, ModifiesOnly}
 use Rattle.irtext_parse_spec.proofs.Edits.{operation_made, operation_made_spares, operation_came, operation_came_last, operation_came_spares, operation_placed_spares, spares_then, spares_wider}
 use Rattle.irtext_parse_spec.proofs.Kept.{there_still}
-use Rattle.irtext_parse_state.specs.declared.parsable.state.State as code
 use Rattle.irtext_parse_nested.specs.declared.beginning.ReadFront.{ReadFront}
 use Rattle.irtext_parse_nested.specs.declared.frame.BegunOperation.{BegunOperation}
 use Rattle.irtext_parse_nested.specs.Beginning.{types_made, PlacedIn, MakesOf, ComesInto}
@@ -37,8 +36,8 @@ use Rattle.irtext_parse_nested.proofs.Blanks.{blanks_on}
 use Rattle.irtext_parse_nested.proofs.Losing.{blanks_by}
 use Rattle.irtext_parse_nested.proofs.Steady.{seen_operation}
 use Rattle.irtext_parse_nested.proofs.Begins.{operation_placed_ties, operation_placed_waits}
-use Rattle.irtext_parse_nested.proofs.Lasting.{data_there}
-use Rattle.irtext_parse_nested.proofs.UsedStands.{lasts_then, lasts_itself, used_spares, used_lasts, made_new, made_lasts, placed_lasts}
+use Rattle.irtext_parse_nested.proofs.Lasting.{lasts_then, lasts_itself, data_there}
+use Rattle.irtext_parse_nested.proofs.UsedStands.{used_spares, used_lasts, made_new, made_lasts, placed_lasts}
 use Rattle.irtext_stream.specs.declared.position.Place.{Place}
 
 count_numbered : {T : Type 0} (n : ℕ) (ts : List T) → length (numbered n ts) ≡ length ts

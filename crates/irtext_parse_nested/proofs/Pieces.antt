@@ -1,6 +1,6 @@
 -- One piece that is gathered.
 use Rattle.std.proofs.Common.{◌≡◌, ◌+◌, ◌∙◌, ◌⊎◌, inl, inr, ℕ, zero, suc, Bool, true, false, cond, List, [], ◌∷◌, ◌++◌, length, map, flat_map, slice_get, Option, Some, None, Result, Ok, Err, IfErr, OnOk, refl, sym, ap, ap₂, subst, arith, append-nil, length-append}
-use Rattle.std.specs.Prelude.{Vec}
+use Rattle.std.specs.Prelude.{Vec, ⊤}
 use Rattle.std.specs.Global.{Global}
 use Rattle.irtext_base.specs.Text.{Text}
 use Rattle.irtext_base.specs.Format.{sym_name_key}
@@ -24,12 +24,12 @@ use Rattle.irtext_grammar.specs.Names.Acts.{piece_acts, word_of, value_uses, lab
 use Rattle.irtext_grammar.specs.Names.History.{State, act, going, after, outcome}
 use Rattle.irtext_grammar.specs.Names.Scopes.{fact_of, nothing}
 use Rattle.irtext_grammar.specs.Names.Script.{Path, User, operand, successor, use_value, use_label, claim, Cause, ReservedKey, NoActiveScope}
-use Rattle.irtext_grammar.specs.Names.TextScopes.{Act, Failure}
+use Rattle.irtext_grammar.specs.Names.TextScopes.{Act, Failure, Word}
 use Rattle.irtext_names.specs.Linked.{StandsAt, FailsBy}
 use Rattle.irtext_names.proofs.Linked.Outside.{value_use_outside, label_use_outside}
 use Rattle.irtext_scopes.specs.Scopes.{is_open}
-use Rattle.irtext_names.proofs.Linked.Moving.{among_split, onto_nothing}
-use Rattle.irtext_names.specs.Rows.{AreNamed, uses_from, in_hand_from, TakesUses, UsesRow}
+use Rattle.irtext_names.proofs.Linked.Moving.{among_split}
+use Rattle.irtext_names.specs.Rows.{AreNamed, uses_from, in_hand_from, TakesUses, UsesRow, AreThere}
 use Rattle.irtext_parse_pieces.specs.declared.entries.Key.{Key}
 use Rattle.irtext_parse_pieces.specs.declared.names.ReadName.{ReadName}
 use Rattle.irtext_parse_pieces.specs.declared.names.Symbol.{Symbol}
@@ -42,8 +42,10 @@ use Rattle.irtext_parse_pieces.specs.Pieces.{IsPiece}
 use Rattle.irtext_parse_nested.specs.declared.operation_parts.Gathered.{Gathered}
 use Rattle.irtext_parse_nested.specs.declared.operation_parts.NotGathered.{NotGathered}
 use Rattle.irtext_parse_nested.specs.declared.operation_parts.NotGathered.TheVariants as refusal
+use Rattle.irtext_parse_nested.specs.declared.uses.Placed.{Placed}
 use Rattle.irtext_parse_nested.specs.Items.{Names}
-use Rattle.irtext_parse_nested.specs.Gathered.{entry_read, operand_place, successor_place, operand_list, successor_list, placed_type, type_list, stored_of, last_list, IsInHand, Grows, FailsUses, TakesParts, TakesName, AllStand, MayAllHold, IsFirstReserved, RefusesEntries, GathersAlone, RefusesAlone, RefusesGathering, Gathers, FailsAt, GatherFails, GatherOutside}
+use Rattle.irtext_parse_nested.specs.Gathered.{entry_read, operand_place, successor_place, operand_list, successor_list, placed_type, type_list, stored_of, last_list, IsInHand, LackOperands, LackSuccessors, Grows, FailsUses, TakesParts, TakesName, AllStand, MayAllHold, IsFirstReserved, RefusesEntries, GathersAlone, RefusesAlone, RefusesGathering, Gathers, FailsAt, GatherFails, GatherOutside}
+use Rattle.irtext_parse_nested.proofs.Ends.{after_nothing}
 use Rattle.irtext_parse_nested.proofs.Steady.{length_names}
 use Rattle.irtext_parse_nested.proofs.Gathers.{grows_itself, map_both, takes_none, takes_both, fails_then, fails_first, fails_at_first}
 
@@ -81,187 +83,143 @@ module _ {T A : Type 0} where
   one_part piece table P so text (part ∷ []) e p k l =
       subst (λ z. P p k l (views (piece_acts p k l) (z ∷ []))) (sym e.0.1) (subst (P p k l) (sym (append-nil (piece_acts p k l e.0.0))) (so text e.0.0 e.0.2 p k l))
 
-module _ {O B T A : Type 0} {old new : Names} {g h : GraphView (Option O) B (Option T)} {x y : Gathered T A} where
-  -- an operand that has a directive of its own
-  pub operand_one : (i : ℕ) (n : ReadName) (v : Value) → TakesName OfValue use_value n.name old new g h v → y.operands.single.items ≡ x.operands.single.items ++ (i, v) ∷ []
-      → y.operands.list.items ≡ x.operands.list.items → y.successors ≡ x.successors → y.types ≡ x.types → y.listed ≡ x.listed → y.attributes ≡ x.attributes
-      → Gathers (read.Operand i n ∷ []) old g x new h y
-  operand_one i n v t single list successors types listed attributes = record {
-    uses = one_part (read.Operand i n) old.names (λ p k l acts. TakesParts p k l acts old g new h y.operands y.successors) uses;
-    operands_unlisted = λ l. list;
-    successors_unlisted = λ l. ap (λ z. z.list.items) successors;
-    operands_grow = record {
-      single = λ e a. subst (Among e) (sym single) (among_left e x.operands.single.items ((i, v) ∷ []) a);
-      list = λ j w e. ap (λ ws. slice_get ws j) list ∙ e;
-    };
-    successors_grow = subst (Grows x.successors) (sym successors) (grows_itself x.successors);
-    operand_places = ap (map (λ e. e.0)) single ∙ map_both (λ e. e.0) x.operands.single.items ((i, v) ∷ []);
-    successor_places = ap (λ s. map (λ e. e.0) s.single.items) successors ∙ sym (append-nil (map (λ e. e.0) x.successors.single.items));
-    operand_count = let e = ap length list in omega (arith, e);
-    successor_count = let e = ap (λ z. length z.list.items) successors in omega (arith, e);
-    types = ap (λ s. s.items) types ∙ sym (append-nil x.types.items);
-    listed = listed;
-    attributes = ap entries_of attributes;
-    there = λ s. record {
-      operands = λ e a. there s e (among_split e x.operands.single.items ((i, v) ∷ []) (subst (Among e) single a));
-      listed_operands = λ w a. t.still (OfValue w) (s.listed_operands w (subst (Among w) list a));
-      successors = λ e a. t.still (OfBlock e.1) (s.successors e (subst (λ z. Among e z.single.items) successors a));
-      listed_successors = λ b a. t.still (OfBlock b) (s.listed_successors b (subst (λ z. Among b z.list.items) successors a));
-    };
+-- ---- the operands, or the successors
+-- All of these are live.
+abbrev AllLive : {O B T X : Type 0} → (X → Defined) → GraphView (Option O) B (Option T) → Placed X → Type 0
+AllLive {X = X} of g x = ((e : ℕ × X) → Among e x.single.items → IsDefined g (of e.1)) × ((v : X) → Among v x.list.items → IsDefined g (of v))
+
+-- What pieces did to the operands, or to the successors: which places and how many listed ones they added.
+record Half {O B T X : Type 0} (of : X → Defined) (g h : GraphView (Option O) B (Option T)) (Lacks : Type 0) (places : List ℕ) (listed : ℕ) (x y : Placed X) : Type 0 where
+  unlisted : Lacks → y.list.items ≡ x.list.items
+  grow : Grows x y
+  places_are : map (λ e. e.0) y.single.items ≡ map (λ e. e.0) x.single.items ++ places
+  count : length y.list.items ≡ length x.list.items + listed
+  there : AllLive of g x → AllLive of h y
+
+module _ {O B T X : Type 0} (of : X → Defined) (g h : GraphView (Option O) B (Option T)) (still : (d : Defined) → IsDefined g d → IsDefined h d) (Lacks : Type 0) (x y : Placed X) where
+  -- they are the same
+  half_same : (places : List ℕ) (listed : ℕ) → places ≡ [] → listed ≡ 0 → y ≡ x → Half of g h Lacks places listed x y
+  half_same places listed none unlisted same = record {
+    unlisted = λ l. ap (λ z. z.list.items) same;
+    grow = subst (Grows x) (sym same) (grows_itself x);
+    places_are = ap (λ s. map (λ e. e.0) s.single.items) same ∙ (sym (append-nil (map (λ e. e.0) x.single.items)) ∙ ap (λ z. map (λ e. e.0) x.single.items ++ z) (sym none));
+    count = let e = ap (λ z. length z.list.items) same in omega (arith, e, unlisted);
+    there = λ s. (λ e a. still (of e.1) (s.0 e (subst (λ z. Among e z.single.items) same a)), λ v a. still (of v) (s.1 v (subst (λ z. Among v z.list.items) same a)));
+  }
+
+  -- one was added that has a place of its own
+  half_single : (i : ℕ) (v : X) → IsDefined h (of v) → y.single.items ≡ x.single.items ++ (i, v) ∷ [] → y.list.items ≡ x.list.items → Half of g h Lacks (i ∷ []) 0 x y
+  half_single i v new single list = record {
+    unlisted = λ l. list;
+    grow = record { single = λ e a. subst (Among e) (sym single) (among_left e x.single.items ((i, v) ∷ []) a); list = λ j w e. ap (λ ws. slice_get ws j) list ∙ e };
+    places_are = ap (map (λ e. e.0)) single ∙ map_both (λ e. e.0) x.single.items ((i, v) ∷ []);
+    count = let e = ap length list in omega (arith, e);
+    there = λ s. (λ e a. live s e (among_split e x.single.items ((i, v) ∷ []) (subst (Among e) single a)), λ w a. still (of w) (s.1 w (subst (Among w) list a)));
   }
     where
-      there : AllStand g x → (e : ℕ × Value) → Among {U = ℕ × Value} e x.operands.single.items ⊎ Among {U = ℕ × Value} e ((i, v) ∷ []) → IsDefined h (OfValue e.1)
-      there s e (inl a) = t.still (OfValue e.1) (s.operands e a)
-      there s e (inr (inl f)) = subst (λ z. IsDefined h (OfValue z.1)) (sym f) t.there
-      there s e (inr (inr f)) = absurd f
+      live : AllLive of g x → (e : ℕ × X) → Among {U = ℕ × X} e x.single.items ⊎ Among {U = ℕ × X} e ((i, v) ∷ []) → IsDefined h (of e.1)
+      live s e (inl a) = still (of e.1) (s.0 e a)
+      live s e (inr (inl f)) = subst (λ z. IsDefined h (of z.1)) (sym f) new
+      live s e (inr (inr f)) = absurd f
 
-      hand : (p : Path) (k : ℕ) (u : User) (d : Defined) → Among {U = User × Defined} (u, d) ((operand p i, OfValue v) ∷ []) → IsInHand OfValue (operand p) k y.operands.single.items y.operands.list.items u d
-      hand p k u d (inl e) = inl (i, v, ap (λ z. z.0) e, ap (λ z. z.1) e, subst (Among {U = ℕ × Value} (i, v)) (sym single) (among_right (i, v) x.operands.single.items ((i, v) ∷ []) (inl refl)))
-      hand p k u d (inr a) = absurd a
+-- they were listed, and none was before
+half_listed : {O B T X : Type 0} (of : X → Defined) (g h : GraphView (Option O) B (Option T)) (x y : Placed X) (more : List X) (listed : ℕ) → AreThere of g h more → length more ≡ listed → x.list.items ≡ []
+    → y.list.items ≡ x.list.items ++ more → y.single.items ≡ x.single.items → Half of g h ⊥ [] listed x y
+half_listed {X = X} of g h x y more listed row counted none list single = record {
+  unlisted = λ l. absurd l;
+  grow = record { single = λ e a. subst (Among e) (sym single) a; list = λ j w e. absurd (nothing_there j w (subst (λ z. slice_get z j ≡ Some w) none e)) };
+  places_are = ap (map (λ e. e.0)) single ∙ sym (append-nil (map (λ e. e.0) x.single.items));
+  count = let e = ap length list in let n = length-append x.list.items more in omega (arith, e, n, counted);
+  there = λ s. (λ e a. row.still (of e.1) (s.0 e (subst (Among e) single a)), λ w a. row.each w (subst (Among w) (list ∙ ap (λ z. z ++ more) none) a));
+}
+  where
+    nothing_there : (j : ℕ) (w : X) → slice_get [] j ≡ Some w → ⊥
+    nothing_there zero w e = cc
+    nothing_there (suc j) w e = cc
 
-      uses : (text : Text) (q : Piece ℕ T A) → IsPiece old.names text (read.Operand i n) q → (p : Path) (k l : ℕ) → TakesParts p k l (piece_acts p k l q) old g new h y.operands y.successors
-      uses text q is p k l = subst (λ z. TakesParts p k l (piece_acts p k l z) old g new h y.operands y.successors) (sym is.1) (record {
-        more = (operand p i, OfValue v) ∷ [];
-        takes = record { so = λ known held st s. let r = (t.follows (word_of is.0) (operand p i) is.2.named).so known held st s in (after st (fact_of (use_value (word_of is.0) (operand p i))), r.0, r.1) };
-        held = record { so = λ u d a. inl (hand p k u d a) };
-      })
+-- what was used for one with a place of its own, and for a list, is in hand
+single_hand : {X : Type 0} (of : X → Defined) (user : ℕ → User) (k i : ℕ) (v : X) (x y : Placed X) → y.single.items ≡ x.single.items ++ (i, v) ∷ []
+    → (u : User) (d : Defined) → Among {U = User × Defined} (u, d) ((user i, of v) ∷ []) → IsInHand of user k y.single.items y.list.items u d
+single_hand {X} of user k i v x y single u d (inl e) = inl (i, v, ap (λ z. z.0) e, ap (λ z. z.1) e, subst (Among {U = ℕ × X} (i, v)) (sym single) (among_right (i, v) x.single.items ((i, v) ∷ []) (inl refl)))
+single_hand of user k i v x y single u d (inr a) = absurd a
+
+list_hand : {X : Type 0} (of : X → Defined) (user : ℕ → User) (k : ℕ) (more : List X) (x y : Placed X) → x.list.items ≡ [] → y.list.items ≡ x.list.items ++ more
+    → (u : User) (d : Defined) → Among {U = User × Defined} (u, d) (in_hand_from of user k more) → IsInHand of user k y.single.items y.list.items u d
+list_hand of user k more x y none list u d a = let r = row_hand of user k more u d a in inr (r.0, r.1, r.2, r.3, ap (λ z. slice_get z r.0) (list ∙ ap (λ z. z ++ more) none) ∙ r.4)
+
+-- as many were used as names were parsed
+row_count : {X : Type 0} (ns : List ReadName) (more : List X) → length more ≡ length (map (λ n. n.name) ns) → length more ≡ length (ns ++ [])
+row_count ns more e = e ∙ (length_names (λ n. n.name) ns ∙ ap length (sym (append-nil ns)))
+
+-- a name that was used
+name_takes : {O B T X : Type 0} (of : X → Defined) (uses : Word → User → Act) (old new : Names) (g h : GraphView (Option O) B T) (text : Text) (n : ReadName) (m : Name ℕ) (v : X) (u : User)
+    → TakesName of uses n.name old new g h v → StandsFor old.names text n m → TakesUses (uses (word_of m) u ∷ []) old new g h ((u, of v) ∷ [])
+name_takes of uses old new g h text n m v u t is = record {
+  so = λ known held st s. let r = (t.follows (word_of m) u is.named).so known held st s in (after st (fact_of (uses (word_of m) u)), r.0, r.1);
+}
+
+module _ {O B T A : Type 0} {old new : Names} {g h : GraphView (Option O) B (Option T)} {x y : Gathered T A} where
+  -- the only piece: what it uses is in hand, and what it did to operands and successors
+  one_piece : (piece : ReadPiece T A) → ((text : Text) (q : Piece ℕ T A) → IsPiece old.names text piece q → (z : Piece ℕ T A) × (q ≡ z) × ((p : Path) (k l : ℕ) → TakesParts p k l (piece_acts p k l z) old g new h y.operands y.successors))
+      → Half OfValue g h (LackOperands (piece ∷ [])) (flat_map operand_place (piece ∷ [])) (length (flat_map operand_list (piece ∷ []))) x.operands y.operands
+      → Half OfBlock g h (LackSuccessors (piece ∷ [])) (flat_map successor_place (piece ∷ [])) (length (flat_map successor_list (piece ∷ []))) x.successors y.successors
+      → y.types.items ≡ x.types.items ++ flat_map placed_type (piece ∷ []) → y.listed ≡ last_list x.listed (flat_map type_list (piece ∷ []))
+      → entries_of y.attributes ≡ put_all (entries_of x.attributes) (flat_map stored_of (piece ∷ [])) → Gathers (piece ∷ []) old g x new h y
+  one_piece piece takes o s types listed attributes = record {
+    uses = one_part piece old.names (λ p k l acts. TakesParts p k l acts old g new h y.operands y.successors)
+        (λ text q is p k l. let t = takes text q is in subst (λ z. TakesParts p k l (piece_acts p k l z) old g new h y.operands y.successors) (sym t.1) (t.2 p k l));
+    operands_unlisted = o.unlisted;
+    successors_unlisted = s.unlisted;
+    operands_grow = o.grow;
+    successors_grow = s.grow;
+    operand_places = o.places_are;
+    successor_places = s.places_are;
+    operand_count = o.count;
+    successor_count = s.count;
+    types = types;
+    listed = listed;
+    attributes = attributes;
+    there = λ a. let i = o.there (a.operands, a.listed_operands) in let j = s.there (a.successors, a.listed_successors) in record { operands = i.0; listed_operands = i.1; successors = j.0; listed_successors = j.1 };
+  }
+
+  -- an operand that has a directive of its own
+  pub operand_one : (i : ℕ) (n : ReadName) (v : Value) → TakesName OfValue use_value n.name old new g h v → y.operands.single.items ≡ x.operands.single.items ++ (i, v) ∷ []
+      → y.operands.list.items ≡ x.operands.list.items → y.successors ≡ x.successors → y.types ≡ x.types → y.listed ≡ x.listed → y.attributes ≡ x.attributes → Gathers (read.Operand i n ∷ []) old g x new h y
+  operand_one i n v t single list others types listed attributes = one_piece (read.Operand i n)
+      (λ text q is. (tree.operand i is.0, is.1, λ p k l. record { more = (operand p i, OfValue v) ∷ []; takes = name_takes OfValue use_value old new g h text n is.0 v (operand p i) t is.2; held = record { so = λ u d a. inl (single_hand OfValue (operand p) k i v x.operands y.operands single u d a) } }))
+      (half_single OfValue g h t.still ⊤ x.operands y.operands i v t.there single list) (half_same OfBlock g h t.still ⊤ x.successors y.successors [] 0 refl refl others) (ap (λ s. s.items) types ∙ sym (append-nil x.types.items)) listed (ap entries_of attributes)
 
   -- a successor that has a directive of its own
   pub successor_one : (i : ℕ) (n : ReadName) (b : Ptr BasicBlock) → TakesName OfBlock use_label n.name old new g h b → y.successors.single.items ≡ x.successors.single.items ++ (i, b) ∷ []
-      → y.successors.list.items ≡ x.successors.list.items → y.operands ≡ x.operands → y.types ≡ x.types → y.listed ≡ x.listed → y.attributes ≡ x.attributes
-      → Gathers (read.Successor i n ∷ []) old g x new h y
-  successor_one i n v t single list operands types listed attributes = record {
-    uses = one_part (read.Successor i n) old.names (λ p k l acts. TakesParts p k l acts old g new h y.operands y.successors) uses;
-    operands_unlisted = λ l. ap (λ z. z.list.items) operands;
-    successors_unlisted = λ l. list;
-    successors_grow = record {
-      single = λ e a. subst (Among e) (sym single) (among_left e x.successors.single.items ((i, v) ∷ []) a);
-      list = λ j w e. ap (λ ws. slice_get ws j) list ∙ e;
-    };
-    operands_grow = subst (Grows x.operands) (sym operands) (grows_itself x.operands);
-    successor_places = ap (map (λ e. e.0)) single ∙ map_both (λ e. e.0) x.successors.single.items ((i, v) ∷ []);
-    operand_places = ap (λ s. map (λ e. e.0) s.single.items) operands ∙ sym (append-nil (map (λ e. e.0) x.operands.single.items));
-    operand_count = let e = ap (λ z. length z.list.items) operands in omega (arith, e);
-    successor_count = let e = ap length list in omega (arith, e);
-    types = ap (λ s. s.items) types ∙ sym (append-nil x.types.items);
-    listed = listed;
-    attributes = ap entries_of attributes;
-    there = λ s. record {
-      successors = λ e a. there s e (among_split e x.successors.single.items ((i, v) ∷ []) (subst (Among e) single a));
-      listed_successors = λ w a. t.still (OfBlock w) (s.listed_successors w (subst (Among w) list a));
-      operands = λ e a. t.still (OfValue e.1) (s.operands e (subst (λ z. Among e z.single.items) operands a));
-      listed_operands = λ b a. t.still (OfValue b) (s.listed_operands b (subst (λ z. Among b z.list.items) operands a));
-    };
-  }
-    where
-      there : AllStand g x → (e : ℕ × Ptr BasicBlock) → Among e x.successors.single.items ⊎ Among {U = ℕ × Ptr BasicBlock} e ((i, v) ∷ []) → IsDefined h (OfBlock e.1)
-      there s e (inl a) = t.still (OfBlock e.1) (s.successors e a)
-      there s e (inr (inl f)) = subst (λ z. IsDefined h (OfBlock z.1)) (sym f) t.there
-      there s e (inr (inr f)) = absurd f
-
-      hand : (p : Path) (l : ℕ) (u : User) (d : Defined) → Among {U = User × Defined} (u, d) ((successor p i, OfBlock v) ∷ []) → IsInHand OfBlock (successor p) l y.successors.single.items y.successors.list.items u d
-      hand p l u d (inl e) = inl (i, v, ap (λ z. z.0) e, ap (λ z. z.1) e, subst (Among {U = ℕ × Ptr BasicBlock} (i, v)) (sym single) (among_right (i, v) x.successors.single.items ((i, v) ∷ []) (inl refl)))
-      hand p l u d (inr a) = absurd a
-
-      uses : (text : Text) (q : Piece ℕ T A) → IsPiece old.names text (read.Successor i n) q → (p : Path) (k l : ℕ) → TakesParts p k l (piece_acts p k l q) old g new h y.operands y.successors
-      uses text q is p k l = subst (λ z. TakesParts p k l (piece_acts p k l z) old g new h y.operands y.successors) (sym is.1) (record {
-        more = (successor p i, OfBlock v) ∷ [];
-        takes = record { so = λ known held st s. let r = (t.follows (word_of is.0) (successor p i) is.2.named).so known held st s in (after st (fact_of (use_label (word_of is.0) (successor p i))), r.0, r.1) };
-        held = record { so = λ u d a. inr (hand p l u d a) };
-      })
+      → y.successors.list.items ≡ x.successors.list.items → y.operands ≡ x.operands → y.types ≡ x.types → y.listed ≡ x.listed → y.attributes ≡ x.attributes → Gathers (read.Successor i n ∷ []) old g x new h y
+  successor_one i n b t single list others types listed attributes = one_piece (read.Successor i n)
+      (λ text q is. (tree.successor i is.0, is.1, λ p k l. record { more = (successor p i, OfBlock b) ∷ []; takes = name_takes OfBlock use_label old new g h text n is.0 b (successor p i) t is.2; held = record { so = λ u d a. inr (single_hand OfBlock (successor p) l i b x.successors y.successors single u d a) } }))
+      (half_same OfValue g h t.still ⊤ x.operands y.operands [] 0 refl refl others) (half_single OfBlock g h t.still ⊤ x.successors y.successors i b t.there single list) (ap (λ s. s.items) types ∙ sym (append-nil x.types.items)) listed (ap entries_of attributes)
 
   -- a list of operands, if none was parsed before
-  pub operands_one : (ns : List ReadName) (more : List Value) → x.operands.list.items ≡ [] → UsesRow OfValue use_value (map (λ n. n.name) ns) old new g h more
-      → y.operands.list.items ≡ x.operands.list.items ++ more → y.operands.single.items ≡ x.operands.single.items → y.successors ≡ x.successors → y.types ≡ x.types → y.listed ≡ x.listed → y.attributes ≡ x.attributes
-      → Gathers (read.Operands ns ∷ []) old g x new h y
-  operands_one ns more none row list single successors types listed attributes = record {
-    uses = one_part (read.Operands ns) old.names (λ p k l acts. TakesParts p k l acts old g new h y.operands y.successors) uses;
-    operands_unlisted = λ l. absurd l;
-    successors_unlisted = λ l. ap (λ z. z.list.items) successors;
-    operands_grow = record {
-      single = λ e a. subst (Among e) (sym single) a;
-      list = λ j w e. absurd (let f : slice_get [] j ≡ Some w = subst (λ z. slice_get z j ≡ Some w) none e in nothing_there j w f);
-    };
-    successors_grow = subst (Grows x.successors) (sym successors) (grows_itself x.successors);
-    operand_places = ap (map (λ e. e.0)) single ∙ sym (append-nil (map (λ e. e.0) x.operands.single.items));
-    successor_places = ap (λ s. map (λ e. e.0) s.single.items) successors ∙ sym (append-nil (map (λ e. e.0) x.successors.single.items));
-    operand_count =
-        let e = ap length list in let n = length-append x.operands.list.items more in let c = row.count in let m = length_names (λ n. n.name) ns in let k = length-append ns [] in
-        omega (arith, e, n, c, m, k);
-    successor_count = let e = ap (λ z. length z.list.items) successors in omega (arith, e);
-    types = ap (λ s. s.items) types ∙ sym (append-nil x.types.items);
-    listed = listed;
-    attributes = ap entries_of attributes;
-    there = λ s. record {
-      operands = λ e a. row.there.still (OfValue e.1) (s.operands e (subst (Among e) single a));
-      listed_operands = λ w a. row.there.each w (subst (Among w) all a);
-      successors = λ e a. row.there.still (OfBlock e.1) (s.successors e (subst (λ z. Among e z.single.items) successors a));
-      listed_successors = λ b a. row.there.still (OfBlock b) (s.listed_successors b (subst (λ z. Among b z.list.items) successors a));
-    };
-  }
-    where
-      all : y.operands.list.items ≡ more
-      all = list ∙ ap (λ z. z ++ more) none
-
-      nothing_there : (j : ℕ) (w : Value) → slice_get [] j ≡ Some w → ⊥
-      nothing_there zero w e = cc
-      nothing_there (suc j) w e = cc
-
-      uses : (text : Text) (q : Piece ℕ T A) → IsPiece old.names text (read.Operands ns) q → (p : Path) (k l : ℕ) → TakesParts p k l (piece_acts p k l q) old g new h y.operands y.successors
-      uses text q is p k l = subst (λ z. TakesParts p k l (piece_acts p k l z) old g new h y.operands y.successors) (sym is.1) (record {
-        more = in_hand_from OfValue (operand p) k more;
-        takes = subst (λ acts. TakesUses acts old new g h (in_hand_from OfValue (operand p) k more)) (value_uses_are p k is.0) (row.follows is.0 (named_row old.names text ns is.0 is.2) (operand p) k);
-        held = record { so = λ u d a. let r = row_hand OfValue (operand p) k more u d a in inl (inr (r.0, r.1, r.2, r.3, ap (λ z. slice_get z r.0) all ∙ r.4)) };
-      })
+  pub operands_one : (ns : List ReadName) (more : List Value) → x.operands.list.items ≡ [] → UsesRow OfValue use_value (map (λ n. n.name) ns) old new g h more → y.operands.list.items ≡ x.operands.list.items ++ more
+      → y.operands.single.items ≡ x.operands.single.items → y.successors ≡ x.successors → y.types ≡ x.types → y.listed ≡ x.listed → y.attributes ≡ x.attributes → Gathers (read.Operands ns ∷ []) old g x new h y
+  operands_one ns more none row list single others types listed attributes = one_piece (read.Operands ns)
+      (λ text q is. (tree.operands is.0, is.1, λ p k l. record { more = in_hand_from OfValue (operand p) k more; takes = subst (λ acts. TakesUses acts old new g h (in_hand_from OfValue (operand p) k more)) (value_uses_are p k is.0) (row.follows is.0 (named_row old.names text ns is.0 is.2) (operand p) k); held = record { so = λ u d a. inl (list_hand OfValue (operand p) k more x.operands y.operands none list u d a) } }))
+      (half_listed OfValue g h x.operands y.operands more _ row.there (row_count ns more row.count) none list single) (half_same OfBlock g h row.there.still ⊤ x.successors y.successors [] 0 refl refl others) (ap (λ s. s.items) types ∙ sym (append-nil x.types.items)) listed (ap entries_of attributes)
 
   -- a list of successors, if none was parsed before
-  pub successors_one : (ns : List ReadName) (more : List (Ptr BasicBlock)) → x.successors.list.items ≡ [] → UsesRow OfBlock use_label (map (λ n. n.name) ns) old new g h more
-      → y.successors.list.items ≡ x.successors.list.items ++ more → y.successors.single.items ≡ x.successors.single.items → y.operands ≡ x.operands → y.types ≡ x.types → y.listed ≡ x.listed → y.attributes ≡ x.attributes
-      → Gathers (read.Successors ns ∷ []) old g x new h y
-  successors_one ns more none row list single operands types listed attributes = record {
-    uses = one_part (read.Successors ns) old.names (λ p k l acts. TakesParts p k l acts old g new h y.operands y.successors) uses;
-    operands_unlisted = λ l. ap (λ z. z.list.items) operands;
-    successors_unlisted = λ l. absurd l;
-    successors_grow = record {
-      single = λ e a. subst (Among e) (sym single) a;
-      list = λ j w e. absurd (let f : slice_get [] j ≡ Some w = subst (λ z. slice_get z j ≡ Some w) none e in nothing_there j w f);
-    };
-    operands_grow = subst (Grows x.operands) (sym operands) (grows_itself x.operands);
-    successor_places = ap (map (λ e. e.0)) single ∙ sym (append-nil (map (λ e. e.0) x.successors.single.items));
-    operand_places = ap (λ s. map (λ e. e.0) s.single.items) operands ∙ sym (append-nil (map (λ e. e.0) x.operands.single.items));
-    operand_count = let e = ap (λ z. length z.list.items) operands in omega (arith, e);
-    successor_count =
-        let e = ap length list in let n = length-append x.successors.list.items more in let c = row.count in let m = length_names (λ n. n.name) ns in let k = length-append ns [] in
-        omega (arith, e, n, c, m, k);
-    types = ap (λ s. s.items) types ∙ sym (append-nil x.types.items);
-    listed = listed;
-    attributes = ap entries_of attributes;
-    there = λ s. record {
-      successors = λ e a. row.there.still (OfBlock e.1) (s.successors e (subst (Among e) single a));
-      listed_successors = λ w a. row.there.each w (subst (Among w) all a);
-      operands = λ e a. row.there.still (OfValue e.1) (s.operands e (subst (λ z. Among e z.single.items) operands a));
-      listed_operands = λ b a. row.there.still (OfValue b) (s.listed_operands b (subst (λ z. Among b z.list.items) operands a));
-    };
-  }
-    where
-      all : y.successors.list.items ≡ more
-      all = list ∙ ap (λ z. z ++ more) none
-
-      nothing_there : (j : ℕ) (w : Ptr BasicBlock) → slice_get [] j ≡ Some w → ⊥
-      nothing_there zero w e = cc
-      nothing_there (suc j) w e = cc
-
-      uses : (text : Text) (q : Piece ℕ T A) → IsPiece old.names text (read.Successors ns) q → (p : Path) (k l : ℕ) → TakesParts p k l (piece_acts p k l q) old g new h y.operands y.successors
-      uses text q is p k l = subst (λ z. TakesParts p k l (piece_acts p k l z) old g new h y.operands y.successors) (sym is.1) (record {
-        more = in_hand_from OfBlock (successor p) l more;
-        takes = subst (λ acts. TakesUses acts old new g h (in_hand_from OfBlock (successor p) l more)) (label_uses_are p l is.0) (row.follows is.0 (named_row old.names text ns is.0 is.2) (successor p) l);
-        held = record { so = λ u d a. let r = row_hand OfBlock (successor p) l more u d a in inr (inr (r.0, r.1, r.2, r.3, ap (λ z. slice_get z r.0) all ∙ r.4)) };
-      })
+  pub successors_one : (ns : List ReadName) (more : List (Ptr BasicBlock)) → x.successors.list.items ≡ [] → UsesRow OfBlock use_label (map (λ n. n.name) ns) old new g h more → y.successors.list.items ≡ x.successors.list.items ++ more
+      → y.successors.single.items ≡ x.successors.single.items → y.operands ≡ x.operands → y.types ≡ x.types → y.listed ≡ x.listed → y.attributes ≡ x.attributes → Gathers (read.Successors ns ∷ []) old g x new h y
+  successors_one ns more none row list single others types listed attributes = one_piece (read.Successors ns)
+      (λ text q is. (tree.successors is.0, is.1, λ p k l. record { more = in_hand_from OfBlock (successor p) l more; takes = subst (λ acts. TakesUses acts old new g h (in_hand_from OfBlock (successor p) l more)) (label_uses_are p l is.0) (row.follows is.0 (named_row old.names text ns is.0 is.2) (successor p) l); held = record { so = λ u d a. inr (list_hand OfBlock (successor p) l more x.successors y.successors none list u d a) } }))
+      (half_same OfValue g h row.there.still ⊤ x.operands y.operands [] 0 refl refl others) (half_listed OfBlock g h x.successors y.successors more _ row.there (row_count ns more row.count) none list single) (ap (λ s. s.items) types ∙ sym (append-nil x.types.items)) listed (ap entries_of attributes)
 
 module _ {O B T A : Type 0} (names : Names) (g : GraphView (Option O) B (Option T)) where
   -- the piece does nothing with names
   pub silent : (q q' : Piece ℕ T A) → q ≡ q' → (p : Path) (k l : ℕ) → piece_acts p k l q' ≡ [] → TakesUses (piece_acts p k l q) names names g g []
   silent q q' e p k l none = subst (λ acts. TakesUses acts names names g g []) (sym (ap (piece_acts p k l) e ∙ none)) (takes_none names g)
+
+  -- a list without names
+  none_used : (make : List (Name ℕ) → Piece ℕ T A) → ((p : Path) (k l : ℕ) → piece_acts p k l (make []) ≡ []) → (text : Text) (q : Piece ℕ T A)
+      → (ms : List (Name ℕ)) × (q ≡ make ms) × Each (StandsFor names.names text) [] ms → (p : Path) (k l : ℕ) → TakesUses (piece_acts p k l q) names names g g []
+  none_used make none text q ([], is, each) p k l = silent q (make []) is p k l (none p k l)
+  none_used make none text q (m ∷ ms, is, each) p k l = absurd each
 
 -- ---- a piece that uses no name
 module _ {O B T A : Type 0} (names : Names) (g : GraphView (Option O) B (Option T)) {x y : Gathered T A} where
@@ -269,27 +227,11 @@ module _ {O B T A : Type 0} (names : Names) (g : GraphView (Option O) B (Option 
       → operand_place piece ≡ [] → successor_place piece ≡ [] → operand_list piece ≡ [] → successor_list piece ≡ []
       → y.operands ≡ x.operands → y.successors ≡ x.successors → y.types.items ≡ x.types.items ++ flat_map placed_type (piece ∷ []) → y.listed ≡ last_list x.listed (flat_map type_list (piece ∷ []))
       → entries_of y.attributes ≡ put_all (entries_of x.attributes) (flat_map stored_of (piece ∷ [])) → Gathers (piece ∷ []) names g x names g y
-  alone piece takes no_operand no_successor no_operands no_successors operands successors types listed attributes = record {
-    uses = one_part piece names.names (λ p k l acts. TakesParts p k l acts names g names g y.operands y.successors)
-        (λ text q is p k l. record { more = []; takes = takes text q is p k l; held = record { so = λ u d a. absurd a } });
-    operands_unlisted = λ l. ap (λ z. z.list.items) operands;
-    successors_unlisted = λ l. ap (λ z. z.list.items) successors;
-    operands_grow = subst (Grows x.operands) (sym operands) (grows_itself x.operands);
-    successors_grow = subst (Grows x.successors) (sym successors) (grows_itself x.successors);
-    operand_places = ap (λ s. map (λ e. e.0) s.single.items) operands ∙ (sym (append-nil (map (λ e. e.0) x.operands.single.items)) ∙ ap (λ z. map (λ e. e.0) x.operands.single.items ++ (z ++ [])) (sym no_operand));
-    successor_places = ap (λ s. map (λ e. e.0) s.single.items) successors ∙ (sym (append-nil (map (λ e. e.0) x.successors.single.items)) ∙ ap (λ z. map (λ e. e.0) x.successors.single.items ++ (z ++ [])) (sym no_successor));
-    operand_count = let e = ap (λ z. length z.list.items) operands in let n = ap length no_operands in let k = length-append (operand_list piece) [] in omega (arith, e, n, k);
-    successor_count = let e = ap (λ z. length z.list.items) successors in let n = ap length no_successors in let k = length-append (successor_list piece) [] in omega (arith, e, n, k);
-    types = types;
-    listed = listed;
-    attributes = attributes;
-    there = λ s. record {
-      operands = λ e a. s.operands e (subst (λ z. Among e z.single.items) operands a);
-      listed_operands = λ v a. s.listed_operands v (subst (λ z. Among v z.list.items) operands a);
-      successors = λ e a. s.successors e (subst (λ z. Among e z.single.items) successors a);
-      listed_successors = λ b a. s.listed_successors b (subst (λ z. Among b z.list.items) successors a);
-    };
-  }
+  alone piece takes no_operand no_successor no_operands no_successors operands successors types listed attributes = one_piece piece
+      (λ text q is. (q, refl, λ p k l. record { more = []; takes = takes text q is p k l; held = record { so = λ u d a. absurd a } }))
+      (half_same OfValue g g (λ d k. k) (LackOperands (piece ∷ [])) x.operands y.operands (operand_place piece ++ []) _ (ap (λ z. z ++ []) no_operand) (ap (λ z. length (z ++ [])) no_operands) operands)
+      (half_same OfBlock g g (λ d k. k) (LackSuccessors (piece ∷ [])) x.successors y.successors (successor_place piece ++ []) _ (ap (λ z. z ++ []) no_successor) (ap (λ z. length (z ++ [])) no_successors) successors)
+      types listed attributes
 
   -- a marker in place of the attribute
   pub marker_one : (k : Text) → y ≡ x → Gathers {O = O} {B = B} (read.Attr k None ∷ []) names g x names g y
@@ -301,24 +243,14 @@ module _ {O B T A : Type 0} (names : Names) (g : GraphView (Option O) B (Option 
   word_one e = alone read.Word (λ text q is p a b. silent names g q (tree.word is.0) is.1 p a b refl) refl refl refl refl
       (ap (λ z. z.operands) e) (ap (λ z. z.successors) e) (ap (λ z. z.types.items) e ∙ sym (append-nil x.types.items)) (ap (λ z. z.listed) e) (ap (λ z. entries_of z.attributes) e)
 
-  -- no operands
   pub no_operands_one : (ns : List ReadName) → ns ≡ [] → y ≡ x → Gathers {O = O} {B = B} (read.Operands ns ∷ []) names g x names g y
-  no_operands_one [] none e = alone (read.Operands []) none_used refl refl refl refl
+  no_operands_one [] none e = alone (read.Operands []) (none_used names g tree.operands (λ p k l. refl)) refl refl refl refl
       (ap (λ z. z.operands) e) (ap (λ z. z.successors) e) (ap (λ z. z.types.items) e ∙ sym (append-nil x.types.items)) (ap (λ z. z.listed) e) (ap (λ z. entries_of z.attributes) e)
-    where
-      none_used : (text : Text) (q : Piece ℕ T A) → IsPiece names.names text (read.Operands []) q → (p : Path) (k l : ℕ) → TakesUses (piece_acts p k l q) names names g g []
-      none_used text q ([], is, each) p k l = silent names g q (tree.operands []) is p k l refl
-      none_used text q (m ∷ ms, is, each) p k l = absurd each
   no_operands_one (n ∷ ns) none e = absurd (cc)
 
-  -- no successors
   pub no_successors_one : (ns : List ReadName) → ns ≡ [] → y ≡ x → Gathers {O = O} {B = B} (read.Successors ns ∷ []) names g x names g y
-  no_successors_one [] none e = alone (read.Successors []) none_used refl refl refl refl
+  no_successors_one [] none e = alone (read.Successors []) (none_used names g tree.successors (λ p k l. refl)) refl refl refl refl
       (ap (λ z. z.operands) e) (ap (λ z. z.successors) e) (ap (λ z. z.types.items) e ∙ sym (append-nil x.types.items)) (ap (λ z. z.listed) e) (ap (λ z. entries_of z.attributes) e)
-    where
-      none_used : (text : Text) (q : Piece ℕ T A) → IsPiece names.names text (read.Successors []) q → (p : Path) (k l : ℕ) → TakesUses (piece_acts p k l q) names names g g []
-      none_used text q ([], is, each) p k l = silent names g q (tree.successors []) is p k l refl
-      none_used text q (m ∷ ms, is, each) p k l = absurd each
   no_successors_one (n ∷ ns) none e = absurd (cc)
 
   -- the attribute of a directive
@@ -346,15 +278,6 @@ module _ {O B T A : Type 0} (names : Names) (g : GraphView (Option O) B (Option 
       operands successors (ap (λ z. z.items) types ∙ sym (append-nil x.types.items)) listed (ap entries_of attributes)
 
 -- ---- entries of a dictionary
-after_nothing : (st : State) → after st nothing ≡ st
-after_nothing st = λ i. record {
-  values = onto_nothing st.values i;
-  labels = onto_nothing st.labels i;
-  marks = append-nil st.marks i;
-  entries = append-nil st.entries i;
-  bound = append-nil st.bound i;
-}
-
 module _ {O B T : Type 0} (names : Names) (g : GraphView (Option O) B T) where
   -- what holds changes nothing
   holds_passes : (b : Bool) (f : Failure) → b ≡ true → TakesUses (claim b f ∷ []) names names g g []
@@ -417,20 +340,20 @@ module _ {O B T : Type 0} (names : Names) (g : GraphView (Option O) B (Option T)
   act_fails a f h = record { so = λ known held st s. h.so known held st s }
 
   -- a list fails at its first name
-  values_fail : (p : Path) (k : ℕ) (text : Text) (n : ReadName) (ns : List ReadName) (ms : List (Name ℕ)) → is_open names.values ≡ false → Each (StandsFor names.names text) (n ∷ ns) ms
+  values_fail : (text : Text) (n : ReadName) (ns : List ReadName) (ms : List (Name ℕ)) → is_open names.values ≡ false → Each (StandsFor names.names text) (n ∷ ns) ms
       → (m : Name ℕ) × StandsFor names.names text n m × ((p : Path) (k : ℕ) → FailsUses (value_uses p k ms) names g (record { cause = NoActiveScope m.text; at = Some m.place }))
-  values_fail p k text n ns [] shut e = absurd e
-  values_fail p k text n ns (m ∷ ms) shut e = (m, e.0, λ p k. fails_first (value_uses p (suc k) ms) (act_fails (use_value (word_of m) (operand p k)) _ (value_use_outside names g (word_of m) (operand p k) shut)))
+  values_fail text n ns [] shut e = absurd e
+  values_fail text n ns (m ∷ ms) shut e = (m, e.0, λ p k. fails_first (value_uses p (suc k) ms) (act_fails (use_value (word_of m) (operand p k)) _ (value_use_outside names g (word_of m) (operand p k) shut)))
 
-  labels_fail : (p : Path) (k : ℕ) (text : Text) (n : ReadName) (ns : List ReadName) (ms : List (Name ℕ)) → is_open names.labels ≡ false → Each (StandsFor names.names text) (n ∷ ns) ms
+  labels_fail : (text : Text) (n : ReadName) (ns : List ReadName) (ms : List (Name ℕ)) → is_open names.labels ≡ false → Each (StandsFor names.names text) (n ∷ ns) ms
       → (m : Name ℕ) × StandsFor names.names text n m × ((p : Path) (k : ℕ) → FailsUses (label_uses p k ms) names g (record { cause = NoActiveScope m.text; at = Some m.place }))
-  labels_fail p k text n ns [] shut e = absurd e
-  labels_fail p k text n ns (m ∷ ms) shut e = (m, e.0, λ p k. fails_first (label_uses p (suc k) ms) (act_fails (use_label (word_of m) (successor p k)) _ (label_use_outside names g (word_of m) (successor p k) shut)))
+  labels_fail text n ns [] shut e = absurd e
+  labels_fail text n ns (m ∷ ms) shut e = (m, e.0, λ p k. fails_first (label_uses p (suc k) ms) (act_fails (use_label (word_of m) (successor p k)) _ (label_use_outside names g (word_of m) (successor p k) shut)))
 
 module _ {O B T A : Type 0} (names : Names) (g : GraphView (Option O) B (Option T)) where
   -- the acts of the only part fail at this name
   name_fails : (piece : ReadPiece T A) (read : ReadName)
-      → ((text : Text) (q : Piece ℕ T A) → IsPiece names.names text piece q → (n : Name ℕ) × StandsFor names.names text read n × ((p : Path) (k l : ℕ) → FailsUses (piece_acts p k l q) names g (record { cause = NoActiveScope n.text; at = Some n.place })))
+      → ((text : Text) (q : Piece ℕ T A) → IsPiece names.names text piece q → (n : Name ℕ) × StandsFor names.names text read n × (z : Piece ℕ T A) × (q ≡ z) × ((p : Path) (k l : ℕ) → FailsUses (piece_acts p k l z) names g (record { cause = NoActiveScope n.text; at = Some n.place })))
       → GatherOutside {T = T} (piece ∷ []) names g read
   name_fails piece read so = record { so = fails }
     where
@@ -442,43 +365,27 @@ module _ {O B T A : Type 0} (names : Names) (g : GraphView (Option O) B (Option 
           let f = so text e.0.0 e.0.2 in (
             f.0,
             f.1,
-            λ p k l. subst (λ z. FailsUses (views (piece_acts p k l) (z ∷ [])) names g (record { cause = NoActiveScope f.0.text; at = Some f.0.place })) (sym e.0.1)
-                (subst (λ acts. FailsUses acts names g (record { cause = NoActiveScope f.0.text; at = Some f.0.place })) (sym (append-nil (piece_acts p k l e.0.0))) (f.2 p k l)),
+            λ p k l. subst (λ z. FailsUses (views (piece_acts p k l) (z ∷ [])) names g (record { cause = NoActiveScope f.0.text; at = Some f.0.place })) (sym (e.0.1 ∙ ap (λ z. tree.piece z) f.3))
+                (subst (λ acts. FailsUses acts names g (record { cause = NoActiveScope f.0.text; at = Some f.0.place })) (sym (append-nil (piece_acts p k l f.2))) (f.4 p k l)),
           )
 
   pub operand_outside : (i : ℕ) (n : ReadName) → is_open names.values ≡ false → GatherOutside {T = T} {A = A} (read.Operand i n ∷ []) names g n
-  operand_outside i n shut = name_fails (read.Operand i n) n (λ text q is. (
-    is.0,
-    is.2,
-    λ p k l. subst (λ z. FailsUses (piece_acts p k l z) names g (record { cause = NoActiveScope is.0.text; at = Some is.0.place })) (sym is.1)
-        (act_fails names g (use_value (word_of is.0) (operand p i)) _ (value_use_outside names g (word_of is.0) (operand p i) shut)),
-  ))
+  operand_outside i n shut = name_fails (read.Operand i n) n
+      (λ text q is. (is.0, is.2, tree.operand i is.0, is.1, λ p k l. act_fails names g (use_value (word_of is.0) (operand p i)) _ (value_use_outside names g (word_of is.0) (operand p i) shut)))
 
   pub successor_outside : (i : ℕ) (n : ReadName) → is_open names.labels ≡ false → GatherOutside {T = T} {A = A} (read.Successor i n ∷ []) names g n
-  successor_outside i n shut = name_fails (read.Successor i n) n (λ text q is. (
-    is.0,
-    is.2,
-    λ p k l. subst (λ z. FailsUses (piece_acts p k l z) names g (record { cause = NoActiveScope is.0.text; at = Some is.0.place })) (sym is.1)
-        (act_fails names g (use_label (word_of is.0) (successor p i)) _ (label_use_outside names g (word_of is.0) (successor p i) shut)),
-  ))
+  successor_outside i n shut = name_fails (read.Successor i n) n
+      (λ text q is. (is.0, is.2, tree.successor i is.0, is.1, λ p k l. act_fails names g (use_label (word_of is.0) (successor p i)) _ (label_use_outside names g (word_of is.0) (successor p i) shut)))
 
   pub operands_outside : (ns : List ReadName) (n : ReadName) → slice_get ns 0 ≡ Some n → is_open names.values ≡ false → GatherOutside {T = T} {A = A} (read.Operands ns ∷ []) names g n
   operands_outside [] n e shut = absurd (cc)
-  operands_outside (m ∷ ns) n e shut = name_fails (read.Operands (m ∷ ns)) n (λ text q is.
-      let f = values_fail names g [] 0 text m ns is.0 shut is.2 in let same : m ≡ n = cc in (
-        f.0,
-        subst (λ r. StandsFor names.names text r f.0) same f.1,
-        λ p k l. subst (λ z. FailsUses (piece_acts p k l z) names g (record { cause = NoActiveScope f.0.text; at = Some f.0.place })) (sym is.1) (f.2 p k),
-      ))
+  operands_outside (m ∷ ns) n e shut = name_fails (read.Operands (m ∷ ns)) n (λ text q is. let f = values_fail names g text m ns is.0 shut is.2 in let same : m ≡ n = cc in
+      (f.0, subst (λ r. StandsFor names.names text r f.0) same f.1, tree.operands is.0, is.1, λ p k l. f.2 p k))
 
   pub successors_outside : (ns : List ReadName) (n : ReadName) → slice_get ns 0 ≡ Some n → is_open names.labels ≡ false → GatherOutside {T = T} {A = A} (read.Successors ns ∷ []) names g n
   successors_outside [] n e shut = absurd (cc)
-  successors_outside (m ∷ ns) n e shut = name_fails (read.Successors (m ∷ ns)) n (λ text q is.
-      let f = labels_fail names g [] 0 text m ns is.0 shut is.2 in let same : m ≡ n = cc in (
-        f.0,
-        subst (λ r. StandsFor names.names text r f.0) same f.1,
-        λ p k l. subst (λ z. FailsUses (piece_acts p k l z) names g (record { cause = NoActiveScope f.0.text; at = Some f.0.place })) (sym is.1) (f.2 p l),
-      ))
+  successors_outside (m ∷ ns) n e shut = name_fails (read.Successors (m ∷ ns)) n (λ text q is. let f = labels_fail names g text m ns is.0 shut is.2 in let same : m ≡ n = cc in
+      (f.0, subst (λ r. StandsFor names.names text r f.0) same f.1, tree.successors is.0, is.1, λ p k l. f.2 p l))
 
 -- ---- lists that are none or some
 pub none_of_length : (ns : List ReadName) → length ns ≡ 0 → ns ≡ []

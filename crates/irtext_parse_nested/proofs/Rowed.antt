@@ -1,29 +1,21 @@
 -- One more name is defined after those of a list.
-use Rattle.std.proofs.Common.{◌≡◌, ◌+◌, ◌∙◌, inl, inr, ℕ, suc, List, [], ◌∷◌, ◌++◌, length, map, Option, Some, refl, sym, ap, subst, arith, true, slice_get}
-use Rattle.std.specs.Option.{option_map}
+use Rattle.std.proofs.Common.{◌≡◌, ◌+◌, ◌∙◌, ℕ, suc, List, [], ◌∷◌, ◌++◌, length, map, Option, Some, refl, sym, ap, subst, arith, slice_get}
 use Rattle.irtext_graph.specs.declared.arena.Ptr.{Ptr}
 use Rattle.irtext_graph.specs.declared.object.BasicBlock.{BasicBlock}
 use Rattle.irtext_graph.specs.declared.object.Value.{Value}
-use Rattle.irtext_graph.specs.declared.object.Defined.TheVariants.{OfValue, OfBlock}
+use Rattle.irtext_graph.specs.declared.object.Defined.TheVariants.{OfValue}
 use Rattle.irtext_graph.specs.Chained.{Among}
 use Rattle.irtext_graph.specs.Graph.{GraphView}
-use Rattle.irtext_graph.specs.Used.{IsDefined}
 use Rattle.irtext_scopes.specs.declared.tracker.NameTracker.{NameTracker}
-use Rattle.irtext_scopes.specs.Scopes.{Scope, find, innermost, in_innermost, is_open, placeholder_of, defined}
+use Rattle.irtext_scopes.specs.Scopes.{Scope, in_innermost, defined}
 use Rattle.irtext_grammar.specs.Grammar.Tree.{Name}
 use Rattle.irtext_grammar.specs.Names.Acts.{word_of}
-use Rattle.irtext_grammar.specs.Names.Script.{Place, result, define_value, MultipleDefinitions}
+use Rattle.irtext_grammar.specs.Names.Script.{Place, define_value, MultipleDefinitions}
 use Rattle.irtext_grammar.specs.Names.TextScopes.{Word, Failure}
 use Rattle.irtext_grammar.specs.Names.History.{act, State, going, failed, next, run, after}
 use Rattle.irtext_grammar.specs.Names.Scopes.{fact_of}
 use Rattle.irtext_names.specs.Linked.{Known, StandsAt, TakesDefinition, FailsBy}
 use Rattle.irtext_names.specs.Placeholders.{Defines}
-use Rattle.irtext_names.specs.Tied.{MatchesGraph, IsNoPlaceholder}
-use Rattle.irtext_names.proofs.Loses.{Loses}
-use Rattle.irtext_names.proofs.NamesOf.{one_value, no_block}
-use Rattle.irtext_names.proofs.Pairs.{lost}
-use Rattle.irtext_names.proofs.Ties.{waited}
-use Rattle.irtext_names.proofs.Linked.Kept.{made_defined}
 use Rattle.irtext_names.specs.Rows.{AreNamed}
 use Rattle.irtext_names.proofs.Rows.{run_through, map-through, split, none_behind, rest_fails}
 use Rattle.irtext_parse_nested.specs.Definitions.{definitions_from, AreMadeAs, DefinesRow, FailsRow}
@@ -64,21 +56,7 @@ as_many f [] = refl
 as_many f (s ∷ ss) = refl
 
 module _ {O B T : Type 0} (value : ℕ → Value) where
-  -- a definition removes no other value, and no name begins to wait with one
-  pub still_ready : (n : ℕ) (v x : Value) (vs vs' : List (Scope Value)) (ls : List (Scope (Ptr BasicBlock))) (g k : GraphView (Option O) B T) → MatchesGraph vs ls g → Defines OfValue vs vs' g k n v
-      → IsDefined g (OfValue x) × IsNoPlaceholder vs x → IsDefined k (OfValue x) × IsNoPlaceholder vs' x
-  still_ready n v x vs vs' ls g k t d ready =
-      let o = option_map OfValue (placeholder_of (find n (innermost vs))) in
-      let l : Loses g k o = lost OfValue OfBlock one_value no_block vs ls t.value_ties t.label_ties vs' n v d in
-      let place : Place = result [] 0 in
-      let r = made_defined OfValue ((place, x) ∷ []) g k n v vs l (λ y e. (0, n, waited OfValue one_value n v vs o refl l y e)) (λ q y a. elim a [ inl e ↦ subst (λ z. IsDefined g (OfValue z) × IsNoPlaceholder vs z) (sym (ap (λ z. z.1) e)) ready | inr none ↦ absurd none ]) place x (inl refl) in
-      (r.0, rw d.scopes_are r.1)
-
-  -- a scope stays open, and as many are
-  pub define_open : (n : ℕ) (v : Value) (vs vs' : List (Scope Value)) (g k : GraphView (Option O) B T) → Defines OfValue vs vs' g k n v → is_open vs ≡ true → is_open vs' ≡ true
-  define_open n v [] vs' g k d o = absurd (cc)
-  define_open n v (s ∷ ss) vs' g k d o = rw d.scopes_are refl
-
+  -- as many scopes are open after a definition
   pub define_length : (n : ℕ) (v : Value) (vs vs' : List (Scope Value)) (g k : GraphView (Option O) B T) → Defines OfValue vs vs' g k n v → length vs' ≡ length vs
   define_length n v vs vs' g k d = ap length d.scopes_are ∙ as_many (defined n v) vs
 

@@ -91,12 +91,6 @@ module _ {A : Type 0} where
   first_refused e es (refusal.ReservedKey key) (inr h) = absurd h.1
   first_refused e es (refusal.NoActiveScope n) h = absurd h
 
-  -- a later one is
-  pub later_refused : (e : Key × AttrObj A) (es : List (Key × AttrObj A)) (r : NotGathered) → MayAllHold (e ∷ []) → RefusesEntries es r → RefusesEntries (e ∷ es) r
-  later_refused e es refusal.Memory k h = tt
-  later_refused e es (refusal.ReservedKey key) k h = inr (k.0, h)
-  later_refused e es (refusal.NoActiveScope n) k h = absurd h
-
 -- what holds of an error that is returned by `?` holds of the result
 pub exit_from : {X E : Type 0} {e : E} (r : Result X E) → IsErrAnd r (λ y. y ≡ e) → (P Q : E → Type 0) → ((x : E) → P x → Q x) → P e → IfErr r Q
 exit_from {e} r h P Q f p = subst (λ z. IfErr z Q) (sym (handed_on r h)) (f e p)

@@ -1,6 +1,6 @@
 -- What an operation that begins leaves of a context, step by step: where names were used, where it was made, and where it was appended to a
 -- block.
-use Rattle.std.proofs.Common.{◌≡◌, ◌≤◌, ◌∙◌, inl, inr, ℕ, Bool, true, false, List, [], length, Option, Some, None, IsSome, nat_lt, if◌then◌else◌, refl, sym, ap, subst, arith, ltb-true}
+use Rattle.std.proofs.Common.{◌≡◌, ◌≤◌, ◌∙◌, inl, inr, ℕ, Bool, true, false, List, [], length, Option, Some, None, IsSome, nat_lt, if◌then◌else◌, refl, sym, ap, subst, arith}
 use Rattle.std.specs.Prelude.{option_and_then}
 use Rattle.std.specs.Option.{option_map}
 use Rattle.irtext_context.specs.Context.{ContextView, operation, operation_of, block, block_of, region, region_of, MakesOperation}
@@ -35,41 +35,11 @@ use Rattle.irtext_parse_spec.proofs.Edits.{kept_as_many}
 use Rattle.irtext_parse_nested.specs.Gathered.{BringsNone}
 use Rattle.irtext_parse_nested.specs.Items.{KeepsLive}
 use Rattle.irtext_parse_nested.proofs.Steady.{seen_region}
-use Rattle.irtext_parse_nested.proofs.Lasting.{data_there, there_data, block_stands, stands_block}
-
--- ---- one after another
-pub lasts_then : {T A : Type 0} (a b c : ContextView T A) → KeepsLive a b → KeepsLive b c → KeepsLive a c
-lasts_then a b c s t = record {
-  operations = λ p h. t.operations p (s.operations p h);
-  results = λ p h. t.results p (s.operations p h) ∙ s.results p h;
-  blocks = λ k h x. let r = s.blocks k h x in let q = t.blocks k r.0 (subst IsSome (sym r.1) x) in (q.0, q.1 ∙ r.1);
-  regions = λ r h. t.regions r (s.regions r h);
-  newer = λ m q le n. let up = s.made in t.newer m q (omega (arith, le, up)) (s.newer m q le n);
-  made = let up = s.made in let on = t.made in omega (arith, up, on);
-  dialects = t.dialects ∙ s.dialects;
-}
-
-pub lasts_itself : {T A : Type 0} (a : ContextView T A) → KeepsLive a a
-lasts_itself a = record {
-  operations = λ p h. h;
-  results = λ p h. refl;
-  blocks = λ k h x. (h, refl);
-  regions = λ r h. h;
-  newer = λ m q le n. n;
-  made = omega arith;
-  dialects = refl;
-}
+use Rattle.irtext_parse_nested.proofs.Lasting.{not_below, data_there, there_data, block_stands, stands_block}
 
 -- what is seen of an operation
 abbrev seen_operation : (O B T : Type 0) → Option (ℕ × OperationContent O T) → Option (Content O B T)
 seen_operation O B T o = option_map (λ d. AnOperation d.0 d.1) o
-
-not_below : (a b : ℕ) → b ≤ a → nat_lt a b ≡ false
-not_below a b le = go (nat_lt a b) refl
-  where
-    go : (t : Bool) → nat_lt a b ≡ t → t ≡ false
-    go false e = refl
-    go true e = let l = ltb-true a b e in absurd (omega arith)
 
 -- what is no older than a mark is so by its number
 young : {X : Type 0} (m : ℕ) (e : Entry X) → older m (Some e) ≡ None → nat_lt e.born m ≡ false

@@ -1,6 +1,6 @@
 -- Between functions: what the header of a block gives: its dictionary is stored, the block is created in its region, and its names are
 -- defined.
-use Rattle.std.specs.Prelude.{◌≡◌, ◌⊎◌, ℕ, true, false, List, [], ◌∷◌, ◌++◌, map, Option, Some, None, Vec, slice_get, ⊤}
+use Rattle.std.specs.Prelude.{◌≡◌, ℕ, true, List, [], ◌++◌, map, Option, Some, None, Vec, slice_get, ⊤}
 use Rattle.std.specs.Global.{Global}
 use Rattle.irtext_base.specs.Text.{Text}
 use Rattle.irtext_base.specs.Faults as causes
@@ -23,10 +23,10 @@ use Rattle.irtext_graph.specs.declared.object.Defined.TheVariants.{OfBlock}
 use Rattle.irtext_graph.specs.Graph.{GraphView}
 use Rattle.irtext_parse_state.specs.States.{marks_of}
 use Rattle.irtext_parse_state.specs.declared.parsable.state.State as code
-use Rattle.irtext_grammar.specs.Contexts.Held.{attribute_of, entries_of}
+use Rattle.irtext_grammar.specs.Contexts.Held.{entries_of}
 use Rattle.irtext_grammar.specs.Graphs.Build.{put_all, read_names}
 use Rattle.irtext_grammar.specs.Grammar.Tree.{Name}
-use Rattle.irtext_grammar.specs.Names.Acts.{Rule, block_may_hold}
+use Rattle.irtext_grammar.specs.Names.Acts.{block_may_hold}
 use Rattle.irtext_grammar.specs.Names.Script.{Place, define_label}
 use Rattle.irtext_grammar.specs.Names.TextScopes.{Word}
 use Rattle.irtext_names.specs.Linked.{TakesDefinition}
@@ -38,7 +38,7 @@ use Rattle.irtext_parse_nested.specs.declared.operation_parts.NotGathered.{NotGa
 use Rattle.irtext_parse_nested.specs.declared.operation_parts.NotGathered.TheVariants as refusal
 use Rattle.irtext_parse_nested.specs.Definitions.{DefinesRow, FailsRow, IsFaultOf}
 use Rattle.irtext_parse_nested.specs.Ends.{numbers_of, NotesMark, RefusesMark}
-use Rattle.irtext_parse_nested.specs.Gathered.{entry_read}
+use Rattle.irtext_parse_nested.specs.Gathered.{entry_read, AreAllowed, IsFirstForbidden}
 use Rattle.irtext_parse_nested.specs.Items.{Names}
 use Rattle.irtext_parse_nested.specs.Located.{IsLocatedAt}
 use Rattle.irtext_parse_nested.specs.Placing.{PlacesBlock, RefusesLabel}
@@ -48,24 +48,6 @@ use Rattle.irtext_parse_nested.specs.Placing.{PlacesBlock, RefusesLabel}
 abbrev pub entries_in : {X : Type 0} → Option (Vec X Global) → List X
 entries_in None = []
 entries_in (Some es) = es.items
-
-module _ {A : Type 0} (rule : Rule A) where
-  -- each entry's attribute is allowed under its key
-  abbrev pub AreAllowed : List (Key × AttrObj A) → Type 0
-  AreAllowed [] = ⊤
-  AreAllowed (e ∷ es) = (rule e.0.name (attribute_of e.1) ≡ true) × AreAllowed es
-
-  -- this is the key of the first entry whose attribute is not allowed
-  abbrev pub IsFirstForbidden : List (Key × AttrObj A) → Key → Type 0
-  IsFirstForbidden [] key = ⊥
-  IsFirstForbidden (e ∷ es) key = ((rule e.0.name (attribute_of e.1) ≡ false) × (key ≡ e.0))
-      ⊎ ((rule e.0.name (attribute_of e.1) ≡ true) × IsFirstForbidden es key)
-
-  -- why entries were not stored: an allocation failed, or a key is forbidden
-  abbrev pub Forbids : List (Key × AttrObj A) → NotGathered → Type 0
-  Forbids es refusal.Memory = ⊤
-  Forbids es (refusal.ReservedKey key) = IsFirstForbidden es key
-  Forbids es (refusal.NoActiveScope name) = ⊥
 
 -- the fault is `ReservedKey` for this key, at the key
 pub record IsKeyFault {A : Type 0} (text : Text) (key : Key) (fault : ParseFault A) : Type 0 where

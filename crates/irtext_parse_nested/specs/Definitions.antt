@@ -2,6 +2,7 @@
 use Rattle.std.specs.Prelude.{◌≡◌, ◌<◌, ℕ, true, suc, List, [], ◌∷◌, length, map, Option, Some, None, IsSome, slice_get, ⊤}
 use Rattle.std.specs.Option.{option_map}
 use Rattle.irtext_base.specs.Text.{Text}
+use Rattle.irtext_base.specs.Faults as causes
 use Rattle.irtext_base.specs.Faults.{Fault, fault_of}
 use Rattle.irtext_base.specs.Stream.{IsAt}
 use Rattle.irtext_base.specs.declared.parsable.fault.ParseFault.{ParseFault}
@@ -34,6 +35,8 @@ use Rattle.irtext_names.specs.Rows.{AreNamed}
 use Rattle.irtext_parse_pieces.specs.declared.names.ReadName.{ReadName}
 use Rattle.irtext_parse_nested.specs.declared.definitions.Definer.{Definer}
 use Rattle.irtext_parse_nested.specs.declared.definitions.Definer.TheVariants.{Results, Arguments}
+use Rattle.irtext_parse_nested.specs.declared.name_errors.NameFault.{NameFault}
+use Rattle.irtext_parse_nested.specs.declared.name_errors.NameFault.TheVariants as wrong
 
 -- the value of this index
 abbrev pub defined_value : Definer → ℕ → Value
@@ -101,6 +104,12 @@ module _ {O B T : Type 0} where
     pub alike : (q : Object) → IsPlaced g q → StaysAlike g k q
     pub brought : (q : Object) → IsPlaced k q → IsPlaced g q
     pub blanks : (m : ℕ) → BlanksHaveResults m g → BlanksHaveResults m k
+
+-- what is wrong with a name, as the cause of the error
+abbrev pub fault_named : NameFault → Text → Fault
+fault_named wrong.NoActiveScope = causes.NoActiveScope
+fault_named wrong.MultipleDefinitions = causes.MultipleDefinitions
+fault_named wrong.Unresolved = causes.Unresolved
 
 -- the fault is committed, has this cause with the text of the name, and is at the name's place
 pub record IsFaultOf {A : Type 0} (names : List Text) (text : Text) (cause : Text → Fault) (read : ReadName) (fault : ParseFault A) : Type 0 where

@@ -25,7 +25,7 @@ use Rattle.irtext_graph.specs.Used.{IsDefined}
 use Rattle.irtext_grammar.specs.Contexts.Held.{attribute_of, entries_of}
 use Rattle.irtext_grammar.specs.Grammar.Tree.{Name, Attribute, ident, Part, views}
 use Rattle.irtext_grammar.specs.Graphs.Build.{put_all}
-use Rattle.irtext_grammar.specs.Names.Acts.{piece_acts, may_hold}
+use Rattle.irtext_grammar.specs.Names.Acts.{Rule, piece_acts, may_hold}
 use Rattle.irtext_grammar.specs.Names.History.{State, act, going, failed, run}
 use Rattle.irtext_grammar.specs.Names.Script.{Path, User, operand, successor, Cause, ReservedKey, NoActiveScope}
 use Rattle.irtext_grammar.specs.Names.TextScopes.{Act, Word, Failure}
@@ -152,23 +152,36 @@ abbrev pub refused_at : Refusal → Place → NotGathered
 refused_at entry.Memory at = refusal.Memory
 refused_at (entry.ReservedKey name) at = refusal.ReservedKey (record { name = name; at = at })
 
-module _ {A : Type 0} where
+module _ {A : Type 0} (rule : Rule A) where
   -- each entry's attribute is allowed under its key
-  abbrev pub MayAllHold : List (Key × AttrObj A) → Type 0
-  MayAllHold [] = ⊤
-  MayAllHold (e ∷ es) = (may_hold e.0.name (attribute_of e.1) ≡ true) × MayAllHold es
+  abbrev pub AreAllowed : List (Key × AttrObj A) → Type 0
+  AreAllowed [] = ⊤
+  AreAllowed (e ∷ es) = (rule e.0.name (attribute_of e.1) ≡ true) × AreAllowed es
 
   -- this is the key of the first entry whose attribute is not allowed
-  abbrev pub IsFirstReserved : List (Key × AttrObj A) → Key → Type 0
-  IsFirstReserved [] key = ⊥
-  IsFirstReserved (e ∷ es) key = ((may_hold e.0.name (attribute_of e.1) ≡ false) × (key ≡ e.0))
-      ⊎ ((may_hold e.0.name (attribute_of e.1) ≡ true) × IsFirstReserved es key)
+  abbrev pub IsFirstForbidden : List (Key × AttrObj A) → Key → Type 0
+  IsFirstForbidden [] key = ⊥
+  IsFirstForbidden (e ∷ es) key = ((rule e.0.name (attribute_of e.1) ≡ false) × (key ≡ e.0))
+      ⊎ ((rule e.0.name (attribute_of e.1) ≡ true) × IsFirstForbidden es key)
 
-  -- why entries were not stored: an allocation failed, or a key is reserved
+  -- why entries were not stored: an allocation failed, or a key is forbidden
+  abbrev pub Forbids : List (Key × AttrObj A) → NotGathered → Type 0
+  Forbids es refusal.Memory = ⊤
+  Forbids es (refusal.ReservedKey key) = IsFirstForbidden es key
+  Forbids es (refusal.NoActiveScope name) = ⊥
+
+module _ {A : Type 0} where
+  -- each entry's attribute is allowed under its key, on an operation
+  abbrev pub MayAllHold : List (Key × AttrObj A) → Type 0
+  MayAllHold = AreAllowed may_hold
+
+  -- this is the key of the first entry whose attribute is not allowed there
+  abbrev pub IsFirstReserved : List (Key × AttrObj A) → Key → Type 0
+  IsFirstReserved = IsFirstForbidden may_hold
+
+  -- why entries were not stored there: an allocation failed, or a key is reserved
   abbrev pub RefusesEntries : List (Key × AttrObj A) → NotGathered → Type 0
-  RefusesEntries es refusal.Memory = ⊤
-  RefusesEntries es (refusal.ReservedKey key) = IsFirstReserved es key
-  RefusesEntries es (refusal.NoActiveScope read) = ⊥
+  RefusesEntries = Forbids may_hold
 
 -- ---- what pieces use
 module _ {X : Type 0} where

@@ -33,7 +33,7 @@ ghost use Rattle.irtext_parse_nested.specs.Read.{ReadsFront, begun_by, BeginsOpe
 
 use crate::frame::{BegunOperation, Names};
 use crate::making::make_gathered;
-use crate::name_errors::no_scope_error;
+use crate::name_errors::{NameFault, name_error};
 use crate::operation_parts::{Gathered, NotGathered, gather, nothing};
 use irtext_base::base::{Identifier, OpId};
 use irtext_base::location::Location;
@@ -101,7 +101,8 @@ fn front_read<T: IrText<A>, A: AttrText<A>>(
     wanted: bool,
 ) -> ParseResult<ReadFront<T, A>, A>
     requires fine { stream.old.failed ≡ false }
-    ensures stands { IfOk result (λ front. FrontStands T.IrText.reading (attr_at A.IrText.reading) ctx.now.dialects true names.new.names stream.old front.names front.id front.pieces stream.new) }
+    ensures stands { IfOk result (λ front. FrontStands T.IrText.reading (attr_at A.IrText.reading)
+        ctx.now.dialects true names.new.names stream.old front.names front.id front.pieces stream.new) }
     ensures lacks { IfErr result (UnlessMemory (LacksFront T.IrText.reading (attr_at A.IrText.reading) ctx.now.dialects true wanted stream.old)) }
     ensures key { IfOk result (λ front. IfSome front.key (λ key. key ≡ sym_name_key)) }
     ensures counted { IfOk result (λ front. front.steps ≡ length (steps_in ctx.now.dialects (id_of front.id))) }
@@ -141,7 +142,12 @@ pub(crate) fn gather_fault<A>(
     match refusal {
         NotGathered::Memory => out_of_memory(stream),
         NotGathered::ReservedKey(key) => { refuse_at(stream, key.at, Cause::ReservedKey(key.name)) }
-        NotGathered::NoActiveScope(name) => no_scope_error(stream, names, name),
+        NotGathered::NoActiveScope(name) => name_error(
+            stream,
+            names,
+            name,
+            NameFault::NoActiveScope,
+        ),
     }
 }
 
@@ -290,62 +296,6 @@ fn placed_here<T: IrText<A>, A: AttrText<A>, U>(
     }
 }
 
-/// Uses the names of the parsed front, creates the operation, and appends it to the block, if one is given. Every error is committed.
-fn begin_gathered<T: IrText<A>, A: AttrText<A>, U>(
-    s: &mut StateStream<'_, T, A, U>,
-    names: &mut Names,
-    block: Option<Ptr<BasicBlock>>,
-    at: Place,
-    loc: Location<A>,
-    front: ReadFront<T, A>,
-) -> ParseResult<BegunOperation, A>
-    requires can { CanGather names.old [] [] front.pieces }
-    requires are { (text : Text) × (parts : List (Part ℕ T A)) × Each (IsPart names.old.names text) front.pieces parts }
-    requires tied { MatchesGraph names.old.values names.old.labels s.old.state.ctx.now.graph }
-    requires key { IfSome front.key (λ key. key ≡ sym_name_key) }
-    requires block { IfSome block (λ b. IsSome (contexts.block s.old.state.ctx.now b)
-        × IsSome (parent s.old.state.ctx.now.graph (TheBlock b))) }
-    ensures lent { s.new.state.ctx.ghost_name ≡ s.old.state.ctx.ghost_name }
-    ensures rest { KeepsRest s.old.state s.new.state }
-    ensures marks { marks_of s.new.state ≡ marks_of s.old.state }
-    ensures stream { OnOk result (s.new.stream ≡ s.old.stream) }
-    ensures makes { IfOk result (MakesOf block front at loc names.old s.old.state.ctx.now names.new s.new.state.ctx.now) }
-    ensures refused { IfErr result (NotGatheredAs front.pieces names.old s.old.state.ctx.now.graph (whole s.old.stream)) }
-    ensures names { names.new.names ≡ names.old.names }
-    ensures values { length names.new.values ≡ length names.old.values }
-    ensures labels { length names.new.labels ≡ length names.old.labels }
-    ensures kept { (m : ℕ) → m ≤ s.old.state.ctx.now.graph.made → IfSome block (λ b. IsNew m s.old.state.ctx.now.graph (TheBlock b))
-        → KeepsOlder m s.old.state.ctx.now s.new.state.ctx.now }
-{
-    let ReadFront {
-        names: results,
-        id,
-        key,
-        steps,
-        isolated,
-        coming,
-        pieces,
-    } = front;
-    let step = pieces.len();
-    let ctx = &mut *s.state.ctx;
-    ctx.made();
-    let gathered = pieces_gathered(s, names, &key, pieces)?;
-    let (op, count) = made_here(s, &id, loc, gathered)?;
-    placed_here(s, block, op)?;
-    Ok(BegunOperation {
-        op,
-        id,
-        results: count,
-        names: results,
-        at,
-        inside: true,
-        isolated,
-        coming: Some(coming),
-        step,
-        steps,
-    })
-}
-
 /// Creates the operation of a parsed front without pieces, and appends it to the block, if one is given. Every error is committed.
 fn begin_bare<T: IrText<A>, A: AttrText<A>, U>(
     s: &mut StateStream<'_, T, A, U>,
@@ -426,7 +376,33 @@ fn begin_read<T: IrText<A>, A: AttrText<A>, U>(
     if front.pieces.len() == 0 {
         return begin_bare(s, names, block, at, loc, front);
     }
-    begin_gathered(s, names, block, at, loc, front)
+    let ReadFront {
+        names: results,
+        id,
+        key,
+        steps,
+        isolated,
+        coming,
+        pieces,
+    } = front;
+    let step = pieces.len();
+    let ctx = &mut *s.state.ctx;
+    ctx.made();
+    let gathered = pieces_gathered(s, names, &key, pieces)?;
+    let (op, count) = made_here(s, &id, loc, gathered)?;
+    placed_here(s, block, op)?;
+    Ok(BegunOperation {
+        op,
+        id,
+        results: count,
+        names: results,
+        at,
+        inside: true,
+        isolated,
+        coming: Some(coming),
+        step,
+        steps,
+    })
 }
 
 /// Begins an operation: parses the names of its results, its id and the pieces before its first region, uses their names, creates the
@@ -450,7 +426,8 @@ pub fn operation_begin<T: IrText<A>, A: AttrText<A>, U>(
     ensures begins { IfOk result (λ b. BeginsOperation T.IrText.reading (attr_at A.IrText.reading) true names.old s.old b names.new s.new) }
     ensures refused { IfErr result (UnlessMemory (RefusesOperation T.IrText.reading (attr_at A.IrText.reading) true (is_some block) names.old s.old)) }
     ensures unread { IfErr result (λ fault. fault.committed ≡ false → s.new.stream ≡ s.old.stream) }
-    ensures came { IfOk result (λ b. (read : ReadsFront T.IrText.reading (attr_at A.IrText.reading) true s.old s.new.stream.rest) → (own : OwnSoFar T A)
+    ensures came { IfOk result (λ b. (read : ReadsFront T.IrText.reading (attr_at A.IrText.reading) true s.old
+        s.new.stream.rest) → (own : OwnSoFar T A)
         × HasBegun (format_of s.old.state.ctx.now.dialects) (begun_by T.IrText.reading (attr_at A.IrText.reading) true s.old s.new.stream.rest read) own
         × ComesInto (IsLocated s.old.state.src (whole s.old.stream)) s.old.state.ctx.now s.new.state.ctx.now b.op own block) }
     ensures lasts { OnOk result (KeepsLive s.old.state.ctx.now s.new.state.ctx.now) }

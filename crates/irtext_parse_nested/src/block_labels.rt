@@ -18,7 +18,7 @@ ghost use Rattle.irtext_parse_nested.specs.Definitions.{LosesPlaceholders};
 ghost use Rattle.irtext_parse_nested.specs.Placing.{RefusesLabel};
 
 use crate::frame::Names;
-use crate::name_errors::redefinition_error;
+use crate::name_errors::{NameFault, name_error};
 use irtext_base::parsable::{ParseResult, TextStream};
 use irtext_graph::arena::Ptr;
 use irtext_graph::graph::Graph;
@@ -58,6 +58,11 @@ pub fn label_block<O: Drop, B: Drop, T: Drop, A>(
     match block_def(names, graph, label.name, block) {
         Ok(()) => Ok(()),
         Err(DefineFault::Memory) => Err(out_of_memory(stream)),
-        Err(DefineFault::MultipleDefinitions) => Err(redefinition_error(stream, names, label)),
+        Err(DefineFault::MultipleDefinitions) => Err(name_error(
+            stream,
+            names,
+            label,
+            NameFault::MultipleDefinitions,
+        )),
     }
 }

@@ -43,7 +43,6 @@ use crate::block_labels::label_block;
 use crate::definitions::{Definer, define_values, undefined_error};
 use crate::dictionary::{arguments_split, block_attributes};
 use crate::frame::{BegunBlock, Names};
-use crate::name_errors::identifier_of;
 use crate::operation_end::note_mark;
 use crate::operation_parts::NotGathered;
 use crate::placing::place_block;
@@ -57,6 +56,7 @@ use irtext_few::Few;
 use irtext_graph::held::HasGraph;
 use irtext_parse_pieces::entries::ReadEntry;
 use irtext_parse_pieces::headers::{BlockHead, block_head_parse};
+use irtext_parse_pieces::keys::Keys;
 use irtext_parse_pieces::marks::ReadMark;
 use irtext_parse_pieces::names::ReadName;
 use irtext_parse_state::parsable::StateStream;
@@ -105,6 +105,7 @@ fn refusal_fault<A>(stream: &mut TextStream, refusal: NotGathered) -> ParseFault
 fn block_made<T: IrText<A>, A: AttrText<A>, U>(
     s: &mut StateStream<'_, T, A, U>,
     names: &Names,
+    keys: &mut Keys,
     region: Ptr<Region>,
     label: ReadName,
     attributes: AttributeDict<A>,
@@ -116,13 +117,14 @@ fn block_made<T: IrText<A>, A: AttrText<A>, U>(
     ensures rest { KeepsRest s.old.state s.new.state }
     ensures marks { marks_of s.new.state ≡ marks_of s.old.state }
     ensures stream { OnOk result (s.new.stream ≡ s.old.stream) }
-    ensures places { IfOk result (PlacesLabelled names.now.names s.old.state.src (whole s.old.stream) label attributes types s.old.state.ctx.now s.new.state.ctx.now region) }
+    ensures places { IfOk result (PlacesLabelled names.now.names s.old.state.src (whole s.old.stream) label
+        attributes types s.old.state.ctx.now s.new.state.ctx.now region) }
     ensures starved { IfErr result IsStarved }
     ensures kept { (m : ℕ) → m ≤ s.old.state.ctx.now.graph.made → IsNew m s.old.state.ctx.now.graph (TheRegion region)
         → KeepsOlder m s.old.state.ctx.now s.new.state.ctx.now }
 {
     let loc = location_at(s, label.at);
-    let Some(name) = identifier_of(s.stream.allocator(), names.name(label.name)) else {
+    let Some(name) = keys.label(s.stream.allocator(), label.name, names.name(label.name)) else {
         return Err(out_of_memory(&mut s.stream));
     };
     place_block(s, region, Some(name), attributes, loc, types)
@@ -133,6 +135,7 @@ fn block_made<T: IrText<A>, A: AttrText<A>, U>(
 fn head_made<T: IrText<A>, A: AttrText<A>, U>(
     s: &mut StateStream<'_, T, A, U>,
     names: &Names,
+    keys: &mut Keys,
     region: Ptr<Region>,
     label: ReadName,
     arguments: Few<(ReadName, T)>,
@@ -161,7 +164,7 @@ fn head_made<T: IrText<A>, A: AttrText<A>, U>(
         Ok(attributes) => attributes,
         Err(refusal) => return Err(refusal_fault(&mut s.stream, refusal)),
     };
-    let block = block_made(s, names, region, label, attributes, types)?;
+    let block = block_made(s, names, keys, region, label, attributes, types)?;
     Ok((block, arguments))
 }
 
@@ -280,6 +283,7 @@ fn head_named<T: IrText<A>, A: AttrText<A>, U>(
 pub fn block_begin<T: IrText<A>, A: AttrText<A>, U>(
     s: &mut StateStream<'_, T, A, U>,
     names: &mut Names,
+    keys: &mut Keys,
     region: Ptr<Region>,
 ) -> ParseResult<BegunBlock, A>
     requires region { IsLive s.old.state.ctx.now.graph (TheRegion region) }
@@ -290,12 +294,14 @@ pub fn block_begin<T: IrText<A>, A: AttrText<A>, U>(
     ensures lent { s.new.state.ctx.ghost_name ≡ s.old.state.ctx.ghost_name }
     ensures rest { KeepsRest s.old.state s.new.state }
     ensures begins { IfOk result (λ b. BeginsBlock T.IrText.reading (attr_at A.IrText.reading) b names.old s.old names.new s.new) }
-    ensures came { IfOk result (λ b. (h : Head ℕ T A) (taken : Text) → head_at T.IrText.reading (attr_at A.IrText.reading) s.old.stream.rest ≡ Read h taken s.new.stream.rest
+    ensures came { IfOk result (λ b. (h : Head ℕ T A) (taken : Text) → head_at T.IrText.reading
+        (attr_at A.IrText.reading) s.old.stream.rest ≡ Read h taken s.new.stream.rest
         → BlockCame s.old.state.ctx.now s.new.state.ctx.now (IsLocated s.old.state.src (whole s.old.stream)) b.block h) }
     ensures gains { IfOk result (λ b. RegionGains s.old.state.ctx.now s.new.state.ctx.now region b.block) }
     ensures spares { IfOk result (λ b. ModifiesOnly (TheBlock b.block ∷ TheRegion region ∷ []) s.old.state.ctx.now s.new.state.ctx.now) }
     ensures new { IfOk result (λ b. (m : ℕ) → m ≤ s.old.state.ctx.now.graph.made → IsNew m s.new.state.ctx.now.graph (TheBlock b.block)) }
-    ensures noted { IfOk result (λ b. (h : Head ℕ T A) (taken : Text) → head_at T.IrText.reading (attr_at A.IrText.reading) s.old.stream.rest ≡ Read h taken s.new.stream.rest
+    ensures noted { IfOk result (λ b. (h : Head ℕ T A) (taken : Text) → head_at T.IrText.reading
+        (attr_at A.IrText.reading) s.old.stream.rest ≡ Read h taken s.new.stream.rest
         → marks_of s.new.state ≡ marks_of s.old.state ++ noted_as h.mark (item.Block b.block)) }
     ensures unnoted { OnErr result (GainsMarks (marks_of s.old.state) (marks_of s.new.state)) }
     ensures refused { IfErr result (UnlessMemory (RefusesBlock T.IrText.reading (attr_at A.IrText.reading) names.old s.old)) }
@@ -315,7 +321,7 @@ pub fn block_begin<T: IrText<A>, A: AttrText<A>, U>(
         attributes,
         mark,
     } = head_parse(&mut s.stream, names)?;
-    let (block, arguments) = head_made(s, names, region, label, arguments, attributes)?;
+    let (block, arguments) = head_made(s, names, keys, region, label, arguments, attributes)?;
     head_named(s, names, label, &arguments, mark, block)?;
     Ok(BegunBlock { block, first: true })
 }

@@ -15,7 +15,7 @@ ghost use Rattle.irtext_parse_nested.specs.Definitions.{defined_value, ValuesRea
 ghost use Rattle.irtext_parse_nested.specs.Ends.{numbers_of, RefusesTwice};
 
 use crate::frame::Names;
-use crate::name_errors::redefinition_error;
+use crate::name_errors::{NameFault, name_error};
 use irtext_base::parsable::{ParseFault, TextStream};
 use irtext_few::Few;
 use irtext_graph::arena::Ptr;
@@ -102,10 +102,11 @@ pub(crate) fn undefined_error<A>(
 {
     match undefined.fault {
         DefineFault::Memory => out_of_memory(stream),
-        DefineFault::MultipleDefinitions => redefinition_error(
+        DefineFault::MultipleDefinitions => name_error(
             stream,
             names,
             defined[undefined.index],
+            NameFault::MultipleDefinitions,
         ),
     }
 }

@@ -7,9 +7,9 @@ ghost use Rattle.irtext_grammar.specs.Graphs.Build.{put_all, read_names};
 ghost use Rattle.irtext_grammar.specs.Grammar.Tree.{Name};
 ghost use Rattle.irtext_grammar.specs.Names.Acts.{block_may_hold};
 ghost use Rattle.irtext_names.specs.Rows.{AreKnown, AreNamed};
-ghost use Rattle.irtext_parse_nested.specs.Blocks.{entries_in, AreAllowed, Forbids};
+ghost use Rattle.irtext_parse_nested.specs.Blocks.{entries_in};
 ghost use Rattle.irtext_parse_nested.specs.Ends.{numbers_of};
-ghost use Rattle.irtext_parse_nested.specs.Gathered.{entry_read};
+ghost use Rattle.irtext_parse_nested.specs.Gathered.{entry_read, AreAllowed, Forbids};
 
 use crate::frame::Names;
 use crate::given::names_stored;

@@ -121,7 +121,8 @@ fn piece_read<T: IrText<A>, A: AttrText<A>>(
 ) -> ParseResult<ReadPiece<T, A>, A>
     requires fine { stream.old.failed ≡ false }
     requires step { IsFlatNext (slice_get (steps_in ctx.now.dialects (id_of begun.old.id)) begun.old.step) }
-    ensures read { (step : Step) → slice_get (steps_in ctx.now.dialects (id_of begun.old.id)) begun.old.step ≡ Some step → MustPiece itself replaced names.new.names
+    ensures read { (step : Step) → slice_get (steps_in ctx.now.dialects (id_of begun.old.id))
+        begun.old.step ≡ Some step → MustPiece itself replaced names.new.names
         (space_at ▷ piece_at T.IrText.reading (attr_at A.IrText.reading) begun.old.inside step) stream.old result stream.new }
     ensures names { NamesRead names.old names.new }
     ensures behind { begun.new ≡ record begun.old { coming = None; step = begun.old.step + 1 } }

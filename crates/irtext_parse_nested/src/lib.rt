@@ -12,7 +12,7 @@ pub mod frame;
 mod given;
 pub mod later;
 pub mod making;
-mod name_errors;
+pub mod name_errors;
 pub mod operation_end;
 pub mod operation_parts;
 pub mod placing;

@@ -1,9 +1,9 @@
 //! Errors for a parsed name, at its position.
 ghost use Rattle.std.specs.Prelude.{◌≡◌, ◌<◌, length, Some, IfSome, slice_get};
-ghost use Rattle.irtext_base.specs.Faults.{NoActiveScope, MultipleDefinitions, Unresolved};
+ghost use Rattle.irtext_base.specs.Faults.{fault_of};
 ghost use Rattle.irtext_grammar.specs.Contexts.Held.{whole};
 ghost use Rattle.irtext_parse_spec.specs.Promises.Root.{UnlessMemory};
-ghost use Rattle.irtext_parse_nested.specs.Definitions.{IsFaultOf};
+ghost use Rattle.irtext_parse_nested.specs.Definitions.{IsFaultOf, fault_named};
 
 use crate::frame::Names;
 use irtext_base::base::Identifier;
@@ -29,57 +29,44 @@ pub(crate) fn identifier_of(alloc: Global, text: &str) -> Option<Identifier>
     }
 }
 
-/// Returns the error for a name that is defined or used where no scope of its kind is open, at the name. Leaves the stream failed.
-#[cold]
-pub(crate) fn no_scope_error<A>(
-    stream: &mut TextStream,
-    names: &Names,
-    read: ReadName,
-) -> ParseFault<A>
-    requires { read.name < length names.now.names }
-    ensures { UnlessMemory (IsFaultOf names.now.names (whole stream.old) NoActiveScope read) result }
-{
-    match identifier_of(stream.allocator(), names.name(read.name)) {
-        Some(name) => refuse_at(stream, read.at, Cause::NoActiveScope(name)),
-        None => out_of_memory(stream),
-    }
+/// What is wrong with a name.
+#[derive(Clone, Copy)]
+pub enum NameFault {
+    /// It is defined or used where no scope of its kind is open.
+    NoActiveScope,
+    /// Its scope already defines it.
+    MultipleDefinitions,
+    /// It has no definition at the end of a region.
+    Unresolved,
 }
 
-/// Returns the error for a name that its scope already defines, at the name. Leaves the stream failed.
-#[cold]
-pub(crate) fn redefinition_error<A>(
-    stream: &mut TextStream,
-    names: &Names,
-    read: ReadName,
-) -> ParseFault<A>
-    requires { read.name < length names.now.names }
-    ensures { UnlessMemory (IsFaultOf names.now.names (whole stream.old) MultipleDefinitions read) result }
+/// Returns the cause of the error.
+fn cause_of<A>(fault: NameFault, name: Identifier) -> Cause<A>
+    ensures { fault_of result ≡ fault_named fault name }
 {
-    match identifier_of(stream.allocator(), names.name(read.name)) {
-        Some(name) => {
+    match fault {
+        NameFault::NoActiveScope => Cause::NoActiveScope(name),
+        NameFault::MultipleDefinitions => {
             let twice = ParserNameTrackerError::MultipleDefinitions(name);
-            refuse_at(stream, read.at, Cause::ParserNameTrackerError(twice))
+            Cause::ParserNameTrackerError(twice)
         }
-        None => out_of_memory(stream),
+        NameFault::Unresolved => Cause::UnresolvedReference(UnresolvedReference(name)),
     }
 }
 
-/// Returns the error for a name without a definition at the end of a region, at the position of `read`. Leaves the stream failed.
+/// Returns the error for a name, at the position of `read`. Leaves the stream failed.
 #[cold]
-pub(crate) fn unresolved_error<A>(
+pub(crate) fn name_error<A>(
     stream: &mut TextStream,
     names: &Names,
     read: ReadName,
+    fault: NameFault,
 ) -> ParseFault<A>
     requires { read.name < length names.now.names }
-    ensures { UnlessMemory (IsFaultOf names.now.names (whole stream.old) Unresolved read) result }
+    ensures { UnlessMemory (IsFaultOf names.now.names (whole stream.old) (fault_named fault) read) result }
 {
     match identifier_of(stream.allocator(), names.name(read.name)) {
-        Some(name) => refuse_at(
-            stream,
-            read.at,
-            Cause::UnresolvedReference(UnresolvedReference(name)),
-        ),
+        Some(name) => refuse_at(stream, read.at, cause_of(fault, name)),
         None => out_of_memory(stream),
     }
 }

@@ -43,7 +43,7 @@ ghost use Rattle.irtext_parse_nested.specs.Read.{EndsOperation, RefusesEnd};
 use crate::definitions::{Definer, define_values, undefined_error};
 use crate::frame::{BegunOperation, Names};
 use crate::given::{names_shared, shared_key};
-use crate::name_errors::no_scope_error;
+use crate::name_errors::{NameFault, name_error};
 use irtext_base::parsable::{CharStream, ParseFault, ParseResult, TextStream};
 use irtext_base::result::Cause;
 use irtext_base::text::{AttrText, IrText};
@@ -107,7 +107,7 @@ fn define_results<O: Drop, B: Drop, T: Drop, A>(
         return Ok(());
     }
     if !names.has_value_scope() {
-        return Err(no_scope_error(stream, names, begun.names[0]));
+        return Err(name_error(stream, names, begun.names[0], NameFault::NoActiveScope));
     }
     match define_values(names, graph, &begun.names, Definer::Results(begun.op)) {
         Ok(()) => Ok(()),
@@ -137,7 +137,8 @@ fn results_defined<T: IrText<A>, A: AttrText<A>, U>(
     ensures committed { IfErr result (λ f. f.committed ≡ true) }
     ensures lasts { KeepsLive s.old.state.ctx.now s.new.state.ctx.now }
     ensures spares { ModifiesOnly [] s.old.state.ctx.now s.new.state.ctx.now }
-    ensures newer { (m : ℕ) → IsNew m s.old.state.ctx.now.graph (TheOperation begun.now.op) → IsNew m s.new.state.ctx.now.graph (TheOperation begun.now.op) }
+    ensures newer { (m : ℕ) → IsNew m s.old.state.ctx.now.graph (TheOperation begun.now.op)
+        → IsNew m s.new.state.ctx.now.graph (TheOperation begun.now.op) }
     ensures tied { MatchesGraph names.new.values names.new.labels s.new.state.ctx.now.graph }
     ensures values { length names.new.values ≡ length names.old.values }
     ensures names { names.new.names ≡ names.old.names }
@@ -290,7 +291,8 @@ pub fn operation_end<T: IrText<A>, A: AttrText<A>, U>(
     ensures own { OnOk result (BecomesNamed (IsLocated s.old.state.src (whole s.old.stream)) names.old.names (whole s.old.stream) begun.now.names
         s.old.state.ctx.now s.new.state.ctx.now begun.now.op) }
     ensures spares { OnOk result (ModifiesOnly (TheOperation begun.now.op ∷ []) s.old.state.ctx.now s.new.state.ctx.now) }
-    ensures noted { OnOk result ((mark : Option (Mark ℕ)) (taken : Text) → (space_at ▷ mark_if_at) s.old.stream.rest ≡ Read mark taken s.new.stream.rest
+    ensures noted { OnOk result ((mark : Option (Mark ℕ)) (taken : Text) → (space_at ▷ mark_if_at)
+        s.old.stream.rest ≡ Read mark taken s.new.stream.rest
         → marks_of s.new.state ≡ marks_of s.old.state ++ noted_as mark (item.Operation begun.now.op)) }
     ensures unnoted { OnErr result (GainsMarks (marks_of s.old.state) (marks_of s.new.state)) }
     ensures lasts { OnOk result (KeepsLive s.old.state.ctx.now s.new.state.ctx.now) }

@@ -139,7 +139,8 @@ fn operand_gathered<T: Drop, A: Drop>(
     index: usize,
     name: ReadName,
 ) -> Result<(), NotGathered>
-    requires can { CanGather {T = T} {A = A} names.old gathered.old.operands.list.items gathered.old.successors.list.items (read.Operand index name ∷ []) }
+    requires can { CanGather {T = T} {A = A} names.old gathered.old.operands.list.items
+        gathered.old.successors.list.items (read.Operand index name ∷ []) }
     requires tied { MatchesGraph names.old.values names.old.labels graph.old }
     ensures gathers { OnOk result (Gathers (read.Operand index name ∷ []) names.old graph.old gathered.old names.new graph.new gathered.new) }
     ensures refused { IfErr result (RefusesGathering {T = T} {A = A} (read.Operand index name ∷ []) names.old graph.old) }
@@ -163,7 +164,8 @@ fn successor_gathered<T: Drop, A: Drop>(
     index: usize,
     name: ReadName,
 ) -> Result<(), NotGathered>
-    requires can { CanGather {T = T} {A = A} names.old gathered.old.operands.list.items gathered.old.successors.list.items (read.Successor index name ∷ []) }
+    requires can { CanGather {T = T} {A = A} names.old gathered.old.operands.list.items
+        gathered.old.successors.list.items (read.Successor index name ∷ []) }
     requires tied { MatchesGraph names.old.values names.old.labels graph.old }
     ensures gathers { OnOk result (Gathers (read.Successor index name ∷ []) names.old graph.old gathered.old names.new graph.new gathered.new) }
     ensures refused { IfErr result (RefusesGathering {T = T} {A = A} (read.Successor index name ∷ []) names.old graph.old) }
@@ -211,7 +213,8 @@ fn successors_gathered<T: Drop, A: Drop>(
     gathered: &mut Gathered<T, A>,
     used: Few<ReadName>,
 ) -> Result<(), NotGathered>
-    requires can { CanGather {T = T} {A = A} names.old gathered.old.operands.list.items gathered.old.successors.list.items (read.Successors used ∷ []) }
+    requires can { CanGather {T = T} {A = A} names.old gathered.old.operands.list.items
+        gathered.old.successors.list.items (read.Successors used ∷ []) }
     requires tied { MatchesGraph names.old.values names.old.labels graph.old }
     ensures gathers { OnOk result (Gathers (read.Successors used ∷ []) names.old graph.old gathered.old names.new graph.new gathered.new) }
     ensures refused { IfErr result (RefusesGathering {T = T} {A = A} (read.Successors used ∷ []) names.old graph.old) }
@@ -425,12 +428,7 @@ pub fn gather<T: Drop, A: Drop>(
     ensures steady { KeepsScopes names.old names.new graph.old graph.new }
 {
     match pieces.into_form() {
-        Form::Canonical(pieces) => canonical_gathered(
-            names,
-            graph,
-            gathered,
-            Box::into_inner(pieces),
-        ),
+        Form::Canonical(pieces) => canonical_gathered(names, graph, gathered, pieces),
         Form::Custom(pieces) => custom_gathered(alloc, names, graph, gathered, key, pieces),
     }
 }

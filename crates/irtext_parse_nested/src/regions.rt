@@ -33,7 +33,7 @@ ghost use Rattle.irtext_parse_nested.specs.Leaving.{IsUnresolved};
 ghost use Rattle.irtext_parse_nested.specs.Read.{BeginsRegion, RefusesRegion, EndsRegion, RefusesRegionEnd};
 
 use crate::frame::{BegunRegion, Names};
-use crate::name_errors::unresolved_error;
+use crate::name_errors::{NameFault, name_error};
 use irtext_base::parsable::{
     CharStream, ParseFault, ParseResult, ParserNameTrackerError, SourcePosition, TextStream,
 };
@@ -130,7 +130,8 @@ pub fn enter_here<T: IrText<A>, A: AttrText<A>, U>(
         → ArePending m own names.new.values names.new.labels s.old.state.ctx.now.graph }
     ensures takes { OnOk result (Takes (enter isolated) (history.entered isolated) names.old names.new s.old.state.ctx.now.graph) }
     ensures open { OnOk result (is_open names.new.values ≡ true) }
-    ensures refused { IfErr result (λ f. IsStarved f ⊎ ((fault_of f.cause ≡ fault.NotIsolated) × (f.committed ≡ true) × IsAt f.pos.line f.pos.column []
+    ensures refused { IfErr result (λ f. IsStarved f ⊎ ((fault_of f.cause ≡ fault.NotIsolated)
+        × (f.committed ≡ true) × IsAt f.pos.line f.pos.column []
         × FailsBy (enter isolated) names.old s.old.state.ctx.now.graph (record { cause = NotIsolated; at = None }))) }
 {
     enter(&mut s.stream, names, graph_of(&s.state), isolated)
@@ -236,7 +237,7 @@ fn leave<O: Drop, B: Drop, T: Drop, A>(
         name,
         at: region.at,
     };
-    Err(unresolved_error(stream, names, read))
+    Err(name_error(stream, names, read, NameFault::Unresolved))
 }
 
 /// Ends a region: parses its `}`, and closes its scopes. If a name has no definition there, fails at the beginning of the region, for the
@@ -252,7 +253,8 @@ pub fn region_end<T: IrText<A>, A: AttrText<A>, U>(
     ensures state { s.new.state ≡ s.old.state }
     ensures ends { OnOk result ((place : ℕ) → IsRegion names.old.names (whole s.old.stream) s.old.state.ctx.now region region.isolated place
         → EndsRegion T.IrText.reading (attr_at A.IrText.reading) region.isolated place names.old s.old names.new s.new) }
-    ensures refused { IfErr result (λ fault. (place : ℕ) → IsRegion names.old.names (whole s.old.stream) s.old.state.ctx.now region region.isolated place
+    ensures refused { IfErr result (λ fault. (place : ℕ) → IsRegion names.old.names (whole s.old.stream)
+        s.old.state.ctx.now region region.isolated place
         → UnlessMemory (RefusesRegionEnd T.IrText.reading (attr_at A.IrText.reading) region.isolated place names.old s.old) fault) }
     ensures committed { IfErr result (λ fault. fault.committed ≡ true) }
     ensures names { names.new.names ≡ names.old.names }

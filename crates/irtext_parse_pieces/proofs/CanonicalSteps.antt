@@ -1,17 +1,17 @@
 -- How far the reader of the canonical form has come: several steps at a time.
-use Rattle.std.proofs.Common.{◌≡◌, ℕ, Bool, true, false, Result, Ok, Err, List, [], ◌∷◌, ◌++◌, append-nil, append_assoc, refl, sym, ◌∙◌, ap, subst, inl}
+use Rattle.std.proofs.Common.{◌≡◌, ℕ, Bool, true, false, Result, Ok, Err, List, [], ◌∷◌, ◌++◌, append-nil, append_assoc, refl, sym, ◌∙◌, ap, subst}
 use Rattle.std.specs.Char.{is_whitespace}
 use Rattle.std.specs.Prelude.{IfOk}
 use Rattle.irtext_base.specs.Text.{Text, front, after}
-use Rattle.irtext_base.specs.Answers.{Outcome, Read, Missing, Bad, Takes, StarvesHere, Answers, mapped, followed, prefixed, demanded, unless_failed}
+use Rattle.irtext_base.specs.Answers.{Outcome, Read, Missing, Bad, Takes, Answers, mapped, followed, prefixed, demanded, unless_failed}
 use Rattle.irtext_base.specs.Locations.{AttrView}
 use Rattle.irtext_base.specs.declared.parsable.fault.ParseFault.{ParseFault}
 use Rattle.irtext_scopes.specs.Names.{KeepsNames}
 use Rattle.irtext_tokens.specs.Tokens.{space_at, text_at}
 use Rattle.irtext_tokens.specs.Infix.{Reader, ◌▷◌}
 use Rattle.irtext_tokens.specs.MustRead.{MustRead}
-use Rattle.irtext_base.proofs.Compose.{refuses_mapped_demanded, starves_behind}
-use Rattle.irtext_tokens.proofs.Steps.{Lens, Passed, starts, first, more, last, refuses, seen_alone, spaced, spaced_whole, ends, fine_there}
+use Rattle.irtext_base.proofs.Compose.{refuses_mapped_demanded}
+use Rattle.irtext_tokens.proofs.Steps.{Lens, Passed, starts, more, last, refuses, seen_alone, spaced, spaced_whole, ends, fine_there}
 use Rattle.irtext_base.specs.Stream.{behind}
 use Rattle.irtext_stream.specs.Classes.{behind_space}
 use Rattle.irtext_grammar.specs.Grammar.Tree as tree
@@ -211,12 +211,6 @@ module _ {S T A Y Z : Type 0} (l : Lens S) (types : Text → Outcome T) (attr : 
   -- another value has the same pieces
   pub steps_seen : {y : Y} (z : Z) → sees z ≡ see y → MustSteps l.view l.at names types attr inside steps see old (Ok y) mid → MustSteps l.view l.at names types attr inside steps sees old (Ok z) mid
   steps_seen {y = y} z e h = record { meant = λ _. h.meant y; means = subst (λ ps. Each (IsPart names (whole (l.view old))) ps (h.meant y)) (sym e) h.means; read = record { answers = h.read.answers } }
-
-  -- an allocation fails after them
-  pub steps_starved : {y : Y} {new : S} {fault : ParseFault A} → MustSteps l.view l.at names types attr inside steps see old (Ok y) mid → StarvesHere l.view l.at mid fault new → MustSteps l.view l.at names types attr inside steps sees old (Err fault) new
-  steps_starved {new = new} {fault = fault} h s =
-      let p = first l (λ x t. Read x [] t) h.read in
-      record { meant = λ _. []; means = tt; read = record { answers = inl (starves_behind l.view l.at l.view_at l.at_at old mid new p.taken (l.view mid).rest fault p.fine p.takes s) } }
 
 -- ---- a piece between two fixed texts
 module _ {S T A X Y : Type 0} (l : Lens S) (types : Text → Outcome T) (attr : Text → Outcome (AttrView A)) (inside : Bool) (opens closes : Text) (step : Step)

@@ -1,4 +1,5 @@
 -- Steps of the parsers of names.
+pub mod CanonicalParts
 pub mod CanonicalSteps
 pub mod EntrySteps
 pub mod FormatSteps
@@ -6,6 +7,7 @@ pub mod Founds
 pub mod FrontSteps
 pub mod Interned
 pub mod Leads
+pub mod Lenses
 pub mod Listings
 pub mod Absences
 pub mod Looks

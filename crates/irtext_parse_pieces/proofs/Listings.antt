@@ -16,7 +16,7 @@ use Rattle.irtext_grammar.specs.Grammar.Tree.{Name}
 use Rattle.irtext_parse_pieces.specs.declared.names.ReadName.{ReadName}
 use Rattle.irtext_parse_pieces.specs.Arguments.{IsArgument, MustArguments, ArgumentsBehind}
 use Rattle.irtext_parse_pieces.specs.Named.{whole, StandsFor, Each, MayMean, MustMean, MayName, MustNames, NamesBehind}
-use Rattle.irtext_parse_pieces.proofs.Meanings.{passed_whole, takes_whole, may_whole}
+use Rattle.irtext_parse_pieces.proofs.Meanings.{passed_whole, takes_whole, may_whole, must_refuse}
 
 -- one more of each, after the others
 pub each_more : {X Y : Type 0} (Means : Y → X → Type 0) (ys : List Y) (xs : List X) (y : Y) (x : X) → Each Means ys xs → Means y x → Each Means (ys ++ (y ∷ [])) (xs ++ (x ∷ []))
@@ -74,6 +74,10 @@ module _ {S X Y : Type 0} (l : Lens S) (item : Text → Outcome X) where
     -- no more than the first one
     pub listing_first : (x : X) (y : Y) (old : S) → (l.view old).failed ≡ false → Means y x → Listing Means (x ∷ []) old old (y ∷ [])
     listing_first x y old fine h = record { items = x ∷ []; each = (h, tt); so_far = found_first 44 item l (x ∷ []) old fine }
+
+    -- what was found is that
+    pub listing_starts : {found : List Y} (x : X) (y : Y) (old : S) → found ≡ y ∷ [] → (l.view old).failed ≡ false → Means y x → Listing Means (x ∷ []) old old found
+    listing_starts x y old e fine h = subst (λ z. Listing Means (x ∷ []) old old z) (sym e) (listing_first x y old fine h)
 
     module _ {begun : List X} {old now : S} {found : List Y} where
       -- where no separator follows, these are all
@@ -143,6 +147,29 @@ module _ {S X Y : Type 0} (l : Lens S) (item : Text → Outcome X) where
         let i = first_read h k in
         let m = rest (fine_there l (begins_with l (behind_first item) i)) in
         record { meant = m.meant; means = m.means; read = never_missing l (separated_at 44 item) (separated_stands 44 item) (list_begun l (behind_first item) i (λ _. m.read)) }
+
+-- one turn of a loop over items: a separator, white space, an item and the white space after it
+module _ {S X Y A : Type 0} (l : Lens S) (item : Text → Outcome X) {begun : List X} {old now mid later : S} {found : List Y}
+    (b : begins (the 44) (l.view now).rest ≡ true) (t : mid ≡ l.at now (advanced (l.view now))) (k : Takes l.view l.at (front is_whitespace (l.view mid).rest) (after is_whitespace (l.view mid).rest) mid later) where
+  -- the item is an error
+  pub turn_refused : {M N : Y → X → Type 0} {W : Type 0} {MeansAll : W → List X → Type 0} {fault : ParseFault A} {new : S} → Listing l item M begun old now found → MustMean l.view l.at N item later (Err fault) new
+      → MustMean l.view l.at MeansAll (λ t. items_after 44 item (length t) begun t) old (Err fault) new
+  turn_refused p m = must_refuse l (listing_refused l item b t k p (λ _. []) m.read)
+
+  module _ (Means Other : Text → Y → X → Type 0) {next new : S} {y : Y} (on : (y : Y) (x : X) → Means (whole (l.view old)) y x → Other (whole (l.view old)) y x)
+      (m : MustMean {A = A} l.view l.at (Other (whole (l.view later))) item later (Ok y) next) (behind : Takes l.view l.at (front is_whitespace (l.view next).rest) (after is_whitespace (l.view next).rest) next new)
+      (p : Listing l item (Means (whole (l.view old))) begun old now found) where
+    -- the item is one more
+    pub turn_more : Listing l item (Other (whole (l.view old))) begun old new (found ++ (y ∷ []))
+    turn_more = listing_more l item b t k p on (subst (λ t. MustMean {A = A} l.view l.at (Other t) item later (Ok y) next) (listing_whole l item b t k p) m) behind
+
+    -- it was added to those that were found
+    pub turn_keeps : {more : List Y} → more ≡ found ++ (y ∷ []) → Listing l item (Other (whole (l.view old))) begun old new more
+    turn_keeps e = subst (λ z. Listing l item (Other (whole (l.view old))) begun old new z) (sym e) turn_more
+
+    -- there was no memory to add it
+    pub turn_starved : {W : Type 0} {MeansAll : W → List X → Type 0} {fault : ParseFault A} {last : S} → StarvesHere l.view l.at new fault last → MustMean l.view l.at MeansAll (λ t. items_after 44 item (length t) begun t) old (Err fault) last
+    turn_starved h = must_refuse l (listing_starved l item (λ _. []) turn_more h)
 
 -- there is a first name, and what follows it
 pub list_names : {S A : Type 0} (l : Lens S) (item : Text → Outcome (Name ℕ)) (before names : List Text) {old mid new last : S} {first : ReadName} {r : Result (List ReadName) (ParseFault A)} → MayName {A = A} l.view l.at before item old (Ok first) mid → Takes l.view l.at (front is_whitespace (l.view mid).rest) (after is_whitespace (l.view mid).rest) mid new

@@ -7,5 +7,5 @@ use Rattle.irtext_parse_pieces.specs.Canonical.{pieces_of}
 
 -- the pieces in the order of the text
 abbrev pub form_pieces : {T A : Type 0} → Form T A → List (ReadPiece T A)
-form_pieces (Canonical boxed) = pieces_of boxed.value
+form_pieces (Canonical pieces) = pieces_of pieces
 form_pieces (Custom pieces) = pieces

@@ -23,7 +23,8 @@ fn argument_parse<S: OwnStream, V: Copy, B: Copy, T: IrText<A>, A: AttrText<A>>(
     stream: &mut S,
     names: &mut NameTracker<V, B>,
 ) -> ParseResult<(ReadName, T), A>
-    ensures read { MayMean S.CharStream.view S.CharStream.at (IsArgument names.new.names (whole (S.CharStream.view stream.old)))
+    ensures read { MayMean S.CharStream.view S.CharStream.at (IsArgument names.new.names
+        (whole (S.CharStream.view stream.old)))
         (argument_at T.IrText.reading (attr_at A.IrText.reading)) stream.old result stream.new }
     ensures names { NamesRead names.old names.new }
 {

@@ -31,7 +31,8 @@ pub type ReadEntry<A> = (Key, AttrObj<A>);
 
 /// Parses an attribute. Every error is committed.
 pub fn attr_demanded<S: OwnStream, A: AttrText<A>>(stream: &mut S) -> ParseResult<AttrObj<A>, A>
-    ensures { MustRead S.CharStream.view S.CharStream.at attribute_of (attribute_at (attr_at A.IrText.reading)) stream.old result stream.new }
+    ensures { MustRead S.CharStream.view S.CharStream.at attribute_of
+        (attribute_at (attr_at A.IrText.reading)) stream.old result stream.new }
 {
     let answer = attr_parse(stream);
     committed(stream, answer)
@@ -113,7 +114,8 @@ fn more_entries<S: OwnStream, A: AttrText<A>>(
     keys: &mut Keys,
     first: ReadEntry<A>,
 ) -> ParseResult<Vec<ReadEntry<A>>, A>
-    ensures { EntriesBehind S.CharStream.view S.CharStream.at (pair_at (attr_at A.IrText.reading)) first stream.old result stream.new }
+    ensures { EntriesBehind S.CharStream.view S.CharStream.at (pair_at (attr_at A.IrText.reading)) first
+        stream.old result stream.new }
 {
     let mut found = Vec::new(stream.allocator());
     let Ok(()) = found.push(first) else {
@@ -138,7 +140,8 @@ fn entries_parse<S: OwnStream, A: AttrText<A>>(
     stream: &mut S,
     keys: &mut Keys,
 ) -> ParseResult<Vec<ReadEntry<A>>, A>
-    ensures { MustEntries S.CharStream.view S.CharStream.at (separated_at 44 (pair_at (attr_at A.IrText.reading))) stream.old result stream.new }
+    ensures { MustEntries S.CharStream.view S.CharStream.at
+        (separated_at 44 (pair_at (attr_at A.IrText.reading))) stream.old result stream.new }
 {
     if none_named(stream, NameKind::Value) {
         return Ok(Vec::new(stream.allocator()));
@@ -163,7 +166,8 @@ fn bracketed_parse<S: OwnStream, A: AttrText<A>>(
     stream: &mut S,
     keys: &mut Keys,
 ) -> ParseResult<Vec<ReadEntry<A>>, A>
-    ensures { MustEntries S.CharStream.view S.CharStream.at (dictionary_at (attr_at A.IrText.reading)) stream.old result stream.new }
+    ensures { MustEntries S.CharStream.view S.CharStream.at (dictionary_at (attr_at A.IrText.reading))
+        stream.old result stream.new }
 {
     text_demanded(stream, "[")?;
     skip_white_space(stream);
@@ -180,7 +184,8 @@ pub fn dictionary_parse<S: OwnStream, A: AttrText<A>>(
     stream: &mut S,
     keys: &mut Keys,
 ) -> ParseResult<Vec<ReadEntry<A>>, A>
-    ensures { MustEntries S.CharStream.view S.CharStream.at (dictionary_at (attr_at A.IrText.reading)) stream.old result stream.new }
+    ensures { MustEntries S.CharStream.view S.CharStream.at (dictionary_at (attr_at A.IrText.reading))
+        stream.old result stream.new }
 {
     if stream.has_failed() {
         return bracketed_parse(stream, keys);
@@ -196,7 +201,8 @@ pub fn dictionary_if_parse<S: OwnStream, A: AttrText<A>>(
     stream: &mut S,
     keys: &mut Keys,
 ) -> ParseResult<Option<Vec<ReadEntry<A>>>, A>
-    ensures { MustDictionaryIf S.CharStream.view S.CharStream.at (attr_at A.IrText.reading) stream.old result stream.new }
+    ensures { MustDictionaryIf S.CharStream.view S.CharStream.at (attr_at A.IrText.reading) stream.old result
+        stream.new }
 {
     if stream.has_failed() {
         return Err(refuse(stream, Cause::StreamFailed));

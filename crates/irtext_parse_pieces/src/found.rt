@@ -1,5 +1,5 @@
 //! The pieces that were parsed before an operation's first region. Words, which are fixed texts, are only counted.
-ghost use Rattle.std.specs.Prelude.{◌≡◌, ◌++◌, ◌∷◌, ◌+◌, ◌<◌, ◌^◌, ℕ, [], length, IfOk, OnOk, OnErr};
+ghost use Rattle.std.specs.Prelude.{◌≡◌, ◌++◌, ◌∷◌, ◌+◌, ◌<◌, ◌^◌, ℕ, [], length, OnOk, OnErr};
 ghost use Rattle.irtext_parse_pieces.specs.declared.pieces.ReadPiece.TheVariants as read;
 ghost use Rattle.irtext_parse_pieces.specs.Canonical.{pieces_of};
 ghost use Rattle.irtext_parse_pieces.specs.Found.{with_words};
@@ -40,7 +40,7 @@ impl<T, A> Model for CustomPieces<T, A> {
 #[derive(Drop)]
 pub enum Form<T, A> {
     /// Those of the canonical form.
-    Canonical(Box<CanonicalPieces<T, A>>),
+    Canonical(CanonicalPieces<T, A>),
     /// Those of a custom format.
     Custom(CustomPieces<T, A>),
 }
@@ -123,6 +123,15 @@ impl<T: Drop, A: Drop> CustomPieces<T, A> {
 }
 
 impl<T, A> Pieces<T, A> {
+    /// Returns the pieces of the canonical form.
+    pub(crate) fn canonical(pieces: CanonicalPieces<T, A>) -> Pieces<T, A>
+        ensures { result ≡ pieces_of pieces }
+    {
+        Pieces {
+            form: Form::Canonical(pieces),
+        }
+    }
+
     /// Returns the pieces of a custom format.
     pub(crate) fn custom(pieces: CustomPieces<T, A>) -> Pieces<T, A>
         ensures { result ≡ pieces }
@@ -147,22 +156,5 @@ impl<T, A> Pieces<T, A> {
         ensures { form_pieces result ≡ self }
     {
         self.form
-    }
-}
-
-impl<T: Drop, A: Drop> Pieces<T, A> {
-    /// Returns the pieces of the canonical form. Fails only if an allocation fails.
-    pub(crate) fn canonical(
-        alloc: Global,
-        pieces: CanonicalPieces<T, A>,
-    ) -> Result<Pieces<T, A>, AllocError>
-        ensures { IfOk result (λ all. all ≡ pieces_of pieces) }
-    {
-        match Box::new(alloc, pieces) {
-            Ok(boxed) => Ok(Pieces {
-                form: Form::Canonical(boxed),
-            }),
-            Err(_) => Err(AllocError),
-        }
     }
 }

@@ -104,9 +104,11 @@ fn pieces_parse<S: OwnStream, V: Copy, B: Copy, T: IrText<A>, A: AttrText<A>>(
     inside: bool,
     keys: &mut Keys,
 ) -> ParseResult<CustomPieces<T, A>, A>
-    ensures read { (S.CharStream.view stream.old).failed ≡ false → MustFront S.CharStream.view S.CharStream.at names.new.names
+    ensures read { (S.CharStream.view stream.old).failed ≡ false → MustFront S.CharStream.view S.CharStream.at
+        names.new.names
         T.IrText.reading (attr_at A.IrText.reading) inside (steps_of (format_of format.now)) stream.old result stream.new }
-    ensures count { IfOk result (λ found. length found ≡ length (front_steps (steps_of (format_of format.now)))) }
+    ensures count { IfOk result (λ found. length found ≡ length
+        (front_steps (steps_of (format_of format.now)))) }
     ensures names { NamesRead names.old names.new }
 {
     let mut found = CustomPieces::none(stream.allocator());
@@ -131,16 +133,14 @@ fn canonical_pieces<S: OwnStream, V: Copy, B: Copy, T: IrText<A>, A: AttrText<A>
     inside: bool,
     keys: &mut Keys,
 ) -> ParseResult<Pieces<T, A>, A>
-    ensures read { (S.CharStream.view stream.old).failed ≡ false → MustFront S.CharStream.view S.CharStream.at names.new.names
+    ensures read { (S.CharStream.view stream.old).failed ≡ false → MustFront S.CharStream.view S.CharStream.at
+        names.new.names
         T.IrText.reading (attr_at A.IrText.reading) inside canonical_steps stream.old result stream.new }
     ensures count { IfOk result (λ found. length found ≡ length canonical_front) }
     ensures names { NamesRead names.old names.new }
 {
     let pieces = canonical_parse(stream, names, inside, keys)?;
-    match Pieces::canonical(stream.allocator(), pieces) {
-        Ok(pieces) => Ok(pieces),
-        Err(AllocError) => Err(out_of_memory(stream)),
-    }
+    Ok(Pieces::canonical(pieces))
 }
 
 /// Parses what the steps of a format describe, up to the first step that parses regions, one piece for each step, with white space before
@@ -156,7 +156,8 @@ pub fn front_parse<S: OwnStream, V: Copy, B: Copy, T: IrText<A>, A: AttrText<A>>
 ) -> ParseResult<Pieces<T, A>, A>
     ensures read { MustFront S.CharStream.view S.CharStream.at names.new.names
         T.IrText.reading (attr_at A.IrText.reading) inside (steps_of (format_of format.now)) stream.old result stream.new }
-    ensures count { IfOk result (λ found. length found ≡ length (front_steps (steps_of (format_of format.now)))) }
+    ensures count { IfOk result (λ found. length found ≡ length
+        (front_steps (steps_of (format_of format.now)))) }
     ensures names { NamesRead names.old names.new }
 {
     if stream.has_failed() {

@@ -32,7 +32,8 @@ pub fn block_head_parse<S: OwnStream, V: Copy, B: Copy, T: IrText<A>, A: AttrTex
     stream: &mut S,
     names: &mut NameTracker<V, B>,
 ) -> ParseResult<BlockHead<T, A>, A>
-    ensures read { MustHead S.CharStream.view S.CharStream.at names.new.names T.IrText.reading (attr_at A.IrText.reading) stream.old result stream.new }
+    ensures read { MustHead S.CharStream.view S.CharStream.at names.new.names T.IrText.reading
+        (attr_at A.IrText.reading) stream.old result stream.new }
     ensures names { NamesRead names.old names.new }
 {
     let label = label_demanded(stream, names)?;

@@ -100,7 +100,8 @@ fn demand_if<S: CharStream, X, A>(
     wanted: bool,
     answer: ParseResult<X, A>,
 ) -> ParseResult<X, A>
-    ensures { cond wanted (DemandsOf S.view S.at answer stream.old result stream.new) ((result ≡ answer) × (stream.new ≡ stream.old)) }
+    ensures { cond wanted (DemandsOf S.view S.at answer stream.old result stream.new) ((result ≡ answer)
+        × (stream.new ≡ stream.old)) }
 {
     if wanted {
         committed(stream, answer)
@@ -119,7 +120,8 @@ fn registered<'c, S: CharStream, T: IrText<A>, A: AttrText<A>>(
     at: Place,
     id: OpId,
 ) -> ParseResult<(OpId, &'c OpInfo), A>
-    ensures registers { Registers S.view S.at ctx.now.dialects start at id stream.old (id_in result) stream.new }
+    ensures registers { Registers S.view S.at ctx.now.dialects start at id stream.old (id_in result)
+        stream.new }
     ensures known { IfOk result (λ op. IsKnown ctx.now.dialects op.0 op.1.now) }
 {
     if !ctx.has_dialect(&id.dialect) {
@@ -181,7 +183,8 @@ pub fn results_and_id_parse<'c, S: CharStream, V: Copy, B: Copy, T: IrText<A>, A
     ctx: &'c Context<T, A>,
     names: &mut NameTracker<V, B>,
 ) -> ParseResult<Led<'c>, A>
-    ensures read { MayMean S.view S.at (IsLed names.new.names (whole (S.view stream.old))) (led_at ctx.now.dialects) stream.old result stream.new }
+    ensures read { MayMean S.view S.at (IsLed names.new.names (whole (S.view stream.old)))
+        (led_at ctx.now.dialects) stream.old result stream.new }
     ensures known { IfOk result (λ op. IsKnown ctx.now.dialects op.1 op.2.now) }
     ensures names { NamesRead names.old names.new }
 {

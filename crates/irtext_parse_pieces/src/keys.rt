@@ -3,6 +3,7 @@ ghost use Rattle.std.specs.Prelude.{◌≡◌, IfOk, IfSome, IsTrue};
 ghost use Rattle.irtext_base.specs.Text.{is_identifier};
 
 use irtext_base::base::Identifier;
+use irtext_base::base::identifier::is_identifier;
 use std::alloc::{AllocError, Global};
 
 /// How many keys are kept: those at the first places of a dictionary.
@@ -14,6 +15,8 @@ pub struct Keys {
     kept: Vec<Identifier>,
     /// How many keys may be kept.
     places: usize,
+    /// The label of the block that was parsed last, with the number of its name.
+    label: Option<(usize, Identifier)>,
 }
 
 impl Keys {
@@ -22,6 +25,7 @@ impl Keys {
         Keys {
             kept: Vec::new(alloc),
             places: PLACES,
+            label: None,
         }
     }
 
@@ -30,6 +34,7 @@ impl Keys {
         Keys {
             kept: Vec::new(alloc),
             places: 0,
+            label: None,
         }
     }
 
@@ -67,6 +72,49 @@ impl Keys {
             None => {
                 let _ = self.kept.push(key);
             }
+        }
+    }
+
+    /// Returns the last label, if it has this number and this text. Shares its text.
+    #[inline(always)]
+    fn last_label(&self, number: usize, text: &str) -> Option<Identifier>
+        ensures { IfSome result (λ label. label ≡ text.now) }
+    {
+        let (last, label) = self.label.as_ref()?;
+        if *last != number || label.as_str() != text {
+            return None;
+        }
+        match label.clone() {
+            Ok(label) => Some(label),
+            Err(_) => None,
+        }
+    }
+
+    /// Returns a new label with this text; `None` if that is no identifier, or if an allocation fails.
+    #[inline(never)]
+    fn new_label(&mut self, alloc: Global, number: usize, text: &str) -> Option<Identifier>
+        ensures { IfSome result (λ label. label ≡ text.now) }
+    {
+        if !is_identifier(text) {
+            return None;
+        }
+        let Ok(label) = Identifier::from_word(alloc, text) else {
+            return None;
+        };
+        if let Ok(copy) = label.clone() {
+            self.label = Some((number, copy));
+        }
+        Some(label)
+    }
+
+    /// Returns the label with this number and this text; `None` if that is no identifier, or if an allocation fails. Shares the text of the
+    /// last label if that is the same.
+    pub fn label(&mut self, alloc: Global, number: usize, text: &str) -> Option<Identifier>
+        ensures { IfSome result (λ label. label ≡ text.now) }
+    {
+        match self.last_label(number, text) {
+            Some(label) => Some(label),
+            None => self.new_label(alloc, number, text),
         }
     }
 

@@ -76,7 +76,8 @@ fn more_names<S: CharStream, V: Copy, B: Copy, A: Drop>(
     inside: bool,
     first: ReadName,
 ) -> ParseResult<Few<ReadName>, A>
-    ensures read { NamesBehind S.view S.at names.old.names names.new.names (named_at kind inside) first stream.old result stream.new }
+    ensures read { NamesBehind S.view S.at names.old.names names.new.names (named_at kind inside) first
+        stream.old result stream.new }
     ensures names { NamesRead names.old names.new }
 {
     let mut found = Few::one(first);
@@ -103,7 +104,8 @@ fn names_after<S: CharStream, V: Copy, B: Copy, A: Drop>(
     inside: bool,
     first: ReadName,
 ) -> ParseResult<Few<ReadName>, A>
-    ensures read { NamesBehind S.view S.at names.old.names names.new.names (named_at kind inside) first stream.old result stream.new }
+    ensures read { NamesBehind S.view S.at names.old.names names.new.names (named_at kind inside) first
+        stream.old result stream.new }
     ensures names { NamesRead names.old names.new }
 {
     if !next_is(stream, ',') {
@@ -115,7 +117,8 @@ fn names_after<S: CharStream, V: Copy, B: Copy, A: Drop>(
 /// Whether no name of this kind comes next, judged by the next character alone. Returns false on a stream that has failed.
 #[inline]
 pub(crate) fn none_named<S: CharStream>(stream: &S, kind: NameKind) -> bool
-    ensures { result ≡ (not (S.view stream.now).failed && not (begins (beginning kind) (S.view stream.now).rest)) }
+    ensures { result ≡ (not (S.view stream.now).failed && not (begins (beginning kind)
+        (S.view stream.now).rest)) }
 {
     if stream.has_failed() {
         return false;
@@ -136,7 +139,8 @@ pub fn names_parse<S: CharStream, V: Copy, B: Copy, A: Drop>(
     kind: NameKind,
     inside: bool,
 ) -> ParseResult<Few<ReadName>, A>
-    ensures read { MustNames S.view S.at names.new.names (separated_at 44 (named_at kind inside)) stream.old result stream.new }
+    ensures read { MustNames S.view S.at names.new.names (separated_at 44 (named_at kind inside)) stream.old
+        result stream.new }
     ensures names { NamesRead names.old names.new }
 {
     if none_named(stream, kind) {

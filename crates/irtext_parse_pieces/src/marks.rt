@@ -18,7 +18,8 @@ pub struct ReadMark {
 /// Parses a mark, if `!` comes next.
 #[inline(never)]
 fn mark_there<S: CharStream, A>(stream: &mut S) -> ParseResult<Option<ReadMark>, A>
-    ensures { MustMean S.view S.at (IsMarkIf (whole (S.view stream.old))) mark_if_at stream.old result stream.new }
+    ensures { MustMean S.view S.at (IsMarkIf (whole (S.view stream.old))) mark_if_at stream.old result
+        stream.new }
 {
     if stream.has_failed() {
         return Err(refuse(stream, Cause::StreamFailed));
@@ -34,7 +35,8 @@ fn mark_there<S: CharStream, A>(stream: &mut S) -> ParseResult<Option<ReadMark>,
 /// Parses a mark, `!` and an index, as `!3`. If `!` does not come next, returns `None`. Every error is committed.
 #[inline(always)]
 pub fn mark_parse<S: CharStream, A>(stream: &mut S) -> ParseResult<Option<ReadMark>, A>
-    ensures { MustMean S.view S.at (IsMarkIf (whole (S.view stream.old))) mark_if_at stream.old result stream.new }
+    ensures { MustMean S.view S.at (IsMarkIf (whole (S.view stream.old))) mark_if_at stream.old result
+        stream.new }
 {
     if stream.has_failed() {
         return mark_there(stream);

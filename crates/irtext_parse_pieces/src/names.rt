@@ -32,7 +32,8 @@ pub struct Symbol {
 
 /// Parses `@` and a symbol's name, as `@main`. Every error is committed.
 pub fn symbol_demanded<S: CharStream, A>(stream: &mut S) -> ParseResult<Symbol, A>
-    ensures { MustMean S.view S.at (IsSymbol (whole (S.view stream.old))) symbol_at stream.old result stream.new }
+    ensures { MustMean S.view S.at (IsSymbol (whole (S.view stream.old))) symbol_at stream.old result
+        stream.new }
 {
     let at = stream.position();
     let name = demanded::symbol_demanded(stream)?;

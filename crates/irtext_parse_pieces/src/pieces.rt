@@ -69,7 +69,8 @@ fn accepts<S: CharStream>(stream: &mut S, text: &str) -> bool
 fn outlined_or_demanded<S: OwnStream, A: AttrText<A>>(
     stream: &mut S,
 ) -> ParseResult<Option<AttrObj<A>>, A>
-    ensures { MustRead S.CharStream.view S.CharStream.at seen_attribute (outlined_or_at (attr_at A.IrText.reading)) stream.old result stream.new }
+    ensures { MustRead S.CharStream.view S.CharStream.at seen_attribute
+        (outlined_or_at (attr_at A.IrText.reading)) stream.old result stream.new }
 {
     if stream.has_failed() {
         return Err(refuse(stream, Cause::StreamFailed));
@@ -100,7 +101,8 @@ fn operand_piece<S: OwnStream, V: Copy, B: Copy, T: IrText<A>, A: AttrText<A>>(
     index: usize,
     inside: bool,
 ) -> ParseResult<ReadPiece<T, A>, A>
-    ensures read { MustPiece S.CharStream.view S.CharStream.at names.new.names (used_at inside ⇒ operand index) stream.old result stream.new }
+    ensures read { MustPiece S.CharStream.view S.CharStream.at names.new.names (used_at inside ⇒ operand
+        index) stream.old result stream.new }
     ensures names { NamesRead names.old names.new }
 {
     let name = used_demanded(stream, names, inside)?;
@@ -128,7 +130,8 @@ fn successor_piece<S: OwnStream, V: Copy, B: Copy, T: IrText<A>, A: AttrText<A>>
     index: usize,
     inside: bool,
 ) -> ParseResult<ReadPiece<T, A>, A>
-    ensures read { MustPiece S.CharStream.view S.CharStream.at names.new.names (target_at inside ⇒ successor index) stream.old result stream.new }
+    ensures read { MustPiece S.CharStream.view S.CharStream.at names.new.names (target_at inside ⇒ successor
+        index) stream.old result stream.new }
     ensures names { NamesRead names.old names.new }
 {
     let label = target_demanded(stream, names, inside)?;
@@ -193,7 +196,8 @@ fn type_piece<S: OwnStream, T: IrText<A>, A: AttrText<A>>(
 fn header_piece<S: OwnStream, T: IrText<A>, A: AttrText<A>>(
     stream: &mut S,
 ) -> ParseResult<ReadPiece<T, A>, A>
-    ensures { (names : List Text) → MustPiece S.CharStream.view S.CharStream.at names (symbol_at ⇒ header) stream.old result stream.new }
+    ensures { (names : List Text) → MustPiece S.CharStream.view S.CharStream.at names (symbol_at ⇒ header)
+        stream.old result stream.new }
 {
     let symbol = symbol_demanded(stream)?;
     Ok(ReadPiece::Header(symbol))

@@ -36,7 +36,8 @@ fn more_results<S: CharStream, V: Copy, B: Copy, A: Drop>(
     names: &mut NameTracker<V, B>,
     first: ReadName,
 ) -> ParseResult<Option<Few<ReadName>>, A>
-    ensures looks { LooksBehind S.view S.at names.old.names names.new.names first stream.old result stream.new }
+    ensures looks { LooksBehind S.view S.at names.old.names names.new.names first stream.old result
+        stream.new }
     ensures names { NamesRead names.old names.new }
 {
     let mut found = Few::one(first);
@@ -68,7 +69,8 @@ fn results_after<S: CharStream, V: Copy, B: Copy, A: Drop>(
     names: &mut NameTracker<V, B>,
     first: ReadName,
 ) -> ParseResult<Option<Few<ReadName>>, A>
-    ensures looks { LooksBehind S.view S.at names.old.names names.new.names first stream.old result stream.new }
+    ensures looks { LooksBehind S.view S.at names.old.names names.new.names first stream.old result
+        stream.new }
     ensures names { NamesRead names.old names.new }
 {
     if !next_is(stream, ',') {
@@ -82,7 +84,8 @@ fn names_there<S: CharStream, V: Copy, B: Copy, A: Drop>(
     stream: &mut S,
     names: &mut NameTracker<V, B>,
 ) -> ParseResult<Option<Few<ReadName>>, A>
-    ensures looks { (S.view stream.old).failed ≡ false → Looks S.view S.at names.new.names (separated_at 44 name_at) stream.old result stream.new }
+    ensures looks { (S.view stream.old).failed ≡ false → Looks S.view S.at names.new.names
+        (separated_at 44 name_at) stream.old result stream.new }
     ensures names { NamesRead names.old names.new }
 {
     match name_parse(stream, names) {
@@ -104,7 +107,8 @@ fn results_there<S: CharStream, V: Copy, B: Copy, A: Drop>(
     stream: &mut S,
     names: &mut NameTracker<V, B>,
 ) -> ParseResult<Option<Few<ReadName>>, A>
-    ensures looks { (S.view stream.old).failed ≡ false → Looks S.view S.at names.new.names results_at stream.old result stream.new }
+    ensures looks { (S.view stream.old).failed ≡ false → Looks S.view S.at names.new.names results_at
+        stream.old result stream.new }
     ensures names { NamesRead names.old names.new }
 {
     let Some(found) = names_there(stream, names)? else {

@@ -26,7 +26,8 @@ fn more_types<S: OwnStream, T: IrText<A>, A: Drop>(
     stream: &mut S,
     first: T,
 ) -> ParseResult<Few<T>, A>
-    ensures { TypesBehind S.CharStream.view S.CharStream.at T.IrText.reading first stream.old result stream.new }
+    ensures { TypesBehind S.CharStream.view S.CharStream.at T.IrText.reading first stream.old result
+        stream.new }
 {
     let mut found = Few::one(first);
     while next_is(stream, ',') {
@@ -49,7 +50,8 @@ fn types_after<S: OwnStream, T: IrText<A>, A: Drop>(
     stream: &mut S,
     first: T,
 ) -> ParseResult<Few<T>, A>
-    ensures { TypesBehind S.CharStream.view S.CharStream.at T.IrText.reading first stream.old result stream.new }
+    ensures { TypesBehind S.CharStream.view S.CharStream.at T.IrText.reading first stream.old result
+        stream.new }
 {
     if !next_is(stream, ',') {
         return Ok(Few::one(first));
@@ -60,7 +62,8 @@ fn types_after<S: OwnStream, T: IrText<A>, A: Drop>(
 /// Parses types that are separated by `,`, with white space after each. If no type comes next, returns an empty list. Every error is
 /// committed.
 pub fn types_parse<S: OwnStream, T: IrText<A>, A: Drop>(stream: &mut S) -> ParseResult<Few<T>, A>
-    ensures { MustTypes S.CharStream.view S.CharStream.at (separated_at 44 T.IrText.reading) stream.old result stream.new }
+    ensures { MustTypes S.CharStream.view S.CharStream.at (separated_at 44 T.IrText.reading) stream.old result
+        stream.new }
 {
     match type_parse(stream) {
         Ok(first) => {

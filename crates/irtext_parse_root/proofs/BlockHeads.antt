@@ -25,7 +25,7 @@ use Rattle.irtext_grammar.specs.Grammar.Tree.{Name, Mark, Attribute, Head}
 use Rattle.irtext_grammar.specs.Names.Acts.{key_act, block_may_hold, argument_definitions, mark_acts, entries_if, header_acts, word_of}
 use Rattle.irtext_grammar.specs.Names.Scopes.{is_among, failures}
 use Rattle.irtext_grammar.specs.Names.Script as script
-use Rattle.irtext_grammar.specs.Names.Script.{Act, Cause, Failure, define_label, block_at, done, does_all}
+use Rattle.irtext_grammar.specs.Names.Script.{Act, Failure, define_label, block_at, done, does_all}
 use Rattle.irtext_parse_spec.specs.Promises.Root.{UnlessMemory}
 use Rattle.irtext_parse_spec.specs.Promises.Section.{indices_of}
 use Rattle.irtext_parse_spec.specs.Readers.Refusals.{Refusal}
@@ -45,7 +45,7 @@ use Rattle.irtext_parse_pieces.specs.Marks.{IsMark, IsMarkIf}
 use Rattle.irtext_parse_pieces.specs.Named.{StandsFor, Each, MayMean, MustMean}
 use Rattle.irtext_parse_pieces.proofs.Meanings.{may_whole}
 use Rattle.irtext_promises.specs.Alone.{RefusesBlock}
-use Rattle.irtext_promises.specs.Promises.{IsCause, IsOf, IsFirst}
+use Rattle.irtext_promises.specs.Promises.{IsOf, IsFirst}
 use Rattle.irtext_parse_nested.specs.Blocks.{entries_in, IsKeyFault}
 use Rattle.irtext_parse_nested.specs.Definitions.{IsFaultOf}
 use Rattle.irtext_parse_nested.proofs.Faults.{stands_there, some_same}
@@ -53,6 +53,7 @@ use Rattle.irtext_parse_nested.proofs.Headers.{keys_each}
 use Rattle.irtext_parse_nested.proofs.Marking.{not_noted, noted_before}
 use Rattle.irtext_parse_root.proofs.Failing.{head_honest}
 use Rattle.irtext_parse_root.specs.Block.{outside_with, FailsOutside, MissesBlock, no_header, by_header, first_reserved, noted_twice}
+use Rattle.irtext_parse_root.proofs.Causes.{no_cause}
 
 -- ---- where the text does not begin with `^`, and where it does
 stays_prefixed : {X : Type 0} (t : Text) (o : Outcome X) → demanded (prefixed t o) ≡ prefixed t o
@@ -296,18 +297,6 @@ module _ {T A : Type 0} (types_at : Text → Outcome T) (attr : Text → Outcome
       go (Bad cause upto) e g = absurd g
 
 -- ---- what an error says
--- no failure says that the stream had failed
-no_cause : (c : Cause Text) (cause : Fault) → IsCause c cause → cause ≡ Failed → ⊥
-no_cause (script.ResultCount types names) cause h e = cc (h, e)
-no_cause (script.NoActiveScope n) cause h e = cc (h, e)
-no_cause (script.UnresolvedReference n) cause h e = cc (h, e)
-no_cause (script.MultipleDefinitions n) cause h e = cc (h, e)
-no_cause script.NotIsolated cause h e = cc (h, e)
-no_cause (script.DuplicateIndex i) cause h e = cc (h, e)
-no_cause (script.UnknownIndex i) cause h e = cc (h, e)
-no_cause (script.UnknownPrintOnce i) cause h e = cc (h, e)
-no_cause (script.ReservedKey k) cause h e = cc (h, e)
-
 first_fine : {A : Type 0} (text : Text) (fs : List (Failure Text ℕ)) (fault : ParseFault A) → IsFirst text fs fault → fault_of fault.cause ≡ Failed → ⊥
 first_fine text [] fault h e = h
 first_fine text (f ∷ fs) fault h e = no_cause f.cause (fault_of fault.cause) h.0 e

@@ -1,11 +1,10 @@
 -- Turns one after another, and a fault after them.
-use Rattle.std.proofs.Common.{◌≡◌, ◌∙◌, ℕ, Bool, true, false, List, [], ◌∷◌, ◌++◌, length, IsSome, refl, sym, ap, subst, append-nil, append_assoc, inl, inr, arith, le_refl}
+use Rattle.std.proofs.Common.{◌≡◌, ◌∙◌, ℕ, Bool, true, false, List, [], ◌∷◌, ◌++◌, length, refl, sym, ap, subst, append-nil, append_assoc, inl, inr, arith, le_refl}
 use Rattle.irtext_base.specs.Text.{Text}
 use Rattle.irtext_base.specs.Locations.{AttrView}
 use Rattle.irtext_base.specs.Stream.{StreamView}
 use Rattle.irtext_base.specs.declared.parsable.fault.ParseFault.{ParseFault}
 use Rattle.irtext_base.specs.declared.location.Source.{Source}
-use Rattle.irtext_context.specs.Context.{ContextView}
 use Rattle.irtext_context.specs.Dialects.{Table}
 use Rattle.irtext_tokens.specs.Infix.{Reader}
 use Rattle.irtext_tokens.proofs.Steps.{alone}
@@ -19,13 +18,12 @@ use Rattle.irtext_grammar.specs.Names.Script.{Path}
 use Rattle.irtext_parse_spec.specs.Promises.Root.{UnlessMemory}
 use Rattle.irtext_parse_spec.specs.Promises.Section.{Moves}
 use Rattle.irtext_parse_spec.proofs.Readers.Answered.{moves_none, moves_more}
-use Rattle.irtext_parse_spec.specs.Resume as theory
 use Rattle.irtext_parse_spec.specs.Resume.{EndsIn}
 use Rattle.irtext_parse_spec.proofs.Resume.Frames.{goes_trans, stuck_at}
 use Rattle.irtext_parse_pieces.proofs.Meanings.{takes_whole}
 use Rattle.irtext_parse_nested.proofs.Marking.{gains_nothing}
 use Rattle.irtext_parse_nested.specs.Ends.{GainsMarks}
-use Rattle.irtext_parse_nested.specs.Items.{Names, Made, Pledge, StandsAs, Acts, ActsWith, ActFails, IsFailure, IsTextFault, KeepsLive, doing}
+use Rattle.irtext_parse_nested.specs.Items.{Names, Made, Pledge, StandsAs, Acts, ActsWith, ActFails, IsFailure, IsTextFault, doing}
 use Rattle.irtext_parse_nested.specs.Located.{IsLocated}
 use Rattle.irtext_parse_root.specs.Built.{Built}
 use Rattle.irtext_parse_root.specs.Here.{Base}
@@ -35,6 +33,7 @@ use Rattle.irtext_parse_root.specs.Turned.{Carries, Remains, Turned, Faulted, at
 use Rattle.irtext_parse_root.proofs.Carrying.{falls_both}
 use Rattle.irtext_parse_root.proofs.Staying.{stay_still, stay_both}
 use Rattle.irtext_parse_root.proofs.Telling.{done_both, goes_told, goes_behind, stuck_behind}
+use Rattle.irtext_parse_nested.proofs.Lasting.{lasts_then, lasts_itself}
 
 -- ---- acts
 module _ {T A U : Type 0} where
@@ -90,36 +89,13 @@ never_open b c e = let z : true ≡ false = sym c ∙ e in absurd (cc z)
 pub gains_both : {X : Type 0} (a b c : List (ℕ × X)) → GainsMarks a b → GainsMarks b c → GainsMarks a c
 gains_both a b c h k = (h.0 ++ k.0, k.1 ∙ (ap (λ z. z ++ k.0) h.1 ∙ append_assoc a h.0 k.0))
 
-module _ {T A : Type 0} where
-  pub lasts_both : (a b c : ContextView T A) → KeepsLive a b → KeepsLive b c → KeepsLive a c
-  lasts_both a b c h k = record {
-    operations = λ p there. k.operations p (h.operations p there);
-    results = λ p there. k.results p (h.operations p there) ∙ h.results p there;
-    blocks = λ p there inside. let m = h.blocks p there inside in let n = k.blocks p m.0 (subst IsSome (sym m.1) inside) in (n.0, n.1 ∙ m.1);
-    regions = λ r there. k.regions r (h.regions r there);
-    newer = λ m q le new. let up = h.made in k.newer m q (omega (arith, le, up)) (h.newer m q le new);
-    made = let l = h.made in let n = k.made in omega (arith, l, n);
-    dialects = k.dialects ∙ h.dialects;
-  }
-
-  pub lasts_still : (a : ContextView T A) → KeepsLive a a
-  lasts_still a = record {
-    operations = λ p there. there;
-    results = λ p there. refl;
-    blocks = λ p there inside. (there, refl);
-    regions = λ r there. there;
-    newer = λ m q le new. new;
-    made = le_refl a.graph.made;
-    dialects = refl;
-  }
-
 module _ {T A U : Type 0} where
   pub carries_still : (names : Names) (s : StateStream T A U) → Carries names s names s
   carries_still names s = record {
     rest = record { src = refl; aux_data = refl };
     moves = moves_none s.stream;
     keeps = λ i text e. e;
-    lasts = lasts_still s.state.ctx.now;
+    lasts = lasts_itself s.state.ctx.now;
     sound = λ m le h. h;
     gains = gains_nothing refl;
   }
@@ -129,7 +105,7 @@ module _ {T A U : Type 0} where
     rest = record { src = k.rest.src ∙ h.rest.src; aux_data = k.rest.aux_data ∙ h.rest.aux_data };
     moves = moves_more h.moves k.moves;
     keeps = λ i text e. k.keeps i text (h.keeps i text e);
-    lasts = lasts_both s0.state.ctx.now s1.state.ctx.now s2.state.ctx.now h.lasts k.lasts;
+    lasts = lasts_then s0.state.ctx.now s1.state.ctx.now s2.state.ctx.now h.lasts k.lasts;
     sound = λ m le z. let up = h.lasts.made in k.sound m (omega (arith, le, up)) (h.sound m le z);
     gains = gains_both (marks_of s0.state) (marks_of s1.state) (marks_of s2.state) h.gains k.gains;
   }
@@ -139,7 +115,7 @@ module _ {T A U : Type 0} where
   carries_passed v m h = record { rest = record { src = h.rest.src; aux_data = h.rest.aux_data }; moves = moves_more m h.moves; keeps = h.keeps; lasts = h.lasts; sound = λ m le z. h.sound m le z; gains = (h.gains.0, h.gains.1) }
 
   pub carries_pass : (names : Names) (s : StateStream T A U) (v : StreamView) → Moves s.stream v → Carries names s names (record { stream = v; state = s.state })
-  carries_pass names s v m = record { rest = record { src = refl; aux_data = refl }; moves = m; keeps = λ i text e. e; lasts = lasts_still s.state.ctx.now; sound = λ m le h. h; gains = gains_nothing refl }
+  carries_pass names s v m = record { rest = record { src = refl; aux_data = refl }; moves = m; keeps = λ i text e. e; lasts = lasts_itself s.state.ctx.now; sound = λ m le h. h; gains = gains_nothing refl }
 
   -- what remains if a turn fails after others
   pub remains_on : {n0 n1 : Names} {s0 s1 : StateStream T A U} {z : code.State T A U} → Carries n0 s0 n1 s1 → Remains s1.state z → Remains s0.state z

@@ -2,32 +2,30 @@
 use Rattle.std.proofs.Common.{◌≡◌, ℕ, zero, suc, Bool, true, false, cond, List, [], ◌∷◌, ◌++◌, length, Some, None, codes, is_some, append_assoc, refl, ap, subst}
 use Rattle.irtext_base.specs.Text.{Text, begins, after_space}
 use Rattle.irtext_base.specs.Reading.{the}
-use Rattle.irtext_base.specs.Format as format
-use Rattle.irtext_base.specs.Format.{Id, Directive}
+use Rattle.irtext_base.specs.Format.{Id}
 use Rattle.irtext_base.specs.Faults.{Fault, Failed, UnregisteredOp, UnregisteredDialect}
 use Rattle.irtext_base.specs.Own.{Sincere, is_first_fault}
 use Rattle.irtext_base.specs.Answers.{Outcome, Read, Missing, Bad, mapped}
 use Rattle.irtext_base.specs.Locations.{AttrView}
-use Rattle.irtext_base.proofs.Sincere.{Of, of_read, of_missing, of_mapped, of_sincere}
+use Rattle.irtext_base.proofs.Sincere.{Of, of_read, of_mapped, of_sincere}
 use Rattle.irtext_context.specs.Dialects.{Table}
 use Rattle.irtext_context.specs.DialectTable.{dialect_of, registered}
 use Rattle.irtext_tokens.specs.AttrTexts.{attr_at}
 use Rattle.irtext_tokens.specs.Infix.{◌▷◌}
 use Rattle.irtext_tokens.specs.Tokens.{space_at, word, identifier_at, id_at}
-use Rattle.irtext_tokens.proofs.Honest.{Honest, ◌then◌, ◌kept◌, ◌so◌, seen, honest_either, honest_word, honest_space, honest_id, honest_index, honest_name, honest_separated, honest_spaced, honest_attr}
+use Rattle.irtext_tokens.proofs.Honest.{Honest, ◌then◌, ◌so◌, seen, honest_either, honest_word, honest_space, honest_id, honest_index, honest_name, honest_separated, honest_spaced, honest_attr}
 use Rattle.irtext_grammar.specs.Contexts.Formats.{op_id, isolated}
 use Rattle.irtext_grammar.specs.Grammar.Tree as tree
 use Rattle.irtext_grammar.specs.Grammar.Tree.{Name, Part}
 use Rattle.irtext_parse_spec.specs.Readers.Parts.{behind, without_first}
 use Rattle.irtext_parse_spec.specs.Readers.Operations.{registered_behind}
-use Rattle.irtext_parse_spec.specs.Readers.Marker.{marker, starts_with}
-use Rattle.irtext_grammar.specs.Spelling.AttrText.{attr_tree}
 use Rattle.irtext_tokens.specs.Demanded.{index_at}
 use Rattle.irtext_parse_spec.specs.Promises.Supported.{is_committed}
 use Rattle.irtext_parse_spec.proofs.Readers.Honest.{honest_nothing}
 use Rattle.irtext_parse_spec.proofs.Readers.NeverFailed.{NotFailed, Fine, fine_honest, fine_missing, fine_bad, fine_either, fine_behind, fine_mapped}
-use Rattle.irtext_parse_spec.specs.Heads.{Step, flat, types, one, all, name_at, name_of, label_at, symbol_at, used_at, target_at, pair_at, dictionary_at, outlined_or_at, directive_at, argument_at, mark_at, mark_if_at, head_at, piece_at, front_steps, region_steps, results_at, named, lead_at, led_by, led_at}
+use Rattle.irtext_parse_spec.specs.Heads.{Step, flat, types, one, all, name_of, label_at, argument_at, mark_at, mark_if_at, head_at, piece_at, front_steps, region_steps, lead_at, led_by, led_at}
 use Rattle.irtext_parse_spec.specs.Reached.{Reached, Advanced, Stopped, came, tells, Actions, Reads, begins_operation, begins_region, begins_block, steps_in, regions_by, more_by, operations_by, blocks_by, front_by, steps_by, end_by, body_by, operation_by, block_by, region_by, region_within, region_at, operation_at}
+use Rattle.irtext_parse_nested.proofs.FrontHonest.{name_honest, lead_honest, dictionary_honest, piece_honest}
 
 -- ---- what is stuck
 abbrev StuckFine : {X S : Type 0} → Reached X S → Type 0
@@ -71,18 +69,6 @@ module _ {S : Type 0} where
   never_blocks item h (suc n) text s = never_if (begins_block text) _ _ (never_came (item text s) _ (h text s) (λ _ t rest. never_blocks item h n (after_space rest) t)) (there tt s text)
 
 -- ---- the parsers of heads
-name_honest : Honest name_at
-name_honest = record { of = λ text. of_mapped text (name_of (length text)) (identifier_at text) ((honest_name _).of text) }
-
-used_honest : Honest (used_at true)
-used_honest = record { of = λ text. name_honest.of text }
-
-target_honest : Honest (target_at true)
-target_honest = ◌then◌ (honest_word (codes "^")) used_honest
-
-symbol_honest : Honest symbol_at
-symbol_honest = record { of = λ text. of_mapped text (name_of (length text)) ((word (codes "@") ▷ identifier_at) text) ((◌then◌ (honest_word (codes "@")) (honest_name _)).of text) }
-
 label_honest : Honest label_at
 label_honest = record { of = λ text. of_mapped text (name_of (length text)) ((word (codes "^") ▷ identifier_at) text) ((◌then◌ (honest_word (codes "^")) (honest_name _)).of text) }
 
@@ -91,17 +77,6 @@ mark_honest = record { of = λ text. of_mapped text (λ i. record { place = leng
 
 mark_if_honest : Honest mark_if_at
 mark_if_honest = honest_either (begins (the 33)) (seen Some mark_honest) (honest_nothing None)
-
-results_honest : Honest results_at
-results_honest = ◌kept◌ (honest_separated 44 name_at name_honest) (honest_word (codes "="))
-
-named_of : (o : Outcome (List (Name ℕ))) (text : Text) → Of text o → Of text (named o text)
-named_of (Read ns taken rest) text h = h
-named_of (Missing cause) text h = of_read text [] [] text refl
-named_of (Bad cause upto) text h = of_read text [] [] text refl
-
-lead_honest : Honest lead_at
-lead_honest = ◌then◌ honest_space (◌kept◌ (record { of = λ text. named_of (results_at text) text (results_honest.of text) }) honest_space)
 
 fine_registered : (dialects : List (Text × Table)) (lead : Text) (o : Outcome Id) → Fine o → Fine (registered_behind dialects lead o)
 fine_registered dialects lead (Read id taken rest) h =
@@ -160,37 +135,8 @@ module _ {T A : Type 0} (types_at : Text → Outcome T) (reading : Text → Outc
   attr_honest : Honest attr
   attr_honest = honest_attr (record { of = of_sincere reading sincere })
 
-  pair_honest : Honest (pair_at attr)
-  pair_honest = ◌so◌ name_honest (λ key. ◌then◌ (honest_spaced (codes ":")) (seen (λ a. (key, a)) (seen _ attr_honest)))
-
-  dictionary_honest : Honest (dictionary_at attr)
-  unfolding dictionary_at
-  dictionary_honest = record { of = λ text. (◌then◌ (honest_word (codes "[")) (◌then◌ honest_space (◌kept◌ (honest_separated 44 (pair_at attr) pair_honest) (honest_word (codes "]"))))).of text }
-
-  outlined_honest : Honest (outlined_or_at attr)
-  outlined_honest = honest_either (starts_with marker) (seen (λ _. None) (honest_word marker)) (seen Some (seen (attr_tree {A = A}) attr_honest))
-
-  directive_honest : (d : Directive) → Honest (directive_at types_at attr true d)
-  directive_honest (format.word s) = seen _ (honest_word s)
-  directive_honest (format.operand i) = seen _ used_honest
-  directive_honest format.operands = seen _ (honest_separated 44 (used_at true) used_honest)
-  directive_honest (format.successor i) = seen _ target_honest
-  directive_honest format.successors = seen _ (honest_separated 44 (target_at true) target_honest)
-  directive_honest (format.attribute k) = seen _ outlined_honest
-  directive_honest format.dictionary = seen _ dictionary_honest
-  directive_honest (format.result_type i) = seen _ types_honest
-  directive_honest format.header = seen _ symbol_honest
-  directive_honest (format.region i) = record { of = λ text. of_missing text _ refl }
-  directive_honest format.regions = record { of = λ text. of_missing text _ refl }
-
-  piece_honest : (step : Step) → Honest (piece_at types_at attr true step)
-  piece_honest (flat d) = directive_honest d
-  piece_honest types = seen _ (honest_separated 44 types_at types_honest)
-  piece_honest (one i) = record { of = λ text. of_missing text _ refl }
-  piece_honest all = record { of = λ text. of_missing text _ refl }
-
   fine_piece : (step : Step) (text : Text) → Fine ((space_at ▷ piece_at types_at attr true step) text)
-  fine_piece step text = fine_honest (◌then◌ honest_space (piece_honest step)) text
+  fine_piece step text = fine_honest (◌then◌ honest_space (piece_honest types_at attr types_honest attr_honest step)) text
 
   argument_honest : Honest (argument_at types_at attr)
   argument_honest = ◌so◌ name_honest (λ n. ◌then◌ (honest_spaced (codes ":")) (seen (λ t. (n, t)) types_honest))
@@ -198,7 +144,7 @@ module _ {T A : Type 0} (types_at : Text → Outcome T) (reading : Text → Outc
   pub head_honest : Honest (head_at types_at attr)
   head_honest =
       ◌so◌ label_honest (λ label. ◌then◌ (honest_spaced (codes "(")) (◌so◌ (honest_separated 44 (argument_at types_at attr) argument_honest) (λ arguments. ◌then◌ (honest_word (codes ")")) (◌then◌ honest_space
-      (◌so◌ (honest_either (begins (the 91)) (seen Some dictionary_honest) (honest_nothing None)) (λ attributes. ◌then◌ honest_space
+      (◌so◌ (honest_either (begins (the 91)) (seen Some (dictionary_honest types_at attr types_honest attr_honest)) (honest_nothing None)) (λ attributes. ◌then◌ honest_space
       (◌so◌ mark_if_honest (λ mark. ◌then◌ honest_space (seen (λ _. record { label = label; arguments = arguments; attributes = attributes; mark = mark }) (honest_word (codes ":")))))))))))
 
   -- ---- the parsers of what nests

@@ -1,5 +1,5 @@
 -- Where a parse begins no name is known: names, graph and marks agree with the initial state of the machine.
-use Rattle.std.proofs.Common.{◌≡◌, ◌∙◌, ℕ, [], Option, Some, None, IsSome, refl, sym, ap, le_refl}
+use Rattle.std.proofs.Common.{◌≡◌, ◌∙◌, ℕ, [], Option, Some, None, IsSome, refl, sym, ap, subst, le_refl}
 use Rattle.irtext_context.specs.Context.{ContextView}
 use Rattle.irtext_graph.specs.Back.{AllOlder}
 use Rattle.irtext_graph.specs.Store.{get}
@@ -7,7 +7,7 @@ use Rattle.irtext_graph.proofs.Frames.{new_operation}
 use Rattle.irtext_scopes.specs.Names.{AreDistinct}
 use Rattle.irtext_parse_state.specs.States.{marks_of}
 use Rattle.irtext_parse_state.specs.declared.parsable.state.State as code
-use Rattle.irtext_grammar.specs.Names.History.{going, start}
+use Rattle.irtext_grammar.specs.Names.History.{going, start, State}
 use Rattle.irtext_grammar.specs.Names.Script.{Path}
 use Rattle.irtext_parse_spec.specs.Promises.Section.{indices_of}
 use Rattle.irtext_names.specs.Linked.{nothing_made}
@@ -15,6 +15,7 @@ use Rattle.irtext_names.proofs.Added.{no_ties, no_waits}
 use Rattle.irtext_names.proofs.Linked.Kept.{stands_by}
 use Rattle.irtext_parse_nested.specs.Items.{Names, StandsAs, BlanksDefine, IsSound}
 use Rattle.irtext_parse_nested.proofs.OfItems.{nothing_of}
+use Rattle.irtext_parse_root.specs.AnyState.{start_with}
 use Rattle.irtext_parse_root.specs.Turned.{IsSoundOnce}
 
 -- no name has two numbers
@@ -30,18 +31,26 @@ no_blanks c older p here none new = absurd (none_there (get c.graph.operations p
     none_there (Some x) e h = cc
 
 module _ {T A U : Type 0} (names : Names) (s : code.State T A U) (no_names : names.names ≡ []) (no_values : names.values ≡ []) (no_labels : names.labels ≡ []) where
-  -- names, graph and marks agree with the initial state of the machine
-  pub fresh_stands : marks_of s ≡ [] → (path : ℕ → Path) → StandsAs path [] [] names s (going start)
-  fresh_stands none path = record {
+  -- the state of the machine before any name, with the recorded marks
+  abbrev pub begun : State
+  begun = start_with (indices_of (marks_of s))
+
+  -- names, graph and marks agree with it
+  pub begun_stands : (path : ℕ → Path) → StandsAs path [] [] names s (going begun)
+  begun_stands path = record {
     known = nothing_made;
     of_items = nothing_of path;
-    state = start;
+    state = begun;
     going = refl;
-    stands = stands_by names s.ctx.now.graph nothing_made [] start [] [] [] no_names no_values no_labels none_twice (rw (no_values, no_labels) (no_ties s.ctx.now.graph)) tt tt
+    stands = stands_by names s.ctx.now.graph nothing_made [] begun [] [] [] no_names no_values no_labels none_twice (rw (no_values, no_labels) (no_ties s.ctx.now.graph)) tt tt
         (λ p v i. absurd i) (λ p b i. absurd i) (λ u p i. absurd i);
-    marks = sym (ap indices_of none);
+    marks = refl;
     results = λ w i. absurd i;
   }
+
+  -- it is the initial state if no mark is recorded
+  pub fresh_stands : marks_of s ≡ [] → (path : ℕ → Path) → StandsAs path [] [] names s (going start)
+  fresh_stands none path = subst (λ ms. StandsAs path [] [] names s (going (start_with ms))) (ap indices_of none) (begun_stands path)
 
   -- no placeholder waits for a name, since all live objects are older
   pub fresh_sound : AllOlder s.ctx.now.graph.made s.ctx.now.graph → IsSound s.ctx.now.graph.made names s

@@ -3,9 +3,9 @@
 pub mod BlockHeads
 pub mod Builds
 pub mod Carrying
+pub mod Causes
 pub mod Chains
 pub mod Closed
-pub mod Entered
 pub mod Failing
 pub mod Faulting
 pub mod FewerMarks

@@ -2,7 +2,7 @@
 -- recorded.
 use Rattle.std.proofs.Common.{◌≡◌, ◌∙◌, ℕ, true, List, [], ◌++◌, ap, subst, append-nil, inl, inr}
 use Rattle.irtext_base.specs.Text.{Text}
-use Rattle.irtext_base.specs.Faults.{Fault, fault_of}
+use Rattle.irtext_base.specs.Faults.{fault_of}
 use Rattle.irtext_base.specs.Locations.{AttrView}
 use Rattle.irtext_base.specs.declared.parsable.fault.ParseFault.{ParseFault}
 use Rattle.irtext_context.specs.Dialects.{Table}
@@ -13,31 +13,18 @@ use Rattle.irtext_parse_state.specs.States.{marks_of}
 use Rattle.irtext_parse_state.specs.declared.parsable.state.StateStream.{StateStream}
 use Rattle.irtext_grammar.specs.Contexts.Held.{whole}
 use Rattle.irtext_grammar.specs.Names.History.{Outcome, going}
-use Rattle.irtext_grammar.specs.Names.Script as script
-use Rattle.irtext_grammar.specs.Names.Script.{Cause, Path}
+use Rattle.irtext_grammar.specs.Names.Script.{Path}
 use Rattle.irtext_names.specs.OfItems.{AreOf}
 use Rattle.irtext_parse_spec.specs.Reached.{Advanced, operation_at}
 use Rattle.irtext_parse_spec.specs.Promises.Root.{UnlessMemory}
 use Rattle.irtext_parse_spec.specs.Promises.Section.{indices_of}
-use Rattle.irtext_promises.specs.Promises.{IsCause}
-use Rattle.irtext_parse_nested.specs.Items.{Names, StandsAs, IsNameCause, doing}
+use Rattle.irtext_parse_nested.specs.Items.{Names, StandsAs, doing}
 use Rattle.irtext_parse_nested.specs.Located.{IsLocated}
 use Rattle.irtext_parse_root.specs.Nested as nested
 use Rattle.irtext_parse_root.specs.Nested.{ReadsNested, RefusesNested}
 use Rattle.irtext_parse_root.specs.AnyState.{start_with, LeavesFrom, HasFaultFrom, at_text, by_names}
-use Rattle.irtext_parse_root.proofs.Refused.{begun_stands}
-
--- a failure has one cause
-same_cause : (c : Cause Text) (cause : Fault) → IsNameCause c cause → IsCause c cause
-same_cause (script.ResultCount types names) cause h = h
-same_cause (script.NoActiveScope n) cause h = h
-same_cause (script.UnresolvedReference n) cause h = h
-same_cause (script.MultipleDefinitions n) cause h = h
-same_cause script.NotIsolated cause h = h
-same_cause (script.DuplicateIndex i) cause h = h
-same_cause (script.UnknownIndex i) cause h = h
-same_cause (script.UnknownPrintOnce i) cause h = h
-same_cause (script.ReservedKey k) cause h = h
+use Rattle.irtext_parse_root.proofs.Causes.{same_cause}
+use Rattle.irtext_parse_root.proofs.Fresh.{begun_stands}
 
 module _ {T A U : Type 0} (types_at : Reader T) (attr : Reader (AttrView A)) (before : Names) (old : StateStream T A U)
     (no_names : before.names ≡ []) (no_values : before.values ≡ []) (no_labels : before.labels ≡ []) where

@@ -1,31 +1,34 @@
 -- The items that carry marks were created by the parse: they are newer than all objects that were live before it.
 use Rattle.std.proofs.Common.{◌≡◌, ◌∙◌, ℕ, Bool, true, false, cond, List, [], ◌∷◌, Option, Some, None, IsSome, option_map, refl, sym, subst, inl, inr}
 use Rattle.std.specs.Prelude.{nat_lt, option_and_then}
+use Rattle.irtext_base.specs.Locations.{AttrView}
 use Rattle.irtext_base.specs.declared.location.Location.{Location}
 use Rattle.irtext_context.specs.Context.{ContextView, KeepsOlder, operation_of, block_of}
-use Rattle.irtext_context.specs.declared.base.block.BlockData.{BlockData}
 use Rattle.irtext_context.specs.declared.base.item.Item.{Item}
 use Rattle.irtext_context.specs.declared.base.item.Item.TheVariants as item
-use Rattle.irtext_context.specs.declared.base.operation.OperationData.{OperationData}
 use Rattle.irtext_graph.specs.declared.arena.Entry.{Entry}
 use Rattle.irtext_graph.specs.declared.arena.Ptr.{Ptr}
 use Rattle.irtext_graph.specs.declared.object.Operation.{Operation}
 use Rattle.irtext_graph.specs.declared.object.BasicBlock.{BasicBlock}
-use Rattle.irtext_graph.specs.declared.object.Region.{Region}
 use Rattle.irtext_graph.specs.declared.object.Object.{Object}
 use Rattle.irtext_graph.specs.declared.object.Object.TheVariants.{TheOperation, TheBlock, TheRegion}
 use Rattle.irtext_graph.specs.Arena.{older}
 use Rattle.irtext_graph.specs.Back.{AllOlder}
 use Rattle.irtext_graph.specs.Chained.{Among}
-use Rattle.irtext_graph.specs.Content.{Node, OperationContent, BlockContent}
 use Rattle.irtext_graph.specs.Graph.{parent_of}
 use Rattle.irtext_graph.specs.Store.{get, before}
+use Rattle.irtext_tokens.specs.Infix.{Reader}
+use Rattle.irtext_parse_state.specs.States.{marks_of}
+use Rattle.irtext_parse_state.specs.declared.parsable.state.StateStream.{StateStream}
+use Rattle.irtext_grammar.specs.Contexts.Held.{whole}
 use Rattle.irtext_grammar.specs.Grammar.Tree.{Tree}
 use Rattle.irtext_parse_spec.specs.Building.{finished}
 use Rattle.irtext_parse_spec.specs.Unchanged.{IsThere}
 use Rattle.irtext_parse_spec.specs.Tracks.{Made, HoldsMade}
+use Rattle.irtext_parse_nested.specs.Located.{IsLocated}
 use Rattle.irtext_parse_root.specs.Carried.{marks_in, object_of, AreCarried}
 use Rattle.irtext_parse_section.specs.Applied.{IsNewer, AreNewer}
+use Rattle.irtext_parse_root.specs.Marked.{LeavesMarked}
 use Rattle.irtext_parse_root.proofs.Marks.{carried_back}
 
 older_is : {X : Type 0} (m : ℕ) (x : Option (Entry X)) (e : Entry X) → older m x ≡ Some e → x ≡ Some e
@@ -36,33 +39,23 @@ older_is {X} m (Some x) e h = go (nat_lt x.born m) h
     go true k = k
     go false k = absurd (cc)
 
+-- an object that is live now, and was not where what is older than m was the same, is newer than m
+newer_entry : {X : Type 0} (m : ℕ) (now then : Option (Entry X)) (Live : Option (Entry X) → Type 0) → older m now ≡ older m then → older m then ≡ then → Live now → (Live then → ⊥) → older m now ≡ None
+newer_entry {X} m now then Live same all there not = go (older m now) refl
+  where
+    go : (x : Option (Entry X)) → older m now ≡ x → older m now ≡ None
+    go None e = e
+    go (Some x) e =
+        let then_is : then ≡ Some x = sym all ∙ (sym same ∙ e) in
+        absurd (not (subst Live (older_is m now x e ∙ sym then_is) there))
+
 module _ {T A : Type 0} (m : ℕ) (old mid : ContextView T A) (all : AllOlder m old.graph) (kept : KeepsOlder m old mid) where
-  abbrev OpEntry : Type 0
-  OpEntry = Entry (Node BasicBlock Region (OperationContent (Option (OperationData A)) (Option T)))
-
-  abbrev BlEntry : Type 0
-  BlEntry = Entry (Node Region Operation (BlockContent (BlockData A) (Option T)))
-
   -- what was not there is newer
   newer_operation : (p : Ptr Operation) → IsThere mid (TheOperation p) → (IsThere old (TheOperation p) → ⊥) → before m mid.graph.operations p ≡ None
-  newer_operation p there not = go (before m mid.graph.operations p) refl
-    where
-      go : (x : Option OpEntry) → before m mid.graph.operations p ≡ x → before m mid.graph.operations p ≡ None
-      go None e = e
-      go (Some x) e =
-          let now = older_is m (get mid.graph.operations p) x e in
-          let then : get old.graph.operations p ≡ Some x = sym (all.operations p) ∙ (sym (kept.graph.operations p) ∙ e) in
-          absurd (not (subst (λ z. IsSome (option_and_then (operation_of {T = T} {A = A}) z)) (now ∙ sym then) there))
+  newer_operation p = newer_entry m (get mid.graph.operations p) (get old.graph.operations p) (λ z. IsSome (option_and_then (operation_of {T = T} {A = A}) z)) (kept.graph.operations p) (all.operations p)
 
   newer_block : (b : Ptr BasicBlock) → IsThere mid (TheBlock b) → (IsThere old (TheBlock b) → ⊥) → before m mid.graph.blocks b ≡ None
-  newer_block b there not = go (before m mid.graph.blocks b) refl
-    where
-      go : (x : Option BlEntry) → before m mid.graph.blocks b ≡ x → before m mid.graph.blocks b ≡ None
-      go None e = e
-      go (Some x) e =
-          let now = older_is m (get mid.graph.blocks b) x e in
-          let then : get old.graph.blocks b ≡ Some x = sym (all.blocks b) ∙ (sym (kept.graph.blocks b) ∙ e) in
-          absurd (not (subst (λ z. IsSome (option_map (block_of {T = T} {A = A}) z) × IsSome (option_map TheRegion (parent_of z))) (now ∙ sym then) there))
+  newer_block b = newer_entry m (get mid.graph.blocks b) (get old.graph.blocks b) (λ z. IsSome (option_map (block_of {T = T} {A = A}) z) × IsSome (option_map TheRegion (parent_of z))) (kept.graph.blocks b) (all.blocks b)
 
   newer_item : (x : Item) → IsThere mid (object_of x) → (IsThere old (object_of x) → ⊥) → IsNewer m mid x
   newer_item (item.Operation p) there not = newer_operation p there not

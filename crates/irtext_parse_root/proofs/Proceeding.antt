@@ -41,7 +41,7 @@ use Rattle.irtext_parse_root.specs.declared.frames.Frame.{Frame}
 use Rattle.irtext_parse_root.specs.declared.frames.Frame.TheVariants as framed
 use Rattle.irtext_parse_pieces.specs.declared.coming.Coming.TheVariants as comes
 use Rattle.irtext_parse_root.specs.Here.{AreHere, Base, AreLevels, StandsInBlock, Nest, IsHere}
-use Rattle.irtext_parse_root.specs.Levels.{Level, at_operation, at_region, at_block, outward, open_of, first_frame, next_of, waiting, isolated_in, regions_in, left_to_do, AreNewFrames}
+use Rattle.irtext_parse_root.specs.Levels.{Level, at_operation, at_region, at_block, outward, open_of, first_frame, next_of, waiting, isolated_in, regions_in, left_to_do, IsNewFrame, AreNewFrames, AreAllNew}
 use Rattle.irtext_parse_root.specs.Told.{told}
 use Rattle.irtext_parse_root.specs.Turned.{Carries, TakesLast, Arrives, Proceeds}
 use Rattle.irtext_parse_root.specs.Stands.{one_stands, text_there, PassesTo}
@@ -164,11 +164,71 @@ module _ {T A U : Type 0} (types_at : Reader T) (reading : Reader A) (h : Splits
     lessens base v l ls frame waits next frames here a less =
         less_left ctx new.state.ctx.now same_dialects base v l ls a.later before names text text (Some frame) next waits frames old.stream.rest new.stream.rest here a.here less
 
+  -- the open frames became these, and less is left
+  abbrev Comes : Base → ℕ → ℕ → List (Level T A) → Names → StateStream T A U → Option Frame → List Frame → Type 0
+  Comes base u l ls names new next waits = (a : Arrives types_at attr base u l ls before old names new next waits) × (work often (next_of a.later) (waiting a.later) new.stream.rest < work often (next_of ls) (waiting ls) old.stream.rest)
+
+  -- A step was made if, of whatever frames are open with this one innermost, it came to these. It is enough to show that of levels which
+  -- begin with one of the frame.
+  module _ (names : Names) (new : StateStream T A U) (carries : Carries before old names new) where
+    proceeds_by : (f : Frame) (frames : List Frame) (next : Option Frame) (waits : List Frame)
+        → ((base : Base) (u l : ℕ) (ls : List (Level T A)) → IsHere base u l ls before text ctx (Some f) frames → Comes base u l ls names new next waits)
+        → ((m : ℕ) → m ≤ ctx.graph.made → AreAllNew m ctx.graph (Some f) frames → AreAllNew m new.state.ctx.now.graph next waits)
+        → AreHere T A text ctx before (Some f) frames → Proceeds types_at attr f frames before old names new next waits
+    proceeds_by f frames next waits comes fresh somewhere = record {
+      carries = carries;
+      arrives = λ base u l ls here. (comes base u l ls here).0;
+      fresh = fresh;
+      less =
+          let a = comes somewhere.base somewhere.v somewhere.l somewhere.ls somewhere.here in
+          lessens names new carries somewhere.base somewhere.v somewhere.l somewhere.ls f frames next waits somewhere.here a.0 a.1;
+    }
+
+    -- a frame of an object as new as the others was pushed
+    pushed_new : (m : ℕ) → m ≤ ctx.graph.made → (frames waits : List Frame) (f : Frame) → waits ≡ frames ++ f ∷ [] → AreNewFrames m ctx.graph frames → IsNewFrame m ctx.graph f → AreNewFrames m new.state.ctx.now.graph waits
+    pushed_new m le frames waits f pushed others mine = subst (AreNewFrames m new.state.ctx.now.graph) (sym pushed)
+        (new_ends m new.state.ctx.now.graph frames f (frames_new m ctx new.state.ctx.now carries.lasts le frames others) (frame_new m ctx new.state.ctx.now carries.lasts le f mine))
+
+    comes_from : (base : Base) (u l : ℕ) (ls levels : List (Level T A)) (f : Frame) (frames : List Frame) (next : Option Frame) (waits : List Frame) → ls ≡ levels
+        → (IsHere base u l levels before text ctx (Some f) frames → Comes base u l levels names new next waits)
+        → IsHere base u l ls before text ctx (Some f) frames → Comes base u l ls names new next waits
+    comes_from base u l ls levels f frames next waits is comes here =
+        subst (λ z. Comes base u l z names new next waits) (sym is) (comes (subst (λ z. IsHere base u l z before text ctx (Some f) frames) is here))
+
+    operation_proceeds : (b : BegunOperation) (frames : List Frame) (next : Option Frame) (waits : List Frame)
+        → ((base : Base) (u l : ℕ) (o : OpenOperation T A) (own : OwnSoFar T A) (more : List (Level T A)) → IsHere base u l (at_operation b o own ∷ more) before text ctx (Some (framed.Operation b)) frames
+        → Comes base u l (at_operation b o own ∷ more) names new next waits)
+        → ((m : ℕ) → m ≤ ctx.graph.made → AreAllNew m ctx.graph (Some (framed.Operation b)) frames → AreAllNew m new.state.ctx.now.graph next waits)
+        → AreHere T A text ctx before (Some (framed.Operation b)) frames → Proceeds types_at attr (framed.Operation b) frames before old names new next waits
+    operation_proceeds b frames next waits comes = proceeds_by (framed.Operation b) frames next waits
+        (λ base u l ls here.
+            let q = operation_first b ls here.next_is in
+            comes_from base u l ls (at_operation b q.0 q.1 ∷ q.2) (framed.Operation b) frames next waits q.3 (comes base u l q.0 q.1 q.2) here)
+
+    within_region : (r : BegunRegion) (frames : List Frame) (next : Option Frame) (waits : List Frame)
+        → ((base : Base) (u l : ℕ) (iso : Bool) (place : ℕ) (last : Option (Ptr BasicBlock)) (more : List (Level T A)) → IsHere base u l (at_region r iso place last ∷ more) before text ctx (Some (framed.Region r)) frames
+        → Comes base u l (at_region r iso place last ∷ more) names new next waits)
+        → ((m : ℕ) → m ≤ ctx.graph.made → AreAllNew m ctx.graph (Some (framed.Region r)) frames → AreAllNew m new.state.ctx.now.graph next waits)
+        → AreHere T A text ctx before (Some (framed.Region r)) frames → Proceeds types_at attr (framed.Region r) frames before old names new next waits
+    within_region r frames next waits comes = proceeds_by (framed.Region r) frames next waits
+        (λ base u l ls here.
+            let q = region_first r ls here.next_is in
+            comes_from base u l ls (at_region r q.0 q.1 q.2 ∷ q.3) (framed.Region r) frames next waits q.4 (comes base u l q.0 q.1 q.2 q.3) here)
+
+    within_block : (kb : BegunBlock) (frames : List Frame) (next : Option Frame) (waits : List Frame)
+        → ((base : Base) (u l : ℕ) (r : BegunRegion) (iso : Bool) (place : ℕ) (last : Option (Ptr BasicBlock)) (more : List (Level T A)) → IsHere base u l (at_block kb ∷ at_region r iso place last ∷ more) before text ctx (Some (framed.Block kb)) frames
+        → Comes base u l (at_block kb ∷ at_region r iso place last ∷ more) names new next waits)
+        → ((m : ℕ) → m ≤ ctx.graph.made → AreAllNew m ctx.graph (Some (framed.Block kb)) frames → AreAllNew m new.state.ctx.now.graph next waits)
+        → AreHere T A text ctx before (Some (framed.Block kb)) frames → Proceeds types_at attr (framed.Block kb) frames before old names new next waits
+    within_block kb frames next waits comes = proceeds_by (framed.Block kb) frames next waits
+        (λ base u l ls here.
+            let q = block_first base ctx.dialects u kb ls here.next_is here.nest in
+            comes_from base u l ls (at_block kb ∷ at_region q.0 q.1 q.2 q.3 ∷ q.4) (framed.Block kb) frames next waits q.5 (comes base u l q.0 q.1 q.2 q.3 q.4) here)
+
   -- ---- a piece
   module _ (b next : BegunOperation) (frames : List Frame) (names : Names) (new : StateStream T A U) (c : Continues types_at attr before old b next names new) (is : IsNext ctx.dialects b comes.Piece) where
     piece_arrives : (base : Base) (v l : ℕ) (o : OpenOperation T A) (own : OwnSoFar T A) (more : List (Level T A)) → IsHere base v l (at_operation b o own ∷ more) before text ctx (Some (framed.Operation b)) frames
-        → (a : Arrives types_at attr base v l (at_operation b o own ∷ more) before old names new (Some (framed.Operation next)) frames)
-        × (work often (next_of a.later) (waiting a.later) new.stream.rest < work often (next_of (at_operation b o own ∷ more)) (waiting (at_operation b o own ∷ more)) old.stream.rest)
+        → Comes base v l (at_operation b o own ∷ more) names new (Some (framed.Operation next)) frames
     piece_arrives base v l o own more here =
         let s = piece_comes (slice_get (steps_in ctx.dialects (id_of b.id)) b.step) is in
         let ss = drop (b.step + 1) (steps_in ctx.dialects (id_of b.id)) in
@@ -190,22 +250,9 @@ module _ {T A U : Type 0} (types_at : Reader T) (reading : Reader A) (h : Splits
           step_nearer often (waiting (at_operation b o own ∷ more)) old.stream.rest new.stream.rest o s.0 ss (o.parts ++ tree.piece r.0.piece ∷ []) e (moves_fewer old.stream new.stream c.carries.moves),
         )
 
-    piece_from : (base : Base) (v l : ℕ) (ls : List (Level T A)) → IsHere base v l ls before text ctx (Some (framed.Operation b)) frames
-        → (a : Arrives types_at attr base v l ls before old names new (Some (framed.Operation next)) frames) × (work often (next_of a.later) (waiting a.later) new.stream.rest < work often (next_of ls) (waiting ls) old.stream.rest)
-    piece_from base v l ls here =
-        let q = operation_first b ls here.next_is in
-        subst (λ z. (a : Arrives types_at attr base v l z before old names new (Some (framed.Operation next)) frames) × (work often (next_of a.later) (waiting a.later) new.stream.rest < work often (next_of z) (waiting z) old.stream.rest)) (sym q.3)
-        (piece_arrives base v l q.0 q.1 q.2 (subst (λ z. IsHere base v l z before text ctx (Some (framed.Operation b)) frames) q.3 here))
-
     pub piece_proceeds : AreHere T A text ctx before (Some (framed.Operation b)) frames → Proceeds types_at attr (framed.Operation b) frames before old names new (Some (framed.Operation next)) frames
-    piece_proceeds somewhere = record {
-      carries = c.carries;
-      arrives = λ base v l ls here. (piece_from base v l ls here).0;
-      fresh = λ m le all. (subst (λ p. IsNew m new.state.ctx.now.graph (TheOperation p)) (sym c.op) (frame_new m ctx new.state.ctx.now c.carries.lasts le (framed.Operation b) all.0), frames_new m ctx new.state.ctx.now c.carries.lasts le frames all.1);
-      less =
-          let a = piece_from somewhere.base somewhere.v somewhere.l somewhere.ls somewhere.here in
-          lessens names new c.carries somewhere.base somewhere.v somewhere.l somewhere.ls (framed.Operation b) frames (Some (framed.Operation next)) frames somewhere.here a.0 a.1;
-    }
+    piece_proceeds = operation_proceeds names new c.carries b frames (Some (framed.Operation next)) frames piece_arrives
+        (λ m le all. (subst (λ p. IsNew m new.state.ctx.now.graph (TheOperation p)) (sym c.op) (frame_new m ctx new.state.ctx.now c.carries.lasts le (framed.Operation b) all.0), frames_new m ctx new.state.ctx.now c.carries.lasts le frames all.1))
 
   -- the white space before what follows is consumed
   module _ (v : StreamView) (passes : PassesTo (after_space old.stream.rest) old.stream v) where
@@ -258,8 +305,7 @@ module _ {T A U : Type 0} (types_at : Reader T) (reading : Reader A) (h : Splits
         same_op = ap (λ z. z.op) next_is
 
         region_arrives : (base : Base) (u l : ℕ) (o : OpenOperation T A) (own : OwnSoFar T A) (more : List (Level T A)) → IsHere base u l (at_operation b o own ∷ more) before text ctx (Some (framed.Operation b)) frames
-            → (a : Arrives types_at attr base u l (at_operation b o own ∷ more) before old names new (Some (framed.Region r)) waits)
-            × (work often (next_of a.later) (waiting a.later) new.stream.rest < work often (next_of (at_operation b o own ∷ more)) (waiting (at_operation b o own ∷ more)) old.stream.rest)
+            → Comes base u l (at_operation b o own ∷ more) names new (Some (framed.Region r)) waits
         region_arrives base u l o own more here =
             let s = region_comes (slice_get (steps_in ctx.dialects (id_of b.id)) b.step) is in
             let ss = drop (b.step + 1) (steps_in ctx.dialects (id_of b.id)) in
@@ -274,32 +320,14 @@ module _ {T A U : Type 0} (types_at : Reader T) (reading : Reader A) (h : Splits
               region_nearer often (waiting (at_operation b o own ∷ more)) old.stream.rest new.stream.rest o (one s.0) ss ps (isolated ctx.dialects o.id) (length v.rest) e more_often (fewer base u l o own more here),
             )
 
-        region_from : (base : Base) (u l : ℕ) (ls : List (Level T A)) → IsHere base u l ls before text ctx (Some (framed.Operation b)) frames
-            → (a : Arrives types_at attr base u l ls before old names new (Some (framed.Region r)) waits) × (work often (next_of a.later) (waiting a.later) new.stream.rest < work often (next_of ls) (waiting ls) old.stream.rest)
-        region_from base u l ls here =
-            let q = operation_first b ls here.next_is in
-            subst (λ z. (a : Arrives types_at attr base u l z before old names new (Some (framed.Region r)) waits) × (work often (next_of a.later) (waiting a.later) new.stream.rest < work often (next_of z) (waiting z) old.stream.rest)) (sym q.3)
-            (region_arrives base u l q.0 q.1 q.2 (subst (λ z. IsHere base u l z before text ctx (Some (framed.Operation b)) frames) q.3 here))
-
         pub region_proceeds : AreHere T A text ctx before (Some (framed.Operation b)) frames → Proceeds types_at attr (framed.Operation b) frames before old names new (Some (framed.Region r)) waits
-        region_proceeds somewhere = record {
-          carries = enters_carries;
-          arrives = λ base u l ls here. (region_from base u l ls here).0;
-          fresh = λ m le all. (
-            en.fresh m le,
-            subst (AreNewFrames m new.state.ctx.now.graph) (sym pushed) (new_ends m new.state.ctx.now.graph frames (framed.Operation next) (frames_new m ctx new.state.ctx.now enters_carries.lasts le frames all.1)
-                (subst (λ p. IsNew m new.state.ctx.now.graph (TheOperation p)) (sym same_op) (frame_new m ctx new.state.ctx.now enters_carries.lasts le (framed.Operation b) all.0))),
-          );
-          less =
-              let a = region_from somewhere.base somewhere.v somewhere.l somewhere.ls somewhere.here in
-              lessens names new enters_carries somewhere.base somewhere.v somewhere.l somewhere.ls (framed.Operation b) frames (Some (framed.Region r)) waits somewhere.here a.0 a.1;
-        }
+        region_proceeds = operation_proceeds names new enters_carries b frames (Some (framed.Region r)) waits region_arrives
+            (λ m le all. (en.fresh m le, pushed_new names new enters_carries m le frames waits (framed.Operation next) pushed all.1 (subst (λ p. IsNew m ctx.graph (TheOperation p)) (sym same_op) all.0)))
 
       -- ---- one of all
       module _ (is : IsNext ctx.dialects b comes.Regions) (stands : begins_region (after_space old.stream.rest) ≡ true) (pushed : waits ≡ frames ++ framed.Operation b ∷ []) where
         another_arrives : (base : Base) (u l : ℕ) (o : OpenOperation T A) (own : OwnSoFar T A) (more : List (Level T A)) → IsHere base u l (at_operation b o own ∷ more) before text ctx (Some (framed.Operation b)) frames
-            → (a : Arrives types_at attr base u l (at_operation b o own ∷ more) before old names new (Some (framed.Region r)) waits)
-            × (work often (next_of a.later) (waiting a.later) new.stream.rest < work often (next_of (at_operation b o own ∷ more)) (waiting (at_operation b o own ∷ more)) old.stream.rest)
+            → Comes base u l (at_operation b o own ∷ more) names new (Some (framed.Region r)) waits
         another_arrives base u l o own more here =
             let e = steps_here before.names text ctx b o here.levels.0.0 all (regions_come (slice_get (steps_in ctx.dialects (id_of b.id)) b.step) is) in (
               record {
@@ -310,26 +338,9 @@ module _ {T A U : Type 0} (types_at : Reader T) (reading : Reader A) (h : Splits
               another_nearer often (waiting (at_operation b o own ∷ more)) old.stream.rest new.stream.rest o (isolated ctx.dialects o.id) (length v.rest) more_often (fewer base u l o own more here),
             )
 
-        another_from : (base : Base) (u l : ℕ) (ls : List (Level T A)) → IsHere base u l ls before text ctx (Some (framed.Operation b)) frames
-            → (a : Arrives types_at attr base u l ls before old names new (Some (framed.Region r)) waits) × (work often (next_of a.later) (waiting a.later) new.stream.rest < work often (next_of ls) (waiting ls) old.stream.rest)
-        another_from base u l ls here =
-            let q = operation_first b ls here.next_is in
-            subst (λ z. (a : Arrives types_at attr base u l z before old names new (Some (framed.Region r)) waits) × (work often (next_of a.later) (waiting a.later) new.stream.rest < work often (next_of z) (waiting z) old.stream.rest)) (sym q.3)
-            (another_arrives base u l q.0 q.1 q.2 (subst (λ z. IsHere base u l z before text ctx (Some (framed.Operation b)) frames) q.3 here))
-
         pub another_proceeds : AreHere T A text ctx before (Some (framed.Operation b)) frames → Proceeds types_at attr (framed.Operation b) frames before old names new (Some (framed.Region r)) waits
-        another_proceeds somewhere = record {
-          carries = enters_carries;
-          arrives = λ base u l ls here. (another_from base u l ls here).0;
-          fresh = λ m le all. (
-            en.fresh m le,
-            subst (AreNewFrames m new.state.ctx.now.graph) (sym pushed) (new_ends m new.state.ctx.now.graph frames (framed.Operation b) (frames_new m ctx new.state.ctx.now enters_carries.lasts le frames all.1)
-                (frame_new m ctx new.state.ctx.now enters_carries.lasts le (framed.Operation b) all.0)),
-          );
-          less =
-              let a = another_from somewhere.base somewhere.v somewhere.l somewhere.ls somewhere.here in
-              lessens names new enters_carries somewhere.base somewhere.v somewhere.l somewhere.ls (framed.Operation b) frames (Some (framed.Region r)) waits somewhere.here a.0 a.1;
-        }
+        another_proceeds = operation_proceeds names new enters_carries b frames (Some (framed.Region r)) waits another_arrives
+            (λ m le all. (en.fresh m le, pushed_new names new enters_carries m le frames waits (framed.Operation b) pushed all.1 all.0))
 
     -- ---- no more regions
     module _ (b next : BegunOperation) (frames : List Frame) (is : IsNext ctx.dialects b comes.Regions) (none : begins_region (after_space old.stream.rest) ≡ false) (next_is : next ≡ record b { coming = None; step = b.step + 1 }) where
@@ -337,8 +348,7 @@ module _ {T A U : Type 0} (types_at : Reader T) (reading : Reader A) (h : Splits
       over_carries = carries_pass before old v passes.moves
 
       over_arrives : (base : Base) (u l : ℕ) (o : OpenOperation T A) (own : OwnSoFar T A) (more : List (Level T A)) → IsHere base u l (at_operation b o own ∷ more) before text ctx (Some (framed.Operation b)) frames
-          → (a : Arrives types_at attr base u l (at_operation b o own ∷ more) before old before (with_stream old v) (Some (framed.Operation next)) frames)
-          × (work often (next_of a.later) (waiting a.later) v.rest < work often (next_of (at_operation b o own ∷ more)) (waiting (at_operation b o own ∷ more)) old.stream.rest)
+          → Comes base u l (at_operation b o own ∷ more) before (with_stream old v) (Some (framed.Operation next)) frames
       over_arrives base u l o own more here =
           let e = steps_here before.names text ctx b o here.levels.0.0 all (regions_come (slice_get (steps_in ctx.dialects (id_of b.id)) b.step) is) in
           let ss = drop (b.step + 1) (steps_in ctx.dialects (id_of b.id)) in (
@@ -357,22 +367,9 @@ module _ {T A U : Type 0} (types_at : Reader T) (reading : Reader A) (h : Splits
             step_nearer often (waiting (at_operation b o own ∷ more)) old.stream.rest v.rest o all ss (o.parts ++ tree.regions ∷ []) e (moves_fewer old.stream v passes.moves),
           )
 
-      over_from : (base : Base) (u l : ℕ) (ls : List (Level T A)) → IsHere base u l ls before text ctx (Some (framed.Operation b)) frames
-          → (a : Arrives types_at attr base u l ls before old before (with_stream old v) (Some (framed.Operation next)) frames) × (work often (next_of a.later) (waiting a.later) v.rest < work often (next_of ls) (waiting ls) old.stream.rest)
-      over_from base u l ls here =
-          let q = operation_first b ls here.next_is in
-          subst (λ z. (a : Arrives types_at attr base u l z before old before (with_stream old v) (Some (framed.Operation next)) frames) × (work often (next_of a.later) (waiting a.later) v.rest < work often (next_of z) (waiting z) old.stream.rest)) (sym q.3)
-          (over_arrives base u l q.0 q.1 q.2 (subst (λ z. IsHere base u l z before text ctx (Some (framed.Operation b)) frames) q.3 here))
-
       pub over_proceeds : AreHere T A text ctx before (Some (framed.Operation b)) frames → Proceeds types_at attr (framed.Operation b) frames before old before (with_stream old v) (Some (framed.Operation next)) frames
-      over_proceeds somewhere = record {
-        carries = over_carries;
-        arrives = λ base u l ls here. (over_from base u l ls here).0;
-        fresh = λ m le all. (subst (λ p. IsNew m ctx.graph (TheOperation p)) (sym (ap (λ z. z.op) next_is)) all.0, all.1);
-        less =
-            let a = over_from somewhere.base somewhere.v somewhere.l somewhere.ls somewhere.here in
-            lessens before (with_stream old v) over_carries somewhere.base somewhere.v somewhere.l somewhere.ls (framed.Operation b) frames (Some (framed.Operation next)) frames somewhere.here a.0 a.1;
-      }
+      over_proceeds = operation_proceeds before (with_stream old v) over_carries b frames (Some (framed.Operation next)) frames over_arrives
+          (λ m le all. (subst (λ p. IsNew m ctx.graph (TheOperation p)) (sym (ap (λ z. z.op) next_is)) all.0, all.1))
 
     -- ---- a block begins
     module _ (r : BegunRegion) (frames waits : List Frame) (kb : BegunBlock) (names : Names) (new : StateStream T A U) (hd : Heads types_at attr before (with_stream old v) r.region kb names new)
@@ -381,8 +378,7 @@ module _ {T A U : Type 0} (types_at : Reader T) (reading : Reader A) (h : Splits
       heads_carries = carries_passed v passes.moves hd.carries
 
       block_arrives : (base : Base) (u l : ℕ) (iso : Bool) (place : ℕ) (last : Option (Ptr BasicBlock)) (more : List (Level T A)) → IsHere base u l (at_region r iso place last ∷ more) before text ctx (Some (framed.Region r)) frames
-          → (a : Arrives types_at attr base u l (at_region r iso place last ∷ more) before old names new (Some (framed.Block kb)) waits)
-          × (work often (next_of a.later) (waiting a.later) new.stream.rest < work often (next_of (at_region r iso place last ∷ more)) (waiting (at_region r iso place last ∷ more)) old.stream.rest)
+          → Comes base u l (at_region r iso place last ∷ more) names new (Some (framed.Block kb)) waits
       block_arrives base u l iso place last more here = (
         record {
           later = at_block kb ∷ at_region r iso place (Some kb.block) ∷ more;
@@ -417,26 +413,9 @@ module _ {T A U : Type 0} (types_at : Reader T) (reading : Reader A) (h : Splits
               → Nest base new.state.ctx.now.dialects u (at_region r iso place (Some kb.block) ∷ more)
           nest_over iso place last more base u names new carries n = subst (λ d. Nest base d u (at_region r iso place (Some kb.block) ∷ more)) (sym (same_dialects names new carries)) (nest_last base ctx.dialects u r iso place last (Some kb.block) more n)
 
-      block_from : (base : Base) (u l : ℕ) (ls : List (Level T A)) → IsHere base u l ls before text ctx (Some (framed.Region r)) frames
-          → (a : Arrives types_at attr base u l ls before old names new (Some (framed.Block kb)) waits) × (work often (next_of a.later) (waiting a.later) new.stream.rest < work often (next_of ls) (waiting ls) old.stream.rest)
-      block_from base u l ls here =
-          let q = region_first r ls here.next_is in
-          subst (λ z. (a : Arrives types_at attr base u l z before old names new (Some (framed.Block kb)) waits) × (work often (next_of a.later) (waiting a.later) new.stream.rest < work often (next_of z) (waiting z) old.stream.rest)) (sym q.4)
-          (block_arrives base u l q.0 q.1 q.2 q.3 (subst (λ z. IsHere base u l z before text ctx (Some (framed.Region r)) frames) q.4 here))
-
       pub block_proceeds : AreHere T A text ctx before (Some (framed.Region r)) frames → Proceeds types_at attr (framed.Region r) frames before old names new (Some (framed.Block kb)) waits
-      block_proceeds somewhere = record {
-        carries = heads_carries;
-        arrives = λ base u l ls here. (block_from base u l ls here).0;
-        fresh = λ m le all. (
-          hd.fresh m le,
-          subst (AreNewFrames m new.state.ctx.now.graph) (sym pushed) (new_ends m new.state.ctx.now.graph frames (framed.Region r) (frames_new m ctx new.state.ctx.now heads_carries.lasts le frames all.1)
-              (frame_new m ctx new.state.ctx.now heads_carries.lasts le (framed.Region r) all.0)),
-        );
-        less =
-            let a = block_from somewhere.base somewhere.v somewhere.l somewhere.ls somewhere.here in
-            lessens names new heads_carries somewhere.base somewhere.v somewhere.l somewhere.ls (framed.Region r) frames (Some (framed.Block kb)) waits somewhere.here a.0 a.1;
-      }
+      block_proceeds = within_region names new heads_carries r frames (Some (framed.Block kb)) waits block_arrives
+          (λ m le all. (hd.fresh m le, pushed_new names new heads_carries m le frames waits (framed.Region r) pushed all.1 all.0))
 
     -- ---- a region ends
     module _ (r : BegunRegion) (frames waits : List Frame) (next : Option Frame) (names : Names) (new : StateStream T A U) (lv : Leaves types_at attr before (with_stream old v) r names new)
@@ -467,8 +446,7 @@ module _ {T A U : Type 0} (types_at : Reader T) (reading : Reader A) (h : Splits
         left_nearer more = end_nearer often (outward (map open_of more)) old.stream.rest new.stream.rest (a_region iso place) (next_of more) (waiting more) (theory_pops more) (moves_fewer old.stream new.stream leaves_carries.moves)
 
         left_arrives : (more : List (Level T A)) → IsHere base u l (at_region r iso place last ∷ more) before text ctx (Some (framed.Region r)) frames
-            → (a : Arrives types_at attr base u l (at_region r iso place last ∷ more) before old names new next waits)
-            × (work often (next_of a.later) (waiting a.later) new.stream.rest < work often (next_of (at_region r iso place last ∷ more)) (waiting (at_region r iso place last ∷ more)) old.stream.rest)
+            → Comes base u l (at_region r iso place last ∷ more) names new next waits
         left_arrives [] here = (
           record {
             later = [];
@@ -488,22 +466,9 @@ module _ {T A U : Type 0} (types_at : Reader T) (reading : Reader A) (h : Splits
         left_arrives (at_region s i p q ∷ outside) here = absurd here.nest.0
         left_arrives (at_block kb ∷ outside) here = absurd here.nest.0
 
-      left_from : (base : Base) (u l : ℕ) (ls : List (Level T A)) → IsHere base u l ls before text ctx (Some (framed.Region r)) frames
-          → (a : Arrives types_at attr base u l ls before old names new next waits) × (work often (next_of a.later) (waiting a.later) new.stream.rest < work often (next_of ls) (waiting ls) old.stream.rest)
-      left_from base u l ls here =
-          let q = region_first r ls here.next_is in
-          subst (λ z. (a : Arrives types_at attr base u l z before old names new next waits) × (work often (next_of a.later) (waiting a.later) new.stream.rest < work often (next_of z) (waiting z) old.stream.rest)) (sym q.4)
-          (left_arrives base u l q.0 q.1 q.2 q.3 (subst (λ z. IsHere base u l z before text ctx (Some (framed.Region r)) frames) q.4 here))
-
       pub left_proceeds : AreHere T A text ctx before (Some (framed.Region r)) frames → Proceeds types_at attr (framed.Region r) frames before old names new next waits
-      left_proceeds somewhere = record {
-        carries = leaves_carries;
-        arrives = λ base u l ls here. (left_from base u l ls here).0;
-        fresh = λ m le all. new_taken m new.state.ctx.now.graph frames waits next takes (frames_new m ctx new.state.ctx.now leaves_carries.lasts le frames all.1);
-        less =
-            let a = left_from somewhere.base somewhere.v somewhere.l somewhere.ls somewhere.here in
-            lessens names new leaves_carries somewhere.base somewhere.v somewhere.l somewhere.ls (framed.Region r) frames next waits somewhere.here a.0 a.1;
-      }
+      left_proceeds = within_region names new leaves_carries r frames next waits left_arrives
+          (λ m le all. new_taken m new.state.ctx.now.graph frames waits next takes (frames_new m ctx new.state.ctx.now leaves_carries.lasts le frames all.1))
 
   -- ---- an operation ends
   module _ (b : BegunOperation) (frames waits : List Frame) (next : Option Frame) (names : Names) (new : StateStream T A U) (en : Ends types_at attr before old b names new) (is : IsNext ctx.dialects b comes.End) (takes : TakesLast frames next waits) where
@@ -523,8 +488,7 @@ module _ {T A U : Type 0} (types_at : Reader T) (reading : Reader A) (h : Splits
     ended_nearer o more = end_nearer often (outward (map open_of more)) old.stream.rest new.stream.rest (an_operation o) (next_of more) (waiting more) (theory_pops more) (moves_fewer old.stream new.stream en.carries.moves)
 
     ended_arrives : (base : Base) (u l : ℕ) (o : OpenOperation T A) (own : OwnSoFar T A) (more : List (Level T A)) → IsHere base u l (at_operation b o own ∷ more) before text ctx (Some (framed.Operation b)) frames
-        → (a : Arrives types_at attr base u l (at_operation b o own ∷ more) before old names new next waits)
-        × (work often (next_of a.later) (waiting a.later) new.stream.rest < work often (next_of (at_operation b o own ∷ more)) (waiting (at_operation b o own ∷ more)) old.stream.rest)
+        → Comes base u l (at_operation b o own ∷ more) names new next waits
     ended_arrives base u l o own [] here =
         let e = no_steps_here before.names text ctx b o here.levels.0.0 (end_comes (slice_get (steps_in ctx.dialects (id_of b.id)) b.step) is) in
         let x = en.ends o here.levels.0.0 in (
@@ -552,22 +516,9 @@ module _ {T A U : Type 0} (types_at : Reader T) (reading : Reader A) (h : Splits
           ended_nearer o more,
         )
 
-    ended_from : (base : Base) (u l : ℕ) (ls : List (Level T A)) → IsHere base u l ls before text ctx (Some (framed.Operation b)) frames
-        → (a : Arrives types_at attr base u l ls before old names new next waits) × (work often (next_of a.later) (waiting a.later) new.stream.rest < work often (next_of ls) (waiting ls) old.stream.rest)
-    ended_from base u l ls here =
-        let q = operation_first b ls here.next_is in
-        subst (λ z. (a : Arrives types_at attr base u l z before old names new next waits) × (work often (next_of a.later) (waiting a.later) new.stream.rest < work often (next_of z) (waiting z) old.stream.rest)) (sym q.3)
-        (ended_arrives base u l q.0 q.1 q.2 (subst (λ z. IsHere base u l z before text ctx (Some (framed.Operation b)) frames) q.3 here))
-
     pub ended_proceeds : AreHere T A text ctx before (Some (framed.Operation b)) frames → Proceeds types_at attr (framed.Operation b) frames before old names new next waits
-    ended_proceeds somewhere = record {
-      carries = en.carries;
-      arrives = λ base u l ls here. (ended_from base u l ls here).0;
-      fresh = λ m le all. new_taken m new.state.ctx.now.graph frames waits next takes (frames_new m ctx new.state.ctx.now en.carries.lasts le frames all.1);
-      less =
-          let a = ended_from somewhere.base somewhere.v somewhere.l somewhere.ls somewhere.here in
-          lessens names new en.carries somewhere.base somewhere.v somewhere.l somewhere.ls (framed.Operation b) frames next waits somewhere.here a.0 a.1;
-    }
+    ended_proceeds = operation_proceeds names new en.carries b frames next waits ended_arrives
+        (λ m le all. new_taken m new.state.ctx.now.graph frames waits next takes (frames_new m ctx new.state.ctx.now en.carries.lasts le frames all.1))
 
   -- ---- a block
   module _ (kb : BegunBlock) (frames waits : List Frame) (v : StreamView) (passes : PassesTo (text_there kb.first old.stream.rest) old.stream v) where
@@ -580,8 +531,7 @@ module _ {T A U : Type 0} (types_at : Reader T) (reading : Reader A) (h : Splits
       gone_carries = carries_pass before old v passes.moves
 
       gone_arrives : (base : Base) (u l : ℕ) (r : BegunRegion) (iso : Bool) (place : ℕ) (last : Option (Ptr BasicBlock)) (more : List (Level T A)) → BlockIsHere base u l r iso place last more
-          → (a : Arrives types_at attr base u l (at_block kb ∷ at_region r iso place last ∷ more) before old before (with_stream old v) next waits)
-          × (work often (next_of a.later) (waiting a.later) v.rest < work often (Some (a_block kb.first)) (outward (map open_of (at_region r iso place last ∷ more))) old.stream.rest)
+          → Comes base u l (at_block kb ∷ at_region r iso place last ∷ more) before (with_stream old v) next waits
       gone_arrives base u l r iso place last more here =
           let inner = at_region r iso place last ∷ more in
           let t = taken_last inner frames waits next here.others takes in (
@@ -593,22 +543,9 @@ module _ {T A U : Type 0} (types_at : Reader T) (reading : Reader A) (h : Splits
             end_nearer often (outward (map open_of inner)) old.stream.rest v.rest (a_block kb.first) (next_of inner) (waiting inner) (theory_pops inner) (moves_fewer old.stream v passes.moves),
           )
 
-      gone_from : (base : Base) (u l : ℕ) (ls : List (Level T A)) → IsHere base u l ls before text ctx (Some (framed.Block kb)) frames
-          → (a : Arrives types_at attr base u l ls before old before (with_stream old v) next waits) × (work often (next_of a.later) (waiting a.later) v.rest < work often (next_of ls) (waiting ls) old.stream.rest)
-      gone_from base u l ls here =
-          let q = block_first base ctx.dialects u kb ls here.next_is here.nest in
-          subst (λ z. (a : Arrives types_at attr base u l z before old before (with_stream old v) next waits) × (work often (next_of a.later) (waiting a.later) v.rest < work often (next_of z) (waiting z) old.stream.rest)) (sym q.5)
-          (gone_arrives base u l q.0 q.1 q.2 q.3 q.4 (subst (λ z. IsHere base u l z before text ctx (Some (framed.Block kb)) frames) q.5 here))
-
       pub gone_proceeds : AreHere T A text ctx before (Some (framed.Block kb)) frames → Proceeds types_at attr (framed.Block kb) frames before old before (with_stream old v) next waits
-      gone_proceeds somewhere = record {
-        carries = gone_carries;
-        arrives = λ base u l ls here. (gone_from base u l ls here).0;
-        fresh = λ m le all. new_taken m ctx.graph frames waits next takes all.1;
-        less =
-            let a = gone_from somewhere.base somewhere.v somewhere.l somewhere.ls somewhere.here in
-            lessens before (with_stream old v) gone_carries somewhere.base somewhere.v somewhere.l somewhere.ls (framed.Block kb) frames next waits somewhere.here a.0 a.1;
-      }
+      gone_proceeds = within_block before (with_stream old v) gone_carries kb frames next waits gone_arrives
+          (λ m le all. new_taken m ctx.graph frames waits next takes all.1)
 
     -- an operation begins in it
     module _ (b : BegunOperation) (names : Names) (new : StateStream T A U) (bg : Begins types_at attr before (with_stream old v) (Some kb.block) b names new) (stands : one_stands kb.first old.stream.rest ≡ true)
@@ -644,8 +581,7 @@ module _ {T A U : Type 0} (types_at : Reader T) (reading : Reader A) (h : Splits
           comes false one_is at = other_nearer often fs old.stream.rest v.rest more_often (semicolon_fewer old.stream.rest v.rest one_is at)
 
       begins_arrives : (base : Base) (u l : ℕ) (r : BegunRegion) (iso : Bool) (place : ℕ) (last : Option (Ptr BasicBlock)) (more : List (Level T A)) → BlockIsHere base u l r iso place last more
-          → (a : Arrives types_at attr base u l (at_block kb ∷ at_region r iso place last ∷ more) before old names new (Some (framed.Operation b)) waits)
-          × (work often (next_of a.later) (waiting a.later) new.stream.rest < work often (Some (a_block kb.first)) (outward (map open_of (at_region r iso place last ∷ more))) old.stream.rest)
+          → Comes base u l (at_block kb ∷ at_region r iso place last ∷ more) names new (Some (framed.Operation b)) waits
       begins_arrives base u l r iso place last more here =
           let inner = at_region r iso place last ∷ more in
           let block = level_lasts before.names names.names text ctx new.state.ctx.now begins_carries.keeps begins_carries.lasts (at_block kb) here.levels.0 in (
@@ -667,23 +603,6 @@ module _ {T A U : Type 0} (types_at : Reader T) (reading : Reader A) (h : Splits
             begins_nearer kb.first (outward (map open_of inner)) stands passes.rest,
           )
 
-      begins_from : (base : Base) (u l : ℕ) (ls : List (Level T A)) → IsHere base u l ls before text ctx (Some (framed.Block kb)) frames
-          → (a : Arrives types_at attr base u l ls before old names new (Some (framed.Operation b)) waits) × (work often (next_of a.later) (waiting a.later) new.stream.rest < work often (next_of ls) (waiting ls) old.stream.rest)
-      begins_from base u l ls here =
-          let q = block_first base ctx.dialects u kb ls here.next_is here.nest in
-          subst (λ z. (a : Arrives types_at attr base u l z before old names new (Some (framed.Operation b)) waits) × (work often (next_of a.later) (waiting a.later) new.stream.rest < work often (next_of z) (waiting z) old.stream.rest)) (sym q.5)
-          (begins_arrives base u l q.0 q.1 q.2 q.3 q.4 (subst (λ z. IsHere base u l z before text ctx (Some (framed.Block kb)) frames) q.5 here))
-
       pub begins_proceeds : AreHere T A text ctx before (Some (framed.Block kb)) frames → Proceeds types_at attr (framed.Block kb) frames before old names new (Some (framed.Operation b)) waits
-      begins_proceeds somewhere = record {
-        carries = begins_carries;
-        arrives = λ base u l ls here. (begins_from base u l ls here).0;
-        fresh = λ m le all. (
-          bg.fresh m le,
-          subst (AreNewFrames m new.state.ctx.now.graph) (sym pushed) (new_ends m new.state.ctx.now.graph frames (framed.Block (record { block = kb.block; first = false })) (frames_new m ctx new.state.ctx.now begins_carries.lasts le frames all.1)
-              (frame_new m ctx new.state.ctx.now begins_carries.lasts le (framed.Block kb) all.0)),
-        );
-        less =
-            let a = begins_from somewhere.base somewhere.v somewhere.l somewhere.ls somewhere.here in
-            lessens names new begins_carries somewhere.base somewhere.v somewhere.l somewhere.ls (framed.Block kb) frames (Some (framed.Operation b)) waits somewhere.here a.0 a.1;
-      }
+      begins_proceeds = within_block names new begins_carries kb frames (Some (framed.Operation b)) waits begins_arrives
+          (λ m le all. (bg.fresh m le, pushed_new names new begins_carries m le frames waits (framed.Block (record { block = kb.block; first = false })) pushed all.1 all.0))

@@ -3,7 +3,7 @@
 use Rattle.std.proofs.Common.{◌≡◌, ◌∙◌, ℕ, Bool, true, false, cond, List, [], ◌∷◌, length, Option, Some, None, IsSome, option_map, codes, ◌++◌, refl, sym, ap, subst, inl, inr}
 use Rattle.irtext_base.specs.Text.{Text}
 use Rattle.irtext_base.specs.Format.{Id}
-use Rattle.irtext_base.specs.Faults.{Fault, Failed, NotIsolated, fault_of, id_of}
+use Rattle.irtext_base.specs.Faults.{Fault, NotIsolated, fault_of, id_of}
 use Rattle.irtext_base.specs.Own.{Sincere, Texts, is_first_fault, texts_of}
 use Rattle.irtext_base.specs.declared.base.identifier.OpId.{OpId}
 use Rattle.irtext_base.specs.Answers.{Outcome}
@@ -29,8 +29,7 @@ use Rattle.irtext_grammar.specs.Grammar.Tree.{Op, Head, Brace, shown}
 use Rattle.irtext_grammar.specs.Names.History as history
 use Rattle.irtext_grammar.specs.Names.History.{going, failed, start, run, events}
 use Rattle.irtext_grammar.specs.Names.Scopes.{no_scope}
-use Rattle.irtext_grammar.specs.Names.Script as script
-use Rattle.irtext_grammar.specs.Names.Script.{Cause, Failure, Path}
+use Rattle.irtext_grammar.specs.Names.Script.{Failure, Path}
 use Rattle.irtext_grammar.specs.Names.TextScopes.{failures}
 use Rattle.irtext_parse_spec.specs.Promises.Root.{IsFresh, UnlessMemory}
 use Rattle.irtext_parse_spec.specs.Promises.Section.{indices_of}
@@ -45,43 +44,20 @@ use Rattle.irtext_parse_spec.proofs.Naming.Shorter.{Shortens}
 use Rattle.irtext_names.proofs.Linked.Passes.{ran_into}
 use Rattle.irtext_promises.specs.Alone as alone
 use Rattle.irtext_promises.specs.Alone.{region_alone, RefusesRegion, first}
-use Rattle.irtext_promises.specs.Promises.{IsCause, IsOf, IsFirst}
-use Rattle.irtext_parse_nested.specs.Items.{Names, StandsAs, IsNameCause, doing}
+use Rattle.irtext_promises.specs.Promises.{IsOf, IsFirst}
+use Rattle.irtext_parse_nested.specs.Items.{Names, StandsAs, doing}
 use Rattle.irtext_parse_root.specs.AnyRegion as region
 use Rattle.irtext_parse_root.specs.AnyRegion.{ReadsRegion, HasRegionFault, MissesRegion}
 use Rattle.irtext_parse_root.specs.AnyState.{start_with}
 use Rattle.irtext_parse_root.specs.Under as under
 use Rattle.irtext_parse_root.specs.Under.{IsolatedAs, ReadsUnder, FaultUnder, RefusesUnder}
 use Rattle.irtext_parse_root.specs.Region.{unisolated, IsReportedAt}
+use Rattle.irtext_parse_root.proofs.Causes.{same_cause, no_failure}
 use Rattle.irtext_parse_root.proofs.Failing.{region_never_failed}
-use Rattle.irtext_parse_root.proofs.Fresh.{fresh_stands}
-use Rattle.irtext_parse_root.proofs.Refused.{SaysText, begun_stands}
+use Rattle.irtext_parse_root.proofs.Fresh.{fresh_stands, begun_stands}
+use Rattle.irtext_parse_root.proofs.Refused.{SaysText}
 use Rattle.irtext_parse_root.proofs.RegionPlaces.{paths_exist}
 use Rattle.irtext_parse_root.proofs.RegionRuns.{region_runs}
-
--- ---- causes
--- a failure of names has one cause, and it is not that the stream had failed
-same_cause : (c : Cause Text) (cause : Fault) → IsNameCause c cause → IsCause c cause
-same_cause (script.ResultCount types names) cause h = h
-same_cause (script.NoActiveScope n) cause h = h
-same_cause (script.UnresolvedReference n) cause h = h
-same_cause (script.MultipleDefinitions n) cause h = h
-same_cause script.NotIsolated cause h = h
-same_cause (script.DuplicateIndex i) cause h = h
-same_cause (script.UnknownIndex i) cause h = h
-same_cause (script.UnknownPrintOnce i) cause h = h
-same_cause (script.ReservedKey k) cause h = h
-
-no_failure : (c : Cause Text) (cause : Fault) → IsNameCause c cause → cause ≡ Failed → ⊥
-no_failure (script.ResultCount types names) cause h e = cc (h, e)
-no_failure (script.NoActiveScope n) cause h e = cc (h, e)
-no_failure (script.UnresolvedReference n) cause h e = cc (h, e)
-no_failure (script.MultipleDefinitions n) cause h e = cc (h, e)
-no_failure script.NotIsolated cause h e = cc (h, e)
-no_failure (script.DuplicateIndex i) cause h e = cc (h, e)
-no_failure (script.UnknownIndex i) cause h e = cc (h, e)
-no_failure (script.UnknownPrintOnce i) cause h e = cc (h, e)
-no_failure (script.ReservedKey k) cause h e = cc (h, e)
 
 -- ---- the operation
 -- if no location is reported for it, a live operation is isolated

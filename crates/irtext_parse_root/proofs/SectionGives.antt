@@ -10,6 +10,7 @@ use Rattle.irtext_base.specs.Paths.{Written}
 use Rattle.irtext_base.specs.declared.location.Location.{Location}
 use Rattle.irtext_context.specs.Context.{ContextView}
 use Rattle.irtext_context.specs.declared.base.item.Item.TheVariants as item
+use Rattle.irtext_context.specs.declared.base.operation.OperationData.{OperationData}
 use Rattle.irtext_graph.specs.Content.{Node, OperationContent}
 use Rattle.irtext_graph.specs.Data.{EditsOperation, with_data}
 use Rattle.irtext_graph.specs.Graph.{GraphView}
@@ -50,27 +51,14 @@ operands_in x = operands_of (option_map (λ e. e.content.content) x)
 abbrev successors_in : {O T : Type 0} → Seen O T → List (Ptr BasicBlock)
 successors_in x = successors_of (option_map (λ e. e.content.content) x)
 
--- what an operation uses stays where the data of one changed
+-- what an operation uses is unchanged where the data of one changed
 module _ {O B T : Type 0} where
-  edited_operands : (g k : GraphView O B T) (p : Ptr Operation) (change : O → O) → EditsOperation g k p change → (q : Ptr Operation) → operands k q ≡ operands g q
-  edited_operands g k p change e q = elim (ptr_or q p) [
-    | inl f ↦ ap (λ q. operands k q) f ∙ (ap operands_in e.operations.updates.changed ∙ (these (get g.operations p) ∙ ap (λ q. operands g q) (sym f)))
-    | inr n ↦ ap operands_in (e.operations.updates.others q n)
+  edited_same : {X : Type 0} (seen : Seen O T → X) → ((change : O → O) (x : Seen O T) → seen (option_map (object_of (with_data change)) x) ≡ seen x)
+      → (g k : GraphView O B T) (p : Ptr Operation) (change : O → O) → EditsOperation g k p change → (q : Ptr Operation) → seen (get k.operations q) ≡ seen (get g.operations q)
+  edited_same seen same g k p change e q = elim (ptr_or q p) [
+    | inl f ↦ ap (λ q. seen (get k.operations q)) f ∙ (ap seen e.operations.updates.changed ∙ (same change (get g.operations p) ∙ ap (λ q. seen (get g.operations q)) (sym f)))
+    | inr n ↦ ap seen (e.operations.updates.others q n)
   ]
-    where
-      these : (x : Seen O T) → operands_of (option_map (λ e. e.content.content) (option_map (object_of (with_data change)) x)) ≡ operands_of (option_map (λ e. e.content.content) x)
-      these None = refl
-      these (Some e) = refl
-
-  edited_successors : (g k : GraphView O B T) (p : Ptr Operation) (change : O → O) → EditsOperation g k p change → (q : Ptr Operation) → successors k q ≡ successors g q
-  edited_successors g k p change e q = elim (ptr_or q p) [
-    | inl f ↦ ap (λ q. successors k q) f ∙ (ap successors_in e.operations.updates.changed ∙ (those (get g.operations p) ∙ ap (λ q. successors g q) (sym f)))
-    | inr n ↦ ap successors_in (e.operations.updates.others q n)
-  ]
-    where
-      those : (x : Seen O T) → successors_of (option_map (λ e. e.content.content) (option_map (object_of (with_data change)) x)) ≡ successors_of (option_map (λ e. e.content.content) x)
-      those None = refl
-      those (Some e) = refl
 
 module _ {T A U : Type 0} (attr : Text → Outcome (AttrView A)) (old new : StateStream T A U) (r : ReadsSection attr old new) where
   abbrev c : ContextView T A
@@ -87,17 +75,19 @@ module _ {T A U : Type 0} (attr : Text → Outcome (AttrView A)) (old new : Stat
       (λ p change a b e. operation_shape a.graph b.graph p (option_map change) e.graph) (λ p change a b e. block_shape a.graph b.graph p change e.graph)
       (marks_of old.state) r.middle.paths r.entries r.entries r.middle d r.applied)
 
+  -- what an operation uses is unchanged
+  uses_same : {X : Type 0} (seen : Seen (Option (OperationData A)) (Option T) → X) → ((change : Option (OperationData A) → Option (OperationData A)) (x : Seen (Option (OperationData A)) (Option T)) → seen (option_map (object_of (with_data change)) x) ≡ seen x)
+      → (p : Ptr Operation) → seen (get d.graph.operations p) ≡ seen (get c.graph.operations p)
+  uses_same seen same p =
+      applied (λ (a b : ContextView T A). seen (get b.graph.operations p) ≡ seen (get a.graph.operations p)) (λ a. refl) (λ a b e k l. l ∙ k)
+      (λ q change a b e. edited_same seen same a.graph b.graph q (option_map change) e.graph p) (λ q change a b e. ap (λ s. seen (get s p)) e.graph.operations)
+      (marks_of old.state) r.middle.paths r.entries r.entries r.middle d r.applied ∙ ap (λ (x : ContextView T A). seen (get x.graph.operations p)) r.adds.rest
+
   operands_same : (p : Ptr Operation) → operands d.graph p ≡ operands c.graph p
-  operands_same p =
-      applied (λ (a b : ContextView T A). operands b.graph p ≡ operands a.graph p) (λ a. refl) (λ a b e k l. l ∙ k)
-      (λ q change a b e. edited_operands a.graph b.graph q (option_map change) e.graph p) (λ q change a b e. ap (λ s. operands_in (get s p)) e.graph.operations)
-      (marks_of old.state) r.middle.paths r.entries r.entries r.middle d r.applied ∙ ap (λ (x : ContextView T A). operands x.graph p) r.adds.rest
+  operands_same = uses_same operands_in (λ change. elim [ None ↦ refl | Some e ↦ refl ])
 
   successors_same : (p : Ptr Operation) → successors d.graph p ≡ successors c.graph p
-  successors_same p =
-      applied (λ (a b : ContextView T A). successors b.graph p ≡ successors a.graph p) (λ a. refl) (λ a b e k l. l ∙ k)
-      (λ q change a b e. edited_successors a.graph b.graph q (option_map change) e.graph p) (λ q change a b e. ap (λ s. successors_in (get s p)) e.graph.operations)
-      (marks_of old.state) r.middle.paths r.entries r.entries r.middle d r.applied ∙ ap (λ (x : ContextView T A). successors x.graph p) r.adds.rest
+  successors_same = uses_same successors_in (λ change. elim [ None ↦ refl | Some e ↦ refl ])
 
   module _ (rules : ℕ → Rule A) (none : refused (indices_of (marks_of old.state)) rules r.entries ≡ []) (L : ℕ → Location A → Type 0) (items : Made) (first : ℕ → Written A) (tells : (n : ℕ) (l : Location A) → L n l → location_over d.paths l ≡ first n) where
     -- an operation of a root has its own, with what the entry of its mark gives it

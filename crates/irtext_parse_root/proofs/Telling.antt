@@ -1,6 +1,6 @@
 -- Each function of the state performs the recorded actions of items as the items themselves do; and what was recorded before remains after
 -- what is recorded.
-use Rattle.std.proofs.Common.{◌≡◌, ◌∙◌, ℕ, List, [], ◌∷◌, ◌++◌, Option, refl, sym, ap}
+use Rattle.std.proofs.Common.{◌≡◌, ◌∙◌, ℕ, List, [], ◌∷◌, ◌++◌, Option, refl, sym, ap, subst}
 use Rattle.irtext_base.specs.Text.{Text}
 use Rattle.irtext_base.specs.Faults.{Fault}
 use Rattle.irtext_base.specs.Answers.{Outcome}
@@ -10,7 +10,7 @@ use Rattle.irtext_parse_spec.specs.Reached.{Actions}
 use Rattle.irtext_parse_spec.specs.Resume.{Open, Goes, StoppedAt}
 use Rattle.irtext_parse_spec.specs.Both.{seen_as}
 use Rattle.irtext_parse_spec.proofs.Seen.{Shows, seen_whole}
-use Rattle.irtext_parse_root.specs.Told.{Did, told, one_done, all_done}
+use Rattle.irtext_parse_root.specs.Told.{Did, did_use, did_late, did_enter, did_leave, did_close, did_mark, did_head, told, one_done, all_done}
 
 module _ {T A S : Type 0} (does : Actions T A S) where
   -- recorded actions are performed
@@ -30,17 +30,20 @@ module _ {T A S : Type 0} (does : Actions T A S) where
   done_both [] es s = refl
   done_both (d ∷ ds) es s = ap (one_done does d) (done_both ds es s)
 
--- what was recorded before remains
-pub tells_behind : {T A : Type 0} (es : List (Did T A)) → Shows {T = T} {A = A} (λ ds. ds ++ es) told told
-tells_behind es = record {
-  uses = λ place id parts ds. refl;
-  late = λ place id piece ds. refl;
-  enters = λ iso ds. refl;
-  leaves = λ iso place ds. refl;
-  closes = λ place names id parts ds. refl;
-  marks = λ mark ds. refl;
-  heads = λ head ds. refl;
-}
+-- recorded once more, they are in front of what was recorded before
+module _ {T A : Type 0} where
+  one_told : (d : Did T A) (es : List (Did T A)) → one_done told d es ≡ d ∷ es
+  one_told (did_use place id parts) es = refl
+  one_told (did_late place id piece) es = refl
+  one_told (did_enter iso) es = refl
+  one_told (did_leave iso place) es = refl
+  one_told (did_close place names id parts) es = refl
+  one_told (did_mark mark) es = refl
+  one_told (did_head head) es = refl
+
+  all_told : (ds es : List (Did T A)) → all_done told ds es ≡ ds ++ es
+  all_told [] es = refl
+  all_told (d ∷ ds) es = one_told d (all_done told ds es) ∙ ap (λ z. d ∷ z) (all_told ds es)
 
 module _ {T A : Type 0} {dialects : List (Text × Table)} {types_at : Text → Outcome T} {attr : Text → Outcome (AttrView A)} {next : Option (Open T A)} {frames : List (Open T A)} {text : Text} where
   -- where the recording parse goes, the parse with other actions goes too
@@ -60,13 +63,8 @@ module _ {T A : Type 0} {dialects : List (Text × Table)} {types_at : Text → O
   -- the same with what was recorded before
   pub goes_behind : {next' : Option (Open T A)} {frames' : List (Open T A)} {text' : Text} {did : List (Did T A)}
       → Goes dialects types_at attr told next frames [] text next' frames' did text' → (es : List (Did T A)) → Goes dialects types_at attr told next frames es text next' frames' (did ++ es) text'
-  goes_behind {next'} {frames'} {text'} {did} g es = record {
-    so = sym (seen_whole dialects types_at attr (λ ds. ds ++ es) told told (tells_behind es) next frames [] text)
-        ∙ (ap (seen_as (λ ds. ds ++ es)) g.so ∙ seen_whole dialects types_at attr (λ ds. ds ++ es) told told (tells_behind es) next' frames' did text');
-  }
+  goes_behind {next'} {frames'} {text'} {did} g es = subst (λ z. Goes dialects types_at attr told next frames es text next' frames' z text') (all_told did es) (goes_told told g es)
 
   pub stuck_behind : {did : List (Did T A)} {cause : Fault} {place : ℕ}
       → StoppedAt dialects types_at attr told next frames [] text did cause place → (es : List (Did T A)) → StoppedAt dialects types_at attr told next frames es text (did ++ es) cause place
-  stuck_behind g es = record {
-    so = sym (seen_whole dialects types_at attr (λ ds. ds ++ es) told told (tells_behind es) next frames [] text) ∙ ap (seen_as (λ ds. ds ++ es)) g.so;
-  }
+  stuck_behind {did} {cause} {place} g es = subst (λ z. StoppedAt dialects types_at attr told next frames es text z cause place) (all_told did es) (stuck_told told g es)

@@ -3,8 +3,9 @@ use Rattle.std.proofs.Common.{◌≡◌, ◌∙◌, ◌+◌, ◌<◌, ◌≤◌,
 use Rattle.irtext_base.specs.Text.{Text, begins, after_space}
 use Rattle.irtext_base.specs.Stream.{StreamView}
 use Rattle.irtext_base.specs.Locations.{AttrView}
-use Rattle.irtext_context.specs.Context.{OperationView, operation}
+use Rattle.irtext_context.specs.Context.{ContextView, OperationView, operation}
 use Rattle.irtext_context.specs.Dialects.{Table}
+use Rattle.irtext_context.specs.declared.base.item.Item.{Item}
 use Rattle.irtext_context.specs.declared.base.item.Item.TheVariants as item
 use Rattle.irtext_graph.specs.declared.arena.Ptr.{Ptr}
 use Rattle.irtext_graph.specs.declared.object.BasicBlock.{BasicBlock}
@@ -13,7 +14,6 @@ use Rattle.irtext_graph.specs.declared.object.Object.TheVariants.{TheOperation, 
 use Rattle.irtext_tokens.specs.Infix.{Reader, ◌▷◌}
 use Rattle.irtext_tokens.specs.Tokens.{space_at, word}
 use Rattle.irtext_parse_state.specs.States.{marks_of}
-use Rattle.irtext_parse_state.specs.declared.parsable.state.State as code
 use Rattle.irtext_parse_state.specs.declared.parsable.state.StateStream.{StateStream}
 use Rattle.irtext_grammar.specs.Contexts.Formats.{format_of, isolated}
 use Rattle.irtext_grammar.specs.Contexts.Held.{whole}
@@ -37,10 +37,10 @@ use Rattle.irtext_parse_nested.specs.declared.frame.BegunBlock.{BegunBlock}
 use Rattle.irtext_parse_nested.specs.Beginning.{HasBegun, ComesInto}
 use Rattle.irtext_parse_nested.specs.OpenOperation.{pledge_of}
 use Rattle.irtext_parse_nested.specs.Ends.{noted_as}
-use Rattle.irtext_parse_nested.specs.Items.{Names, Acts, doing}
+use Rattle.irtext_parse_nested.specs.Items.{Names, Made, Acts, doing}
 use Rattle.irtext_parse_nested.specs.Located.{IsLocated}
 use Rattle.irtext_parse_nested.specs.Read.{begun_by, uses_of, ReadsPiece, EndsOperation, BeginsRegion, EndsRegion, BeginsBlock}
-use Rattle.irtext_parse_root.specs.Built.{IsHeld, Ended}
+use Rattle.irtext_parse_root.specs.Built.{Built, IsHeld, Ended}
 use Rattle.irtext_parse_root.specs.Here.{Base, outermost, within}
 use Rattle.irtext_parse_root.specs.Levels.{Level, at_operation, at_region, at_block, outward, open_of, next_of, waiting, pledges_of, ats_of}
 use Rattle.irtext_parse_root.specs.Stands.{one_stands, text_there}
@@ -68,6 +68,11 @@ module _ {T A U : Type 0} (types_at : Reader T) (attr : Reader (AttrView A)) (ba
   -- the turn that is made from here
   abbrev Makes : List (Level T A) → List (Level T A) → Names → StateStream T A U → Type 0
   Makes ls later names new = Turned types_at attr dialects old.state.src text base ls before old later names new
+
+  -- what the context holds by it, if nothing is created
+  abbrev Builds : List (Level T A) → List (Level T A) → StateStream T A U → List (ℕ × Item) → List (Did T A) → Type 0
+  Builds ls later new marks did = (start : ContextView T A) (items : Made) (more : List (ℕ × Item)) (ds : List (Did T A)) → Built (format_of dialects) (IsLocated old.state.src text) base start old.state.ctx.now items more ls ds
+      → Built (format_of dialects) (IsLocated old.state.src text) base start new.state.ctx.now items (more ++ marks) later (did ++ ds)
 
   -- no mark was recorded
   same_marks : (new : StateStream T A U) → marks_of new.state ≡ marks_of old.state → marks_of new.state ≡ marks_of old.state ++ []
@@ -244,27 +249,9 @@ module _ {T A U : Type 0} (types_at : Reader T) (attr : Reader (AttrView A)) (ba
       end_acts : Acts (λ path z. (doing {T = T} {A = A} dialects path).marks h.mark ((doing {T = T} {A = A} dialects path).closes o.place o.names o.id o.parts z)) before old.state (pledges_of more ++ pledge_of b o.place ∷ []) names new.state (pledges_of more)
       end_acts = acts_close [] (λ path z. (doing {T = T} {A = A} dialects path).marks h.mark ((doing {T = T} {A = A} dialects path).closes o.place o.names o.id o.parts z)) before names old.state new.state (pledges_of more) (pledge_of b o.place) h.acts
 
-      -- of what is parsed itself
-      pub root_over : more ≡ [] → base ≡ outermost b.op → Makes (at_operation b o own ∷ []) [] names new
-      root_over alone is = record {
-        did = at_end;
-        made = [];
-        goes = subst (λ ls. Goes dialects types_at attr told (Some (an_operation o)) (outward (map open_of ls)) [] old.stream.rest (next_of ls) (waiting ls) at_end new.stream.rest) alone end_goes;
-        acts = subst (λ ls. Acts (λ path z. (doing {T = T} {A = A} dialects path).marks h.mark ((doing {T = T} {A = A} dialects path).closes o.place o.names o.id o.parts z)) before old.state (pledges_of ls ++ pledge_of b o.place ∷ []) names new.state (pledges_of ls)) alone end_acts;
-        stays = stay_operation old.state.ctx.now new.state.ctx.now b.op spares;
-        falls = fewer;
-        marks = noted_as h.mark (item.Operation b.op);
-        noted = note;
-        builds = λ start items marks ds held. subst (λ z. Ended (format_of dialects) (IsLocated old.state.src text) z start new.state.ctx.now items (marks ++ noted_as h.mark (item.Operation b.op)) (at_end ++ ds)) (sym is)
-            (root_ends (format_of dialects) (IsLocated old.state.src text) (outermost b.op) start old.state.ctx.now new.state.ctx.now items marks o.place o.names o.id o.parts h.mark b.op own (record own { entries = put_all own.entries (read_names (map (λ n. n.text) o.names)) }) ds
-            refl refl has.place has.id (own_whole (format_of dialects) o own e has) became spares
-            (subst (λ z. IsHeld (format_of dialects) (IsLocated old.state.src text) z start old.state.ctx.now items marks (operation_under b.op own ∷ []) None ds) is (record { whole = held.whole; holds = held.holds; carried = held.carried })));
-      }
-
-      -- of one in a block
-      pub operation_over : (kb : BegunBlock) (r : BegunRegion) (iso : Bool) (place : ℕ) (last : Option (Ptr BasicBlock)) (outside : List (Level T A)) → more ≡ at_block kb ∷ at_region r iso place last ∷ outside → last ≡ Some kb.block
-          → Makes (at_operation b o own ∷ at_block kb ∷ at_region r iso place last ∷ outside) (at_block kb ∷ at_region r iso place last ∷ outside) names new
-      operation_over kb r iso place last outside is at = record {
+      -- whatever is open outside, given what the context holds then
+      over : (outside : List (Level T A)) → more ≡ outside → Builds (at_operation b o own ∷ outside) outside new (noted_as h.mark (item.Operation b.op)) at_end → Makes (at_operation b o own ∷ outside) outside names new
+      over outside is builds = record {
         did = at_end;
         made = [];
         goes = subst (λ ls. Goes dialects types_at attr told (Some (an_operation o)) (outward (map open_of ls)) [] old.stream.rest (next_of ls) (waiting ls) at_end new.stream.rest) is end_goes;
@@ -273,9 +260,22 @@ module _ {T A U : Type 0} (types_at : Reader T) (attr : Reader (AttrView A)) (ba
         falls = fewer;
         marks = noted_as h.mark (item.Operation b.op);
         noted = note;
-        builds = λ start items marks ds held. ends_in_block (format_of dialects) (IsLocated old.state.src text) base start old.state.ctx.now new.state.ctx.now items marks o.place o.names o.id o.parts h.mark b.op own (record own { entries = put_all own.entries (read_names (map (λ n. n.text) o.names)) }) ds
-            refl refl has.place has.id (own_whole (format_of dialects) o own e has) became spares r.region kb.block last (ats_of outside) at (record { whole = held.whole; holds = held.holds; carried = held.carried });
+        builds = builds;
       }
+
+      -- of what is parsed itself
+      pub root_over : more ≡ [] → base ≡ outermost b.op → Makes (at_operation b o own ∷ []) [] names new
+      root_over alone is = over [] alone (λ start items marks ds held. subst (λ z. Ended (format_of dialects) (IsLocated old.state.src text) z start new.state.ctx.now items (marks ++ noted_as h.mark (item.Operation b.op)) (at_end ++ ds)) (sym is)
+          (root_ends (format_of dialects) (IsLocated old.state.src text) (outermost b.op) start old.state.ctx.now new.state.ctx.now items marks o.place o.names o.id o.parts h.mark b.op own (record own { entries = put_all own.entries (read_names (map (λ n. n.text) o.names)) }) ds
+          refl refl has.place has.id (own_whole (format_of dialects) o own e has) became spares
+          (subst (λ z. IsHeld (format_of dialects) (IsLocated old.state.src text) z start old.state.ctx.now items marks (operation_under b.op own ∷ []) None ds) is (record { whole = held.whole; holds = held.holds; carried = held.carried }))))
+
+      -- of one in a block
+      pub operation_over : (kb : BegunBlock) (r : BegunRegion) (iso : Bool) (place : ℕ) (last : Option (Ptr BasicBlock)) (outside : List (Level T A)) → more ≡ at_block kb ∷ at_region r iso place last ∷ outside → last ≡ Some kb.block
+          → Makes (at_operation b o own ∷ at_block kb ∷ at_region r iso place last ∷ outside) (at_block kb ∷ at_region r iso place last ∷ outside) names new
+      operation_over kb r iso place last outside is at = over (at_block kb ∷ at_region r iso place last ∷ outside) is (λ start items marks ds held.
+          ends_in_block (format_of dialects) (IsLocated old.state.src text) base start old.state.ctx.now new.state.ctx.now items marks o.place o.names o.id o.parts h.mark b.op own (record own { entries = put_all own.entries (read_names (map (λ n. n.text) o.names)) }) ds
+          refl refl has.place has.id (own_whole (format_of dialects) o own e has) became spares r.region kb.block last (ats_of outside) at (record { whole = held.whole; holds = held.holds; carried = held.carried }))
 
   -- ---- a region
   module _ (k : Unbounded dialects types_at attr told) (r : BegunRegion) (iso : Bool) (place : ℕ) (last : Option (Ptr BasicBlock)) (more : List (Level T A)) (v : StreamView) (at : v.rest ≡ after_space old.stream.rest) (names : Names) (new : StateStream T A U) where
@@ -306,10 +306,9 @@ module _ {T A U : Type 0} (types_at : Reader T) (attr : Reader (AttrView A)) (ba
       left_acts : Acts (λ path. (doing {T = T} {A = A} dialects path).leaves iso place) before old.state (pledges_of more) names new.state (pledges_of more)
       left_acts = acts_within [] (λ path. (doing {T = T} {A = A} dialects path).leaves iso place) before names old.state new.state (pledges_of more) (record { so = λ path made others z st. h.acts.so path made others z st })
 
-      -- in an operation
-      pub region_over : (b : BegunOperation) (o : OpenOperation T A) (own : OwnSoFar T A) (outside : List (Level T A)) → more ≡ at_operation b o own ∷ outside
-          → Makes (at_region r iso place last ∷ at_operation b o own ∷ outside) (at_operation b o own ∷ outside) names new
-      region_over b o own outside is = record {
+      -- whatever is open outside, given what the context holds then
+      left_over : (outside : List (Level T A)) → more ≡ outside → Builds (at_region r iso place last ∷ outside) outside new [] (did_leave iso place ∷ []) → Makes (at_region r iso place last ∷ outside) outside names new
+      left_over outside is builds = record {
         did = did_leave iso place ∷ [];
         made = [];
         goes = subst (λ ls. Goes dialects types_at attr told (Some (a_region iso place)) (outward (map open_of ls)) [] old.stream.rest (next_of ls) (waiting ls) (did_leave iso place ∷ []) new.stream.rest) is left_goes;
@@ -318,23 +317,20 @@ module _ {T A U : Type 0} (types_at : Reader T) (attr : Reader (AttrView A)) (ba
         falls = fewer;
         marks = [];
         noted = same_marks new (ap marks_of still);
-        builds = λ start items marks ds held. subst (λ s. IsHeld (format_of dialects) (IsLocated old.state.src text) base start s.ctx.now items (marks ++ []) (operation_under b.op own ∷ ats_of outside) None (did_leave iso place ∷ ds)) (sym still)
-            (region_leaves (format_of dialects) (IsLocated old.state.src text) base start old.state.ctx.now items marks iso place r.region last b.op own (ats_of outside) ds (record { whole = held.whole; holds = held.holds; carried = held.carried }));
+        builds = builds;
       }
+
+      -- in an operation
+      pub region_over : (b : BegunOperation) (o : OpenOperation T A) (own : OwnSoFar T A) (outside : List (Level T A)) → more ≡ at_operation b o own ∷ outside
+          → Makes (at_region r iso place last ∷ at_operation b o own ∷ outside) (at_operation b o own ∷ outside) names new
+      region_over b o own outside is = left_over (at_operation b o own ∷ outside) is (λ start items marks ds held.
+          subst (λ s. IsHeld (format_of dialects) (IsLocated old.state.src text) base start s.ctx.now items (marks ++ []) (operation_under b.op own ∷ ats_of outside) None (did_leave iso place ∷ ds)) (sym still)
+          (region_leaves (format_of dialects) (IsLocated old.state.src text) base start old.state.ctx.now items marks iso place r.region last b.op own (ats_of outside) ds (record { whole = held.whole; holds = held.holds; carried = held.carried })))
 
       -- or it is what is parsed
       pub base_over : more ≡ [] → base ≡ within r.region → Makes (at_region r iso place last ∷ []) [] names new
-      base_over alone is = record {
-        did = did_leave iso place ∷ [];
-        made = [];
-        goes = subst (λ ls. Goes dialects types_at attr told (Some (a_region iso place)) (outward (map open_of ls)) [] old.stream.rest (next_of ls) (waiting ls) (did_leave iso place ∷ []) new.stream.rest) alone left_goes;
-        acts = subst (λ ls. Acts (λ path. (doing {T = T} {A = A} dialects path).leaves iso place) before old.state (pledges_of ls) names new.state (pledges_of ls)) alone left_acts;
-        stays = subst (λ s. RegionsStay old.state.ctx.now s.ctx.now) (sym still) (stay_still old.state.ctx.now);
-        falls = fewer;
-        marks = [];
-        noted = same_marks new (ap marks_of still);
-        builds = λ start items marks ds held. subst (λ s. Ended (format_of dialects) (IsLocated old.state.src text) base start s.ctx.now items (marks ++ []) (did_leave iso place ∷ ds)) (sym still)
-            (subst (λ z. Ended (format_of dialects) (IsLocated old.state.src text) z start old.state.ctx.now items (marks ++ []) (did_leave iso place ∷ ds)) (sym is)
-            (region_alone (format_of dialects) (IsLocated old.state.src text) start old.state.ctx.now items marks r.region iso place last ds
-            (subst (λ z. IsHeld (format_of dialects) (IsLocated old.state.src text) z start old.state.ctx.now items marks (region_under r.region last ∷ []) None ds) is (record { whole = held.whole; holds = held.holds; carried = held.carried }))));
-      }
+      base_over alone is = left_over [] alone (λ start items marks ds held.
+          subst (λ s. Ended (format_of dialects) (IsLocated old.state.src text) base start s.ctx.now items (marks ++ []) (did_leave iso place ∷ ds)) (sym still)
+          (subst (λ z. Ended (format_of dialects) (IsLocated old.state.src text) z start old.state.ctx.now items (marks ++ []) (did_leave iso place ∷ ds)) (sym is)
+          (region_alone (format_of dialects) (IsLocated old.state.src text) start old.state.ctx.now items marks r.region iso place last ds
+          (subst (λ z. IsHeld (format_of dialects) (IsLocated old.state.src text) z start old.state.ctx.now items marks (region_under r.region last ∷ []) None ds) is (record { whole = held.whole; holds = held.holds; carried = held.carried })))))

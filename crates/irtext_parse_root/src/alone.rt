@@ -36,7 +36,8 @@ fn region_made<T: IrText<A>, A: AttrText<A>, U>(
     ensures makes { IfOk result (λ r. MakesRegion s.old.state.ctx.now.graph s.new.state.ctx.now.graph r) }
     ensures with_it { s.new.state.ctx.now ≡ with_graph s.old.state.ctx.now s.new.state.ctx.now.graph }
     ensures starved { IfErr result IsStarved }
-    ensures kept { (m : ℕ) → m ≤ s.old.state.ctx.now.graph.made → KeepsOlder m s.old.state.ctx.now s.new.state.ctx.now }
+    ensures kept { (m : ℕ) → m ≤ s.old.state.ctx.now.graph.made → KeepsOlder m s.old.state.ctx.now
+        s.new.state.ctx.now }
 {
     let ctx = &mut *s.state.ctx;
     match ctx.graph_mut().make_region() {
@@ -58,17 +59,22 @@ pub(crate) fn region_alone<T: IrText<A>, A: AttrText<A>, U>(
     ensures lent { s.new.state.ctx.ghost_name ≡ s.old.state.ctx.ghost_name }
     ensures rest { KeepsRest s.old.state s.new.state }
     ensures marks { marks_of s.new.state ≡ marks_of s.old.state }
-    ensures begins { IfOk result (λ r. BeginsRegion T.IrText.reading (attr_at A.IrText.reading) isolated r names.old s.old names.new s.new) }
-    ensures refused { IfErr result (UnlessMemory (RefusesRegion T.IrText.reading (attr_at A.IrText.reading) isolated names.old s.old)) }
+    ensures begins { IfOk result (λ r. BeginsRegion T.IrText.reading (attr_at A.IrText.reading) isolated r
+        names.old s.old names.new s.new) }
+    ensures refused { IfErr result (UnlessMemory (RefusesRegion T.IrText.reading (attr_at A.IrText.reading)
+        isolated names.old s.old)) }
     ensures committed { IfErr result (λ fault. fault.committed ≡ true) }
     ensures names { names.new.names ≡ names.old.names }
     ensures values { OnOk result (names.new.values ≡ entered isolated names.old.values) }
     ensures labels { OnOk result (names.new.labels ≡ [] ∷ names.old.labels) }
     ensures open { OnOk result (is_open names.new.values ≡ true) }
-    ensures makes { IfOk result (λ r. MakesRegion s.old.state.ctx.now.graph s.new.state.ctx.now.graph r.region) }
+    ensures makes { IfOk result (λ r. MakesRegion s.old.state.ctx.now.graph s.new.state.ctx.now.graph
+        r.region) }
     ensures with_it { s.new.state.ctx.now ≡ with_graph s.old.state.ctx.now s.new.state.ctx.now.graph }
-    ensures sound { OnOk result ((m : ℕ) → m ≤ s.old.state.ctx.now.graph.made → IsSound m names.old s.old.state → IsSound m names.new s.new.state) }
-    ensures kept { (m : ℕ) → m ≤ s.old.state.ctx.now.graph.made → KeepsOlder m s.old.state.ctx.now s.new.state.ctx.now }
+    ensures sound { OnOk result ((m : ℕ) → m ≤ s.old.state.ctx.now.graph.made → IsSound m names.old
+        s.old.state → IsSound m names.new s.new.state) }
+    ensures kept { (m : ℕ) → m ≤ s.old.state.ctx.now.graph.made → KeepsOlder m s.old.state.ctx.now
+        s.new.state.ctx.now }
 {
     let at = s.stream.position();
     enter_here(s, names, isolated)?;
@@ -94,7 +100,8 @@ pub(crate) fn region_placed<T: IrText<A>, A: AttrText<A>, U>(
     ensures rest { KeepsRest s.old.state s.new.state }
     ensures marks { marks_of s.new.state ≡ marks_of s.old.state }
     ensures stream { OnOk result (s.new.stream ≡ s.old.stream) }
-    ensures places { OnOk result (Appends s.old.state.ctx.now.graph s.new.state.ctx.now.graph (TheOperation op) (TheRegion region)) }
+    ensures places { OnOk result (Appends s.old.state.ctx.now.graph s.new.state.ctx.now.graph
+        (TheOperation op) (TheRegion region)) }
     ensures with_it { s.new.state.ctx.now ≡ with_graph s.old.state.ctx.now s.new.state.ctx.now.graph }
     ensures unchanged { OnErr result (s.new.state.ctx.now ≡ s.old.state.ctx.now) }
     ensures starved { IfErr result IsStarved }

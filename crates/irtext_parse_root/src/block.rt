@@ -128,7 +128,8 @@ fn key_fault<A>(stream: &mut TextStream, key: &Key) -> ParseFault<A>
 fn no_scope_error<A>(stream: &mut TextStream, names: &Names, read: ReadName) -> ParseFault<A>
     requires known { read.name < length names.now.names }
     requires words { AreWords names.now.names }
-    ensures says { UnlessMemory (IsFaultOf names.now.names (whole stream.old) fault.NoActiveScope read) result }
+    ensures says { UnlessMemory (IsFaultOf names.now.names (whole stream.old) fault.NoActiveScope
+        read) result }
     ensures fails { stream.new ≡ after_failure stream.old }
 {
     match Identifier::from_word(stream.allocator(), names.name(read.name)) {
@@ -142,7 +143,8 @@ fn no_scope_error<A>(stream: &mut TextStream, names: &Names, read: ReadName) -> 
 fn mark_fault<A>(stream: &mut TextStream, mark: ReadMark) -> ParseFault<A>
     ensures cause { fault_of result.cause ≡ fault.DuplicateIndex mark.index }
     ensures flag { result.committed ≡ true }
-    ensures place { AtOffset mark.at.offset (whole stream.old) (λ passed rest. IsAt result.pos.line result.pos.column passed) }
+    ensures place { AtOffset mark.at.offset (whole stream.old) (λ passed rest. IsAt result.pos.line
+        result.pos.column passed) }
     ensures fails { stream.new ≡ after_failure stream.old }
 {
     refuse_at(stream, mark.at, Cause::DuplicateIndex(mark.index))
@@ -181,7 +183,8 @@ fn header_parse<T: IrText<A>, A: AttrText<A>>(
     names: &mut Names,
 ) -> ParseResult<BlockHead<T, A>, A>
     requires fine { stream.old.failed ≡ false }
-    ensures read { MayMean itself replaced (IsHead names.new.names (whole stream.old)) (head_at T.IrText.reading (attr_at A.IrText.reading))
+    ensures read { MayMean itself replaced (IsHead names.new.names (whole stream.old))
+        (head_at T.IrText.reading (attr_at A.IrText.reading))
         stream.old result stream.new }
     ensures names { NamesRead names.old names.new }
 {
@@ -208,7 +211,8 @@ pub fn block_parse<T: IrText<A>, A: AttrText<A>, U>(
     ensures none { OnOk result ⊥ }
     ensures missed { s.old.stream.failed ≡ false →
         IfErr result (UnlessMemory (MissesBlock T.reading (attr_at A.reading) (indices_of (marks_of s.old.state)) s.old.stream s.new.stream)) }
-    ensures unresolved { IsFresh s.old → IfErr result (UnlessMemory (RefusesBlock T.reading (attr_at A.reading) s.old.stream)) }
+    ensures unresolved { IsFresh s.old → IfErr result
+        (UnlessMemory (RefusesBlock T.reading (attr_at A.reading) s.old.stream)) }
 {
     if s.stream.has_failed() {
         return Err(failed_fault(&s.stream));

@@ -55,11 +55,14 @@ pub(crate) fn next_turn<T: IrText<A>, A: AttrText<A>>(
     begun: &BegunOperation,
 ) -> Next
     requires counted { begun.now.steps ≡ length (steps_in ctx.now.dialects (id_of begun.now.id)) }
-    requires coming { IfSome begun.now.coming (λ next. IsStep next (slice_get (steps_in ctx.now.dialects (id_of begun.now.id)) begun.now.step)) }
+    requires coming { IfSome begun.now.coming
+        (λ next. IsStep next (slice_get (steps_in ctx.now.dialects (id_of begun.now.id)) begun.now.step)) }
     requires isolated { begun.now.isolated ≡ isolated ctx.now.dialects (id_of begun.now.id) }
     ensures next { IsNext ctx.now.dialects begun.now result.coming }
-    ensures isolated { result.coming ≢ comes.End → result.isolated ≡ isolated ctx.now.dialects (id_of begun.now.id) }
-    ensures behind { IsSome (slice_get (steps_in ctx.now.dialects (id_of begun.now.id)) begun.now.step) → result.behind ≡ begun.now.step + 1 }
+    ensures isolated { result.coming ≢ comes.End → result.isolated ≡ isolated ctx.now.dialects
+        (id_of begun.now.id) }
+    ensures behind { IsSome (slice_get (steps_in ctx.now.dialects (id_of begun.now.id)) begun.now.step)
+        → result.behind ≡ begun.now.step + 1 }
 {
     if begun.steps <= begun.step {
         return ended(begun.step);

@@ -28,11 +28,14 @@ pub(crate) fn items_parse<T: IrText<A>, A: AttrText<A>, U>(
     requires sound { IsSoundOnce names.old s.old.state }
     requires here { AreHere T A (whole s.old.stream) s.old.state.ctx.now names.old (Some first) [] }
     ensures lent { s.new.state.ctx.ghost_name ≡ s.old.state.ctx.ghost_name }
-    ensures finishes { OnOk result (Finishes T.IrText.reading (attr_at A.IrText.reading) first names.old s.old names.new s.new) }
-    ensures stops { IfErr result (Stops T.IrText.reading (attr_at A.IrText.reading) first [] names.old s.old) }
+    ensures finishes { OnOk result (Finishes T.IrText.reading (attr_at A.IrText.reading) first names.old s.old
+        names.new s.new) }
+    ensures stops { IfErr result (Stops T.IrText.reading (attr_at A.IrText.reading) first []
+        names.old s.old) }
     ensures remains { OnErr result (Remains s.old.state s.new.state) }
     ensures names { KeepsNames names.old.names names.new.names }
-    ensures kept { (m : ℕ) → m ≤ s.old.state.ctx.now.graph.made → IsClosedBelow m s.old.state.ctx.now.graph → IsSound m names.old s.old.state
+    ensures kept { (m : ℕ) → m ≤ s.old.state.ctx.now.graph.made → IsClosedBelow m s.old.state.ctx.now.graph
+        → IsSound m names.old s.old.state
         → AreAllNew m s.old.state.ctx.now.graph (Some first) [] → KeepsOlder m s.old.state.ctx.now s.new.state.ctx.now }
 {
     let alloc = s.stream.allocator();

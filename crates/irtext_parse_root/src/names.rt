@@ -33,7 +33,8 @@ pub fn ssa_opd_parse<S: CharStream, A>(stream: &mut S) -> ParseResult<Value, A>
 /// Parses `^` and the label of a block that is used, as `^b`. It is called where no region is open, so it always fails, with
 /// `NoActiveScope` at the label. If `^` does not come next, the error is uncommitted and the stream is unchanged.
 pub fn block_opd_parse<S: CharStream, A>(stream: &mut S) -> ParseResult<Ptr<BasicBlock>, A>
-    ensures refused { IfErr result (λ fault. Misses S.view S.at (target_at false) stream.old fault stream.new) }
+    ensures refused { IfErr result (λ fault. Misses S.view S.at (target_at false) stream.old fault
+        stream.new) }
     ensures none { OnOk result ⊥ }
 {
     text_parse(stream, "^")?;

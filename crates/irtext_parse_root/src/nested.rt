@@ -34,15 +34,19 @@ pub fn nested_parse<T: IrText<A>, A: AttrText<A>, U>(
     requires fine { s.old.stream.failed ≡ false }
     requires sound { IsSoundOnce names.old s.old.state }
     ensures lent { s.new.state.ctx.ghost_name ≡ s.old.state.ctx.ghost_name }
-    ensures read { IfOk result (λ p. ReadsNested T.IrText.reading (attr_at A.IrText.reading) names.old s.old p names.new s.new) }
+    ensures read { IfOk result (λ p. ReadsNested T.IrText.reading (attr_at A.IrText.reading) names.old s.old p
+        names.new s.new) }
     ensures carries { OnOk result (Carries names.old s.old names.new s.new) }
-    ensures refused { IfErr result (UnlessMemory (RefusesNested T.IrText.reading (attr_at A.IrText.reading) names.old s.old)) }
+    ensures refused { IfErr result (UnlessMemory (RefusesNested T.IrText.reading (attr_at A.IrText.reading)
+        names.old s.old)) }
     ensures unread { IfErr result (λ fault. fault.committed ≡ false → s.new.stream ≡ s.old.stream) }
-    ensures new { IfOk result (λ p. (m : ℕ) → m ≤ s.old.state.ctx.now.graph.made → IsNew m s.new.state.ctx.now.graph (TheOperation p)) }
+    ensures new { IfOk result (λ p. (m : ℕ) → m ≤ s.old.state.ctx.now.graph.made
+        → IsNew m s.new.state.ctx.now.graph (TheOperation p)) }
     ensures rest { KeepsRest s.old.state s.new.state }
     ensures unnoted { OnErr result (GainsMarks (marks_of s.old.state) (marks_of s.new.state)) }
     ensures names { KeepsNames names.old.names names.new.names }
-    ensures kept { (m : ℕ) → m ≤ s.old.state.ctx.now.graph.made → IsClosedBelow m s.old.state.ctx.now.graph → IsSound m names.old s.old.state
+    ensures kept { (m : ℕ) → m ≤ s.old.state.ctx.now.graph.made → IsClosedBelow m s.old.state.ctx.now.graph
+        → IsSound m names.old s.old.state
         → KeepsOlder m s.old.state.ctx.now s.new.state.ctx.now }
 {
     let mut keys = Keys::none(s.stream.allocator());

@@ -92,7 +92,8 @@ fn position_here<T: IrText<A>, A: AttrText<A>, U>(
     op: Ptr<Operation>,
 ) -> SourcePosition
     requires { IsSome (operation state.now.ctx.now op) }
-    ensures { (view : OperationView T A) → operation state.now.ctx.now op ≡ Some view → IsPositionOf view.loc result }
+    ensures { (view : OperationView T A) → operation state.now.ctx.now op ≡ Some view
+        → IsPositionOf view.loc result }
 {
     position_in(state.ctx, op)
 }
@@ -136,13 +137,16 @@ pub fn region_parse<T: IrText<A>, A: AttrText<A>, U>(
     requires sound { IsSound s.old.state.ctx.now.graph.made names.old s.old.state }
     requires stands { IsSome (operation s.old.state.ctx.now op) }
     ensures lent { s.new.state.ctx.ghost_name ≡ s.old.state.ctx.ghost_name }
-    ensures read { IfOk result (λ r. ReadsUnder T.IrText.reading (attr_at A.IrText.reading) op names.old s.old r names.new s.new) }
-    ensures refused { IfErr result (UnlessMemory (RefusesUnder T.IrText.reading (attr_at A.IrText.reading) op names.old s.old)) }
+    ensures read { IfOk result (λ r. ReadsUnder T.IrText.reading (attr_at A.IrText.reading) op names.old s.old
+        r names.new s.new) }
+    ensures refused { IfErr result (UnlessMemory (RefusesUnder T.IrText.reading (attr_at A.IrText.reading) op
+        names.old s.old)) }
     ensures unread { IfErr result (λ fault. fault.committed ≡ false → s.new.stream ≡ s.old.stream) }
     ensures rest { KeepsRest s.old.state s.new.state }
     ensures unnoted { OnErr result (GainsMarks (marks_of s.old.state) (marks_of s.new.state)) }
     ensures names { KeepsNames names.old.names names.new.names }
-    ensures kept { OnErr result ((m : ℕ) → m ≤ s.old.state.ctx.now.graph.made → IsClosedBelow m s.old.state.ctx.now.graph → IsSound m names.old s.old.state
+    ensures kept { OnErr result ((m : ℕ) → m ≤ s.old.state.ctx.now.graph.made
+        → IsClosedBelow m s.old.state.ctx.now.graph → IsSound m names.old s.old.state
         → KeepsOlder m s.old.state.ctx.now s.new.state.ctx.now) }
 {
     let ctx = &mut *s.state.ctx;

@@ -54,8 +54,10 @@ fn marked_parse<T: IrText<A>, A: AttrText<A>, U>(
     ensures lent { s.new.state.ctx.ghost_name ≡ s.old.state.ctx.ghost_name }
     ensures rest { KeepsRest s.old.state s.new.state }
     ensures refused { IfErr result (λ fault. Refusal s.old.stream fault s.new.stream) }
-    ensures read { IfOk result (λ op. ReadsAny T.IrText.reading (attr_at A.IrText.reading) look op s.old s.new) }
-    ensures missed { IfErr result (UnlessMemory (MissesAny T.IrText.reading (attr_at A.IrText.reading) look s.old)) }
+    ensures read { IfOk result (λ op. ReadsAny T.IrText.reading (attr_at A.IrText.reading) look op
+        s.old s.new) }
+    ensures missed { IfErr result (UnlessMemory (MissesAny T.IrText.reading (attr_at A.IrText.reading)
+        look s.old)) }
     ensures builds { IsFresh s.old →
         IfOk result (λ op. BuildsWith (texts_of T.IrText.reading T.IrText.written) (texts_of A.IrText.reading A.IrText.written)
         (attr_at A.IrText.reading) look op s.old s.new) }
@@ -63,12 +65,16 @@ fn marked_parse<T: IrText<A>, A: AttrText<A>, U>(
         IfErr result (UnlessMemory
         (RefusesWith (texts_of T.IrText.reading T.IrText.written) (texts_of A.IrText.reading A.IrText.written) T.IrText.reading
         (attr_at A.IrText.reading) s.old.state.ctx.now.dialects look s.old.stream)) }
-    ensures noted { OnErr result ((more : List (ℕ × Item)) × (marks_of s.new.state ≡ marks_of s.old.state ++ more)) }
+    ensures noted { OnErr result ((more : List (ℕ × Item))
+        × (marks_of s.new.state ≡ marks_of s.old.state ++ more)) }
     ensures closed { IsClosedBelow s.old.state.ctx.now.graph.made s.old.state.ctx.now.graph →
         IsClosedBelow s.old.state.ctx.now.graph.made s.new.state.ctx.now.graph }
-    ensures kept { IsFresh s.old → KeepsOlder s.old.state.ctx.now.graph.made s.old.state.ctx.now s.new.state.ctx.now }
-    ensures kept_alone { look ≡ false → KeepsOlder s.old.state.ctx.now.graph.made s.old.state.ctx.now s.new.state.ctx.now }
-    ensures kept_else { OnErr result (KeepsOlder s.old.state.ctx.now.graph.made s.old.state.ctx.now s.new.state.ctx.now) }
+    ensures kept { IsFresh s.old → KeepsOlder s.old.state.ctx.now.graph.made s.old.state.ctx.now
+        s.new.state.ctx.now }
+    ensures kept_alone { look ≡ false → KeepsOlder s.old.state.ctx.now.graph.made s.old.state.ctx.now
+        s.new.state.ctx.now }
+    ensures kept_else { OnErr result (KeepsOlder s.old.state.ctx.now.graph.made s.old.state.ctx.now
+        s.new.state.ctx.now) }
 {
     let earlier = s.state.has_marks();
     let op = tree_parse(s)?;
@@ -96,7 +102,8 @@ pub fn outermost_parse<T: IrText<A>, A: AttrText<A>, U>(
     ensures refused { IfErr result (λ fault. Refusal s.old.stream fault s.new.stream) }
     ensures failed { RefusesFailed s.old.stream result s.new.stream }
     ensures read { IfOk result (λ op. ReadsAny T.reading (attr_at A.reading) look op s.old s.new) }
-    ensures missed { s.old.stream.failed ≡ false → IfErr result (UnlessMemory (MissesAny T.reading (attr_at A.reading) look s.old)) }
+    ensures missed { s.old.stream.failed ≡ false
+        → IfErr result (UnlessMemory (MissesAny T.reading (attr_at A.reading) look s.old)) }
     ensures builds { IsFresh s.old →
         IfOk result (λ op. BuildsWith (texts_of T.reading T.written) (texts_of A.reading A.written)
         (attr_at A.reading) look op s.old s.new) }
@@ -106,7 +113,8 @@ pub fn outermost_parse<T: IrText<A>, A: AttrText<A>, U>(
         (attr_at A.reading) s.old.state.ctx.now.dialects look s.old.stream)) }
     ensures objects { OnErr result (SameObjects s.old.state.ctx.now s.new.state.ctx.now) }
     ensures marks { OnErr result (marks_of s.new.state ≡ marks_of s.old.state) }
-    ensures keeps { IsFresh s.old → OnOk result (KeepsOlder s.old.state.ctx.now.graph.made s.old.state.ctx.now s.new.state.ctx.now) }
+    ensures keeps { IsFresh s.old → OnOk result (KeepsOlder s.old.state.ctx.now.graph.made s.old.state.ctx.now
+        s.new.state.ctx.now) }
     ensures closed { OnOk result (IsClosedBelow s.old.state.ctx.now.graph.made s.old.state.ctx.now.graph →
         IsClosedBelow s.old.state.ctx.now.graph.made s.new.state.ctx.now.graph) }
 {
@@ -135,7 +143,8 @@ pub fn operation_parse<T: IrText<A>, A: AttrText<A>, U>(
     ensures refused { IfErr result (λ fault. Refusal s.old.stream fault s.new.stream) }
     ensures failed { RefusesFailed s.old.stream result s.new.stream }
     ensures read { IfOk result (λ op. ReadsAny T.reading (attr_at A.reading) false op s.old s.new) }
-    ensures missed { s.old.stream.failed ≡ false → IfErr result (UnlessMemory (MissesAny T.reading (attr_at A.reading) false s.old)) }
+    ensures missed { s.old.stream.failed ≡ false
+        → IfErr result (UnlessMemory (MissesAny T.reading (attr_at A.reading) false s.old)) }
     ensures builds { IsFresh s.old →
         IfOk result (λ op. BuildsTree (texts_of T.reading T.written) (texts_of A.reading A.written)
         (attr_at A.reading) op s.old s.new) }
@@ -162,7 +171,8 @@ pub fn root_parse<T: IrText<A>, A: AttrText<A>, U>(
     ensures refused { IfErr result (λ fault. Refusal s.old.stream fault s.new.stream) }
     ensures failed { RefusesFailed s.old.stream result s.new.stream }
     ensures read { IfOk result (λ op. ReadsAny T.reading (attr_at A.reading) true op s.old s.new) }
-    ensures missed { s.old.stream.failed ≡ false → IfErr result (UnlessMemory (MissesAny T.reading (attr_at A.reading) true s.old)) }
+    ensures missed { s.old.stream.failed ≡ false
+        → IfErr result (UnlessMemory (MissesAny T.reading (attr_at A.reading) true s.old)) }
     ensures builds { IsFresh s.old →
         IfOk result (λ op. BuildsRoot (texts_of T.reading T.written) (texts_of A.reading A.written)
         (attr_at A.reading) op s.old s.new) }
@@ -172,7 +182,8 @@ pub fn root_parse<T: IrText<A>, A: AttrText<A>, U>(
         (attr_at A.reading) s.old.state.ctx.now.dialects s.old.stream)) }
     ensures objects { OnErr result (SameObjects s.old.state.ctx.now s.new.state.ctx.now) }
     ensures marks { OnErr result (marks_of s.new.state ≡ marks_of s.old.state) }
-    ensures keeps { IsFresh s.old → OnOk result (KeepsOlder s.old.state.ctx.now.graph.made s.old.state.ctx.now s.new.state.ctx.now) }
+    ensures keeps { IsFresh s.old → OnOk result (KeepsOlder s.old.state.ctx.now.graph.made s.old.state.ctx.now
+        s.new.state.ctx.now) }
     ensures closed { OnOk result (IsClosedBelow s.old.state.ctx.now.graph.made s.old.state.ctx.now.graph →
         IsClosedBelow s.old.state.ctx.now.graph.made s.new.state.ctx.now.graph) }
 {

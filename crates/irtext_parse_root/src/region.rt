@@ -113,7 +113,8 @@ fn isolated_parse<T: IrText<A>, A: AttrText<A>, U>(
     ensures rest { KeepsRest s.old.state s.new.state }
     ensures refused { IfErr result (λ fault. Refusal s.old.stream fault s.new.stream) }
     ensures read { OnOk result (ReadsRegion T.IrText.reading (attr_at A.IrText.reading) parent s.old s.new) }
-    ensures missed { IfErr result (UnlessMemory (MissesRegion T.IrText.reading (attr_at A.IrText.reading) parent s.old)) }
+    ensures missed { IfErr result (UnlessMemory (MissesRegion T.IrText.reading (attr_at A.IrText.reading)
+        parent s.old)) }
     ensures builds { IsFresh s.old →
         IfOk result (λ r. BuildsRegion (texts_of T.IrText.reading T.IrText.written) (texts_of A.IrText.reading A.IrText.written) parent r s.old s.new) }
     ensures unresolved { IsFresh s.old →
@@ -121,7 +122,8 @@ fn isolated_parse<T: IrText<A>, A: AttrText<A>, U>(
         (RefusesRegion (texts_of T.IrText.reading T.IrText.written) (texts_of A.IrText.reading A.IrText.written)
         s.old.state.ctx.now.dialects (unisolated s.old.state.ctx.now parent) s.old.stream)) }
     ensures noted { OnErr result (GainsMarks (marks_of s.old.state) (marks_of s.new.state)) }
-    ensures kept { OnErr result (KeepsOlder s.old.state.ctx.now.graph.made s.old.state.ctx.now s.new.state.ctx.now) }
+    ensures kept { OnErr result (KeepsOlder s.old.state.ctx.now.graph.made s.old.state.ctx.now
+        s.new.state.ctx.now) }
 {
     let mut names = NameTracker::new(s.stream.allocator());
     context_keeps(&s.state);
@@ -149,7 +151,8 @@ fn alone_parse<T: IrText<A>, A: AttrText<A>, U>(
     ensures rest { KeepsRest s.old.state s.new.state }
     ensures refused { IfErr result (λ fault. Refusal s.old.stream fault s.new.stream) }
     ensures read { OnOk result (ReadsRegion T.IrText.reading (attr_at A.IrText.reading) parent s.old s.new) }
-    ensures missed { IfErr result (UnlessMemory (MissesRegion T.IrText.reading (attr_at A.IrText.reading) parent s.old)) }
+    ensures missed { IfErr result (UnlessMemory (MissesRegion T.IrText.reading (attr_at A.IrText.reading)
+        parent s.old)) }
     ensures builds { IsFresh s.old →
         IfOk result (λ r. BuildsRegion (texts_of T.IrText.reading T.IrText.written) (texts_of A.IrText.reading A.IrText.written) parent r s.old s.new) }
     ensures unresolved { IsFresh s.old →
@@ -157,7 +160,8 @@ fn alone_parse<T: IrText<A>, A: AttrText<A>, U>(
         (RefusesRegion (texts_of T.IrText.reading T.IrText.written) (texts_of A.IrText.reading A.IrText.written)
         s.old.state.ctx.now.dialects (unisolated s.old.state.ctx.now parent) s.old.stream)) }
     ensures noted { OnErr result (GainsMarks (marks_of s.old.state) (marks_of s.new.state)) }
-    ensures kept { OnErr result (KeepsOlder s.old.state.ctx.now.graph.made s.old.state.ctx.now s.new.state.ctx.now) }
+    ensures kept { OnErr result (KeepsOlder s.old.state.ctx.now.graph.made s.old.state.ctx.now
+        s.new.state.ctx.now) }
 {
     match unisolated_here(&s.state, parent) {
         Some(at) => Err(not_isolated(&mut s.stream, at)),
@@ -187,8 +191,10 @@ pub fn region_parse<T: IrText<A>, A: AttrText<A>, U>(
     ensures refused { IfErr result (λ fault. Refusal s.old.stream fault s.new.stream) }
     ensures failed { RefusesFailed s.old.stream result s.new.stream }
     ensures read { OnOk result (ReadsRegion T.reading (attr_at A.reading) parent s.old s.new) }
-    ensures missed { s.old.stream.failed ≡ false → IfErr result (UnlessMemory (MissesRegion T.reading (attr_at A.reading) parent s.old)) }
-    ensures builds { IsFresh s.old → IfOk result (λ r. BuildsRegion (texts_of T.reading T.written) (texts_of A.reading A.written) parent r s.old s.new) }
+    ensures missed { s.old.stream.failed ≡ false
+        → IfErr result (UnlessMemory (MissesRegion T.reading (attr_at A.reading) parent s.old)) }
+    ensures builds { IsFresh s.old → IfOk result (λ r. BuildsRegion (texts_of T.reading T.written)
+        (texts_of A.reading A.written) parent r s.old s.new) }
     ensures unresolved { IsFresh s.old →
         IfErr result (UnlessMemory
         (RefusesRegion (texts_of T.reading T.written) (texts_of A.reading A.written)

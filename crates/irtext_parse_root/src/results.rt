@@ -62,7 +62,8 @@ fn count_fault<A>(stream: &mut TextStream, results: usize, names: usize) -> Pars
 /// Returns the error for a name that is defined where no scope of names is open, at its location. Leaves the stream failed.
 #[cold]
 fn no_scope_error<A>(stream: &mut TextStream, name: &Identifier, loc: &Location<A>) -> ParseFault<A>
-    ensures says { UnlessMemory (λ f. (fault_of f.cause ≡ fault.NoActiveScope name.now) × (f.committed ≡ true) × IsOutermost loc.now f.pos) result }
+    ensures says { UnlessMemory (λ f. (fault_of f.cause ≡ fault.NoActiveScope name.now) × (f.committed ≡ true)
+        × IsOutermost loc.now f.pos) result }
     ensures refused { Refusal stream.old result stream.new }
 {
     match name.clone() {
@@ -85,7 +86,8 @@ pub fn process_parsed_ssa_defs<T: IrText<A>, A: AttrText<A>, U>(
     ensures state { s.new.state ≡ s.old.state }
     ensures refused { IfErr result (λ fault. Refusal s.old.stream fault s.new.stream) }
     ensures failed { RefusesFailed s.old.stream result s.new.stream }
-    ensures defines { OnOk result ((results.now ≡ []) × (length (parts.results s.old.state.ctx.now.graph op) ≡ 0) × (s.new.stream ≡ s.old.stream)) }
+    ensures defines { OnOk result ((results.now ≡ [])
+        × (length (parts.results s.old.state.ctx.now.graph op) ≡ 0) × (s.new.stream ≡ s.old.stream)) }
     ensures missed { s.old.stream.failed ≡ false →
         IfErr result (UnlessMemory (RefusesResults (length (parts.results s.old.state.ctx.now.graph op)) results.now s.old.stream)) }
 {

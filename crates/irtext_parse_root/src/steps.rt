@@ -36,10 +36,14 @@ fn coming_here<T: IrText<A>, A: AttrText<A>, U>(
     begun: &BegunOperation,
 ) -> Next
     requires counted { begun.now.steps ≡ length (steps_in state.now.ctx.now.dialects (id_of begun.now.id)) }
-    requires coming { IfSome begun.now.coming (λ next. IsStep next (slice_get (steps_in state.now.ctx.now.dialects (id_of begun.now.id)) begun.now.step)) }
-    requires isolated { begun.now.isolated ≡ formats.isolated state.now.ctx.now.dialects (id_of begun.now.id) }
+    requires coming { IfSome begun.now.coming
+        (λ next. IsStep next (slice_get (steps_in state.now.ctx.now.dialects (id_of begun.now.id))
+        begun.now.step)) }
+    requires isolated { begun.now.isolated ≡ formats.isolated state.now.ctx.now.dialects
+        (id_of begun.now.id) }
     ensures next { IsNext state.now.ctx.now.dialects begun.now result.coming }
-    ensures isolated { result.coming ≢ comes.End → result.isolated ≡ formats.isolated state.now.ctx.now.dialects (id_of begun.now.id) }
+    ensures isolated { result.coming ≢ comes.End → result.isolated ≡ formats.isolated
+        state.now.ctx.now.dialects (id_of begun.now.id) }
     ensures behind { result.coming ≢ comes.End → result.behind ≡ begun.now.step + 1 }
 {
     next_turn(state.ctx, begun)
@@ -64,12 +68,15 @@ fn piece_step<T: IrText<A>, A: AttrText<A>, U>(
 ) -> ParseResult<Option<Frame>, A>
     requires fine { s.old.stream.failed ≡ false }
     requires sound { IsSoundOnce names.old s.old.state }
-    requires here { AreHere T A (whole s.old.stream) s.old.state.ctx.now names.old (Some (framed.Operation begun)) frames.old }
+    requires here { AreHere T A (whole s.old.stream) s.old.state.ctx.now names.old
+        (Some (framed.Operation begun)) frames.old }
     requires next { IsNext s.old.state.ctx.now.dialects begun comes.Piece }
     ensures lent { s.new.state.ctx.ghost_name ≡ s.old.state.ctx.ghost_name }
-    ensures proceeds { IfOk result (λ next. Proceeds T.IrText.reading (attr_at A.IrText.reading) (framed.Operation begun)
+    ensures proceeds { IfOk result (λ next. Proceeds T.IrText.reading (attr_at A.IrText.reading)
+        (framed.Operation begun)
         frames.old names.old s.old names.new s.new next frames.new) }
-    ensures stops { IfErr result (Stops T.IrText.reading (attr_at A.IrText.reading) (framed.Operation begun) frames.old
+    ensures stops { IfErr result (Stops T.IrText.reading (attr_at A.IrText.reading)
+        (framed.Operation begun) frames.old
         names.old s.old) }
     ensures remains { OnErr result (Remains s.old.state s.new.state) }
     ensures names { KeepsNames names.old.names names.new.names }
@@ -93,14 +100,17 @@ fn region_step<T: IrText<A>, A: AttrText<A>, U>(
 ) -> ParseResult<Option<Frame>, A>
     requires fine { s.old.stream.failed ≡ false }
     requires sound { IsSoundOnce names.old s.old.state }
-    requires here { AreHere T A (whole s.old.stream) s.old.state.ctx.now names.old (Some (framed.Operation begun)) frames.old }
+    requires here { AreHere T A (whole s.old.stream) s.old.state.ctx.now names.old
+        (Some (framed.Operation begun)) frames.old }
     requires next { IsNext s.old.state.ctx.now.dialects begun comes.Region }
     requires isolated { isolated ≡ formats.isolated s.old.state.ctx.now.dialects (id_of begun.id) }
     requires behind { behind ≡ begun.step + 1 }
     ensures lent { s.new.state.ctx.ghost_name ≡ s.old.state.ctx.ghost_name }
-    ensures proceeds { IfOk result (λ next. Proceeds T.IrText.reading (attr_at A.IrText.reading) (framed.Operation begun)
+    ensures proceeds { IfOk result (λ next. Proceeds T.IrText.reading (attr_at A.IrText.reading)
+        (framed.Operation begun)
         frames.old names.old s.old names.new s.new next frames.new) }
-    ensures stops { IfErr result (Stops T.IrText.reading (attr_at A.IrText.reading) (framed.Operation begun) frames.old
+    ensures stops { IfErr result (Stops T.IrText.reading (attr_at A.IrText.reading)
+        (framed.Operation begun) frames.old
         names.old s.old) }
     ensures remains { OnErr result (Remains s.old.state s.new.state) }
     ensures names { KeepsNames names.old.names names.new.names }
@@ -129,14 +139,17 @@ fn regions_step<T: IrText<A>, A: AttrText<A>, U>(
 ) -> ParseResult<Option<Frame>, A>
     requires fine { s.old.stream.failed ≡ false }
     requires sound { IsSoundOnce names.old s.old.state }
-    requires here { AreHere T A (whole s.old.stream) s.old.state.ctx.now names.old (Some (framed.Operation begun)) frames.old }
+    requires here { AreHere T A (whole s.old.stream) s.old.state.ctx.now names.old
+        (Some (framed.Operation begun)) frames.old }
     requires next { IsNext s.old.state.ctx.now.dialects begun comes.Regions }
     requires isolated { isolated ≡ formats.isolated s.old.state.ctx.now.dialects (id_of begun.id) }
     requires behind { behind ≡ begun.step + 1 }
     ensures lent { s.new.state.ctx.ghost_name ≡ s.old.state.ctx.ghost_name }
-    ensures proceeds { IfOk result (λ next. Proceeds T.IrText.reading (attr_at A.IrText.reading) (framed.Operation begun)
+    ensures proceeds { IfOk result (λ next. Proceeds T.IrText.reading (attr_at A.IrText.reading)
+        (framed.Operation begun)
         frames.old names.old s.old names.new s.new next frames.new) }
-    ensures stops { IfErr result (Stops T.IrText.reading (attr_at A.IrText.reading) (framed.Operation begun) frames.old
+    ensures stops { IfErr result (Stops T.IrText.reading (attr_at A.IrText.reading)
+        (framed.Operation begun) frames.old
         names.old s.old) }
     ensures remains { OnErr result (Remains s.old.state s.new.state) }
     ensures names { KeepsNames names.old.names names.new.names }
@@ -164,12 +177,15 @@ fn end_step<T: IrText<A>, A: AttrText<A>, U>(
 ) -> ParseResult<Option<Frame>, A>
     requires fine { s.old.stream.failed ≡ false }
     requires sound { IsSoundOnce names.old s.old.state }
-    requires here { AreHere T A (whole s.old.stream) s.old.state.ctx.now names.old (Some (framed.Operation begun)) frames.old }
+    requires here { AreHere T A (whole s.old.stream) s.old.state.ctx.now names.old
+        (Some (framed.Operation begun)) frames.old }
     requires next { IsNext s.old.state.ctx.now.dialects begun comes.End }
     ensures lent { s.new.state.ctx.ghost_name ≡ s.old.state.ctx.ghost_name }
-    ensures proceeds { IfOk result (λ next. Proceeds T.IrText.reading (attr_at A.IrText.reading) (framed.Operation begun)
+    ensures proceeds { IfOk result (λ next. Proceeds T.IrText.reading (attr_at A.IrText.reading)
+        (framed.Operation begun)
         frames.old names.old s.old names.new s.new next frames.new) }
-    ensures stops { IfErr result (Stops T.IrText.reading (attr_at A.IrText.reading) (framed.Operation begun) frames.old
+    ensures stops { IfErr result (Stops T.IrText.reading (attr_at A.IrText.reading)
+        (framed.Operation begun) frames.old
         names.old s.old) }
     ensures remains { OnErr result (Remains s.old.state s.new.state) }
     ensures names { KeepsNames names.old.names names.new.names }
@@ -190,11 +206,14 @@ fn operation_step<T: IrText<A>, A: AttrText<A>, U>(
 ) -> ParseResult<Option<Frame>, A>
     requires fine { s.old.stream.failed ≡ false }
     requires sound { IsSoundOnce names.old s.old.state }
-    requires here { AreHere T A (whole s.old.stream) s.old.state.ctx.now names.old (Some (framed.Operation begun)) frames.old }
+    requires here { AreHere T A (whole s.old.stream) s.old.state.ctx.now names.old
+        (Some (framed.Operation begun)) frames.old }
     ensures lent { s.new.state.ctx.ghost_name ≡ s.old.state.ctx.ghost_name }
-    ensures proceeds { IfOk result (λ next. Proceeds T.IrText.reading (attr_at A.IrText.reading) (framed.Operation begun)
+    ensures proceeds { IfOk result (λ next. Proceeds T.IrText.reading (attr_at A.IrText.reading)
+        (framed.Operation begun)
         frames.old names.old s.old names.new s.new next frames.new) }
-    ensures stops { IfErr result (Stops T.IrText.reading (attr_at A.IrText.reading) (framed.Operation begun) frames.old
+    ensures stops { IfErr result (Stops T.IrText.reading (attr_at A.IrText.reading)
+        (framed.Operation begun) frames.old
         names.old s.old) }
     ensures remains { OnErr result (Remains s.old.state s.new.state) }
     ensures names { KeepsNames names.old.names names.new.names }
@@ -215,16 +234,20 @@ fn operation_step<T: IrText<A>, A: AttrText<A>, U>(
 fn blocks_step<T: IrText<A>, A: AttrText<A>, U>(
     s: &mut StateStream<'_, T, A, U>,
     names: &mut Names,
+    keys: &mut Keys,
     frames: &mut Waiting,
     region: BegunRegion,
 ) -> ParseResult<Option<Frame>, A>
     requires fine { s.old.stream.failed ≡ false }
     requires sound { IsSoundOnce names.old s.old.state }
-    requires here { AreHere T A (whole s.old.stream) s.old.state.ctx.now names.old (Some (framed.Region region)) frames.old }
+    requires here { AreHere T A (whole s.old.stream) s.old.state.ctx.now names.old
+        (Some (framed.Region region)) frames.old }
     ensures lent { s.new.state.ctx.ghost_name ≡ s.old.state.ctx.ghost_name }
-    ensures proceeds { IfOk result (λ next. Proceeds T.IrText.reading (attr_at A.IrText.reading) (framed.Region region)
+    ensures proceeds { IfOk result (λ next. Proceeds T.IrText.reading (attr_at A.IrText.reading)
+        (framed.Region region)
         frames.old names.old s.old names.new s.new next frames.new) }
-    ensures stops { IfErr result (Stops T.IrText.reading (attr_at A.IrText.reading) (framed.Region region) frames.old
+    ensures stops { IfErr result (Stops T.IrText.reading (attr_at A.IrText.reading)
+        (framed.Region region) frames.old
         names.old s.old) }
     ensures remains { OnErr result (Remains s.old.state s.new.state) }
     ensures names { KeepsNames names.old.names names.new.names }
@@ -237,7 +260,7 @@ fn blocks_step<T: IrText<A>, A: AttrText<A>, U>(
         leave(s, names, region)?;
         return Ok(frames.pop());
     }
-    let block = head(s, names, region.region)?;
+    let block = head(s, names, keys, region.region)?;
     let Ok(()) = frames.push(Frame::Region(region)) else {
         return Err(out_of_memory(&mut s.stream));
     };
@@ -254,11 +277,14 @@ fn block_step<T: IrText<A>, A: AttrText<A>, U>(
 ) -> ParseResult<Option<Frame>, A>
     requires fine { s.old.stream.failed ≡ false }
     requires sound { IsSoundOnce names.old s.old.state }
-    requires here { AreHere T A (whole s.old.stream) s.old.state.ctx.now names.old (Some (framed.Block block)) frames.old }
+    requires here { AreHere T A (whole s.old.stream) s.old.state.ctx.now names.old (Some (framed.Block block))
+        frames.old }
     ensures lent { s.new.state.ctx.ghost_name ≡ s.old.state.ctx.ghost_name }
-    ensures proceeds { IfOk result (λ next. Proceeds T.IrText.reading (attr_at A.IrText.reading) (framed.Block block)
+    ensures proceeds { IfOk result (λ next. Proceeds T.IrText.reading (attr_at A.IrText.reading)
+        (framed.Block block)
         frames.old names.old s.old names.new s.new next frames.new) }
-    ensures stops { IfErr result (Stops T.IrText.reading (attr_at A.IrText.reading) (framed.Block block) frames.old names.old s.old) }
+    ensures stops { IfErr result (Stops T.IrText.reading (attr_at A.IrText.reading) (framed.Block block)
+        frames.old names.old s.old) }
     ensures remains { OnErr result (Remains s.old.state s.new.state) }
     ensures names { KeepsNames names.old.names names.new.names }
     ensures kept { (m : ℕ) → m ≤ s.old.state.ctx.now.graph.made → IsClosedBelow m s.old.state.ctx.now.graph →
@@ -291,9 +317,11 @@ pub(crate) fn step<T: IrText<A>, A: AttrText<A>, U>(
     requires sound { IsSoundOnce names.old s.old.state }
     requires here { AreHere T A (whole s.old.stream) s.old.state.ctx.now names.old (Some frame) frames.old }
     ensures lent { s.new.state.ctx.ghost_name ≡ s.old.state.ctx.ghost_name }
-    ensures proceeds { IfOk result (λ next. Proceeds T.IrText.reading (attr_at A.IrText.reading) frame frames.old names.old
+    ensures proceeds { IfOk result (λ next. Proceeds T.IrText.reading (attr_at A.IrText.reading) frame
+        frames.old names.old
         s.old names.new s.new next frames.new) }
-    ensures stops { IfErr result (Stops T.IrText.reading (attr_at A.IrText.reading) frame frames.old names.old s.old) }
+    ensures stops { IfErr result (Stops T.IrText.reading (attr_at A.IrText.reading) frame frames.old
+        names.old s.old) }
     ensures remains { OnErr result (Remains s.old.state s.new.state) }
     ensures names { KeepsNames names.old.names names.new.names }
     ensures kept { (m : ℕ) → m ≤ s.old.state.ctx.now.graph.made → IsClosedBelow m s.old.state.ctx.now.graph →
@@ -302,7 +330,7 @@ pub(crate) fn step<T: IrText<A>, A: AttrText<A>, U>(
 {
     match frame {
         Frame::Operation(begun) => operation_step(s, names, frames, begun),
-        Frame::Region(region) => blocks_step(s, names, frames, region),
+        Frame::Region(region) => blocks_step(s, names, keys, frames, region),
         Frame::Block(block) => block_step(s, names, keys, frames, block),
     }
 }

@@ -32,7 +32,8 @@ use irtext_scopes::tracker::NameTracker;
 /// every live object was created before the current count of created objects, and the format of each operation is accepted.
 pub(crate) fn context_keeps<T: IrText<A>, A: AttrText<A>, U>(state: &State<'_, T, A, U>)
     ensures nest { Nested (children state.now.ctx.now.graph) (parent state.now.ctx.now.graph) }
-    ensures holders { (c k : _) → parent state.now.ctx.now.graph c ≡ Some k → IsLive state.now.ctx.now.graph k }
+    ensures holders { (c k : _) → parent state.now.ctx.now.graph c ≡ Some k
+        → IsLive state.now.ctx.now.graph k }
     ensures older { AllOlder state.now.ctx.now.graph.made state.now.ctx.now.graph }
     ensures closed { IsClosedBelow state.now.ctx.now.graph.made state.now.ctx.now.graph }
     ensures accepted { (id : Id) → IsAccepted state.now.ctx.now.dialects id }
@@ -60,9 +61,11 @@ pub fn tree_parse<T: IrText<A>, A: AttrText<A>, U>(
     ensures lent { s.new.state.ctx.ghost_name ≡ s.old.state.ctx.ghost_name }
     ensures rest { KeepsRest s.old.state s.new.state }
     ensures read { IfOk result (λ op. ReadsTree T.IrText.reading (attr_at A.IrText.reading) op s.old s.new) }
-    ensures missed { IfErr result (UnlessMemory (HasFaultFrom {T = T} T.IrText.reading (attr_at A.IrText.reading) s.old.state.ctx.now.dialects
+    ensures missed { IfErr result (UnlessMemory (HasFaultFrom {T = T} T.IrText.reading
+        (attr_at A.IrText.reading) s.old.state.ctx.now.dialects
         (indices_of (marks_of s.old.state)) (whole s.old.stream) s.old.stream.rest)) }
-    ensures leaves { IsFresh s.old → IfOk result (λ op. LeavesMarked T.IrText.reading (attr_at A.IrText.reading) op s.old s.new) }
+    ensures leaves { IsFresh s.old → IfOk result (λ op. LeavesMarked T.IrText.reading
+        (attr_at A.IrText.reading) op s.old s.new) }
     ensures accepted { (id : Id) → IsAccepted s.old.state.ctx.now.dialects id }
     ensures older { AllOlder s.old.state.ctx.now.graph.made s.old.state.ctx.now.graph }
     ensures moves { OnOk result (Moves s.old.stream s.new.stream) }

@@ -45,8 +45,10 @@ pub(crate) fn begin<T: IrText<A>, A: AttrText<A>, U>(
     requires sound { IsSoundOnce names.old s.old.state }
     requires place { IfSome block (λ b. IsThere s.old.state.ctx.now (TheBlock b)) }
     ensures lent { s.new.state.ctx.ghost_name ≡ s.old.state.ctx.ghost_name }
-    ensures begins { IfOk result (λ b. Begins T.IrText.reading (attr_at A.IrText.reading) names.old s.old block b names.new s.new) }
-    ensures refused { IfErr result (UnlessMemory (RefusesOperation T.IrText.reading (attr_at A.IrText.reading) true (is_some block)
+    ensures begins { IfOk result (λ b. Begins T.IrText.reading (attr_at A.IrText.reading) names.old s.old
+        block b names.new s.new) }
+    ensures refused { IfErr result (UnlessMemory (RefusesOperation T.IrText.reading (attr_at A.IrText.reading)
+        true (is_some block)
         names.old s.old)) }
     ensures unread { IfErr result (λ fault. fault.committed ≡ false → s.new.stream ≡ s.old.stream) }
     ensures remains { OnErr result (Remains s.old.state s.new.state) }
@@ -68,10 +70,12 @@ pub(crate) fn go_on<T: IrText<A>, A: AttrText<A>, U>(
     requires sound { IsSoundOnce names.old s.old.state }
     requires stands { IsSome (operation s.old.state.ctx.now begun.old.op) }
     requires step { IsNext s.old.state.ctx.now.dialects begun.old comes.Piece }
-    requires begun { (o : OpenOperation T A) × (step : Step) × (ss : List Step) × IsBegun names.old.names (whole s.old.stream)
+    requires begun { (o : OpenOperation T A) × (step : Step) × (ss : List Step) × IsBegun names.old.names
+        (whole s.old.stream)
         s.old.state.ctx.now begun.old o × (o.steps ≡ step ∷ ss) }
     ensures lent { s.new.state.ctx.ghost_name ≡ s.old.state.ctx.ghost_name }
-    ensures goes_on { OnOk result (Continues T.IrText.reading (attr_at A.IrText.reading) names.old s.old begun.old begun.new
+    ensures goes_on { OnOk result (Continues T.IrText.reading (attr_at A.IrText.reading) names.old s.old
+        begun.old begun.new
         names.new s.new) }
     ensures refused { IfErr result (λ fault. (o : OpenOperation T A) (step : Step) (ss : List Step) →
         IsBegun names.old.names (whole s.old.stream) s.old.state.ctx.now begun.old o → o.steps ≡ step ∷ ss
@@ -97,9 +101,11 @@ pub(crate) fn end<T: IrText<A>, A: AttrText<A>, U>(
     requires stands { IsSome (operation s.old.state.ctx.now begun.now.op) }
     requires counts { length (results s.old.state.ctx.now.graph begun.now.op) ≡ begun.now.results }
     requires known { AreKnown (length names.old.names) (numbers_of begun.now.names) }
-    requires begun { (o : OpenOperation T A) × IsBegun names.old.names (whole s.old.stream) s.old.state.ctx.now begun.now o }
+    requires begun { (o : OpenOperation T A) × IsBegun names.old.names (whole s.old.stream)
+        s.old.state.ctx.now begun.now o }
     ensures lent { s.new.state.ctx.ghost_name ≡ s.old.state.ctx.ghost_name }
-    ensures ends { OnOk result (Ends T.IrText.reading (attr_at A.IrText.reading) names.old s.old begun.now names.new s.new) }
+    ensures ends { OnOk result (Ends T.IrText.reading (attr_at A.IrText.reading) names.old s.old begun.now
+        names.new s.new) }
     ensures refused { IfErr result (λ fault. (o : OpenOperation T A) →
         IsBegun names.old.names (whole s.old.stream) s.old.state.ctx.now begun.now o
         → UnlessMemory (RefusesEnd T.IrText.reading (attr_at A.IrText.reading) o begun.now names.old s.old) fault) }
@@ -124,8 +130,10 @@ pub(crate) fn enter<T: IrText<A>, A: AttrText<A>, U>(
     requires sound { IsSoundOnce names.old s.old.state }
     requires stands { IsSome (operation s.old.state.ctx.now op) }
     ensures lent { s.new.state.ctx.ghost_name ≡ s.old.state.ctx.ghost_name }
-    ensures enters { IfOk result (λ r. Enters T.IrText.reading (attr_at A.IrText.reading) names.old s.old op isolated r names.new s.new) }
-    ensures refused { IfErr result (UnlessMemory (RefusesRegion T.IrText.reading (attr_at A.IrText.reading) isolated names.old s.old)) }
+    ensures enters { IfOk result (λ r. Enters T.IrText.reading (attr_at A.IrText.reading) names.old s.old op
+        isolated r names.new s.new) }
+    ensures refused { IfErr result (UnlessMemory (RefusesRegion T.IrText.reading (attr_at A.IrText.reading)
+        isolated names.old s.old)) }
     ensures committed { IfErr result (λ fault. fault.committed ≡ true) }
     ensures remains { OnErr result (Remains s.old.state s.new.state) }
     ensures names { KeepsNames names.old.names names.new.names }
@@ -144,10 +152,13 @@ pub(crate) fn leave<T: IrText<A>, A: AttrText<A>, U>(
 ) -> ParseResult<(), A>
     requires fine { s.old.stream.failed ≡ false }
     requires sound { IsSoundOnce names.old s.old.state }
-    requires begun { (place : ℕ) × IsRegion names.old.names (whole s.old.stream) s.old.state.ctx.now region region.isolated place }
+    requires begun { (place : ℕ) × IsRegion names.old.names (whole s.old.stream) s.old.state.ctx.now region
+        region.isolated place }
     ensures lent { s.new.state.ctx.ghost_name ≡ s.old.state.ctx.ghost_name }
-    ensures leaves { OnOk result (Leaves T.IrText.reading (attr_at A.IrText.reading) names.old s.old region names.new s.new) }
-    ensures refused { IfErr result (λ fault. (place : ℕ) → IsRegion names.old.names (whole s.old.stream) s.old.state.ctx.now region
+    ensures leaves { OnOk result (Leaves T.IrText.reading (attr_at A.IrText.reading) names.old s.old region
+        names.new s.new) }
+    ensures refused { IfErr result (λ fault. (place : ℕ) → IsRegion names.old.names (whole s.old.stream)
+        s.old.state.ctx.now region
         region.isolated place
         → UnlessMemory (RefusesRegionEnd T.IrText.reading (attr_at A.IrText.reading) region.isolated place names.old s.old) fault) }
     ensures committed { IfErr result (λ fault. fault.committed ≡ true) }
@@ -164,6 +175,7 @@ pub(crate) fn leave<T: IrText<A>, A: AttrText<A>, U>(
 pub(crate) fn head<T: IrText<A>, A: AttrText<A>, U>(
     s: &mut StateStream<'_, T, A, U>,
     names: &mut Names,
+    keys: &mut Keys,
     region: Ptr<Region>,
 ) -> ParseResult<BegunBlock, A>
     requires fine { s.old.stream.failed ≡ false }
@@ -172,8 +184,10 @@ pub(crate) fn head<T: IrText<A>, A: AttrText<A>, U>(
     requires open { (is_open names.old.values ≡ true) × (is_open names.old.labels ≡ true) }
     ensures lent { s.new.state.ctx.ghost_name ≡ s.old.state.ctx.ghost_name }
     ensures first { IfOk result (λ b. b.first ≡ true) }
-    ensures heads { IfOk result (λ b. Heads T.IrText.reading (attr_at A.IrText.reading) names.old s.old region b names.new s.new) }
-    ensures refused { IfErr result (UnlessMemory (RefusesBlock T.IrText.reading (attr_at A.IrText.reading) names.old s.old)) }
+    ensures heads { IfOk result (λ b. Heads T.IrText.reading (attr_at A.IrText.reading) names.old s.old region
+        b names.new s.new) }
+    ensures refused { IfErr result (UnlessMemory (RefusesBlock T.IrText.reading (attr_at A.IrText.reading)
+        names.old s.old)) }
     ensures committed { IfErr result (λ fault. fault.committed ≡ true) }
     ensures remains { OnErr result (Remains s.old.state s.new.state) }
     ensures names { KeepsNames names.old.names names.new.names }
@@ -181,5 +195,5 @@ pub(crate) fn head<T: IrText<A>, A: AttrText<A>, U>(
         IsSound m names.old s.old.state
         → IsNew m s.old.state.ctx.now.graph (TheRegion region) → KeepsOlder m s.old.state.ctx.now s.new.state.ctx.now }
 {
-    block_begin(s, names, region)
+    block_begin(s, names, keys, region)
 }

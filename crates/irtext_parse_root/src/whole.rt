@@ -53,11 +53,14 @@ fn rest_parse<T: IrText<A>, A: AttrText<A>, U>(
     ensures lent { s.new.state.ctx.ghost_name ≡ s.old.state.ctx.ghost_name }
     ensures rest { KeepsRest s.old.state s.new.state }
     ensures read { OnOk result (EndsAny (attr_at A.IrText.reading) s.old s.new) }
-    ensures missed { s.old.stream.failed ≡ false → IfErr result (UnlessMemory (MissesEnd (attr_at A.IrText.reading) s.old)) }
+    ensures missed { s.old.stream.failed ≡ false
+        → IfErr result (UnlessMemory (MissesEnd (attr_at A.IrText.reading) s.old)) }
     ensures refused { IfErr result (λ fault. CommittedRefusal s.old.stream fault s.new.stream) }
     ensures marks { OnErr result (marks_of s.new.state ≡ marks_of s.old.state) }
-    ensures kept { (mark : ℕ) → AreNewer mark s.old.state.ctx.now (marks_of s.old.state) → KeepsOlder mark s.old.state.ctx.now s.new.state.ctx.now }
-    ensures unchanged { (mark : ℕ) → (earlier ≡ false → AreNewer mark s.old.state.ctx.now (marks_of s.old.state)) →
+    ensures kept { (mark : ℕ) → AreNewer mark s.old.state.ctx.now (marks_of s.old.state)
+        → KeepsOlder mark s.old.state.ctx.now s.new.state.ctx.now }
+    ensures unchanged { (mark : ℕ) → (earlier ≡ false → AreNewer mark s.old.state.ctx.now
+        (marks_of s.old.state)) →
         OnErr result (KeepsOlder mark s.old.state.ctx.now s.new.state.ctx.now) }
 {
     if !s.state.has_marks() {
@@ -77,8 +80,10 @@ fn ended_parse<T: IrText<A>, A: AttrText<A>, U>(
     ensures lent { s.new.state.ctx.ghost_name ≡ s.old.state.ctx.ghost_name }
     ensures rest { KeepsRest s.old.state s.new.state }
     ensures refused { IfErr result (λ fault. Refusal s.old.stream fault s.new.stream) }
-    ensures read { IfOk result (λ op. ReadsWholeAny T.IrText.reading (attr_at A.IrText.reading) op s.old s.new) }
-    ensures missed { IfErr result (UnlessMemory (MissesWholeAny T.IrText.reading (attr_at A.IrText.reading) s.old)) }
+    ensures read { IfOk result (λ op. ReadsWholeAny T.IrText.reading (attr_at A.IrText.reading) op
+        s.old s.new) }
+    ensures missed { IfErr result (UnlessMemory (MissesWholeAny T.IrText.reading
+        (attr_at A.IrText.reading) s.old)) }
     ensures builds { IsFresh s.old →
         IfOk result (λ op. BuildsWhole (texts_of T.IrText.reading T.IrText.written) (texts_of A.IrText.reading A.IrText.written)
         T.IrText.reading (attr_at A.IrText.reading) op s.old s.new) }
@@ -86,8 +91,10 @@ fn ended_parse<T: IrText<A>, A: AttrText<A>, U>(
         IfErr result (UnlessMemory
         (RefusesWhole (texts_of T.IrText.reading T.IrText.written) (texts_of A.IrText.reading A.IrText.written) T.IrText.reading
         (attr_at A.IrText.reading) s.old)) }
-    ensures noted { OnErr result ((more : List (ℕ × Item)) × (marks_of s.new.state ≡ marks_of s.old.state ++ more)) }
-    ensures kept { OnErr result (KeepsOlder s.old.state.ctx.now.graph.made s.old.state.ctx.now s.new.state.ctx.now) }
+    ensures noted { OnErr result ((more : List (ℕ × Item))
+        × (marks_of s.new.state ≡ marks_of s.old.state ++ more)) }
+    ensures kept { OnErr result (KeepsOlder s.old.state.ctx.now.graph.made s.old.state.ctx.now
+        s.new.state.ctx.now) }
 {
     let earlier = s.state.has_marks();
     let op = tree_parse(s)?;
@@ -107,7 +114,8 @@ pub fn whole_parse<T: IrText<A>, A: AttrText<A>, U>(
     ensures refused { IfErr result (λ fault. Refusal s.old.stream fault s.new.stream) }
     ensures failed { RefusesFailed s.old.stream result s.new.stream }
     ensures read { IfOk result (λ op. ReadsWholeAny T.reading (attr_at A.reading) op s.old s.new) }
-    ensures missed { s.old.stream.failed ≡ false → IfErr result (UnlessMemory (MissesWholeAny T.reading (attr_at A.reading) s.old)) }
+    ensures missed { s.old.stream.failed ≡ false
+        → IfErr result (UnlessMemory (MissesWholeAny T.reading (attr_at A.reading) s.old)) }
     ensures builds { IsFresh s.old →
         IfOk result (λ op. BuildsWhole (texts_of T.reading T.written) (texts_of A.reading A.written) T.reading
         (attr_at A.reading) op s.old s.new) }

@@ -25,7 +25,7 @@ use Rattle.irtext_tokens.proofs.Spelling.{prefixed-prefixed}
 use Rattle.irtext_parse_spec.specs.Readers.Positions.{spaced_at, labelled_at}
 use Rattle.irtext_parse_spec.specs.Readers.Streams.{itself, replaced}
 use Rattle.irtext_stream.specs.declared.position.SourcePosition.{SourcePosition}
-use Rattle.irtext_parse_section.specs.Plain.{TakesDigits, TakesNumber, Looks, Gets, GetsInteger, line_at, column_at, behind_source_at}
+use Rattle.irtext_parse_section.specs.Plain.{TakesDigits, TakesNumber, DigitsBehind, NumberBehind, Looks, Gets, line_at, column_at, behind_source_at}
 
 no_sign : (c : ℕ) → is_ascii_digit c ≡ true → is_sign c ≡ false
 no_sign c e = grind (arith, nat_tests)
@@ -95,12 +95,6 @@ labelled reader label reads old mid new rest z e m n =
     let v : mid.rest ≡ rest = ap (λ v. v.rest) m in
     let is = subst (λ u. reader (label ++ u) ≡ Read z (label ++ front is_ascii_digit mid.rest) (after is_ascii_digit mid.rest)) v (reads mid.rest z (front is_ascii_digit mid.rest) (after is_ascii_digit mid.rest) n.some n.is) in
     behind_label reader label (front is_ascii_digit mid.rest) (after is_ascii_digit mid.rest) z old mid new rest e m is n.takes
-
-pub line_taken : (old mid new : StreamView) (rest : Text) (z : ℤ) → old.rest ≡ codes ": line: " ++ rest → mid ≡ behind old (codes ": line: ") rest → TakesNumber integer_at mid z new → Gets line_at old new z
-line_taken = labelled line_at (codes ": line: ") line_read
-
-pub column_taken : (old mid new : StreamView) (rest : Text) (z : ℤ) → old.rest ≡ codes ", column: " ++ rest → mid ≡ behind old (codes ", column: ") rest → TakesNumber integer_at mid z new → Gets column_at old new z
-column_taken = labelled column_at (codes ", column: ") column_read
 
 -- one value was parsed, and another after it
 gives_behind : {Y : Type 0} (o : Outcome Y) (t r : Text) (old mid new : StreamView) (y : Y) → Takes itself replaced t r old mid → Gives itself replaced o mid y new → Gives itself replaced (prefixed t o) old y new
@@ -174,10 +168,15 @@ fits_signed n z e =
       | false ↦ (λ q h. absurd (cc))
     ] refl e
 
--- the integer of digits, or none that fits
-pub number_looks : {old new : StreamView} (n : ℕ) (r : Option ℤ) → TakesDigits old n new → option_map (λ (z : ℤ). z) r ≡ within (signed_below 32) false n → Looks (λ z. TakesNumber integer_at old z new × FitsSigned w32 z) old r new
-number_looks n (Some z) t e = (integer_taken n z t (sym e), fits_signed n z (sym e))
-number_looks {old = old} n None t e = taken (front is_ascii_digit old.rest) (after is_ascii_digit old.rest) t.takes
+-- a text was consumed, and digits after it are looked for
+pub digits_looks : (before : Text) (old mid new : StreamView) (r : Option ℕ) → Comes before old (λ v. mid ≡ v) → Looks (λ n. TakesDigits mid n new) mid r new → Looks (DigitsBehind before old new) old r new
+digits_looks before old mid new (Some n) h d = record { mid = mid; comes = h; digits = d }
+digits_looks before old mid new None h s = further before h.0 (record { is = h.2; same = sym h.1 }) s
+
+-- the integer of these digits, or none that fits
+pub number_looks : (before : Text) (old new : StreamView) (n : ℕ) (r : Option ℤ) → DigitsBehind before old new n → option_map (λ (z : ℤ). z) r ≡ within (signed_below 32) false n → Looks (NumberBehind before old new) old r new
+number_looks before old new n (Some z) t e = record { mid = t.mid; comes = t.comes; number = integer_taken n z t.digits (sym e); fits = fits_signed n z (sym e) }
+number_looks before old new n None t e = let rest = t.mid.rest in further before t.comes.0 (record { is = t.comes.2; same = sym t.comes.1 }) (taken (front is_ascii_digit rest) (after is_ascii_digit rest) t.digits.takes)
 
 below_ascii : (c : ℕ) → nat_lt c 128 ≡ true → c < 128
 below_ascii c e = grind (arith, nat_tests)
@@ -190,14 +189,15 @@ ascii_tested (c ∷ text) e = IsAscii-cons c text (below_ascii c (and_left (nat_
 pub chars_ascii : (text : Text) → list_all (λ c. nat_lt c 128) text ≡ true → chars text ≡ text
 chars_ascii text e = chars-IsAscii text (ascii_tested text e)
 
--- a label was consumed, and a number after it is looked for
-labelled_looks : (reader : Reader ℤ) (label : Text) → ((old mid new : StreamView) (rest : Text) (z : ℤ) → old.rest ≡ label ++ rest → mid ≡ behind old label rest → TakesNumber integer_at mid z new → Gets reader old new z)
-    → (old mid new : StreamView) (r : Option ℤ) → Comes label old (λ v. mid ≡ v) → Looks (λ z. TakesNumber integer_at mid z new × FitsSigned w32 z) mid r new → Looks (GetsInteger reader old new) old r new
-labelled_looks reader label takes old mid new (Some z) h n = (takes old mid new h.0 z h.1 h.2 n.0, n.1)
-labelled_looks reader label takes old mid new None h s = further label h.0 (record { is = h.2; same = sym h.1 }) s
+-- a label was consumed, and a number after it
+labelled_behind : (reader : Reader ℤ) (label : Text) → list_all (λ c. nat_lt c 128) label ≡ true → ((text : Text) (z : ℤ) (t r : Text) → begins is_ascii_digit text ≡ true → integer_at text ≡ Read z t r → reader (label ++ text) ≡ Read z (label ++ t) r)
+    → (old new : StreamView) (z : ℤ) → NumberBehind (chars label) old new z → Gets reader old new z
+labelled_behind reader label ascii reads old new z n =
+    let k : Comes label old (λ v. n.mid ≡ v) = subst (λ t. Comes t old (λ v. n.mid ≡ v)) (chars_ascii label ascii) n.comes in
+    labelled reader label reads old n.mid new k.0 z k.1 k.2 n.number
 
-pub line_looks : (old mid new : StreamView) (r : Option ℤ) → Comes (chars (codes ": line: ")) old (λ v. mid ≡ v) → Looks (λ z. TakesNumber integer_at mid z new × FitsSigned w32 z) mid r new → Looks (GetsInteger line_at old new) old r new
-line_looks old mid new r h s = labelled_looks line_at (codes ": line: ") line_taken old mid new r (subst (λ t. Comes t old (λ v. mid ≡ v)) (chars_ascii (codes ": line: ") refl) h) s
+pub line_behind : (old new : StreamView) (z : ℤ) → NumberBehind (chars (codes ": line: ")) old new z → Gets line_at old new z
+line_behind = labelled_behind line_at (codes ": line: ") refl line_read
 
-pub column_looks : (old mid new : StreamView) (r : Option ℤ) → Comes (chars (codes ", column: ")) old (λ v. mid ≡ v) → Looks (λ z. TakesNumber integer_at mid z new × FitsSigned w32 z) mid r new → Looks (GetsInteger column_at old new) old r new
-column_looks old mid new r h s = labelled_looks column_at (codes ", column: ") column_taken old mid new r (subst (λ t. Comes t old (λ v. mid ≡ v)) (chars_ascii (codes ", column: ") refl) h) s
+pub column_behind : (old new : StreamView) (z : ℤ) → NumberBehind (chars (codes ", column: ")) old new z → Gets column_at old new z
+column_behind = labelled_behind column_at (codes ", column: ") refl column_read

@@ -15,8 +15,8 @@ use Rattle.irtext_parse_spec.specs.Readers.Streams.{itself, replaced}
 use Rattle.irtext_grammar.specs.Names.Acts.{Rule}
 use Rattle.irtext_parse_pieces.specs.declared.entries.Key.{Key}
 use Rattle.irtext_parse_spec.specs.Entries.{pairs_at}
-use Rattle.irtext_parse_section.specs.Plain.{TakesDigits, Looks, Gets}
-use Rattle.irtext_parse_section.proofs.Plain.{number_taken, behind_label, further, gets_must, chars_ascii}
+use Rattle.irtext_parse_section.specs.Plain.{TakesDigits, DigitsBehind, SpaceBehind, Gets}
+use Rattle.irtext_parse_section.proofs.Plain.{number_taken, behind_label, gets_must, chars_ascii}
 use Rattle.irtext_parse_section.specs.Entries.{location_end_at}
 use Rattle.irtext_parse_section.specs.Said.{MustPairs}
 use Rattle.irtext_parse_section.specs.declared.said.GivenAttr.{GivenAttr}
@@ -45,24 +45,23 @@ pub no_pairs : {A : Type 0} (attr : Text → Outcome (AttrView A)) (rule : Rule 
 unfolding pairs_at word_at
 no_pairs attr rule rest = refl
 
--- `!` was consumed, and digits after it are looked for
-pub index_looks : (old mid new : StreamView) (r : Option ℕ) → Comes (chars (codes "!")) old (λ v. mid ≡ v) → Looks (λ n. TakesDigits mid n new) mid r new → Looks (Gets index_at old new) old r new
-index_looks old mid new (Some n) h d =
-    let k : Comes (codes "!") old (λ v. mid ≡ v) = subst (λ t. Comes t old (λ v. mid ≡ v)) (chars_ascii (codes "!") refl) h in
-    index_taken old mid new k.0 n k.1 k.2 d
-index_looks old mid new None h s = further (chars (codes "!")) h.0 (record { is = h.2; same = sym h.1 }) s
+-- `!` was consumed, and digits after it
+pub index_behind : (old new : StreamView) (n : ℕ) → DigitsBehind (chars (codes "!")) old new n → Gets index_at old new n
+index_behind old new n d =
+    let k : Comes (codes "!") old (λ v. d.mid ≡ v) = subst (λ t. Comes t old (λ v. d.mid ≡ v)) (chars_ascii (codes "!") refl) d.comes in
+    index_taken old d.mid new k.0 n k.1 k.2 d.digits
 
 -- ` = ` and white space were passed
-pub equals_comes : (old mid new : StreamView) → Comes (chars (codes " = ")) old (λ v. mid ≡ v) → Takes itself replaced (front is_whitespace mid.rest) (after is_whitespace mid.rest) mid new → Gets (spaced_at (codes "=")) old new tt
-equals_comes old mid new h t =
-    let k : Comes (codes " = ") old (λ v. mid ≡ v) = subst (λ t. Comes t old (λ v. mid ≡ v)) (chars_ascii (codes " = ") refl) h in
-    equals_taken old mid new k.0 k.1 k.2 t
+pub equals_comes : (old new : StreamView) → SpaceBehind (chars (codes " = ")) old new → Gets (spaced_at (codes "=")) old new tt
+equals_comes old new s =
+    let k : Comes (codes " = ") old (λ v. s.mid ≡ v) = subst (λ t. Comes t old (λ v. s.mid ≡ v)) (chars_ascii (codes " = ") refl) s.comes in
+    equals_taken old s.mid new k.0 k.1 k.2 s.space
 
 -- `], ` and white space were passed
-pub end_comes : (old mid new : StreamView) → Comes (chars (codes "], ")) old (λ v. mid ≡ v) → Takes itself replaced (front is_whitespace mid.rest) (after is_whitespace mid.rest) mid new → Gets location_end_at old new tt
-end_comes old mid new h t =
-    let k : Comes (codes "], ") old (λ v. mid ≡ v) = subst (λ t. Comes t old (λ v. mid ≡ v)) (chars_ascii (codes "], ") refl) h in
-    end_taken old mid new k.0 k.1 k.2 t
+pub end_comes : (old new : StreamView) → SpaceBehind (chars (codes "], ")) old new → Gets location_end_at old new tt
+end_comes old new s =
+    let k : Comes (codes "], ") old (λ v. s.mid ≡ v) = subst (λ t. Comes t old (λ v. s.mid ≡ v)) (chars_ascii (codes "], ") refl) s.comes in
+    end_taken old s.mid new k.0 k.1 k.2 s.space
 
 -- a value after what ends a location
 pub end_mapped : {X : Type 0} (x : X) (text : Text) → mapped (λ _. x) (location_end_at text) ≡ followed (spaced_at (codes "]") text) (λ _ t. followed (text_at (codes ",") t) (λ _ u. mapped (λ _. x) (space_at u)))

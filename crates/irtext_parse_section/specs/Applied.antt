@@ -8,9 +8,10 @@ use Rattle.irtext_base.specs.Format.{same_text, block_label_key}
 use Rattle.irtext_base.specs.declared.base.attributes.AttrObj.{AttrObj}
 use Rattle.irtext_base.specs.declared.location.Location.{Location}
 use Rattle.irtext_base.specs.Paths.{Written}
-use Rattle.irtext_context.specs.Context.{ContextView, OperationView, BlockView, operation, block, EditsOperation, EditsBlock, with_loc, with_attributes, with_block_loc, with_block_attributes, with_label}
+use Rattle.irtext_context.specs.Context.{ContextView, KeepsOlder, OperationView, BlockView, operation, block, EditsOperation, EditsBlock, with_loc, with_attributes, with_block_loc, with_block_attributes, with_label}
 use Rattle.irtext_context.specs.declared.base.item.Item.{Item}
 use Rattle.irtext_context.specs.declared.base.item.Item.TheVariants as item
+use Rattle.irtext_graph.specs.Back.{IsClosedBelow}
 use Rattle.irtext_graph.specs.Store.{before}
 use Rattle.irtext_graph.specs.declared.arena.Ptr.{Ptr}
 use Rattle.irtext_graph.specs.declared.object.BasicBlock.{BasicBlock}
@@ -129,6 +130,14 @@ module _ {T A : Type 0} where
   abbrev pub ItemsAreNewer : ℕ → ContextView T A → List (ItemEntry A) → Type 0
   ItemsAreNewer mark c [] = ⊤
   ItemsAreNewer mark c (e ∷ es) = IsNewer mark c e.item × ItemsAreNewer mark c es
+
+  -- what is older than a mark is unchanged, if the items of the entries are newer
+  abbrev pub KeepsOthers : List (ItemEntry A) → ContextView T A → ContextView T A → Type 0
+  KeepsOthers items old new = (mark : ℕ) → ItemsAreNewer mark old items → KeepsOlder mark old new
+
+  -- what is older than a mark still refers to nothing newer
+  abbrev pub StaysClosed : ContextView T A → ContextView T A → Type 0
+  StaysClosed old new = (mark : ℕ) → IsClosedBelow mark old.graph → IsClosedBelow mark new.graph
 
   -- the items of the marks of the text are newer than a mark
   abbrev pub AreNewer : ℕ → ContextView T A → List (ℕ × Item) → Type 0

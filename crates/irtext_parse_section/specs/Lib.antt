@@ -9,3 +9,4 @@ pub mod Together
 -- The open frames of the parser of locations
 pub mod Frames
 pub mod Plain
+pub mod Sourced

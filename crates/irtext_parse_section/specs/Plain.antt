@@ -1,12 +1,13 @@
 -- Between functions: the parsers of numbers, lines and columns in their usual form.
-use Rattle.std.specs.Prelude.{◌≡◌, ℕ, ℤ, true, Option, Some, None, codes, FitsSigned}
+use Rattle.std.specs.Prelude.{◌≡◌, ℕ, ℤ, true, false, Option, Some, None, codes, FitsSigned}
 use Rattle.std.specs.Int.{w32}
-use Rattle.std.specs.Char.{is_ascii_digit}
-use Rattle.irtext_base.specs.Text.{begins, front, after}
+use Rattle.std.specs.Char.{is_ascii_digit, is_whitespace}
+use Rattle.irtext_base.specs.Text.{Text, begins, front, after}
 use Rattle.irtext_base.specs.Stream.{StreamView}
 use Rattle.irtext_base.specs.Answers.{Read, Takes, Gives, SameStream}
 use Rattle.irtext_tokens.specs.Infix.{Reader, ◌▷◌}
-use Rattle.irtext_tokens.specs.Tokens.{value_of}
+use Rattle.irtext_stream.specs.Stream.{Comes}
+use Rattle.irtext_tokens.specs.Tokens.{value_of, integer_at}
 use Rattle.irtext_parse_spec.specs.Readers.Positions.{spaced_at, labelled_at, position_at}
 use Rattle.irtext_parse_spec.specs.Readers.Streams.{itself, replaced}
 use Rattle.irtext_stream.specs.declared.position.SourcePosition.{SourcePosition}
@@ -37,9 +38,26 @@ Sees Found old None new = new ≡ old
 abbrev pub Gets : {X : Type 0} → Reader X → StreamView → StreamView → X → Type 0
 Gets outcome old new x = Gives itself replaced (outcome old.rest) old x new
 
--- this number was parsed, and it fits 32 bits with a sign
-abbrev pub GetsInteger : Reader ℤ → StreamView → StreamView → ℤ → Type 0
-GetsInteger outcome old new z = Gets outcome old new z × FitsSigned w32 z
+module _ (before : Text) (old new : StreamView) where
+  -- a text was consumed, and the digits right after it
+  pub record DigitsBehind (n : ℕ) : Type 0 where
+    pub mid : StreamView
+    pub comes : Comes before old (λ v. mid ≡ v)
+    pub digits : TakesDigits mid n new
+
+  -- a text was consumed, and a number right after it that fits 32 bits with a sign
+  pub record NumberBehind (z : ℤ) : Type 0 where
+    pub mid : StreamView
+    pub comes : Comes before old (λ v. mid ≡ v)
+    pub number : TakesNumber integer_at mid z new
+    pub fits : FitsSigned w32 z
+
+  -- the stream had not failed, and a text was consumed, and the white space after it
+  pub record SpaceBehind : Type 0 where
+    pub fine : old.failed ≡ false
+    pub mid : StreamView
+    pub comes : Comes before old (λ v. mid ≡ v)
+    pub space : Takes itself replaced (front is_whitespace mid.rest) (after is_whitespace mid.rest) mid new
 
 -- `:` and a line
 abbrev pub line_at : Reader ℤ

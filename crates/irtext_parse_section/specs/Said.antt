@@ -11,12 +11,15 @@ use Rattle.irtext_stream.specs.declared.position.Place.{Place}
 use Rattle.irtext_context.specs.declared.base.item.Item.{Item}
 use Rattle.irtext_context.specs.declared.base.item.Item.TheVariants as item
 use Rattle.irtext_parse_state.specs.States.{same_index}
+use Rattle.irtext_tokens.specs.AttrTexts.{attr_at}
+use Rattle.irtext_tokens.specs.Infix.{Reader}
 use Rattle.irtext_tokens.specs.ListOutcomes.{items_after}
 use Rattle.irtext_grammar.specs.Contexts.Held.{attribute_of}
 use Rattle.irtext_grammar.specs.Grammar.Tree.{Name}
 use Rattle.irtext_grammar.specs.Grammar.Section as section
 use Rattle.irtext_grammar.specs.Grammar.Section.{direct, reference}
 use Rattle.irtext_grammar.specs.Names.Acts.{Rule, may_hold, keeps_label_key}
+use Rattle.irtext_parse_spec.specs.Entries.{pairs_at}
 use Rattle.irtext_parse_spec.specs.Readers.Operations.{RefusesAt}
 use Rattle.irtext_parse_spec.specs.Readers.Streams.{itself, replaced}
 use Rattle.irtext_parse_pieces.specs.Entries.{IsKey}
@@ -75,6 +78,10 @@ module _ {A : Type 0} where
   -- the result is the list of pairs that comes next, or its fault
   abbrev pub MustPairs : (Text → Outcome (List (Name ℕ × section.Item ℕ A))) → StreamView → Result (Vec (Key × GivenAttr A) Global) (ParseFault A) → StreamView → Type 0
   MustPairs outcome old result new = MustMean itself replaced (ArePairs (whole old)) outcome old result new
+
+  -- the result is the pairs in brackets that come next, of a block's entry or of an operation's, or the fault
+  abbrev pub BracketedPairs : Reader A → Bool → StreamView → Result (Vec (Key × GivenAttr A) Global) (ParseFault A) → StreamView → Type 0
+  BracketedPairs reading of_block old result new = MustPairs (pairs_at (attr_at reading) (rule_for of_block)) old result new
 
   -- given a first pair, the result is the list of pairs that continues it, or its fault
   abbrev pub PairsBehind : (Text → Outcome (Name ℕ × section.Item ℕ A)) → Key × GivenAttr A → StreamView → Result (Vec (Key × GivenAttr A) Global) (ParseFault A) → StreamView → Type 0

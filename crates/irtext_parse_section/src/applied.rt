@@ -48,7 +48,8 @@ pub(crate) fn attr_stored<A: Drop>(
     key: Identifier,
     attr: AttrObj<A>,
 ) -> Result<(), AllocError>
-    ensures { OnOk result (entries_of attributes.new ≡ put_all (entries_of attributes.old) ((key, attribute_of attr) ∷ [])) }
+    ensures { OnOk result (entries_of attributes.new ≡ put_all (entries_of attributes.old)
+        ((key, attribute_of attr) ∷ [])) }
 {
     let Ok(()) = attributes.insert(key, attr) else {
         return Err(AllocError);
@@ -63,7 +64,8 @@ fn pair_stored<A: AttrText<A>>(
     attributes: &mut AttributeDict<A>,
     pair: ReadPair<A>,
 ) -> Result<(), AllocError>
-    ensures { OnOk result (entries_of attributes.new ≡ put_all (entries_of attributes.old) (stored_by once.now.entries pair)) }
+    ensures { OnOk result (entries_of attributes.new ≡ put_all (entries_of attributes.old)
+        (stored_by once.now.entries pair)) }
 {
     let (key, given) = pair;
     match attr_given(alloc, once, given)? {
@@ -79,7 +81,8 @@ pub(crate) fn pairs_stored<A: AttrText<A>>(
     attributes: &mut AttributeDict<A>,
     pairs: Vec<ReadPair<A>>,
 ) -> Result<(), AllocError>
-    ensures { OnOk result (entries_of attributes.new ≡ put_all (entries_of attributes.old) (all_stored once.now.entries pairs.items)) }
+    ensures { OnOk result (entries_of attributes.new ≡ put_all (entries_of attributes.old)
+        (all_stored once.now.entries pairs.items)) }
 {
     if pairs.is_empty() {
         return Ok(());
@@ -109,7 +112,8 @@ fn block_pair_stored<A: AttrText<A>>(
     label: Option<Identifier>,
     pair: ReadPair<A>,
 ) -> Result<Option<Identifier>, AllocError>
-    ensures stored { OnOk result (entries_of attributes.new ≡ put_all (entries_of attributes.old) (no_label (stored_by once.now.entries pair))) }
+    ensures stored { OnOk result (entries_of attributes.new ≡ put_all (entries_of attributes.old)
+        (no_label (stored_by once.now.entries pair))) }
     ensures label { IfOk result (λ last. last ≡ label_in label (stored_by once.now.entries pair)) }
 {
     if is_label_key(&pair.0.name) {
@@ -127,7 +131,8 @@ pub(crate) fn block_pairs_stored<A: AttrText<A>>(
     attributes: &mut AttributeDict<A>,
     pairs: Vec<ReadPair<A>>,
 ) -> Result<Option<Identifier>, AllocError>
-    ensures stored { OnOk result (entries_of attributes.new ≡ put_all (entries_of attributes.old) (no_label (all_stored once.now.entries pairs.items))) }
+    ensures stored { OnOk result (entries_of attributes.new ≡ put_all (entries_of attributes.old)
+        (no_label (all_stored once.now.entries pairs.items))) }
     ensures label { IfOk result (λ label. label ≡ label_in None (all_stored once.now.entries pairs.items)) }
 {
     let mut label = None;
@@ -146,7 +151,8 @@ pub(crate) fn operation_located<T: IrText<A>, A: AttrText<A>>(
 )
     requires { IsSome (operation ctx.old op) }
     ensures locates { LocatesOperation op location ctx.old ctx.new }
-    ensures kept { (mark : ℕ) → before mark ctx.old.graph.operations op ≡ None → KeepsOlder mark ctx.old ctx.new }
+    ensures kept { (mark : ℕ) → before mark ctx.old.graph.operations op ≡ None
+        → KeepsOlder mark ctx.old ctx.new }
 {
     if let Some(location) = location {
         op.set_loc(ctx, location);
@@ -161,9 +167,11 @@ fn operation_stored<T: IrText<A>, A: AttrText<A>>(
     pairs: Vec<ReadPair<A>>,
 ) -> Result<(), AllocError>
     requires { IsSome (operation ctx.old op) }
-    ensures stores { OnOk result (StoresOperation op (all_stored once.now.entries pairs.items) ctx.old ctx.new) }
+    ensures stores { OnOk result (StoresOperation op (all_stored once.now.entries pairs.items)
+        ctx.old ctx.new) }
     ensures edits { EditsAttributes op ctx.old ctx.new }
-    ensures kept { (mark : ℕ) → before mark ctx.old.graph.operations op ≡ None → KeepsOlder mark ctx.old ctx.new }
+    ensures kept { (mark : ℕ) → before mark ctx.old.graph.operations op ≡ None
+        → KeepsOlder mark ctx.old ctx.new }
 {
     let alloc = ctx.allocator();
     pairs_stored(alloc, once, ctx.operation_attributes_mut(op), pairs)
@@ -178,8 +186,10 @@ fn operation_given<T: IrText<A>, A: AttrText<A>>(
     location: Option<Location<A>>,
     pairs: Vec<ReadPair<A>>,
 ) -> Result<(), AllocError>
-    ensures gives { OnOk result (GivesOperation op location (all_stored once.now.entries pairs.items) ctx.old ctx.new) }
-    ensures kept { (mark : ℕ) → before mark ctx.old.graph.operations op ≡ None → KeepsOlder mark ctx.old ctx.new }
+    ensures gives { OnOk result (GivesOperation op location (all_stored once.now.entries pairs.items)
+        ctx.old ctx.new) }
+    ensures kept { (mark : ℕ) → before mark ctx.old.graph.operations op ≡ None
+        → KeepsOlder mark ctx.old ctx.new }
     ensures closed { (mark : ℕ) → IsClosedBelow mark ctx.old.graph → IsClosedBelow mark ctx.new.graph }
 {
     if !ctx.contains_operation(op) {
@@ -212,7 +222,8 @@ fn block_stored<T: IrText<A>, A: AttrText<A>>(
     pairs: Vec<ReadPair<A>>,
 ) -> Result<Option<Identifier>, AllocError>
     requires { IsSome (block ctx.old at) }
-    ensures stores { OnOk result (StoresBlock at (no_label (all_stored once.now.entries pairs.items)) ctx.old ctx.new) }
+    ensures stores { OnOk result (StoresBlock at (no_label (all_stored once.now.entries pairs.items))
+        ctx.old ctx.new) }
     ensures label { IfOk result (λ label. label ≡ label_in None (all_stored once.now.entries pairs.items)) }
     ensures edits { EditsBlockAttributes at ctx.old ctx.new }
     ensures kept { (mark : ℕ) → before mark ctx.old.graph.blocks at ≡ None → KeepsOlder mark ctx.old ctx.new }
@@ -245,7 +256,8 @@ fn block_given<T: IrText<A>, A: AttrText<A>>(
     location: Option<Location<A>>,
     pairs: Vec<ReadPair<A>>,
 ) -> Result<(), AllocError>
-    ensures gives { OnOk result (GivesBlock at location (all_stored once.now.entries pairs.items) ctx.old ctx.new) }
+    ensures gives { OnOk result (GivesBlock at location (all_stored once.now.entries pairs.items)
+        ctx.old ctx.new) }
     ensures kept { (mark : ℕ) → before mark ctx.old.graph.blocks at ≡ None → KeepsOlder mark ctx.old ctx.new }
     ensures closed { (mark : ℕ) → IsClosedBelow mark ctx.old.graph → IsClosedBelow mark ctx.new.graph }
 {
@@ -265,7 +277,8 @@ pub(crate) fn item_given<T: IrText<A>, A: AttrText<A>>(
     once: &Once<A>,
     entry: ItemEntry<A>,
 ) -> Result<(), AllocError>
-    ensures gives { OnOk result (Gives entry.item entry.location (all_stored once.now.entries entry.pairs.items) ctx.old ctx.new) }
+    ensures gives { OnOk result (Gives entry.item entry.location (all_stored once.now.entries
+        entry.pairs.items) ctx.old ctx.new) }
     ensures kept { (mark : ℕ) → IsNewer mark ctx.old entry.item → KeepsOlder mark ctx.old ctx.new }
     ensures closed { (mark : ℕ) → IsClosedBelow mark ctx.old.graph → IsClosedBelow mark ctx.new.graph }
 {

@@ -11,13 +11,13 @@ ghost use Rattle.irtext_parse_spec.specs.Readers.NewPaths.{AddsOnlyPaths};
 ghost use Rattle.irtext_parse_spec.specs.Readers.Streams.{itself, replaced};
 ghost use Rattle.irtext_parse_pieces.specs.Marks.{IsMark};
 ghost use Rattle.irtext_parse_pieces.specs.Named.{MustMean, whole};
-ghost use Rattle.irtext_parse_section.specs.Plain.{Looks, Sees, Gets};
+ghost use Rattle.irtext_parse_section.specs.Plain.{Sees, Gets};
 ghost use Rattle.irtext_parse_spec.specs.Entries.{begins_given, tested, entry_head_at, entry_at};
 ghost use Rattle.irtext_parse_section.specs.Said.{rules_of};
 ghost use Rattle.irtext_parse_section.specs.Entries.{IsHead, GoesOn, IsEntry, entry_kept, next_item, earlier_indices};
 
 use crate::given::given_parse;
-use crate::location::plain::digits_there;
+use crate::location::plain::{digits_behind, spaced_there};
 use crate::rules::is_block;
 use crate::said::{ItemEntry, ReadEntry};
 use irtext_base::parsable::{CharStream, ParseResult, TextStream};
@@ -31,7 +31,6 @@ use irtext_parse_state::parsable::StateStream;
 use irtext_parse_state::parsable::numbered::Numbered;
 use irtext_tokens::irfmt::demanded::{index_demanded, spaced_text_demanded};
 use irtext_tokens::irfmt::faults::refuse_at;
-use irtext_tokens::irfmt::parsers::skip_white_space;
 
 /// The head of an entry: its index and, if the entry continues as an item's, the item that carries the mark of this index.
 #[derive(Clone, Copy)]
@@ -51,24 +50,13 @@ fn begins_given(stream: &TextStream) -> bool
     }
 }
 
-/// Parses `!` and digits after it. If they do not come next, the new position of the stream is unspecified.
-#[inline(always)]
-fn marked_digits(stream: &mut TextStream) -> Option<u64>
-    ensures { Looks (Gets index_at stream.old stream.new) stream.old result stream.new }
-{
-    if !stream.accept("!") {
-        return None;
-    }
-    digits_there(stream)
-}
-
-/// The same as an index. If it does not come next, the stream is unchanged.
+/// Parses `!` and an index right after it. If they do not come next, the stream is unchanged.
 #[inline(always)]
 fn index_there(stream: &mut TextStream) -> Option<usize>
     ensures { Sees (Gets index_at stream.old stream.new) stream.old result stream.new }
 {
     let place = stream.position();
-    match marked_digits(stream) {
+    match digits_behind(stream, "!") {
         Some(index) => Some(index as usize),
         None => {
             stream.reset(place);
@@ -114,11 +102,7 @@ fn equals_missed<A>(stream: &mut TextStream) -> ParseResult<(), A>
 fn equals_read<A>(stream: &mut TextStream) -> ParseResult<(), A>
     ensures { MustRead itself replaced (λ u. u) (spaced_at (codes "=")) stream.old result stream.new }
 {
-    if stream.has_failed() {
-        return equals_missed(stream);
-    }
-    if stream.accept(" = ") {
-        skip_white_space(stream);
+    if spaced_there(stream, " = ") {
         return Ok(());
     }
     equals_missed(stream)
@@ -127,7 +111,8 @@ fn equals_read<A>(stream: &mut TextStream) -> ParseResult<(), A>
 /// Parses an index, and `=` with optional white space around it. Every error is committed.
 #[inline(always)]
 fn index_parse<A>(stream: &mut TextStream) -> ParseResult<ReadMark, A>
-    ensures read { MustMean itself replaced (IsMark (whole stream.old)) entry_head_at stream.old result stream.new }
+    ensures read { MustMean itself replaced (IsMark (whole stream.old)) entry_head_at stream.old result
+        stream.new }
     ensures at { IfOk result (λ mark. StandsBehind mark.at stream.old.passed) }
 {
     let at = stream.position();
@@ -197,11 +182,13 @@ pub(crate) fn entry_parse<T: IrText<A>, A: AttrText<A>, U>(
     keys: &mut Keys,
 ) -> ParseResult<ReadEntry<A>, A>
     ensures only { AddsOnlyPaths s.old.state s.new.state }
-    ensures read { MustMean itself replaced (IsEntry (marks_of s.old.state) s.new.state.ctx.now.paths (whole s.old.stream))
+    ensures read { MustMean itself replaced (IsEntry (marks_of s.old.state) s.new.state.ctx.now.paths
+        (whole s.old.stream))
         (entry_at (attr_at A.IrText.reading) (may_follow (marks_of s.old.state) (earlier_indices (option_copied seen.entry)))
         (rules_of (marks_of s.old.state)))
         s.old.stream result s.new.stream }
-    ensures paths { IfOk result (λ e. s.new.state.ctx.now.paths ≡ entry_kept s.old.state.ctx.now.paths s.new.state.ctx.now.paths e) }
+    ensures paths { IfOk result (λ e. s.new.state.ctx.now.paths ≡ entry_kept s.old.state.ctx.now.paths
+        s.new.state.ctx.now.paths e) }
 {
     let head = head_parse(s, seen)?;
     let Some(item) = head.item else {

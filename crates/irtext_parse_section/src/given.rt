@@ -2,16 +2,17 @@
 ghost use Rattle.std.specs.Prelude.{◌≡◌, IfOk};
 ghost use Rattle.irtext_tokens.specs.AttrTexts.{attr_at};
 ghost use Rattle.irtext_tokens.specs.MustRead.{MustRead};
-ghost use Rattle.irtext_parse_spec.specs.Promises.Section.{known_given, given_over, given_kept};
-ghost use Rattle.irtext_parse_spec.specs.Readers.NewPaths.{AddsPaths, MustReadOver};
-ghost use Rattle.irtext_parse_spec.specs.Readers.Section.{entry_location_at};
+ghost use Rattle.irtext_parse_spec.specs.Promises.Section.{given_over, given_kept};
+ghost use Rattle.irtext_parse_spec.specs.Readers.NewPaths.{AddsPaths};
 ghost use Rattle.irtext_parse_spec.specs.Readers.Streams.{itself, replaced};
 ghost use Rattle.irtext_parse_pieces.specs.Named.{MustMean, whole};
 ghost use Rattle.irtext_parse_spec.specs.Entries.{given_at};
 ghost use Rattle.irtext_parse_section.specs.Said.{rule_for};
+ghost use Rattle.irtext_parse_section.specs.Sourced.{Keeps, ReadsGiven};
 ghost use Rattle.irtext_parse_section.specs.Entries.{IsGivenOver, location_end_at};
 
 use crate::location::nested::location_demanded;
+use crate::location::plain::spaced_there;
 use crate::pairs::pairs_parse;
 use crate::said::ReadPair;
 use irtext_base::location::Location;
@@ -44,11 +45,7 @@ fn end_missed<A>(stream: &mut TextStream) -> ParseResult<(), A>
 fn location_ended<A>(stream: &mut TextStream) -> ParseResult<(), A>
     ensures { MustRead itself replaced (λ u. u) location_end_at stream.old result stream.new }
 {
-    if stream.has_failed() {
-        return end_missed(stream);
-    }
-    if stream.accept("], ") {
-        skip_white_space(stream);
+    if spaced_there(stream, "], ") {
         return Ok(());
     }
     end_missed(stream)
@@ -61,9 +58,8 @@ fn entry_location<T: IrText<A>, A: AttrText<A>>(
     ctx: &mut Context<T, A>,
 ) -> ParseResult<Option<Location<A>>, A>
     ensures adds { AddsPaths ctx.old ctx.new }
-    ensures read { MustReadOver known_given given_over (entry_location_at (attr_at A.IrText.reading))
-        ctx.new.paths stream.old result stream.new }
-    ensures paths { IfOk result (λ given. ctx.new.paths ≡ given_kept ctx.old.paths (given_over ctx.new.paths given)) }
+    ensures read { ReadsGiven A.IrText.reading ctx.new.paths stream.old result stream.new }
+    ensures paths { Keeps given_over given_kept ctx.old.paths ctx.new.paths result }
 {
     if stream.has_failed() {
         return Err(refuse(stream, Cause::StreamFailed));
@@ -89,7 +85,8 @@ pub(crate) fn given_parse<T: IrText<A>, A: AttrText<A>>(
     ensures adds { AddsPaths ctx.old ctx.new }
     ensures read { MustMean itself replaced (IsGivenOver ctx.new.paths (whole stream.old))
         (given_at (attr_at A.IrText.reading) (rule_for of_block)) stream.old result stream.new }
-    ensures paths { IfOk result (λ given. ctx.new.paths ≡ given_kept ctx.old.paths (given_over ctx.new.paths given.0)) }
+    ensures paths { IfOk result (λ given. ctx.new.paths ≡ given_kept ctx.old.paths (given_over ctx.new.paths
+        given.0)) }
 {
     let location = entry_location(stream, ctx)?;
     let pairs = pairs_parse(stream, of_block, keys)?;

@@ -4,8 +4,8 @@ ghost use Rattle.irtext_tokens.specs.AttrTexts.{attr_at};
 ghost use Rattle.irtext_tokens.specs.ListOutcomes.{separated_at};
 ghost use Rattle.irtext_parse_spec.specs.Readers.Streams.{itself, replaced};
 ghost use Rattle.irtext_parse_pieces.specs.Named.{MayMean, MustMean, whole};
-ghost use Rattle.irtext_parse_spec.specs.Entries.{item_at, pair_at, kept, pairs_at};
-ghost use Rattle.irtext_parse_section.specs.Said.{rule_for, IsGiven, IsPair, Allows, MustPairs, PairsBehind};
+ghost use Rattle.irtext_parse_spec.specs.Entries.{item_at, pair_at, kept};
+ghost use Rattle.irtext_parse_section.specs.Said.{rule_for, IsGiven, IsPair, Allows, MustPairs, BracketedPairs, PairsBehind};
 
 use crate::rules::stands_under;
 use crate::said::{GivenAttr, ReadPair};
@@ -22,7 +22,8 @@ use std::alloc::AllocError;
 
 /// Parses what follows `=`: an attribute, or `!` and the index of a print-once attribute. Every error is committed.
 fn item_parse<A: AttrText<A>>(stream: &mut TextStream) -> ParseResult<GivenAttr<A>, A>
-    ensures { MustMean itself replaced (IsGiven (whole stream.old)) (item_at (attr_at A.IrText.reading)) stream.old result stream.new }
+    ensures { MustMean itself replaced (IsGiven (whole stream.old)) (item_at (attr_at A.IrText.reading))
+        stream.old result stream.new }
 {
     if stream.has_failed() {
         return Err(refuse(stream, Cause::StreamFailed));
@@ -43,7 +44,8 @@ fn pair_parse<A: AttrText<A>>(
     keys: &mut Keys,
     index: usize,
 ) -> ParseResult<ReadPair<A>, A>
-    ensures { MayMean itself replaced (IsPair (whole stream.old)) (pair_at (attr_at A.IrText.reading)) stream.old result stream.new }
+    ensures { MayMean itself replaced (IsPair (whole stream.old)) (pair_at (attr_at A.IrText.reading))
+        stream.old result stream.new }
 {
     let key = key_parse(stream, keys, index)?;
     spaced_text_demanded(stream, "=")?;
@@ -105,7 +107,8 @@ fn more_pairs<A: AttrText<A>>(
     keys: &mut Keys,
     first: ReadPair<A>,
 ) -> ParseResult<Vec<ReadPair<A>>, A>
-    ensures { PairsBehind (λ t. kept (rule_for of_block) (pair_at (attr_at A.IrText.reading) t)) first stream.old result stream.new }
+    ensures { PairsBehind (λ t. kept (rule_for of_block) (pair_at (attr_at A.IrText.reading) t)) first
+        stream.old result stream.new }
 {
     let mut found = match pushed(Vec::new(stream.allocator()), first) {
         Ok(one) => one,
@@ -132,7 +135,8 @@ fn list_parse<A: AttrText<A>>(
     of_block: bool,
     keys: &mut Keys,
 ) -> ParseResult<Vec<ReadPair<A>>, A>
-    ensures { MustPairs (separated_at 44 (λ t. kept (rule_for of_block) (pair_at (attr_at A.IrText.reading) t))) stream.old result stream.new }
+    ensures { MustPairs (separated_at 44 (λ t. kept (rule_for of_block) (pair_at (attr_at A.IrText.reading)
+        t))) stream.old result stream.new }
 {
     match kept_parse(stream, of_block, keys, 0) {
         Ok(first) => {
@@ -155,7 +159,7 @@ fn bracketed_parse<A: AttrText<A>>(
     of_block: bool,
     keys: &mut Keys,
 ) -> ParseResult<Vec<ReadPair<A>>, A>
-    ensures { MustPairs (pairs_at (attr_at A.IrText.reading) (rule_for of_block)) stream.old result stream.new }
+    ensures { BracketedPairs A.IrText.reading of_block stream.old result stream.new }
 {
     text_demanded(stream, "[")?;
     skip_white_space(stream);
@@ -172,7 +176,7 @@ pub(crate) fn pairs_parse<A: AttrText<A>>(
     of_block: bool,
     keys: &mut Keys,
 ) -> ParseResult<Vec<ReadPair<A>>, A>
-    ensures { MustPairs (pairs_at (attr_at A.IrText.reading) (rule_for of_block)) stream.old result stream.new }
+    ensures { BracketedPairs A.IrText.reading of_block stream.old result stream.new }
 {
     if stream.has_failed() {
         return bracketed_parse(stream, of_block, keys);

@@ -11,7 +11,7 @@ ghost use Rattle.irtext_parse_spec.specs.Readers.NewPaths.{AddsPaths, AddsOnlyPa
 ghost use Rattle.irtext_parse_spec.specs.Readers.Refusals.{CommittedRefusal};
 ghost use Rattle.irtext_parse_spec.specs.Readers.Streams.{itself, replaced, KeepsRest};
 ghost use Rattle.irtext_parse_spec.specs.Entries.{entries_at, section_at};
-ghost use Rattle.irtext_parse_section.specs.Applied.{GivesAll, ItemsAreNewer, AreNewer};
+ghost use Rattle.irtext_parse_section.specs.Applied.{GivesAll, KeepsOthers, StaysClosed, AreNewer};
 ghost use Rattle.irtext_parse_section.specs.Entries.{MustReadEntries, items_of, once_of};
 ghost use Rattle.irtext_parse_section.specs.Said.{rules_of};
 ghost use Rattle.irtext_parse_section.specs.Section.{ReadsSection};
@@ -63,10 +63,12 @@ fn entries_given<T: IrText<A>, A: AttrText<A>, U>(
     ensures rest { KeepsRest s.old.state s.new.state }
     ensures marks { marks_of s.new.state ≡ marks_of s.old.state }
     ensures stream { s.new.stream ≡ s.old.stream }
-    ensures gives { OnOk result (GivesAll (once_of entries) (items_of entries) s.old.state.ctx.now s.new.state.ctx.now) }
-    ensures kept { (mark : ℕ) → ItemsAreNewer mark s.old.state.ctx.now (items_of entries) → KeepsOlder mark s.old.state.ctx.now s.new.state.ctx.now }
-    ensures closed { (mark : ℕ) → IsClosedBelow mark s.old.state.ctx.now.graph → IsClosedBelow mark s.new.state.ctx.now.graph }
-    ensures unchanged { (mark : ℕ) → earlier ≡ true → OnErr result (KeepsOlder mark s.old.state.ctx.now s.new.state.ctx.now) }
+    ensures gives { OnOk result (GivesAll (once_of entries) (items_of entries) s.old.state.ctx.now
+        s.new.state.ctx.now) }
+    ensures kept { KeepsOthers (items_of entries) s.old.state.ctx.now s.new.state.ctx.now }
+    ensures closed { StaysClosed s.old.state.ctx.now s.new.state.ctx.now }
+    ensures unchanged { (mark : ℕ) → earlier ≡ true → OnErr result (KeepsOlder mark s.old.state.ctx.now
+        s.new.state.ctx.now) }
 {
     let ctx = &mut *s.state.ctx;
     all_given(ctx, entries, earlier)
@@ -80,16 +82,18 @@ pub fn section_given<T: IrText<A>, A: AttrText<A>, U>(
     entries: Entries<A>,
     earlier: bool,
 ) -> ParseResult<(), A>
-    ensures gives { OnOk result (GivesAll (once_of entries) (items_of entries) s.old.state.ctx.now s.new.state.ctx.now) }
+    ensures gives { OnOk result (GivesAll (once_of entries) (items_of entries) s.old.state.ctx.now
+        s.new.state.ctx.now) }
     ensures lent { s.new.state.ctx.ghost_name ≡ s.old.state.ctx.ghost_name }
     ensures rest { KeepsRest s.old.state s.new.state }
     ensures stream { OnOk result (s.new.stream ≡ s.old.stream) }
     ensures fresh { OnOk result (marks_of s.new.state ≡ []) }
     ensures starved { IfErr result (λ fault. StarvesHere itself replaced s.old.stream fault s.new.stream) }
     ensures marks { OnErr result (marks_of s.new.state ≡ marks_of s.old.state) }
-    ensures kept { (mark : ℕ) → ItemsAreNewer mark s.old.state.ctx.now (items_of entries) → KeepsOlder mark s.old.state.ctx.now s.new.state.ctx.now }
-    ensures closed { (mark : ℕ) → IsClosedBelow mark s.old.state.ctx.now.graph → IsClosedBelow mark s.new.state.ctx.now.graph }
-    ensures unchanged { (mark : ℕ) → earlier ≡ true → OnErr result (KeepsOlder mark s.old.state.ctx.now s.new.state.ctx.now) }
+    ensures kept { KeepsOthers (items_of entries) s.old.state.ctx.now s.new.state.ctx.now }
+    ensures closed { StaysClosed s.old.state.ctx.now s.new.state.ctx.now }
+    ensures unchanged { (mark : ℕ) → earlier ≡ true → OnErr result (KeepsOlder mark s.old.state.ctx.now
+        s.new.state.ctx.now) }
 {
     if entries_given(s, earlier, entries).is_err() {
         return Err(out_of_memory(&mut s.stream));
@@ -115,10 +119,14 @@ pub fn section_parse<T: IrText<A>, A: AttrText<A>, U>(
         s.old.stream fault) }
     ensures refused { IfErr result (λ fault. CommittedRefusal s.old.stream fault s.new.stream) }
     ensures marks { OnErr result (marks_of s.new.state ≡ marks_of s.old.state) }
-    ensures kept { (mark : ℕ) → AreNewer mark s.old.state.ctx.now (marks_of s.old.state) → KeepsOlder mark s.old.state.ctx.now s.new.state.ctx.now }
-    ensures closed { (mark : ℕ) → IsClosedBelow mark s.old.state.ctx.now.graph → IsClosedBelow mark s.new.state.ctx.now.graph }
-    ensures adds { IfErr result (λ fault. IsStarved fault ⊎ AddsPaths s.old.state.ctx.now s.new.state.ctx.now) }
-    ensures unchanged { (mark : ℕ) → (earlier ≡ false → AreNewer mark s.old.state.ctx.now (marks_of s.old.state)) →
+    ensures kept { (mark : ℕ) → AreNewer mark s.old.state.ctx.now (marks_of s.old.state)
+        → KeepsOlder mark s.old.state.ctx.now s.new.state.ctx.now }
+    ensures closed { (mark : ℕ) → IsClosedBelow mark s.old.state.ctx.now.graph → IsClosedBelow mark
+        s.new.state.ctx.now.graph }
+    ensures adds { IfErr result (λ fault. IsStarved fault ⊎ AddsPaths s.old.state.ctx.now
+        s.new.state.ctx.now) }
+    ensures unchanged { (mark : ℕ) → (earlier ≡ false → AreNewer mark s.old.state.ctx.now
+        (marks_of s.old.state)) →
         OnErr result (KeepsOlder mark s.old.state.ctx.now s.new.state.ctx.now) }
 {
     let entries = section_checked(s)?;

@@ -39,7 +39,8 @@ fn entry_copied<A: AttrText<A>>(
     key: &Identifier,
     attr: &AttrObj<A>,
 ) -> Result<(), AllocError>
-    ensures { OnOk result (entries_of copy.new ≡ put_all (entries_of copy.old) ((key.now, attribute_of attr.now) ∷ [])) }
+    ensures { OnOk result (entries_of copy.new ≡ put_all (entries_of copy.old)
+        ((key.now, attribute_of attr.now) ∷ [])) }
 {
     let name = key.clone()?;
     let attr = attr.try_clone(alloc)?;
@@ -69,7 +70,8 @@ fn operation_next<T: IrText<A>, A: AttrText<A>>(
     pairs: Vec<ReadPair<A>>,
 ) -> Result<AttributeDict<A>, AllocError>
     requires { IsSome (operation ctx.now op) }
-    ensures { IfOk result (HasStored (all_stored once.now.entries pairs.items) (option_map (λ op. op.attributes) (operation ctx.now op))) }
+    ensures { IfOk result (HasStored (all_stored once.now.entries pairs.items)
+        (option_map (λ op. op.attributes) (operation ctx.now op))) }
 {
     let alloc = ctx.allocator();
     let mut next = copied(alloc, op.attributes(ctx))?;
@@ -98,7 +100,8 @@ fn operation_stepped<T: IrText<A>, A: AttrText<A>>(
     op: Ptr<Operation>,
     pairs: Vec<ReadPair<A>>,
 ) -> Result<Option<AttributeDict<A>>, AllocError>
-    ensures stores { OnOk result (Stores (all_stored once.now.entries pairs.items) (item.Operation op) None ctx.old ctx.new) }
+    ensures stores { OnOk result (Stores (all_stored once.now.entries pairs.items) (item.Operation op) None
+        ctx.old ctx.new) }
     ensures takes { IfOk result (λ before. Takes (item.Operation op) before ctx.old ctx.new) }
     ensures err { OnErr result (ctx.new ≡ ctx.old) }
 {
@@ -117,7 +120,8 @@ fn block_next<T: IrText<A>, A: AttrText<A>>(
     pairs: Vec<ReadPair<A>>,
 ) -> Result<(AttributeDict<A>, Option<Identifier>), AllocError>
     requires { IsSome (block ctx.now at) }
-    ensures stored { IfOk result (λ next. HasStored (no_label (all_stored once.now.entries pairs.items)) (option_map (λ b. b.attributes) (block ctx.now at)) next.0) }
+    ensures stored { IfOk result (λ next. HasStored (no_label (all_stored once.now.entries pairs.items))
+        (option_map (λ b. b.attributes) (block ctx.now at)) next.0) }
     ensures label { IfOk result (λ next. next.1 ≡ label_in None (all_stored once.now.entries pairs.items)) }
 {
     let alloc = ctx.allocator();
@@ -147,7 +151,8 @@ fn block_stepped<T: IrText<A>, A: AttrText<A>>(
     at: Ptr<BasicBlock>,
     pairs: Vec<ReadPair<A>>,
 ) -> Result<(Option<AttributeDict<A>>, Option<Identifier>), AllocError>
-    ensures stores { IfOk result (λ done. Stores (all_stored once.now.entries pairs.items) (item.Block at) done.1 ctx.old ctx.new) }
+    ensures stores { IfOk result (λ done. Stores (all_stored once.now.entries pairs.items) (item.Block at)
+        done.1 ctx.old ctx.new) }
     ensures takes { IfOk result (λ done. Takes (item.Block at) done.0 ctx.old ctx.new) }
     ensures err { OnErr result (ctx.new ≡ ctx.old) }
 {
@@ -199,7 +204,8 @@ fn step_taken<T: IrText<A>, A: AttrText<A>>(
     entry: ItemEntry<A>,
     steps: &mut Vec<Step<A>>,
 ) -> Result<(), AllocError>
-    ensures taken { OnOk result (StepsOn once.now.entries entry steps.old.items steps.new.items ctx.old ctx.new) }
+    ensures taken { OnOk result (StepsOn once.now.entries entry steps.old.items steps.new.items
+        ctx.old ctx.new) }
     ensures err { OnErr result (ctx.new ≡ ctx.old) }
     ensures same { OnErr result (steps.new.items ≡ steps.old.items) }
 {
@@ -258,7 +264,8 @@ fn step_undone<T: IrText<A>, A: AttrText<A>>(ctx: &mut Context<T, A>, step: Step
 
 /// Undoes the steps, the last one first.
 fn steps_undone<T: IrText<A>, A: AttrText<A>>(ctx: &mut Context<T, A>, steps: Vec<Step<A>>)
-    ensures { (mark : ℕ) (first : ContextView T A) → TakesAll mark steps.items first ctx.old → KeepsOlder mark first ctx.new }
+    ensures { (mark : ℕ) (first : ContextView T A) → TakesAll mark steps.items first ctx.old
+        → KeepsOlder mark first ctx.new }
 {
     let mut steps = steps;
     while let Some(step) = steps.pop() {
@@ -273,7 +280,8 @@ fn steps_taken<T: IrText<A>, A: AttrText<A>>(
     once: &Once<A>,
     items: Vec<ItemEntry<A>>,
 ) -> Result<Vec<Step<A>>, AllocError>
-    ensures stores { IfOk result (λ steps. StoresAll once.now.entries items.items steps.items ctx.old ctx.new) }
+    ensures stores { IfOk result (λ steps. StoresAll once.now.entries items.items steps.items
+        ctx.old ctx.new) }
     ensures unchanged { (mark : ℕ) → OnErr result (KeepsOlder mark ctx.old ctx.new) }
 {
     let mut steps = Vec::new(ctx.allocator());

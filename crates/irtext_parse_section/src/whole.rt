@@ -100,7 +100,8 @@ fn many_given<T: IrText<A>, A: AttrText<A>>(
     earlier: bool,
 ) -> Result<(), AllocError>
     ensures gives { OnOk result (GivesAll entries.once.entries entries.items.items ctx.old ctx.new) }
-    ensures kept { (mark : ℕ) → ItemsAreNewer mark ctx.old entries.items.items → KeepsOlder mark ctx.old ctx.new }
+    ensures kept { (mark : ℕ) → ItemsAreNewer mark ctx.old entries.items.items
+        → KeepsOlder mark ctx.old ctx.new }
     ensures closed { (mark : ℕ) → IsClosedBelow mark ctx.old.graph → IsClosedBelow mark ctx.new.graph }
     ensures unchanged { (mark : ℕ) → earlier ≡ true → OnErr result (KeepsOlder mark ctx.old ctx.new) }
 {
@@ -123,7 +124,8 @@ pub(crate) fn all_given<T: IrText<A>, A: AttrText<A>>(
     earlier: bool,
 ) -> Result<(), AllocError>
     ensures gives { OnOk result (GivesAll (once_of entries) (items_of entries) ctx.old ctx.new) }
-    ensures kept { (mark : ℕ) → ItemsAreNewer mark ctx.old (items_of entries) → KeepsOlder mark ctx.old ctx.new }
+    ensures kept { (mark : ℕ) → ItemsAreNewer mark ctx.old (items_of entries)
+        → KeepsOlder mark ctx.old ctx.new }
     ensures closed { (mark : ℕ) → IsClosedBelow mark ctx.old.graph → IsClosedBelow mark ctx.new.graph }
     ensures unchanged { (mark : ℕ) → earlier ≡ true → OnErr result (KeepsOlder mark ctx.old ctx.new) }
 {

@@ -21,7 +21,8 @@ use irtext_base::text::{AttrText, IrText};
 /// tree of the grammar is built from nothing, up to the same rest; if something is open, the tree is added there as the last one. The
 /// actions of the tree, performed from nothing, build the same.
 pub fn what_is_built_is_the_tree<T: IrText<A>, A: AttrText<A>>()
-    ensures read { (dialects : List (Text × Table)) (text rest : Text) (b : Building T A) → ((id : Id) → IsAccepted dialects id) →
+    ensures read { (dialects : List (Text × Table)) (text rest : Text) (b : Building T A)
+        → ((id : Id) → IsAccepted dialects id) →
         operation_at dialects T.reading (attr_at A.reading) (building (format_of dialects)) true text nothing_open ≡ Advanced tt b rest →
         (x : Tree ℕ T A) × reads (language (texts_of T.reading T.written) (texts_of A.reading A.written) (format_of dialects)) x text rest × (b ≡ finished x) }
     ensures found { (dialects : List (Text × Table)) (x : Tree ℕ T A) (text rest : Text) →
@@ -40,13 +41,15 @@ pub fn what_is_built_is_the_tree<T: IrText<A>, A: AttrText<A>>()
 /// stuck at a fault of the text, exactly where that with each of the two does, with the same rest or the same cause and place. This also
 /// holds of the rest of a parse, given what is open.
 pub fn two_doings_stand_beside<T: IrText<A>, A: AttrText<A>, U, V>()
-    ensures tree { (isolated : Id → Bool) (d : Actions T A U) (e : Actions T A V) (x : Tree ℕ T A) (s : U) (t : V) →
+    ensures tree { (isolated : Id → Bool) (d : Actions T A U) (e : Actions T A V) (x : Tree ℕ T A)
+        (s : U) (t : V) →
         do_tree isolated (both d e) x (s, t) ≡ (do_tree isolated d x s, do_tree isolated e x t) }
     ensures operation { (dialects : List (Text × Table)) (d : Actions T A U) (e : Actions T A V)
         (inside : Bool) (text : Text) (s : U) (t : V) →
         AreBeside (operation_at dialects T.reading (attr_at A.reading) d inside text s) (operation_at dialects T.reading (attr_at A.reading) e inside text t)
         (operation_at dialects T.reading (attr_at A.reading) (both d e) inside text (s, t)) }
-    ensures rest { (dialects : List (Text × Table)) (d : Actions T A U) (e : Actions T A V) (o : Open T A) (text : Text) (s : U) (t : V) →
+    ensures rest { (dialects : List (Text × Table)) (d : Actions T A U) (e : Actions T A V) (o : Open T A)
+        (text : Text) (s : U) (t : V) →
         AreBeside (rest_of dialects T.reading (attr_at A.reading) d o text s) (rest_of dialects T.reading (attr_at A.reading) e o text t)
         (rest_of dialects T.reading (attr_at A.reading) (both d e) o text (s, t)) }
     ensures whole { (dialects : List (Text × Table)) (d : Actions T A U) (e : Actions T A V)

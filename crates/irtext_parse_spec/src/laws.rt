@@ -29,7 +29,8 @@ use irtext_base::text::{AttrText, IrText};
 /// the same uses inside, and only white space is left of the text. Also, the text does parse as a root that resolves. So no error that
 /// depends on the text can occur: such an error means that whatever the text parses as does not resolve.
 pub fn closed_root_comes_back<T: IrText<A>, A: AttrText<A>>()
-    ensures builds { (C : Printing T A) (isolated : Id → Bool) (first : ℕ → Written A) (g : Graph T A) (width n : ℕ) (t rest : List ℕ)
+    ensures builds { (C : Printing T A) (isolated : Id → Bool) (first : ℕ → Written A) (g : Graph T A)
+        (width n : ℕ) (t rest : List ℕ)
         (held : Option (Built T A (Written A))) →
         let types = texts_of T.reading T.written in
         let owns = texts_of A.reading A.written in
@@ -37,7 +38,8 @@ pub fn closed_root_comes_back<T: IrText<A>, A: AttrText<A>>()
         IsTextOf types owns (attr_at A.reading) C isolated g width n None t → ClosedRoot C isolated g →
         ReadsAs types owns (attr_at A.reading) C isolated first t rest held →
         HeldBack types owns (attr_at A.reading) C isolated g rest held }
-    ensures readable { (C : Printing T A) (isolated : Id → Bool) (first : ℕ → Written A) (g : Graph T A) (width n : ℕ) (t : List ℕ) →
+    ensures readable { (C : Printing T A) (isolated : Id → Bool) (first : ℕ → Written A) (g : Graph T A)
+        (width n : ℕ) (t : List ℕ) →
         let types = texts_of T.reading T.written in
         let owns = texts_of A.reading A.written in
         ((p : ℕ) → (locations A.written).is_position (first p) ≡ true) → C.same_own ≡ A.eq →
@@ -49,7 +51,8 @@ pub fn closed_root_comes_back<T: IrText<A>, A: AttrText<A>>()
 /// If each block of the root has a label, and each operation with results and each block with arguments has given names, nothing is
 /// filled in but a position for each unknown location.
 pub fn named_root_is_held<T: IrText<A>, A: AttrText<A>>()
-    ensures { (C : Printing T A) (isolated : Id → Bool) (first : ℕ → Written A) (g : Graph T A) (width n : ℕ) (t rest : List ℕ)
+    ensures { (C : Printing T A) (isolated : Id → Bool) (first : ℕ → Written A) (g : Graph T A) (width n : ℕ)
+        (t rest : List ℕ)
         (held : Option (Built T A (Written A))) →
         let types = texts_of T.reading T.written in
         let owns = texts_of A.reading A.written in
@@ -61,7 +64,8 @@ pub fn named_root_is_held<T: IrText<A>, A: AttrText<A>>()
 
 /// The text of a root that was printed with a limit does not parse if a region was elided.
 pub fn limited_root_is_refused<T: IrText<A>, A: AttrText<A>>()
-    ensures { (C : Printing T A) (isolated : Id → Bool) (g : Graph T A) (width n : ℕ) (limit : Limit) (t rest : List ℕ)
+    ensures { (C : Printing T A) (isolated : Id → Bool) (g : Graph T A) (width n : ℕ) (limit : Limit)
+        (t rest : List ℕ)
         (tree : Tree ℕ T A) (entries : List (Entry ℕ A (Written A))) →
         let types = texts_of T.reading T.written in
         let owns = texts_of A.reading A.written in
@@ -72,7 +76,8 @@ pub fn limited_root_is_refused<T: IrText<A>, A: AttrText<A>>()
 /// If fewer than 2 ^ 64 bytes in memory encode the printed text of a root that meets `KeptRoot` and fits its formats, their characters
 /// are a text of the root (`IsTextOf`).
 pub fn bytes_are_text<T: IrText<A>, A: AttrText<A>>()
-    ensures { (C : Printing T A) (isolated : Id → Bool) (g : Graph T A) (width n : ℕ) (limit : Limit) (bytes : List ℕ) →
+    ensures { (C : Printing T A) (isolated : Id → Bool) (g : Graph T A) (width n : ℕ) (limit : Limit)
+        (bytes : List ℕ) →
         let types = texts_of T.reading T.written in
         let owns = texts_of A.reading A.written in
         KeptRoot (attr_at A.reading) A.written C isolated g → Fit C isolated g → IsUtf8 bytes → length bytes < 2 ^ 64 →
@@ -84,14 +89,16 @@ pub fn bytes_are_text<T: IrText<A>, A: AttrText<A>>()
 /// are the same; its blocks have labels, and everything that has results or arguments has given names. So what is parsed from its printed
 /// text is equal to it, except that unknown locations have become positions.
 pub fn read_root_is_closed<T: IrText<A>, A: AttrText<A>>()
-    ensures closed { (C : Printing T A) (isolated : Id → Bool) (before : ℕ → Written A) (tree : Tree ℕ T A) (entries : List (Entry ℕ A (Written A)))
+    ensures closed { (C : Printing T A) (isolated : Id → Bool) (before : ℕ → Written A) (tree : Tree ℕ T A)
+        (entries : List (Entry ℕ A (Written A)))
         (source rest : List ℕ) (g : Graph T A) →
         let types = texts_of T.reading T.written in
         let owns = texts_of A.reading A.written in
         reads (language types owns C.format_of) tree source rest → failures_of isolated tree entries ≡ [] →
         StandsFor (stood C isolated g) (build isolated before entries tree) → Distinct C isolated g → Fit C isolated g →
         ClosedRoot C isolated g × Named C g }
-    ensures again { (C : Printing T A) (isolated : Id → Bool) (before first : ℕ → Written A) (tree : Tree ℕ T A) (entries : List (Entry ℕ A (Written A)))
+    ensures again { (C : Printing T A) (isolated : Id → Bool) (before first : ℕ → Written A)
+        (tree : Tree ℕ T A) (entries : List (Entry ℕ A (Written A)))
         (source behind : List ℕ) (g : Graph T A) (width n : ℕ) (t rest : List ℕ) (held : Option (Built T A (Written A))) →
         let types = texts_of T.reading T.written in
         let owns = texts_of A.reading A.written in
@@ -105,5 +112,6 @@ pub fn read_root_is_closed<T: IrText<A>, A: AttrText<A>>()
 
 /// A root that satisfies `StandsAlone` is closed if no two of its values or blocks are the same, as in every context.
 pub fn root_alone_is_closed<T, A>()
-    ensures { (C : Printing T A) (isolated : Id → Bool) (g : Graph T A) → StandsAlone C isolated g → Distinct C isolated g → ClosedRoot C isolated g }
+    ensures { (C : Printing T A) (isolated : Id → Bool) (g : Graph T A) → StandsAlone C isolated g
+        → Distinct C isolated g → ClosedRoot C isolated g }
 {}

@@ -27,7 +27,8 @@ pub fn nested_text_is_a_tree<T: IrText<A>, A: AttrText<A>, U>()
         operation_at dialects T.reading (attr_at A.reading) does true text s ≡ Advanced tt t rest →
         (x : Tree ℕ T A) × reads (language (texts_of T.reading T.written) (texts_of A.reading A.written) (format_of dialects)) x text rest
         × (t ≡ do_tree (isolated dialects) does x s) }
-    ensures found { (dialects : List (Text × Table)) (does : Actions T A U) (x : Tree ℕ T A) (text rest : Text) (s : U) →
+    ensures found { (dialects : List (Text × Table)) (does : Actions T A U) (x : Tree ℕ T A)
+        (text rest : Text) (s : U) →
         reads (language (texts_of T.reading T.written) (texts_of A.reading A.written) (format_of dialects)) x text rest →
         operation_at dialects T.reading (attr_at A.reading) does true text s ≡ Advanced tt (do_tree (isolated dialects) does x s) rest }
 {}

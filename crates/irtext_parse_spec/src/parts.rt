@@ -142,7 +142,8 @@ pub(crate) fn location_kept<T: IrText<A>, A: AttrText<A>>(
 #[cycle(kept)]
 fn locations_kept<T: IrText<A>, A: AttrText<A>>(locations: &[Location<A>], ctx: &Context<T, A>)
     ensures fits { RowFit (row_sourced (path_of ctx.now.paths) (in_row (map location_view locations.now))) }
-    ensures holds { RowHold IsSpellableAttr (row_sourced (path_of ctx.now.paths) (in_row (map location_view locations.now))) }
+    ensures holds { RowHold IsSpellableAttr (row_sourced (path_of ctx.now.paths)
+        (in_row (map location_view locations.now))) }
 {
     for location in locations {
         location_kept(location, ctx);

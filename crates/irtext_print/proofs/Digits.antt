@@ -78,3 +78,9 @@ digits-joined n f0 f1 f2 lo hi p q =
     q ∙ ap (λ z. z ++ (pair (n / 100 % 100) ++ pair (n % 100))) p
     ∙ (append_assoc f0 (decimal (n / 100 / 100)) (pair (n / 100 % 100) ++ pair (n % 100))
     ∙ ap (λ z. f0 ++ z) (sym (append_assoc (decimal (n / 100 / 100)) (pair (n / 100 % 100)) (pair (n % 100))) ∙ sym whole))
+
+-- a number's last two digits, put after the others
+pub hundreds-put : (n : ℕ) (b0 b1 b2 two : List ℕ) → 100 ≤ n → n < 1000000 → b1 ≡ b0 ++ decimal (n / 100) → two ≡ pair (n % 100) → b2 ≡ b1 ++ two → b2 ≡ b0 ++ decimal n
+hundreds-put n b0 b1 b2 two lo hi p q r =
+    r ∙ ap (λ z. b1 ++ z) q ∙ ap (λ z. z ++ pair (n % 100)) p
+    ∙ (append_assoc b0 (decimal (n / 100)) (pair (n % 100)) ∙ ap (λ z. b0 ++ z) (sym (decimal-hundreds n lo hi)))

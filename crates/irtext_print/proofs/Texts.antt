@@ -1,20 +1,24 @@
 -- What was appended piece by piece, as the text of entries.
-use Rattle.std.proofs.Common.{◌≡◌, ℕ, Bool, true, false, ◌+◌, ◌<◌, ◌≤◌, cond, List, [], ◌∷◌, ◌++◌, map, codes, Option, Some, None, length, get_or, drop, suc, arith, refl, sym, ap, ◌∙◌}
+use Rattle.std.proofs.Common.{◌≡◌, ℕ, Bool, true, false, ◌+◌, ◌<◌, ◌≤◌, cond, List, [], ◌∷◌, ◌++◌, map, codes, Option, Some, None, length, get_or, drop, suc, arith, refl, sym, ap, ap₂, ◌∙◌}
+use Rattle.std.proofs.lemmas.Fmt.{IsAscii-decimal}
+use Rattle.std.proofs.lemmas.Str.{IsAscii-append}
 use Rattle.std.proofs.lemmas.List.{append_assoc, append-nil, drop_all}
 use Rattle.std.proofs.Math.Seq.{drop-cons}
 use Rattle.std.specs.Borrow.{Bor}
-use Rattle.std.specs.Fmt.{decimal}
+use Rattle.std.specs.Fmt.{decimal, signed_decimal}
 use Rattle.std.specs.Prelude.{⊤}
-use Rattle.std.specs.Str.{encode_utf8_all}
+use Rattle.std.specs.Str.{IsAscii, encode_utf8_all}
 use Rattle.irtext_base.specs.Own.{Language}
 use Rattle.irtext_base.specs.Text.{Text}
 use Rattle.irtext_grammar.specs.Grammar.Tree.{Attribute}
 use Rattle.irtext_grammar.specs.Graphs.Graph.{Printing}
 use Rattle.irtext_grammar.specs.Spelling.Section.{item, located, once_texts}
 use Rattle.irtext_grammar.specs.Spelling.Spell.{comma}
+use Rattle.irtext_grammar.proofs.Lists.Ascii.{encodes-ascii, ascii-from}
 use Rattle.irtext_print.proofs.Printers.Locations.{more, worded, ending, framed_bytes, left_text, item_written}
 use Rattle.irtext_print.specs.Errors.Located.{between, framed}
-use Rattle.irtext_print.specs.Entries.{pair_text, pairs_text, entry_with, once_text}
+use Rattle.irtext_print.specs.Entries.{pair_text, pairs_text, entry_with, once_text, memory_front, memory_text}
+use Rattle.irtext_stream.specs.declared.position.SourcePosition.{SourcePosition}
 
 -- a reference is written
 pub reference_appended : (index wanted : ℕ) (f0 f1 f2 : List ℕ) → index ≡ wanted → f1 ≡ f0 ++ codes "!" → f2 ≡ f1 ++ encode_utf8_all (decimal index) → f2 ≡ f0 ++ encode_utf8_all (codes "!" ++ decimal wanted)
@@ -23,6 +27,34 @@ reference_appended index wanted f0 f1 f2 same p q = worded f0 f1 f2 (codes "!") 
 -- three texts that are appended one after another
 pub three_appended : (f a b c : List ℕ) → f ++ (a ++ (b ++ c)) ≡ ((f ++ a) ++ b) ++ c
 three_appended f a b c = simp (append_assoc)
+
+-- seven texts that are put together
+pub seven_put : (a b c d e g h b0 b1 b2 b3 b4 b5 b6 b7 : List ℕ) → b0 ≡ [] → b1 ≡ b0 ++ a → b2 ≡ b1 ++ b → b3 ≡ b2 ++ c → b4 ≡ b3 ++ d → b5 ≡ b4 ++ e → b6 ≡ b5 ++ g → b7 ≡ b6 ++ h
+    → b7 ≡ a ++ (b ++ (c ++ (d ++ (e ++ (g ++ h)))))
+seven_put a b c d e g h b0 b1 b2 b3 b4 b5 b6 b7 p0 p1 p2 p3 p4 p5 p6 p7 =
+    p7 ∙ ap (λ z. z ++ h) (p6 ∙ ap (λ z. z ++ g) (p5 ∙ ap (λ z. z ++ e) (p4 ∙ ap (λ z. z ++ d) (p3 ∙ ap (λ z. z ++ c) (p2 ∙ ap (λ z. z ++ b) (p1 ∙ ap (λ z. z ++ a) p0))))))
+    ∙ regroup a b c d e g h
+  where
+    regroup : (a b c d e g h : List ℕ) → (((((a ++ b) ++ c) ++ d) ++ e) ++ g) ++ h ≡ a ++ (b ++ (c ++ (d ++ (e ++ (g ++ h)))))
+    regroup a b c d e g h = simp (append_assoc)
+
+-- what is before an entry's attributes, if its numbers were put together with the words between
+pub memory_put : (index line column : ℕ) (pos : SourcePosition) (old new : List ℕ) → index < 1000000 → line < 1000000 → column < 1000000
+    → decimal line ≡ signed_decimal pos.line → decimal column ≡ signed_decimal pos.column
+    → new ≡ old ++ memory_text index line column
+    → new ≡ memory_front old index pos
+memory_put index line column pos old new i l c is_line is_column w =
+    let comma = codes ", column: " in
+    let digits : (n : ℕ) → n < 1000000 → IsAscii (decimal n) = λ n h. IsAscii-decimal n (omega (arith, h)) in
+    let numbers = decimal line ++ (comma ++ decimal column) in
+    let mark : encode_utf8_all (codes "!" ++ decimal index) ≡ codes "!" ++ decimal index = encodes-ascii (codes "!" ++ decimal index) (IsAscii-append (codes "!") (decimal index) (ascii-from (codes "!") refl) (digits index i)) in
+    let plain : encode_utf8_all numbers ≡ numbers = encodes-ascii numbers (IsAscii-append (decimal line) (comma ++ decimal column) (digits line l) (IsAscii-append comma (decimal column) (ascii-from comma refl) (digits column c))) in
+    let same : encode_utf8_all (signed_decimal pos.line ++ (comma ++ signed_decimal pos.column)) ≡ numbers = ap₂ (λ x y. encode_utf8_all (x ++ (comma ++ y))) (sym is_line) (sym is_column) ∙ plain in
+    w ∙ regroup old (codes "!") (decimal index) (codes " = @[<in-memory>: line: ") (decimal line) comma (decimal column) (codes "], [")
+    ∙ ap₂ (λ x y. (((old ++ x) ++ codes " = @[<in-memory>: line: ") ++ y) ++ codes "], [") (sym mark) (sym same)
+  where
+    regroup : (f a b c d e g h : List ℕ) → f ++ (a ++ (b ++ (c ++ (d ++ (e ++ (g ++ h)))))) ≡ (((f ++ (a ++ b)) ++ c) ++ (d ++ (e ++ g))) ++ h
+    regroup f a b c d e g h = simp (append_assoc)
 
 -- an entry's head, and after it the rest
 pub head_appended : (n : ℕ) (rest : Text) (f0 f1 f2 f3 f4 : List ℕ) → f1 ≡ f0 ++ codes "!" → f2 ≡ f1 ++ encode_utf8_all (decimal n) → f3 ≡ f2 ++ codes " = " → f4 ≡ f3 ++ encode_utf8_all rest

@@ -1,6 +1,7 @@
 //! The entries of a section, piece by piece. An item is an operation or a block that carries a mark. Each of these calls fails only if
 //! out of memory; what was appended up to the error remains.
 ghost use Rattle.std.specs.Prelude.{◌≡◌, ◌++◌, ◌<◌, ◌^◌, List, [], OnOk, codes, cond, decimal, string_bytes, true, false};
+ghost use Rattle.std.specs.Str.{encode_utf8_all};
 ghost use Rattle.irtext_base.specs.declared.location.Source.TheVariants as source;
 ghost use Rattle.irtext_grammar.specs.Contexts.Held.{attribute_of};
 ghost use Rattle.irtext_grammar.specs.Grammar.Tree as tree;
@@ -18,9 +19,11 @@ use crate::given::{Given, GivenAttribute};
 use crate::location::print::{fmt_known, fmt_numbers, fmt_place};
 use crate::mentions::{Mentions, note};
 use crate::printable::attributes::fmt_attr;
-use crate::printable::numbers::fmt_led_number;
+use crate::printable::numbers::{InPlace, fmt_led_number, in_place, put_number};
+use arrayvec::ArrayString;
 use irtext_base::base::{AttrObj, Identifier};
 use irtext_base::location::{Location, Source};
+use irtext_base::parsable::SourcePosition;
 use irtext_base::text::{AttrText, IrText};
 use irtext_context::base::Context;
 use std::fmt;
@@ -184,8 +187,57 @@ fn fmt_any_location<T: IrText<A>, A: AttrText<A>>(
     Ok(())
 }
 
-/// Appends what is between an entry's index and its attributes: ` = `, the location if it is known, and `[`. For a position in memory,
-/// everything before the line number is appended at once.
+/// Appends what is before an entry's attributes for a position in memory, in one piece. The numbers have at most six digits.
+#[inline(always)]
+fn fmt_memory(index: usize, line: usize, column: usize, f: &mut String) -> fmt::Result
+    requires index { index < 1000000 }
+    requires line { line < 1000000 }
+    requires column { column < 1000000 }
+    ensures { OnOk result (string_bytes f.new ≡ string_bytes f.old ++ texts.memory_text index line column) }
+{
+    let mut front: InPlace = ArrayString::new();
+    front.push_str("!");
+    put_number(index, &mut front);
+    front.push_str(" = @[<in-memory>: line: ");
+    put_number(line, &mut front);
+    front.push_str(", column: ");
+    put_number(column, &mut front);
+    front.push_str("], [");
+    f.push_str(front.as_str())?;
+    Ok(())
+}
+
+/// Appends what is before an entry's attributes for a position in memory, piece by piece.
+#[cold]
+#[inline(never)]
+fn fmt_memory_slowly(index: usize, pos: &SourcePosition, f: &mut String) -> fmt::Result
+    ensures { OnOk result (string_bytes f.new ≡ texts.memory_front (string_bytes f.old) index pos.now) }
+{
+    fmt_index(index, f)?;
+    f.push_str(" = @[<in-memory>: line: ")?;
+    fmt_numbers(pos, f)?;
+    f.push_str("], [")?;
+    Ok(())
+}
+
+/// Appends what is before an entry's attributes for a position in memory.
+#[inline(always)]
+fn fmt_memory_front(index: usize, pos: &SourcePosition, f: &mut String) -> fmt::Result
+    ensures { OnOk result (string_bytes f.new ≡ texts.memory_front (string_bytes f.old) index pos.now) }
+{
+    let Some(line) = in_place(&pos.line) else {
+        return fmt_memory_slowly(index, pos, f);
+    };
+    let Some(column) = in_place(&pos.column) else {
+        return fmt_memory_slowly(index, pos, f);
+    };
+    if index >= 1_000_000 {
+        return fmt_memory_slowly(index, pos, f);
+    }
+    fmt_memory(index, line, column, f)
+}
+
+/// Appends what is between an entry's index and its attributes: ` = `, the location if it is known, and `[`.
 #[inline(always)]
 fn fmt_entry_location<T: IrText<A>, A: AttrText<A>>(
     location: &Location<A>,
@@ -196,18 +248,34 @@ fn fmt_entry_location<T: IrText<A>, A: AttrText<A>>(
         ++ (codes " = " ++ (framed (codes "@[") (codes "], ") (known_text A.written ctx.now.paths location.now) ++ codes "["))) }
 {
     if let Location::SrcPos { src, pos } = location {
-        if is_in_memory(*src) {
-            f.push_str(" = @[<in-memory>: line: ")?;
-            fmt_numbers(pos, f)?;
-            f.push_str("], [")?;
-            return Ok(());
-        }
         f.push_str(" = @[")?;
         fmt_place(*src, pos, ctx, f)?;
         f.push_str("], [")?;
         return Ok(());
     }
     fmt_any_location(location, ctx, f)
+}
+
+/// Appends what is before an entry's attributes: `!` and its index, ` = `, the location if it is known, and `[`. For a position in
+/// memory these are put together first, and appended at once.
+#[inline(always)]
+fn fmt_front<T: IrText<A>, A: AttrText<A>>(
+    index: usize,
+    location: &Location<A>,
+    ctx: &Context<T, A>,
+    f: &mut String,
+) -> fmt::Result
+    ensures { OnOk result (string_bytes f.new ≡
+        (string_bytes f.old ++ encode_utf8_all (codes "!" ++ decimal index)) ++ (codes " = "
+        ++ (framed (codes "@[") (codes "], ") (known_text A.written ctx.now.paths location.now) ++ codes "["))) }
+{
+    if let Location::SrcPos { src, pos } = location {
+        if is_in_memory(*src) {
+            return fmt_memory_front(index, pos, f);
+        }
+    }
+    fmt_index(index, f)?;
+    fmt_entry_location(location, ctx, f)
 }
 
 /// Appends the entry of an item, from what the section contains for it: `!0 = @[<in-memory>: line: 1, column: 1], []`.
@@ -227,8 +295,7 @@ pub(crate) fn fmt_entry<'c, T: IrText<A>, A: AttrText<A>>(
         (words A.IrText.written) index
         (known_text A.written ctx.now.paths given.now.location.now) (attributes_of A.outlined given.now)) f.new) }
 {
-    fmt_index(index, f)?;
-    fmt_entry_location(given.location, ctx, f)?;
+    fmt_front(index, given.location, ctx, f)?;
     fmt_pairs(given, items, known, f)?;
     f.push_str("]\n")?;
     Ok(())

@@ -22,7 +22,8 @@ pub fn indices_follow<T, A>()
 /// The text of a section is that of its entries, one after another. If no item was erased, it is the section of a root by the
 /// definition of printing.
 pub fn section_is_its_entries<T: IrText<A>, A: AttrText<A>>()
-    ensures spelled { (C : Printing T A) (formats : Id → Option Format) (g : Option (Entry C)) (gs : List (Option (Entry C))) →
+    ensures spelled { (C : Printing T A) (formats : Id → Option Format) (g : Option (Entry C))
+        (gs : List (Option (Entry C))) →
         let L = unplaced (texts_of T.reading T.written) (texts_of A.reading A.written) formats in
         section_of C L (g ∷ gs) ≡ codes "\n\noutlined_attributes:\n" ++ flat_map (entry_spelled C L) (given_section C (g ∷ gs)) }
     ensures whole { (C : Printing T A) (formats : Id → Option Format) (es : List (Entry C)) →

@@ -79,7 +79,8 @@ fn fmt_indented(indent: u16, line: &str, end: usize, f: &mut String) -> fmt::Res
     requires ends { (256 ≤ end) × (end ≤ length line.now) }
     requires line { line.now ≡ replicate 256 32 ++ drop 256 line.now }
     requires ascii { IsAscii line.now }
-    ensures { OnOk result (string_bytes f.new ≡ string_bytes f.old ++ (replicate indent 32 ++ take (end - 256) (drop 256 line.now))) }
+    ensures { OnOk result (string_bytes f.new ≡ string_bytes f.old ++ (replicate indent 32 ++ take (end - 256)
+        (drop 256 line.now))) }
 {
     f.push_str(&line[256 - indent as usize..end])?;
     Ok(())

@@ -83,7 +83,8 @@ fn fmt_all_once<A: AttrText<A>>(
     f: &mut String,
 ) -> fmt::Result
     requires { count < 2 ^ 63 }
-    ensures { OnOk result (AppendsText f.old (once_texts (words A.IrText.written) (mentions.asking A.print_once A.eq) count
+    ensures { OnOk result (AppendsText f.old (once_texts (words A.IrText.written)
+        (mentions.asking A.print_once A.eq) count
         (mentions.known_in known.now)) f.new) }
 {
     let attrs = known.as_slice();
@@ -99,7 +100,8 @@ fn fmt_section<T: IrText<A>, A: AttrText<A>>(
     items: &[Item],
     f: &mut String,
 ) -> fmt::Result
-    ensures { OnOk result (AppendsText f.old (section.section_at T.IrText.own A.IrText.own A.AttrText.own A.eq ctx.now items.now) f.new) }
+    ensures { OnOk result (AppendsText f.old (section.section_at T.IrText.own A.IrText.own A.AttrText.own A.eq
+        ctx.now items.now) f.new) }
 {
     if items.is_empty() {
         return Ok(());
@@ -166,7 +168,8 @@ fn fmt_alone<T: IrText<A>, A: AttrText<A>>(
     item: Item,
     f: &mut String,
 ) -> fmt::Result
-    ensures { OnOk result (AppendsText f.old (section.alone_at T.IrText.own A.IrText.own A.AttrText.own A.eq ctx.now item) f.new) }
+    ensures { OnOk result (AppendsText f.old (section.alone_at T.IrText.own A.IrText.own A.AttrText.own A.eq
+        ctx.now item) f.new) }
 {
     let Some(given) = given_of(ctx, item) else {
         return Ok(());
@@ -187,7 +190,8 @@ pub fn print_alone<T: IrText<A>, A: AttrText<A>>(
     item: Item,
     f: &mut String,
 ) -> Result<(), Refusal>
-    ensures text { OnOk result (AppendsText f.old (section.alone_at T.IrText.own A.IrText.own A.AttrText.own A.eq ctx.now item) f.new) }
+    ensures text { OnOk result (AppendsText f.old (section.alone_at T.IrText.own A.IrText.own A.AttrText.own
+        A.eq ctx.now item) f.new) }
     ensures refused { IfErr result (λ e. e ≡ refusal.Memory) }
 {
     memory_alone(fmt_alone(ctx, item, f))

@@ -43,5 +43,6 @@ pub trait Printable<U, T: IrText<A>, A: AttrText<A>> {
     fn fmt(&self, ctx: &Context<T, A>, state: &mut State<U>, f: &mut String) -> fmt::Result
         requires { can_print self.now ctx.now }
         ensures prints { OnOk result (prints self.now ctx.now state.old f.old state.new f.new) }
-        ensures text { OnOk result (Writes (gives self.now ctx.now state.old) state.new (string_bytes f.old) (string_bytes f.new)) };
+        ensures text { OnOk result (Writes (gives self.now ctx.now state.old) state.new (string_bytes f.old)
+            (string_bytes f.new)) };
 }

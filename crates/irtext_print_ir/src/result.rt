@@ -16,7 +16,8 @@ fn fmt_error<T: IrText<A>, A: AttrText<A>>(
     ctx: &Context<T, A>,
     f: &mut String,
 ) -> fmt::Result
-    ensures { OnOk result (string_bytes f.new ≡ string_bytes f.old ++ located_error A.written ctx.now.paths error.now) }
+    ensures { OnOk result (string_bytes f.new ≡ string_bytes f.old ++ located_error A.written ctx.now.paths
+        error.now) }
 {
     fmt_known(&error.loc, "[", "] ", ctx, f)?;
     let kind = error.kind;

@@ -49,6 +49,10 @@ regroup_region a b c bs e f = simp append_assoc
 regroup_block : (a b c d e m f n ops : Text) → (a ++ (b ++ (c ++ (d ++ e)))) ++ (m ++ ((f ++ n) ++ ops)) ≡ a ++ (b ++ (c ++ (d ++ (e ++ (m ++ (f ++ (n ++ ops)))))))
 regroup_block a b c d e m f n ops = simp append_assoc
 
+-- what comes between the head of a block and its operations, which have this indentation
+abbrev pub colon : ℕ → Text
+colon inner = codes ":" ++ newline inner
+
 module _ {T A : Type 0} (C : Printing T A) (L : Language ⊤ T A) (ctx : ContextView T A) (width i : ℕ) where
   -- ---- a region
   module _ (r : Ptr Region) where
@@ -73,6 +77,10 @@ module _ {T A : Type 0} (C : Printing T A) (L : Language ⊤ T A) (ctx : Context
     region_left Unlimited n = shown_left Unlimited n
     region_left (Max zero) n = refl
     region_left (Max (suc m)) n = shown_left (Max m) n
+
+    -- what is open of it after its beginning
+    abbrev pub opened : RegionPrintDepthLimit → List (Open T A)
+    opened limit = map (open_of C L ctx) (region_frames r i limit)
 
     -- the items of a region
     pub region_items : (limit : RegionPrintDepthLimit) → items_left C L ctx (region_frames r i limit) ≡ cond (is_elided C (levels limit)) [] (items_in_blocks C L ctx (inside C (levels limit)) (blocks_left C L ctx r 0))
@@ -137,7 +145,7 @@ module _ {T A : Type 0} (C : Printing T A) (L : Language ⊤ T A) (ctx : Context
     pub block_written : (items items' : List Item) (inner : ℕ) (old f1 f2 new : List ℕ) → inner ≡ i + width →
         f1 ≡ old ++ encode_utf8_all (block_head L (tree_head C 0 h)) →
         f2 ≡ f1 ++ encode_utf8_all (mark_if L (mark_at C (length items) h.location (block_outlined C h))) →
-        new ≡ f2 ++ encode_utf8_all (codes ":" ++ newline inner) →
+        new ≡ f2 ++ encode_utf8_all (colon inner) →
         items' ≡ items ++ marked_block C L ctx b h →
         new ++ encode_utf8_all (open_rest C L width (map (open_of C L ctx) (first_block ∷ [])) (length items')) ≡ old ++ encode_utf8_all (whole_block (length items))
     block_written items items' inner old f1 f2 new n w1 w2 w3 k =
@@ -147,12 +155,11 @@ module _ {T A : Type 0} (C : Printing T A) (L : Language ⊤ T A) (ctx : Context
         let ops : ℕ → Text = λ m. joined (between_operations (i + width)) (operation_texts L width (i + width) (tree_operations C (levels limit) m os)) in
         let left : open_rest C L width (map (open_of C L ctx) (first_block ∷ [])) (length items') ≡ ops (length items + own_marks C h.location (block_outlined C h))
         = alone C L width (open_of C L ctx first_block) (length items') ∙ ap ops count in
-        let colon = codes ":" ++ newline (i + width) in
         let r = open_rest C L width (map (open_of C L ctx) (first_block ∷ [])) (length items') in
-        more old f1 (new ++ encode_utf8_all r) (block_head L head) (mark ++ (colon ++ r)) w1
-        (more f1 f2 (new ++ encode_utf8_all r) mark (colon ++ r) w2
-        (more f2 new (new ++ encode_utf8_all r) colon r (w3 ∙ ap (λ j. f2 ++ encode_utf8_all (codes ":" ++ newline j)) n) refl))
-        ∙ ap (λ z. old ++ encode_utf8_all z) (ap (λ z. block_head L head ++ (mark ++ (colon ++ z))) left
+        more old f1 (new ++ encode_utf8_all r) (block_head L head) (mark ++ (colon (i + width) ++ r)) w1
+        (more f1 f2 (new ++ encode_utf8_all r) mark (colon (i + width) ++ r) w2
+        (more f2 new (new ++ encode_utf8_all r) (colon (i + width)) r (w3 ∙ ap (λ j. f2 ++ encode_utf8_all (colon j)) n) refl))
+        ∙ ap (λ z. old ++ encode_utf8_all z) (ap (λ z. block_head L head ++ (mark ++ (colon (i + width) ++ z))) left
         ∙ regroup_block (label L head.label) (codes "(") (joined comma (map (argument L) head.arguments)) (codes ")") (dictionary_if L head.attributes) mark (codes ":") (newline (i + width)) (ops (length items + own_marks C h.location (block_outlined C h))))
 
     -- its items

@@ -27,14 +27,13 @@ use Rattle.irtext_print_ops.proofs.Turned.{region_ended}
 use Rattle.irtext_print_ops.proofs.Walked.{stepped_fit, stepped_fault, stepped_misfits, stepped_fewer, items_both}
 
 module _ {T A : Type 0} (C : Printing T A) (L : Language ⊤ T A) (ctx : ContextView T A) (width : ℕ) where
-  -- a turn leaves the same frames inside of others
-  pub inside_others : (f : Frame) (items items' : List Item) (gs pushed : List Frame) (old new : List ℕ) →
-      Steps C L ctx width f items items' [] pushed old new → Steps C L ctx width f items items' gs (gs ++ pushed) old new
-  inside_others f items items' gs pushed old new s = record {
+  -- a turn leaves the same frames inside of any others
+  inside_any : (f : Frame) (items items' : List Item) (gs gs' hs hs' : List Frame) (old new : List ℕ) (s : Steps C L ctx width f items items' gs gs' old new) → hs' ≡ hs ++ s.pushed → Steps C L ctx width f items items' hs hs' old new
+  inside_any f items items' gs gs' hs hs' old new s e = record {
     pushed = s.pushed;
     text = s.text;
     gathered = s.gathered;
-    stack = ap (λ z. gs ++ z) s.stack;
+    stack = e;
     marks = s.marks;
     written = s.written;
     turned = s.turned;
@@ -44,6 +43,11 @@ module _ {T A : Type 0} (C : Printing T A) (L : Language ⊤ T A) (ctx : Context
     misfits = s.misfits;
     fewer = s.fewer;
   }
+
+  -- inside of these as inside of none
+  pub inside_others : (f : Frame) (items items' : List Item) (gs pushed : List Frame) (old new : List ℕ) →
+      Steps C L ctx width f items items' [] pushed old new → Steps C L ctx width f items items' gs (gs ++ pushed) old new
+  inside_others f items items' gs pushed old new s = inside_any f items items' [] pushed gs (gs ++ pushed) old new s (ap (λ z. gs ++ z) s.stack)
 
   module _ (f g : Frame) (items items1 items2 : List Item) (pre post : List Frame) (old mid new : List ℕ) (s : Steps C L ctx width f items items1 [] (pre ++ g ∷ []) old mid) (t : Steps C L ctx width g items1 items2 [] post mid new) where
     -- the second turn, of the innermost frame
@@ -126,20 +130,7 @@ module _ {T A : Type 0} (C : Printing T A) (L : Language ⊤ T A) (ctx : Context
 
   -- a turn without the frames outside
   pub alone : (f : Frame) (items items' : List Item) (gs gs' : List Frame) (old new : List ℕ) (s : Steps C L ctx width f items items' gs gs' old new) → Steps C L ctx width f items items' [] s.pushed old new
-  alone f items items' gs gs' old new s = record {
-    pushed = s.pushed;
-    text = s.text;
-    gathered = s.gathered;
-    stack = refl;
-    marks = s.marks;
-    written = s.written;
-    turned = s.turned;
-    left = s.left;
-    fit = s.fit;
-    faults = s.faults;
-    misfits = s.misfits;
-    fewer = s.fewer;
-  }
+  alone f items items' gs gs' old new s = inside_any f items items' gs gs' [] s.pushed old new s refl
 
   -- ---- several turns of the same frame
 

@@ -1,5 +1,5 @@
 -- What is counted of directives in one pass, and the tests of it.
-use Rattle.std.proofs.Common.{◌≡◌, ◌<◌, ◌≤◌, ◌∙◌, ◌+◌, ◌||◌, ◌==◌, ◌^◌, nat_lt, ℕ, suc, arith, not, Bool, true, false, cond, List, [], ◌∷◌, refl, sym, ap, subst, Option, Some, None, is_some, length, filter_map, true≢false}
+use Rattle.std.proofs.Common.{◌≡◌, ◌<◌, ◌≤◌, ◌∙◌, ◌+◌, ◌||◌, ◌==◌, ◌^◌, nat_lt, ℕ, suc, arith, not, drop, Bool, true, false, cond, List, [], ◌∷◌, refl, sym, ap, subst, Option, Some, None, is_none, is_some, length, filter_map, true≢false}
 use Rattle.std.specs.List.{cons_option, find, list_any}
 use Rattle.irtext_base.specs.Format as format
 use Rattle.irtext_base.specs.Format.{Directive, count, keys, operand_places, successor_places, type_places, region_places, is_operands, is_successors, is_regions, is_dictionary, is_header}
@@ -9,7 +9,8 @@ use Rattle.irtext_grammar.specs.Graphs.Graph.{lookup}
 use Rattle.irtext_print.specs.Printers.FitFaults.{missing_key}
 use Rattle.irtext_print.specs.Printers.PrintedOperation.{regions_fit, symbol_fits, has_symbol}
 use Rattle.irtext_print.proofs.Printers.FitsTests.{any_count}
-use Rattle.irtext_print_ops.specs.Fits.{counts_fit, counted, counted_on, places_of, no_places, AreFew}
+use Rattle.irtext_print_ops.specs.Fits.{counts_fit, counted, counted_on, places_of, no_places, AreFew, first_failed, tests, uncovered_key}
+use Rattle.irtext_print_ops.specs.declared.fits.Counts.{Counts}
 use Rattle.irtext_print_ops.specs.declared.fits.Places.{Places}
 
 -- ---- numbers
@@ -40,8 +41,8 @@ module _ (number : Places → ℕ) (named : Directive → Option ℕ) (step : (p
           one
 
   -- it counts all of that kind
-  counts : number no_places ≡ 0 → (ds : List Directive) → number (places_of ds) ≡ length (filter_map named ds)
-  counts z ds =
+  counts_all : number no_places ≡ 0 → (ds : List Directive) → number (places_of ds) ≡ length (filter_map named ds)
+  counts_all z ds =
       let all : number (places_of ds) ≡ number no_places + length (filter_map named ds) = all_on ds no_places in
       omega (arith, all, z)
 
@@ -169,33 +170,47 @@ listed places lists n code_places all result p q r =
     go true = refl
     go false = refl
 
--- what the code tests of what was counted is what the definitions test of the directives
-pub record Tested (ds : List Directive) (p : Places) : Type 0 where
-  pub operands : (n : ℕ) (b : Bool) → b ≡ cond p.all_operands (not (nat_lt n p.operands)) (n == p.operands) → counts_fit (length (operand_places ds)) (count is_operands ds) n ≡ b
-  pub successors : (n : ℕ) (b : Bool) → b ≡ cond p.all_successors (not (nat_lt n p.successors)) (n == p.successors) → counts_fit (length (successor_places ds)) (count is_successors ds) n ≡ b
-  pub results : (n : ℕ) (b : Bool) → b ≡ cond false (not (nat_lt n p.types)) (n == p.types) → (n == length (type_places ds)) ≡ b
-  pub regions : (n : ℕ) (b : Bool) → b ≡ cond p.all_regions (not (nat_lt n p.regions)) (n == p.regions) → regions_fit ds n ≡ b
-
-pub tested : (ds : List Directive) (p : Places) → p ≡ places_of ds → Tested ds p
-tested ds p e = record {
-  operands = λ n b r. listed (length (operand_places ds)) (count is_operands ds) n p.operands p.all_operands b
-      (ap (λ q. q.operands) e ∙ counts (λ q. q.operands) (λ d. elim d [ format.operand i ↦ Some i | _ ↦ None ]) operands_step refl ds)
-      (ap (λ q. q.all_operands) e ∙ any_counted (λ q. q.all_operands) is_operands (λ q d. elim d as (λ d. (counted q d).all_operands ≡ cond (is_operands d) true q.all_operands) [ format.word s ↦ refl | _ ↦ refl ]) refl ds) r;
-  successors = λ n b r. listed (length (successor_places ds)) (count is_successors ds) n p.successors p.all_successors b
-      (ap (λ q. q.successors) e ∙ counts (λ q. q.successors) (λ d. elim d [ format.successor i ↦ Some i | _ ↦ None ]) successors_step refl ds)
-      (ap (λ q. q.all_successors) e ∙ any_counted (λ q. q.all_successors) is_successors (λ q d. elim d as (λ d. (counted q d).all_successors ≡ cond (is_successors d) true q.all_successors) [ format.word s ↦ refl | _ ↦ refl ]) refl ds) r;
-  results = λ n b r. sym (r ∙ ap (λ k. n == k)
-      (ap (λ q. q.types) e ∙ counts (λ q. q.types) (λ d. elim d [ format.result_type i ↦ Some i | _ ↦ None ]) types_step refl ds));
-  regions = λ n b r. listed (length (region_places ds)) (count is_regions ds) n p.regions p.all_regions b
-      (ap (λ q. q.regions) e ∙ counts (λ q. q.regions) (λ d. elim d [ format.region i ↦ Some i | _ ↦ None ]) regions_step refl ds)
-      (ap (λ q. q.all_regions) e ∙ any_counted (λ q. q.all_regions) is_regions (λ q d. elim d as (λ d. (counted q d).all_regions ≡ cond (is_regions d) true q.all_regions) [ format.word s ↦ refl | _ ↦ refl ]) refl ds) r;
-}
-
 -- the symbol is there, where a directive writes it
-pub symbol_tested : {A : Type 0} (es : List (Text × Attribute A)) (ds : List Directive) (p : Places) (result : Bool) → p ≡ places_of ds → result ≡ (not p.header || has_symbol es) → symbol_fits es ds ≡ result
+symbol_tested : {A : Type 0} (es : List (Text × Attribute A)) (ds : List Directive) (p : Places) (result : Bool) → p ≡ places_of ds → result ≡ (not p.header || has_symbol es) → symbol_fits es ds ≡ result
 symbol_tested es ds p result e r =
     sym (r ∙ ap (λ b. not b || has_symbol es) (ap (λ q. q.header) e ∙ any_counted (λ q. q.header) is_header (λ q d. elim d as (λ d. (counted q d).header ≡ cond (is_header d) true q.header) [ format.word s ↦ refl | _ ↦ refl ]) refl ds) ∙ go (count is_header ds == 0))
   where
     go : (b : Bool) → (not (not b) || has_symbol es) ≡ (b || has_symbol es)
     go true = refl
     go false = refl
+
+-- the first test that fails after this many
+abbrev pub first_from : {A : Type 0} → (A → Bool) → List Directive → Counts → List (Text × Attribute A) → ℕ → Option ℕ
+first_from is_outlined ds counts es k = first_failed (suc k) (drop k (tests is_outlined ds counts es))
+
+-- The code's tests of what was counted are those of the definitions: the first that fails is one of these, or one after it.
+pub record Tested {A : Type 0} (is_outlined : A → Bool) (ds : List Directive) (counts : Counts) (es : List (Text × Attribute A)) (p : Places) : Type 0 where
+  pub operands : {b : Bool} → b ≡ cond p.all_operands (not (nat_lt counts.operands p.operands)) (counts.operands == p.operands) → first_from is_outlined ds counts es 0 ≡ cond b (first_from is_outlined ds counts es 1) (Some 1)
+  pub successors : {b : Bool} → b ≡ cond p.all_successors (not (nat_lt counts.successors p.successors)) (counts.successors == p.successors) → first_from is_outlined ds counts es 1 ≡ cond b (first_from is_outlined ds counts es 2) (Some 2)
+  pub results : {b : Bool} → b ≡ cond false (not (nat_lt counts.results p.types)) (counts.results == p.types) → first_from is_outlined ds counts es 2 ≡ cond b (first_from is_outlined ds counts es 3) (Some 3)
+  pub regions : {b : Bool} → b ≡ cond p.all_regions (not (nat_lt counts.regions p.regions)) (counts.regions == p.regions) → first_from is_outlined ds counts es 3 ≡ cond b (first_from is_outlined ds counts es 4) (Some 4)
+  pub missing : {o : Option Text} → o ≡ missing_key es ds → first_from is_outlined ds counts es 4 ≡ cond (is_none o) (first_from is_outlined ds counts es 5) (Some 5)
+  pub symbol : {b : Bool} → b ≡ (not p.header || has_symbol es) → first_from is_outlined ds counts es 5 ≡ cond b (first_from is_outlined ds counts es 6) (Some 6)
+  pub uncovered : {o : Option Text} → o ≡ uncovered_key is_outlined ds es → first_from is_outlined ds counts es 6 ≡ cond (is_none o) None (Some 7)
+
+module _ {A : Type 0} (is_outlined : A → Bool) (ds : List Directive) (counts : Counts) (es : List (Text × Attribute A)) (p : Places) (e : p ≡ places_of ds) where
+  abbrev after : ℕ → Option ℕ
+  after k = first_from is_outlined ds counts es k
+
+  pub tested : Tested is_outlined ds counts es p
+  tested = record {
+    operands = λ {b} r. ap (λ x. cond x (after 1) (Some 1)) (listed (length (operand_places ds)) (count is_operands ds) counts.operands p.operands p.all_operands b
+        (ap (λ q. q.operands) e ∙ counts_all (λ q. q.operands) (λ d. elim d [ format.operand i ↦ Some i | _ ↦ None ]) operands_step refl ds)
+        (ap (λ q. q.all_operands) e ∙ any_counted (λ q. q.all_operands) is_operands (λ q d. elim d as (λ d. (counted q d).all_operands ≡ cond (is_operands d) true q.all_operands) [ format.word s ↦ refl | _ ↦ refl ]) refl ds) r);
+    successors = λ {b} r. ap (λ x. cond x (after 2) (Some 2)) (listed (length (successor_places ds)) (count is_successors ds) counts.successors p.successors p.all_successors b
+        (ap (λ q. q.successors) e ∙ counts_all (λ q. q.successors) (λ d. elim d [ format.successor i ↦ Some i | _ ↦ None ]) successors_step refl ds)
+        (ap (λ q. q.all_successors) e ∙ any_counted (λ q. q.all_successors) is_successors (λ q d. elim d as (λ d. (counted q d).all_successors ≡ cond (is_successors d) true q.all_successors) [ format.word s ↦ refl | _ ↦ refl ]) refl ds) r);
+    results = λ {b} r. ap (λ x. cond x (after 3) (Some 3)) (sym (r ∙ ap (λ k. counts.results == k)
+        (ap (λ q. q.types) e ∙ counts_all (λ q. q.types) (λ d. elim d [ format.result_type i ↦ Some i | _ ↦ None ]) types_step refl ds)));
+    regions = λ {b} r. ap (λ x. cond x (after 4) (Some 4)) (listed (length (region_places ds)) (count is_regions ds) counts.regions p.regions p.all_regions b
+        (ap (λ q. q.regions) e ∙ counts_all (λ q. q.regions) (λ d. elim d [ format.region i ↦ Some i | _ ↦ None ]) regions_step refl ds)
+        (ap (λ q. q.all_regions) e ∙ any_counted (λ q. q.all_regions) is_regions (λ q d. elim d as (λ d. (counted q d).all_regions ≡ cond (is_regions d) true q.all_regions) [ format.word s ↦ refl | _ ↦ refl ]) refl ds) r);
+    missing = λ r. ap (λ o. cond (is_none o) (after 5) (Some 5)) (sym r);
+    symbol = λ {b} r. ap (λ x. cond x (after 6) (Some 6)) (symbol_tested es ds p b e r);
+    uncovered = λ r. ap (λ o. cond (is_none o) None (Some 7)) (sym r);
+  }

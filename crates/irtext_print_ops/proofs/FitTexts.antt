@@ -44,72 +44,12 @@ all_pass : (k : ℕ) (bs : List Bool) → AllPass bs → first_failed k bs ≡ N
 all_pass k [] h = refl
 all_pass k (b ∷ bs) h = ap (λ c. cond c (first_failed (suc k) bs) (Some k)) h.is ∙ all_pass (suc k) bs h.rest
 
-passes : (k : ℕ) (b : Bool) (bs : List Bool) (found : Option ℕ) → b ≡ true → found ≡ first_failed (suc k) bs → found ≡ first_failed k (b ∷ bs)
-passes k b bs found e h = h ∙ ap (λ c. cond c (first_failed (suc k) bs) (Some k)) (sym e)
+-- a test that passed is not the first that fails, and one that failed is
+pub passes : {b : Bool} {all found : Option ℕ} (others mine : Option ℕ) → all ≡ cond b others mine → b ≡ true → found ≡ others → found ≡ all
+passes others mine e is h = h ∙ sym (e ∙ ap (λ c. cond c others mine) is)
 
-fails : (k : ℕ) (b : Bool) (bs : List Bool) → b ≡ false → Some k ≡ first_failed k (b ∷ bs)
-fails k b bs e = ap (λ c. cond c (first_failed (suc k) bs) (Some k)) (sym e)
-
--- ---- the tests, one by one
-
-module _ {A : Type 0} (is_outlined : A → Bool) (ds : List Directive) (counts : Counts) (es : List (Text × Attribute A)) where
-  abbrev t1 : Bool
-  t1 = counts_fit (length (operand_places ds)) (count is_operands ds) counts.operands
-
-  abbrev t2 : Bool
-  t2 = counts_fit (length (successor_places ds)) (count is_successors ds) counts.successors
-
-  abbrev t3 : Bool
-  t3 = counts.results == length (type_places ds)
-
-  abbrev t4 : Bool
-  t4 = regions_fit ds counts.regions
-
-  abbrev t5 : Bool
-  t5 = is_none (missing_key es ds)
-
-  abbrev t6 : Bool
-  t6 = symbol_fits es ds
-
-  abbrev t7 : Bool
-  t7 = is_none (uncovered_key is_outlined ds es)
-
-  -- the first test that fails
-  abbrev all : Option ℕ
-  all = first_failed 1 (tests is_outlined ds counts es)
-
-  pub first : t1 ≡ false → Some 1 ≡ all
-  first a = fails 1 t1 (t2 ∷ t3 ∷ t4 ∷ t5 ∷ t6 ∷ t7 ∷ []) a
-
-  pub second : t1 ≡ true → t2 ≡ false → Some 2 ≡ all
-  second a b = passes 1 t1 (t2 ∷ t3 ∷ t4 ∷ t5 ∷ t6 ∷ t7 ∷ []) (Some 2) a (fails 2 t2 (t3 ∷ t4 ∷ t5 ∷ t6 ∷ t7 ∷ []) b)
-
-  two_pass : (found : Option ℕ) → t1 ≡ true → t2 ≡ true → found ≡ first_failed 3 (t3 ∷ t4 ∷ t5 ∷ t6 ∷ t7 ∷ []) → found ≡ all
-  two_pass found a b h = passes 1 t1 (t2 ∷ t3 ∷ t4 ∷ t5 ∷ t6 ∷ t7 ∷ []) found a (passes 2 t2 (t3 ∷ t4 ∷ t5 ∷ t6 ∷ t7 ∷ []) found b h)
-
-  pub third : t1 ≡ true → t2 ≡ true → t3 ≡ false → Some 3 ≡ all
-  third a b c = two_pass (Some 3) a b (fails 3 t3 (t4 ∷ t5 ∷ t6 ∷ t7 ∷ []) c)
-
-  pub fourth : t1 ≡ true → t2 ≡ true → t3 ≡ true → t4 ≡ false → Some 4 ≡ all
-  fourth a b c d = two_pass (Some 4) a b (passes 3 t3 (t4 ∷ t5 ∷ t6 ∷ t7 ∷ []) (Some 4) c (fails 4 t4 (t5 ∷ t6 ∷ t7 ∷ []) d))
-
-  four_pass : (found : Option ℕ) → t1 ≡ true → t2 ≡ true → t3 ≡ true → t4 ≡ true → found ≡ first_failed 5 (t5 ∷ t6 ∷ t7 ∷ []) → found ≡ all
-  four_pass found a b c d h = two_pass found a b (passes 3 t3 (t4 ∷ t5 ∷ t6 ∷ t7 ∷ []) found c (passes 4 t4 (t5 ∷ t6 ∷ t7 ∷ []) found d h))
-
-  pub fifth : t1 ≡ true → t2 ≡ true → t3 ≡ true → t4 ≡ true → (key : Text) → missing_key es ds ≡ Some key → Some 5 ≡ all
-  fifth a b c d key e = four_pass (Some 5) a b c d (fails 5 t5 (t6 ∷ t7 ∷ []) (ap is_none e))
-
-  pub sixth : t1 ≡ true → t2 ≡ true → t3 ≡ true → t4 ≡ true → missing_key es ds ≡ None → t6 ≡ false → Some 6 ≡ all
-  sixth a b c d e f = four_pass (Some 6) a b c d (passes 5 t5 (t6 ∷ t7 ∷ []) (Some 6) (ap is_none e) (fails 6 t6 (t7 ∷ []) f))
-
-  six_pass : (found : Option ℕ) → t1 ≡ true → t2 ≡ true → t3 ≡ true → t4 ≡ true → missing_key es ds ≡ None → t6 ≡ true → found ≡ first_failed 7 (t7 ∷ []) → found ≡ all
-  six_pass found a b c d e f h = four_pass found a b c d (passes 5 t5 (t6 ∷ t7 ∷ []) found (ap is_none e) (passes 6 t6 (t7 ∷ []) found f h))
-
-  pub seventh : t1 ≡ true → t2 ≡ true → t3 ≡ true → t4 ≡ true → missing_key es ds ≡ None → t6 ≡ true → (key : Text) → uncovered_key is_outlined ds es ≡ Some key → Some 7 ≡ all
-  seventh a b c d e f key g = six_pass (Some 7) a b c d e f (fails 7 t7 [] (ap is_none g))
-
-  pub no_one : t1 ≡ true → t2 ≡ true → t3 ≡ true → t4 ≡ true → missing_key es ds ≡ None → t6 ≡ true → uncovered_key is_outlined ds es ≡ None → None ≡ all
-  no_one a b c d e f g = six_pass None a b c d e f (passes 7 t7 [] None (ap is_none g) refl)
+pub fails : {b : Bool} {all : Option ℕ} (others mine : Option ℕ) → all ≡ cond b others mine → b ≡ false → mine ≡ all
+fails others mine e is = sym (e ∙ ap (λ c. cond c others mine) is)
 
 -- ---- what the definitions ask
 

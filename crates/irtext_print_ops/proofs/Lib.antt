@@ -1,4 +1,5 @@
 pub mod Alone
+pub mod BlockBegins
 pub mod BlockTexts
 pub mod CanonicalTexts
 pub mod Chained
@@ -8,6 +9,7 @@ pub mod Descents
 pub mod Directives
 pub mod Faults
 pub mod FitTexts
+pub mod FitsKnown
 pub mod Fronts
 pub mod ItemTexts
 pub mod Lines
@@ -17,10 +19,12 @@ pub mod NamesWritten
 pub mod Opens
 pub mod PartTexts
 pub mod Parts
+pub mod Printed
 pub mod Refused
 pub mod ResultTexts
 pub mod Seen
 pub mod Standing
+pub mod Stops
 pub mod Tests
 pub mod Turned
 pub mod Turns

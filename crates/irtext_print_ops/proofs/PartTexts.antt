@@ -1,5 +1,5 @@
 -- What a directive writes, as the calls append it and as the definitions of printing have it.
-use Rattle.std.proofs.Common.{◌≡◌, ◌∙◌, ◌++◌, ◌∷◌, ℕ, zero, suc, refl, sym, ap, true, cond, List, [], Option, Some, None, IsSome, IfSome, map, drop, slice_get, filter_map}
+use Rattle.std.proofs.Common.{◌≡◌, ◌∙◌, ◌++◌, ◌∷◌, ℕ, zero, suc, refl, sym, ap, true, cond, List, [], Option, Some, None, IsSome, IfSome, OnOk, Result, map, drop, slice_get, filter_map}
 use Rattle.std.specs.List.{list_all, cons_option}
 use Rattle.std.specs.Option.{option_map, option_and_then}
 use Rattle.std.specs.Prelude.{⊤}
@@ -10,7 +10,9 @@ use Rattle.irtext_base.specs.Format.{Directive, sym_name_key}
 use Rattle.irtext_base.specs.Own.{Language}
 use Rattle.irtext_base.specs.Text.{Text}
 use Rattle.irtext_base.specs.declared.base.attributes.AttrObj.{AttrObj}
+use Rattle.irtext_base.specs.declared.format.Directive as code
 use Rattle.irtext_context.specs.Context.{ContextView, OperationView, operation}
+use Rattle.irtext_format_check.specs.Directives.{directive_of}
 use Rattle.irtext_graph.specs.Content.{Typed}
 use Rattle.irtext_graph.specs.Parts.{operands, successors, results, value_at, ValueStands}
 use Rattle.irtext_graph.specs.declared.arena.Ptr.{Ptr}
@@ -26,6 +28,7 @@ use Rattle.irtext_grammar.specs.Spelling.Spell as spell
 use Rattle.irtext_grammar.specs.Spelling.Spell.{parts, piece, space, joined, comma}
 use Rattle.irtext_print.specs.Printers.PieceText.{directive_text, spaced, spaced_if}
 use Rattle.irtext_print.specs.Printers.PrintedOperation.{is_supported}
+use Rattle.irtext_print.proofs.Printers.Appended.{then}
 use Rattle.irtext_print.proofs.Printers.OperationTexts.{parts_text, seen}
 use Rattle.irtext_print_ops.specs.Listed.{typed_text, facet_text}
 use Rattle.irtext_print_ops.specs.Names.{name_of, operand_text, block_text, label_text}
@@ -140,16 +143,25 @@ module _ {T A : Type 0} (L : Language ⊤ T A) where
         go (x ∷ xs) j = inner x.number x.of_type xs j (λ k. go xs k)
 
 module _ {T A : Type 0} (L : Language ⊤ T A) (C : Printing T A) (ds : List Directive) (written : A → Text) (ctx : ContextView T A) (p : Ptr Operation) where
-  -- what a directive writes of the operation was appended
-  pub part_appended : (d : Directive) (text : Text) (old new : List ℕ) → ((view : OperationView T A) → operation ctx p ≡ Some view → text ≡ part_text L (part_of C ds (seen_operation written ctx p view) d))
-      → new ≡ old ++ encode_utf8_all text → IfSome (seen_own written ctx p) (λ o. new ≡ old ++ encode_utf8_all (part_text L (part_of C ds o d)))
-  part_appended d text old new is written_so = for_seen (operation ctx p) (seen_operation written ctx p) (λ o. new ≡ old ++ encode_utf8_all (part_text L (part_of C ds o d)))
-      (λ view e. written_so ∙ ap (λ t. old ++ encode_utf8_all t) (is view e))
+  -- what a directive writes of the operation
+  abbrev text_of : OperationView T A → Directive → Text
+  text_of view d = part_text L (part_of C ds (seen_operation written ctx p view) d)
 
-  -- the attributes of the operation are those that were looked up
-  pub attributes_seen : (d : Directive) (es : List (Text × AttrObj A)) (view : OperationView T A) → operation ctx p ≡ Some view → option_map (λ op. op.attributes) (operation ctx p) ≡ Some es
-      → directive_text L.owns.written C.own_outlined ds (entries_of es) [] 0 d ≡ directive_text L.owns.written C.own_outlined ds (seen_operation written ctx p view).attributes [] 0 d
-  attributes_seen d es view e a = ap (λ z. directive_text L.owns.written C.own_outlined ds (entries_of z) [] 0 d) (sym (seen (λ op. op.attributes) (operation ctx p) view es e a))
+  -- what a directive writes of the operation was appended
+  pub part_appended : {text : Text} {d e : code.Directive} (old new : List ℕ) → d ≡ e → new ≡ old ++ encode_utf8_all text → ((view : OperationView T A) → operation ctx p ≡ Some view → text ≡ text_of view (directive_of e))
+      → IfSome (seen_own written ctx p) (λ o. new ≡ old ++ encode_utf8_all (part_text L (part_of C ds o (directive_of d))))
+  part_appended {d = d} old new same written_so is = for_seen (operation ctx p) (seen_operation written ctx p) (λ o. new ≡ old ++ encode_utf8_all (part_text L (part_of C ds o (directive_of d))))
+      (λ view here. written_so ∙ ap (λ t. old ++ encode_utf8_all t) (is view here ∙ ap (λ x. text_of view (directive_of x)) (sym same)))
+
+  -- the same of a call that succeeded
+  pub part_written : {X E : Type 0} {text : Text} {d e : code.Directive} (r : Result X E) (old new : List ℕ) → d ≡ e → OnOk r (new ≡ old ++ encode_utf8_all text)
+      → ((view : OperationView T A) → operation ctx p ≡ Some view → text ≡ text_of view (directive_of e)) → OnOk r (IfSome (seen_own written ctx p) (λ o. new ≡ old ++ encode_utf8_all (part_text L (part_of C ds o (directive_of d)))))
+  part_written r old new same written_so is = then r (λ w. part_appended old new same w is) written_so
+
+  -- of the attributes that were looked up a directive writes what it writes of the operation's
+  pub attributes_written : (d : Directive) (es : List (Text × AttrObj A)) → option_map (λ op. op.attributes) (operation ctx p) ≡ Some es → ((o : GraphOp T A) → directive_text L.owns.written C.own_outlined ds o.attributes [] 0 d ≡ part_text L (part_of C ds o d))
+      → (view : OperationView T A) → operation ctx p ≡ Some view → directive_text L.owns.written C.own_outlined ds (entries_of es) [] 0 d ≡ text_of view d
+  attributes_written d es found is view e = ap (λ z. directive_text L.owns.written C.own_outlined ds (entries_of z) [] 0 d) (sym (seen (λ op. op.attributes) (operation ctx p) view es e found)) ∙ is (seen_operation written ctx p view)
 
 -- what an operation uses has a number
 pub uses_stand : {T A : Type 0} (ctx : ContextView T A) (p : Ptr Operation) → ((i : ℕ) (v : Value) → slice_get (operands ctx.graph p) i ≡ Some v → ValueStands ctx.graph v) → UsesStand ctx p

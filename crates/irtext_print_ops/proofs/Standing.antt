@@ -17,6 +17,11 @@ pub for_seen : {X Y : Type 0} (o : Option X) (see : X → Y) (Q : Y → Type 0) 
 for_seen None see Q h = tt
 for_seen (Some x) see Q h = h x refl
 
+-- what is seen of something live has what holds of each that is seen
+pub when_live : {X Y : Type 0} (see : X → Y) (P : Option Y → Type 0) (o : Option X) → IsSome o → ((x : X) → P (Some (see x))) → P (option_map see o)
+when_live see P None live h = absurd (cc)
+when_live see P (Some x) live h = h x
+
 module _ {T A : Type 0} (ctx : ContextView T A) (b : Ptr BasicBlock) where
   -- a block of the graph is seen
   pub block_there : IsLive ctx.graph (TheBlock b) → IsSome (block ctx b)

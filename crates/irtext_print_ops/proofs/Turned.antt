@@ -6,6 +6,7 @@ use Rattle.std.specs.Str.{encode_utf8_all}
 use Rattle.irtext_base.specs.Format as format
 use Rattle.irtext_base.specs.Format.{Format, region_places, count, is_regions}
 use Rattle.irtext_base.specs.Own.{Language}
+use Rattle.irtext_base.specs.Text.{Text}
 use Rattle.irtext_base.specs.declared.format.Directive as code
 use Rattle.irtext_context.specs.Context.{ContextView, OperationView, BlockView, operation, block, block_of}
 use Rattle.irtext_graph.specs.declared.arena.Ptr.{Ptr}
@@ -36,7 +37,7 @@ use Rattle.irtext_print.specs.declared.printable.state.RegionPrintDepthLimit.The
 use Rattle.irtext_print_ops.specs.Opened.{an_operation, a_region, a_block, covers, Turns, mark_text, mark_count, opened, operation_front, block_head, block_front, between_blocks, between_operations, unless_first, closing}
 use Rattle.irtext_print_ops.proofs.Depths.{inside_is}
 use Rattle.irtext_print_ops.proofs.Turns.{goes_on, operation_ends, no_region_turns, repeats_turns, repeats_end, elided_turns, elided_repeats, shown_turns, shown_repeats, region_ends, block_ends, block_turns, operation_turns}
-use Rattle.irtext_print_ops.specs.Walk.{is_canonical, AreDirectives, IsBegun, directives_in, or_nothing, pieces_text, behind_pieces, parts_left, seen_at, inside_of, regions_left, blocks_left, operations_left, marked_own, open_of, AllFit, marked_operation, marked_block, items_in_regions, items_in_blocks, items_in_operations, items_left, directive_count, turns_of_regions, turns_of_blocks, turns_of_operations, turns_left, Steps}
+use Rattle.irtext_print_ops.specs.Walk.{is_canonical, AreDirectives, IsBegun, directives_in, or_nothing, pieces_text, behind_pieces, parts_left, seen_at, inside_of, regions_left, blocks_left, operations_left, marked_own, open_of, AllFit, FrameFits, marked_operation, marked_block, items_in_regions, items_in_blocks, items_in_operations, items_left, directive_count, turns_of_regions, turns_of_blocks, turns_of_operations, turns_left, Steps}
 use Rattle.irtext_print_ops.specs.Steps.{region_front, region_frames, region_turn_text, region_turn_frames}
 use Rattle.irtext_print_ops.proofs.Tests.{none_left}
 use Rattle.irtext_dict.proofs.Drops.{one_left}
@@ -363,6 +364,38 @@ module _ {T A : Type 0} (C : Printing T A) (L : Language ⊤ T A) (ctx : Context
           fewer = omega arith;
         }
 
+    -- the pieces are written, and what follows leaves the operation open
+    stays_open : (k : ℕ) (again : Bool) (text : Text) (old new : List ℕ) (frames' : List Frame) → f.repeats ≡ false → f.directive < k → k ≤ directive_count C L ctx f.op →
+        new ≡ old ++ encode_utf8_all (pieces_text L (parts_left C (seen_at C L ctx f.op) f.directive) ++ text) → frames' ≡ frames ++ frame.Operation (record f { directive = k; repeats = again }) ∷ [] →
+        FrameFits C L ctx (frame.Operation (record f { directive = k; repeats = again })) →
+        Turns C L width (an_operation f.indent (levels f.limit) (marked_own C L ctx f.marked f.op) false (behind_pieces (parts_left C (seen_at C L ctx f.op) f.directive)) (seen_regions L.owns.written ctx (regions_left C L ctx f.op f.region))) (length items) text 0
+        (open_of C L ctx (frame.Operation (record f { directive = k; repeats = again })) ∷ []) →
+        Steps C L ctx width (frame.Operation f) items items frames frames' old new
+    stays_open k again text old new frames' once low high w s fits turns =
+        let ps = parts_left C (seen_at C L ctx f.op) f.directive in
+        let rs = seen_regions L.owns.written ctx (regions_left C L ctx f.op f.region) in
+        let opens = λ (b : Bool) (qs : List (Part ⊤ T A)). an_operation f.indent (levels f.limit) (marked_own C L ctx f.marked f.op) b qs rs in
+        let next = frame.Operation (record f { directive = k; repeats = again }) in
+        record {
+          pushed = next ∷ [];
+          text = pieces_text L ps ++ text;
+          gathered = [];
+          stack = s;
+          marks = sym (append-nil items);
+          written = w;
+          turned = subst (λ b. Turns C L width (opens b ps) (length items) (pieces_text L ps ++ text) 0 (open_of C L ctx next ∷ [])) (sym once)
+              (and_then C L width (opens false ps) (opens false (behind_pieces ps)) (length items) (pieces_text L ps) text 0 (open_of C L ctx next ∷ [])
+              (pieces_turn C L width f.indent (levels f.limit) (marked_own C L ctx f.marked f.op) ps rs (length items)) turns);
+          left = refl;
+          fit = (fits, tt);
+          faults = λ why x. only_fault C (isolated ctx.dialects) width why (open_of C L ctx next) x;
+          misfits = λ x. inl x;
+          fewer = fewer (directive_count C L ctx f.op) f.directive k (turns_of_regions C L ctx (regions_left C L ctx f.op f.region)) (cond f.repeats 1 0) (cond again 1 0) (one_at_most again) low high;
+        }
+      where
+        fewer : (d i k r b c : ℕ) → c ≤ 1 → i < k → k ≤ d → (1 + (2 * (d - k) + (c + r))) + 0 < 1 + (2 * (d - i) + (b + r))
+        fewer d i k r b c one low high = omega (arith, one, low, high)
+
     -- all regions that are left are written next
     pub regions_begin : (k : ℕ) (old mid new : List ℕ) (frames' : List Frame) → f.repeats ≡ false → behind_pieces (parts_left C (seen_at C L ctx f.op) f.directive) ≡ tree.regions ∷ parts_left C (seen_at C L ctx f.op) k →
         f.directive < k → k ≤ directive_count C L ctx f.op → IsBegun C L ctx f.op f.directives →
@@ -370,31 +403,11 @@ module _ {T A : Type 0} (C : Printing T A) (L : Language ⊤ T A) (ctx : Context
         frames' ≡ frames ++ frame.Operation (record f { directive = k; repeats = true }) ∷ [] →
         Steps C L ctx width (frame.Operation f) items items frames frames' old new
     regions_begin k old mid new frames' once e low high stands w v s =
-        let ps = parts_left C (seen_at C L ctx f.op) f.directive in
-        let qs = parts_left C (seen_at C L ctx f.op) k in
-        let rs = seen_regions L.owns.written ctx (regions_left C L ctx f.op f.region) in
-        let l = levels f.limit in
         let own = marked_own C L ctx f.marked f.op in
-        record {
-          pushed = frame.Operation (record f { directive = k; repeats = true }) ∷ [];
-          text = pieces_text L ps ++ codes " ";
-          gathered = [];
-          stack = s;
-          marks = sym (append-nil items);
-          written = ending old mid new (pieces_text L ps) (codes " ") refl w v;
-          turned = subst (λ b. Turns C L width (an_operation f.indent l own b ps rs) (length items) (pieces_text L ps ++ codes " ") 0 (an_operation f.indent l own true qs rs ∷ [])) (sym once)
-              (and_then C L width (an_operation f.indent l own false ps rs) (an_operation f.indent l own false (behind_pieces ps) rs) (length items) (pieces_text L ps) (codes " ") 0 (an_operation f.indent l own true qs rs ∷ [])
-              (pieces_turn C L width f.indent l own ps rs (length items))
-              (subst (λ z. Turns C L width (an_operation f.indent l own false z rs) (length items) (codes " ") 0 (an_operation f.indent l own true qs rs ∷ [])) (sym e) (repeats_turns C L width f.indent l own qs rs (length items))));
-          left = refl;
-          fit = ((stands, refl), tt);
-          faults = λ why x. only_fault C (isolated ctx.dialects) width why (an_operation f.indent l own true qs rs) x;
-          misfits = λ x. inl x;
-          fewer = fewer (directive_count C L ctx f.op) f.directive k (turns_of_regions C L ctx (regions_left C L ctx f.op f.region)) (cond f.repeats 1 0) low high;
-        }
-      where
-        fewer : (d i k r b : ℕ) → i < k → k ≤ d → (1 + (2 * (d - k) + (1 + r))) + 0 < 1 + (2 * (d - i) + (b + r))
-        fewer d i k r b low high = omega (arith, low, high)
+        let rs = seen_regions L.owns.written ctx (regions_left C L ctx f.op f.region) in
+        stays_open k true (codes " ") old new frames' once low high (ending old mid new (pieces_text L (parts_left C (seen_at C L ctx f.op) f.directive)) (codes " ") refl w v) s (stands, refl)
+        (subst (λ z. Turns C L width (an_operation f.indent (levels f.limit) own false z rs) (length items) (codes " ") 0 (an_operation f.indent (levels f.limit) own true (parts_left C (seen_at C L ctx f.op) k) rs ∷ [])) (sym e)
+        (repeats_turns C L width f.indent (levels f.limit) own (parts_left C (seen_at C L ctx f.op) k) rs (length items)))
 
   module _ (i : ℕ) (own : Option (GraphOp T A)) (n : ℕ) (ps : List (Part ⊤ T A)) (bs : Blocks (GraphOp T A) (GraphBlock T A) ⊤) (rs : Regions (GraphOp T A) (GraphBlock T A) ⊤) where
     single_turn : (limit : RegionPrintDepthLimit) (j : ℕ) → Turns C L width (an_operation i (levels limit) own false (tree.region j ∷ ps) (forest.region tt bs rs)) n (codes " " ++ region_front width i limit) 0
@@ -431,6 +444,13 @@ module _ {T A : Type 0} (C : Printing T A) (L : Language ⊤ T A) (ctx : Context
   frames_items r i (Max (suc m)) rs mine = append_assoc (items_in_blocks C L ctx (Some m) (blocks_left C L ctx r 0)) (items_in_regions C L ctx (Some (suc m)) rs) mine
 
   module _ (f : OperationFrame) (items : List Item) (frames : List Frame) where
+    -- the operation, if its mark is still to be printed, and its item then
+    abbrev own : Option (GraphOp T A)
+    own = marked_own C L ctx f.marked f.op
+
+    abbrev mine : List Item
+    mine = cond f.marked (marked_operation C L ctx f.op (seen_at C L ctx f.op)) []
+
     -- all regions are written, none is left
     pub repeat_ended : (old new : List ℕ) (frames' : List Frame) → f.repeats ≡ true → drop f.region (regions ctx.graph f.op) ≡ [] → IsBegun C L ctx f.op f.directives → new ≡ old ++ [] →
         frames' ≡ frames ++ frame.Operation (record f { repeats = false }) ∷ [] → Steps C L ctx width (frame.Operation f) items items frames frames' old new
@@ -438,7 +458,6 @@ module _ {T A : Type 0} (C : Printing T A) (L : Language ⊤ T A) (ctx : Context
         let ps = parts_left C (seen_at C L ctx f.op) f.directive in
         let here = λ (z : List (Ptr Region)). regions_by ctx.graph (inside_of C L ctx) z in
         let l = levels f.limit in
-        let own = marked_own C L ctx f.marked f.op in
         record {
           pushed = frame.Operation (record f { repeats = false }) ∷ [];
           text = [];
@@ -466,11 +485,9 @@ module _ {T A : Type 0} (C : Printing T A) (L : Language ⊤ T A) (ctx : Context
         let ps = parts_left C (seen_at C L ctx f.op) f.directive in
         let here = λ (z : List (Ptr Region)). regions_by ctx.graph (inside_of C L ctx) z in
         let l = levels f.limit in
-        let own = marked_own C L ctx f.marked f.op in
         let rs = regions_left C L ctx f.op (f.region + 1) in
         let srs = seen_regions L.owns.written ctx rs in
         let bs = seen_blocks L.owns.written ctx (blocks_left C L ctx r 0) in
-        let mine = cond f.marked (marked_operation C L ctx f.op (seen_at C L ctx f.op)) [] in
         record {
           pushed = frame.Operation (record f { region = f.region + 1 }) ∷ region_frames r f.indent f.limit;
           text = region_front width f.indent f.limit;
@@ -504,34 +521,15 @@ module _ {T A : Type 0} (C : Printing T A) (L : Language ⊤ T A) (ctx : Context
         new ≡ old ++ encode_utf8_all (pieces_text L (parts_left C (seen_at C L ctx f.op) f.directive)) →
         frames' ≡ frames ++ frame.Operation (record f { directive = k; repeats = false }) ∷ [] → Steps C L ctx width (frame.Operation f) items items frames frames' old new
     single_ended k j old new frames' once b low high e stands w s =
-        let ps = parts_left C (seen_at C L ctx f.op) f.directive in
         let qs = parts_left C (seen_at C L ctx f.op) k in
-        let here = λ (z : List (Ptr Region)). regions_by ctx.graph (inside_of C L ctx) z in
-        let rs = seen_regions L.owns.written ctx (here (drop f.region (regions ctx.graph f.op))) in
-        let l = levels f.limit in
-        let own = marked_own C L ctx f.marked f.op in
-        record {
-          pushed = frame.Operation (record f { directive = k; repeats = false }) ∷ [];
-          text = pieces_text L ps ++ [];
-          gathered = [];
-          stack = s;
-          marks = sym (append-nil items);
-          written = w ∙ ap (λ z. old ++ encode_utf8_all z) (sym (append-nil (pieces_text L ps)));
-          turned = subst (λ x. Turns C L width (an_operation f.indent l own x ps rs) (length items) (pieces_text L ps ++ []) 0 (an_operation f.indent l own false qs rs ∷ [])) (sym once)
-              (and_then C L width (an_operation f.indent l own false ps rs) (an_operation f.indent l own false (behind_pieces ps) rs) (length items) (pieces_text L ps) [] 0 (an_operation f.indent l own false qs rs ∷ [])
-              (pieces_turn C L width f.indent l own ps rs (length items))
-              (subst (λ y. Turns C L width (an_operation f.indent l own false y rs) (length items) [] 0 (an_operation f.indent l own false qs rs ∷ [])) (sym b)
-              (subst (λ z. Turns C L width (an_operation f.indent l own false (tree.region j ∷ qs) (seen_regions L.owns.written ctx (here z))) (length items) [] 0 (an_operation f.indent l own false qs (seen_regions L.owns.written ctx (here z)) ∷ [])) (sym e)
-              (no_region_turns C L width f.indent l own j qs (length items)))));
-          left = refl;
-          fit = ((stands, subst (λ z. covers qs (seen_regions L.owns.written ctx (here z)) ≡ true) (sym e) (covers_none qs)), tt);
-          faults = λ why x. only_fault C (isolated ctx.dialects) width why (an_operation f.indent l own false qs rs) x;
-          misfits = λ x. inl x;
-          fewer = fewer (directive_count C L ctx f.op) f.directive k (turns_of_regions C L ctx (regions_left C L ctx f.op f.region)) (cond f.repeats 1 0) low high;
-        }
-      where
-        fewer : (d i k r b : ℕ) → i < k → k ≤ d → (1 + (2 * (d - k) + (0 + r))) + 0 < 1 + (2 * (d - i) + (b + r))
-        fewer d i k r b low high = omega (arith, low, high)
+        let seen_by = λ (z : List (Ptr Region)). seen_regions L.owns.written ctx (regions_by ctx.graph (inside_of C L ctx) z) in
+        let opens = λ (ps : List (Part ⊤ T A)) (z : List (Ptr Region)). an_operation f.indent (levels f.limit) (marked_own C L ctx f.marked f.op) false ps (seen_by z) in
+        let left = drop f.region (regions ctx.graph f.op) in
+        stays_open f items frames k false [] old new frames' once low high (w ∙ ap (λ z. old ++ encode_utf8_all z) (sym (append-nil (pieces_text L (parts_left C (seen_at C L ctx f.op) f.directive))))) s
+        (stands, subst (λ z. covers qs (seen_by z) ≡ true) (sym e) (covers_none qs))
+        (subst (λ y. Turns C L width (opens y left) (length items) [] 0 (opens qs left ∷ [])) (sym b)
+        (subst (λ z. Turns C L width (opens (tree.region j ∷ qs) z) (length items) [] 0 (opens qs z ∷ [])) (sym e)
+        (no_region_turns C L width f.indent (levels f.limit) (marked_own C L ctx f.marked f.op) j qs (length items))))
 
     -- the pieces are written up to a directive of one region, and it is begun
     pub single_begins : (k j : ℕ) (r : Ptr Region) (old mid new : List ℕ) (frames' : List Frame) → f.repeats ≡ false → behind_pieces (parts_left C (seen_at C L ctx f.op) f.directive) ≡ tree.region j ∷ parts_left C (seen_at C L ctx f.op) k →
@@ -546,11 +544,9 @@ module _ {T A : Type 0} (C : Printing T A) (L : Language ⊤ T A) (ctx : Context
         let here = λ (z : List (Ptr Region)). regions_by ctx.graph (inside_of C L ctx) z in
         let all = seen_regions L.owns.written ctx (here (drop f.region (regions ctx.graph f.op))) in
         let l = levels f.limit in
-        let own = marked_own C L ctx f.marked f.op in
         let rs = regions_left C L ctx f.op (f.region + 1) in
         let srs = seen_regions L.owns.written ctx rs in
         let bs = seen_blocks L.owns.written ctx (blocks_left C L ctx r 0) in
-        let mine = cond f.marked (marked_operation C L ctx f.op (seen_at C L ctx f.op)) [] in
         let front = codes " " ++ region_front width f.indent f.limit in
         let hs = map (open_of C L ctx) (region_frames r f.indent f.limit) in
         let shows : all ≡ forest.region tt bs srs = ap (λ z. seen_regions L.owns.written ctx (here z)) e in

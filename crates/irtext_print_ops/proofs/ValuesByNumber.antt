@@ -6,6 +6,7 @@ use Rattle.std.proofs.lemmas.Bool.{eqb-true, eq-eqb}
 use Rattle.std.proofs.lemmas.Option.{same_Some}
 use Rattle.irtext_base.specs.Text.{Text}
 use Rattle.irtext_base.specs.declared.base.attributes.AttrObj.{AttrObj}
+use Rattle.irtext_graph.specs.declared.arena.Entry.{Entry}
 use Rattle.irtext_graph.specs.declared.arena.Ptr.{Ptr}
 use Rattle.irtext_graph.specs.declared.object.BasicBlock.{BasicBlock}
 use Rattle.irtext_graph.specs.declared.object.Operation.{Operation}
@@ -56,6 +57,23 @@ all_among f (x ∷ xs) y h = elim (among_either y (f x) (flat_map f xs) h) [
   | inl here ↦ (zero, x, refl, here)
   | inr later ↦ let r = all_among f xs y later in (suc r.0, r.1, r.2, r.3)
 ]
+
+-- what a part of a live object is listed as is among what all objects of its kind are listed as
+among_listed : {N X Y : Type 0} (cells : List (Cell N)) (parts : Option (Entry N) → List X) (lists : Option (Entry N) → List Y) (i generation k : ℕ) (x : X) (y : Y) → (slice_get (parts None) k ≡ Some x → ⊥) →
+    ((e : Entry N) → object_in (slice_get cells i) generation ≡ Some e → slice_get (parts (Some e)) k ≡ Some x → Among y (lists (Some e))) →
+    slice_get (parts (object_in (slice_get cells i) generation)) k ≡ Some x → Among y (flat_map (λ c. lists c.object) cells)
+among_listed {N = N} {X = X} {Y = Y} cells parts lists i generation k x y none one h = in_cell (slice_get cells i) refl h
+  where
+    in_cell : (o : Option (Cell N)) → slice_get cells i ≡ o → slice_get (parts (object_in o generation)) k ≡ Some x → Among y (flat_map (λ c. lists c.object) cells)
+    in_cell None at h = absurd (none h)
+    in_cell (Some c) at h = go (c.generation == generation) refl c.object refl h
+      where
+        go : (b : Bool) → (c.generation == generation) ≡ b → (o : Option (Entry N)) → c.object ≡ o → slice_get (parts (if b then o else None)) k ≡ Some x → Among y (flat_map (λ c. lists c.object) cells)
+        go false g o is h = absurd (none h)
+        go true g None is h = absurd (none h)
+        go true g (Some e) is h =
+            let there : object_in (slice_get cells i) generation ≡ Some e = ap (λ o. object_in o generation) at ∙ ap (λ b. if b then c.object else None) g ∙ is in
+            among_all (λ c. lists c.object) cells i c y at (subst (λ o. Among y (lists o)) (sym is) (one e there h))
 
 -- a value is found by its number, where it is the only one of this number
 found_as : {T : Type 0} (n : ℕ) (v : NamedValue T) (xs : List (NamedValue T)) → Among v xs → v.number ≡ n → ((w : NamedValue T) → Among w xs → w.number ≡ n → w ≡ v) → numbered_as n xs ≡ Some v
@@ -151,41 +169,19 @@ module _ {T A : Type 0} (ctx : ContextView T A) where
   ]
 
   -- each value is among them
-  among_results : (p : Ptr Operation) (k : ℕ) (t : Typed (Option T)) (o : Option (Cell (Node BasicBlock Region (OperationContent (Option (OperationData A)) (Option T))))) → slice_get ctx.graph.operations.cells p.index ≡ o
-      → slice_get (results_of (option_map (λ x. x.content.content) (object_in o p.generation))) k ≡ Some t → Among (its (Result p k) t) (flat_map (λ c. standing named_results c.object) ctx.graph.operations.cells)
-  among_results p k t None at h = absurd (cc)
-  among_results p k t (Some c) at h = go (c.generation == p.generation) refl c.object refl h
-    where
-      go : (b : Bool) → (c.generation == p.generation) ≡ b → (x : Option (OperationEntry T A)) → c.object ≡ x → slice_get (results_of (option_map (λ x. x.content.content) (if b then x else None))) k ≡ Some t
-          → Among (its (Result p k) t) (flat_map (λ c. standing named_results c.object) ctx.graph.operations.cells)
-      go false g x is h = absurd (cc)
-      go true g None is h = absurd (cc)
-      go true g (Some e) is h =
-          let there : get ctx.graph.operations p ≡ Some e = ap (λ o. object_in o p.generation) at ∙ ap (λ b. if b then c.object else None) g ∙ is in
-          let own : Among (its (Result p k) t) (standing named_results (Some e)) = subst (λ w. Among w (named_from (attributes_in e.content.content.data_of) 0 e.content.content.results)) (sym (as_result p k e t there))
-          (named_among (attributes_in e.content.content.data_of) 0 e.content.content.results k k t (omega arith) h) in
-          among_all (λ c. standing named_results c.object) ctx.graph.operations.cells p.index c (its (Result p k) t) at (subst (λ o. Among (its (Result p k) t) (standing named_results o)) (sym is) own)
+  among_results : (p : Ptr Operation) (k : ℕ) (t : Typed (Option T)) → value_at ctx.graph (Result p k) ≡ Some t → Among (its (Result p k) t) (flat_map (λ c. standing named_results c.object) ctx.graph.operations.cells)
+  among_results p k t h = among_listed ctx.graph.operations.cells (λ o. results_of (option_map (λ x. x.content.content) o)) (standing named_results) p.index p.generation k t (its (Result p k) t) (λ e. cc)
+      (λ e there got. subst (λ w. Among w (named_from (attributes_in e.content.content.data_of) 0 e.content.content.results)) (sym (as_result p k e t there)) (named_among (attributes_in e.content.content.data_of) 0 e.content.content.results k k t (omega arith) got)) h
 
-  among_arguments : (p : Ptr BasicBlock) (k : ℕ) (t : Typed (Option T)) (o : Option (Cell (Node Region Operation (BlockContent (BlockData A) (Option T))))) → slice_get ctx.graph.blocks.cells p.index ≡ o
-      → slice_get (arguments_of (option_map (λ x. x.content.content) (object_in o p.generation))) k ≡ Some t → Among (its (Argument p k) t) (flat_map (λ c. standing named_arguments c.object) ctx.graph.blocks.cells)
-  among_arguments p k t None at h = absurd (cc)
-  among_arguments p k t (Some c) at h = go (c.generation == p.generation) refl c.object refl h
-    where
-      go : (b : Bool) → (c.generation == p.generation) ≡ b → (x : Option (BlockEntry T A)) → c.object ≡ x → slice_get (arguments_of (option_map (λ x. x.content.content) (if b then x else None))) k ≡ Some t
-          → Among (its (Argument p k) t) (flat_map (λ c. standing named_arguments c.object) ctx.graph.blocks.cells)
-      go false g x is h = absurd (cc)
-      go true g None is h = absurd (cc)
-      go true g (Some e) is h =
-          let there : get ctx.graph.blocks p ≡ Some e = ap (λ o. object_in o p.generation) at ∙ ap (λ b. if b then c.object else None) g ∙ is in
-          let own : Among (its (Argument p k) t) (standing named_arguments (Some e)) = subst (λ w. Among w (named_from e.content.content.data_of.attributes 0 e.content.content.arguments)) (sym (as_argument p k e t there))
-          (named_among e.content.content.data_of.attributes 0 e.content.content.arguments k k t (omega arith) h) in
-          among_all (λ c. standing named_arguments c.object) ctx.graph.blocks.cells p.index c (its (Argument p k) t) at (subst (λ o. Among (its (Argument p k) t) (standing named_arguments o)) (sym is) own)
+  among_arguments : (p : Ptr BasicBlock) (k : ℕ) (t : Typed (Option T)) → value_at ctx.graph (Argument p k) ≡ Some t → Among (its (Argument p k) t) (flat_map (λ c. standing named_arguments c.object) ctx.graph.blocks.cells)
+  among_arguments p k t h = among_listed ctx.graph.blocks.cells (λ o. arguments_of (option_map (λ x. x.content.content) o)) (standing named_arguments) p.index p.generation k t (its (Argument p k) t) (λ e. cc)
+      (λ e there got. subst (λ w. Among w (named_from e.content.content.data_of.attributes 0 e.content.content.arguments)) (sym (as_argument p k e t there)) (named_among e.content.content.data_of.attributes 0 e.content.content.arguments k k t (omega arith) got)) h
 
   is_among : (v : Value) (t : Typed (Option T)) → value_at ctx.graph v ≡ Some t → Among (its v t) (values_of ctx)
   is_among (Result p k) t h = among_left (its (Result p k) t) (flat_map (λ c. standing named_results c.object) ctx.graph.operations.cells) (flat_map (λ c. standing named_arguments c.object) ctx.graph.blocks.cells)
-      (among_results p k t (slice_get ctx.graph.operations.cells p.index) refl h)
+      (among_results p k t h)
   is_among (Argument p k) t h = among_right (its (Argument p k) t) (flat_map (λ c. standing named_results c.object) ctx.graph.operations.cells) (flat_map (λ c. standing named_arguments c.object) ctx.graph.blocks.cells)
-      (among_arguments p k t (slice_get ctx.graph.blocks.cells p.index) refl h)
+      (among_arguments p k t h)
 
   -- the value that is found by a value's number is this one
   by_number : NumbersDiffer ctx.graph → (v : Value) (t : Typed (Option T)) → value_at ctx.graph v ≡ Some t → numbered_as t.number (values_of ctx) ≡ Some (its v t)

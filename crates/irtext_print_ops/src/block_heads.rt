@@ -1,18 +1,14 @@
 //! What comes before a block's operations: its label, its arguments and its dictionary.
-ghost use Rattle.std.specs.Prelude.{◌≡◌, ◌++◌, IsSome, IfSome, IfErr, OnOk, codes};
+ghost use Rattle.std.specs.Prelude.{◌≡◌, ◌++◌, IsSome, IfErr, OnOk, codes};
 ghost use Rattle.irtext_context.specs.Context as context;
 ghost use Rattle.irtext_graph.specs.Graph.{IsLive};
 ghost use Rattle.irtext_graph.specs.declared.object.Object.TheVariants.{TheBlock};
 ghost use Rattle.irtext_grammar.specs.Contexts.Held.{entries_of};
-ghost use Rattle.irtext_grammar.specs.Contexts.Nested.{seen_head};
-ghost use Rattle.irtext_grammar.specs.Graphs.Graph.{tree_head};
 ghost use Rattle.irtext_print.specs.Printers.Appended.{AppendsText};
-ghost use Rattle.irtext_print.specs.Printers.PrintedOperation.{language_in};
 ghost use Rattle.irtext_print.specs.declared.printable.refusal.Refusal.TheVariants as refusal;
-ghost use Rattle.irtext_print_ops.specs.Opened.{block_head};
+ghost use Rattle.irtext_print_ops.specs.Heads as heads;
 ghost use Rattle.irtext_print_ops.specs.Inline.{has_inline, inline_text};
 ghost use Rattle.irtext_print_ops.specs.Listed.{list_text};
-ghost use Rattle.irtext_print_ops.specs.Names.{printing_by};
 ghost use Rattle.irtext_print_ops.specs.declared.lists.Listed.TheVariants.{Arguments};
 
 use crate::lists::{Listed, count, fmt_listed};
@@ -39,7 +35,8 @@ fn has_inline<A: AttrText<A>>(attributes: &AttributeDict<A>) -> bool
 
 /// Appends the dictionary of the attributes that are not outlined, after a space, if there are such attributes.
 fn fmt_inline<A: AttrText<A>>(attributes: &AttributeDict<A>, f: &mut String) -> fmt::Result
-    ensures { OnOk result (AppendsText f.old (inline_text A.outlined A.IrText.written (entries_of attributes.now)) f.new) }
+    ensures { OnOk result (AppendsText f.old (inline_text A.outlined A.IrText.written
+        (entries_of attributes.now)) f.new) }
 {
     if has_inline(attributes) {
         fmt_dictionary(attributes, &[], f)?;
@@ -73,8 +70,8 @@ fn fmt_head<T: IrText<A>, A: AttrText<A>>(
     f: &mut String,
 ) -> fmt::Result
     requires live { IsSome (context.block ctx.now block) }
-    ensures { OnOk result (IfSome (seen_head A.IrText.written ctx.now block) (λ h. AppendsText f.old
-        (block_head (language_in T.IrText.own A.IrText.own ctx.now) (tree_head (printing_by A.AttrText.own A.eq ctx.now) 0 h)) f.new)) }
+    ensures { OnOk result (AppendsText f.old
+        (heads.block_head_at T.IrText.own A.IrText.own A.AttrText.own A.eq ctx.now block) f.new) }
 {
     fmt_block_label(ctx, block, f)?;
     fmt_arguments(ctx, block, f)?;
@@ -90,8 +87,8 @@ pub fn fmt_block_head<T: IrText<A>, A: AttrText<A>>(
     f: &mut String,
 ) -> Result<(), Refusal>
     requires live { IsSome (context.block ctx.now block) }
-    ensures text { OnOk result (IfSome (seen_head A.IrText.written ctx.now block) (λ h. AppendsText f.old
-        (block_head (language_in T.IrText.own A.IrText.own ctx.now) (tree_head (printing_by A.AttrText.own A.eq ctx.now) 0 h)) f.new)) }
+    ensures text { OnOk result (AppendsText f.old
+        (heads.block_head_at T.IrText.own A.IrText.own A.AttrText.own A.eq ctx.now block) f.new) }
     ensures refused { IfErr result (λ e. e ≡ refusal.Memory) }
 {
     memory_alone(fmt_head(ctx, block, f))

@@ -189,7 +189,11 @@ fn symbol_fits<A: AttrText<A>>(header: bool, attributes: &AttributeDict<A>) -> b
 
 /// Whether an attribute is printed by a directive that names its key, or in the section.
 fn is_covered<A: AttrText<A>>(directives: &[Directive], key: &Identifier, attr: &AttrObj<A>) -> bool
-    ensures { result ≡ fits.is_covered A.outlined (directives_of directives.now) (key.now, attribute_of attr.now) }
+    ensures { result ≡ fits.is_covered A.outlined (directives_of directives.now) (
+      key.now,
+      attribute_of
+          attr.now,
+    ) }
 {
     is_key_written(directives, key.as_str()) || is_outlined(attr)
 }
@@ -200,7 +204,8 @@ fn first_uncovered<'c, A: AttrText<A>>(
     attributes: &'c AttributeDict<A>,
     directives: &[Directive],
 ) -> Option<&'c Identifier>
-    ensures { option_copied result ≡ fits.first_uncovered A.outlined (directives_of directives.now) (entries_of attributes.now) }
+    ensures { option_copied result ≡ fits.first_uncovered A.outlined (directives_of directives.now)
+        (entries_of attributes.now) }
 {
     for (key, attr) in attributes.iter() {
         if !is_covered(directives, key, attr) {
@@ -218,7 +223,8 @@ fn uncovered_key<'c, A: AttrText<A>>(
     directives: &[Directive],
 ) -> Option<&'c Identifier>
     requires { dictionary ≡ (fits.places_of (directives_of directives.now)).dictionary }
-    ensures { option_copied result ≡ fits.uncovered_key A.outlined (directives_of directives.now) (entries_of attributes.now) }
+    ensures { option_copied result ≡ fits.uncovered_key A.outlined (directives_of directives.now)
+        (entries_of attributes.now) }
 {
     if dictionary {
         return None;
@@ -236,7 +242,8 @@ fn check_parts<'c, A: AttrText<A>>(
 ) -> Result<(), FitFault<'c>>
     ensures first { fits.refused_by result ≡ fits.first_failed 1
         (fits.tests A.outlined (directives_of directives.now) counts (entries_of attributes.now)) }
-    ensures names { IfErr result (fits.Names A.outlined (directives_of directives.now) counts (entries_of attributes.now)) }
+    ensures names { IfErr result (fits.Names A.outlined (directives_of directives.now) counts
+        (entries_of attributes.now)) }
 {
     let places = places_of(directives);
     if !counts_fit(places.operands, places.all_operands, counts.operands) {
@@ -267,7 +274,8 @@ fn check_parts<'c, A: AttrText<A>>(
 /// Counts the results of an operation with known types.
 fn count_typed<T: IrText<A>, A: AttrText<A>>(ctx: &Context<T, A>, op: Ptr<Operation>) -> usize
     requires { IsLive ctx.now.graph (TheOperation op) }
-    ensures { result ≡ length (known_types (texts.texts_of T.IrText.written ctx.now (listed.ResultTypes op))) }
+    ensures { result ≡ length (known_types (texts.texts_of T.IrText.written ctx.now
+        (listed.ResultTypes op))) }
 {
     let mut typed = 0;
     for place in 0..count(ctx, Listed::ResultTypes(op)) {
@@ -282,7 +290,8 @@ fn count_typed<T: IrText<A>, A: AttrText<A>>(ctx: &Context<T, A>, op: Ptr<Operat
 /// Counts the parts of an operation.
 fn count_parts<T: IrText<A>, A: AttrText<A>>(ctx: &Context<T, A>, op: Ptr<Operation>) -> Counts
     requires { IsSome (operation ctx.now op) }
-    ensures { IfSome (seen_own A.IrText.written ctx.now op) (λ o. result ≡ fits.counts_of o (length (regions ctx.now.graph op))) }
+    ensures { IfSome (seen_own A.IrText.written ctx.now op) (λ o. result ≡ fits.counts_of o
+        (length (regions ctx.now.graph op))) }
 {
     keeps_operands(ctx, op);
     Counts {

@@ -17,7 +17,8 @@ pub fn directives_in<'c, T: IrText<A>, A: AttrText<A>>(
     ctx: &'c Context<T, A>,
     id: &OpId,
 ) -> Option<&'c [Directive]>
-    ensures { option_map (λ ds. directives_of ds.now) result ≡ steps.custom_directives (format_of ctx.now.dialects (id_of id.now)) }
+    ensures { option_map (λ ds. directives_of ds.now) result ≡ steps.custom_directives
+        (format_of ctx.now.dialects (id_of id.now)) }
 {
     let info = ctx.op_info(id)?;
     match &info.format {

@@ -1,14 +1,12 @@
-//! What is printed of an operation itself by its format: what comes before its parts, and what a directive prints.
+//! What is printed of an operation before its parts, by its format.
 ghost use Rattle.std.specs.Prelude.{◌≡◌, ◌≢◌, OnOk, IfOk, IfErr, IsSome, is_none};
 ghost use Rattle.irtext_context.specs.Context.{operation};
-ghost use Rattle.irtext_format_check.specs.Directives.{directive_of, directives_of};
 ghost use Rattle.irtext_print.specs.Printers.Appended.{AppendsText};
 ghost use Rattle.irtext_print.specs.declared.printable.refusal.Refusal.TheVariants as refusal;
 ghost use Rattle.irtext_print_ops.specs.Heads as heads;
 
 use crate::canonical::fmt_canonical_front;
 use crate::fits::fitting_directives;
-use crate::pieces::fmt_piece;
 use crate::results::fmt_results;
 use irtext_base::format::Directive;
 use irtext_base::text::{AttrText, IrText};
@@ -24,7 +22,8 @@ fn fmt_front<T: IrText<A>, A: AttrText<A>>(
     f: &mut String,
 ) -> Result<(), Refusal>
     requires live { IsSome (operation ctx.now op) }
-    requires form { canonical ≡ heads.is_canonical_at T.IrText.own A.IrText.own A.AttrText.own A.eq ctx.now op }
+    requires form { canonical ≡ heads.is_canonical_at T.IrText.own A.IrText.own A.AttrText.own A.eq
+        ctx.now op }
     ensures text { OnOk result
         (AppendsText f.old (heads.operation_front_at T.IrText.own A.IrText.own A.AttrText.own A.eq ctx.now op) f.new) }
     ensures refused { IfErr result (λ e. e ≡ refusal.Memory) }
@@ -44,8 +43,10 @@ fn find_directives<'c, T: IrText<A>, A: AttrText<A>>(
     op: Ptr<Operation>,
 ) -> Result<Option<&'c [Directive]>, Refusal>
     requires live { IsSome (operation ctx.now op) }
-    ensures found { IfOk result (λ found. heads.AreDirectivesAt T.IrText.own A.IrText.own A.AttrText.own A.eq ctx.now op found) }
-    ensures form { IfOk result (λ found. is_none found ≡ heads.is_canonical_at T.IrText.own A.IrText.own A.AttrText.own A.eq ctx.now op) }
+    ensures found { IfOk result (λ found. heads.AreDirectivesAt T.IrText.own A.IrText.own A.AttrText.own A.eq
+        ctx.now op found) }
+    ensures form { IfOk result (λ found. is_none found ≡ heads.is_canonical_at T.IrText.own A.IrText.own
+        A.AttrText.own A.eq ctx.now op) }
     ensures fits { OnOk result (heads.FitsAt T.IrText.own A.IrText.own A.AttrText.own A.eq ctx.now op) }
     ensures refused { IfErr result (λ e.
         (e ≡ refusal.Misfit) × (heads.FitsAt T.IrText.own A.IrText.own A.AttrText.own A.eq ctx.now op → ⊥)) }
@@ -67,7 +68,8 @@ pub fn begin_front<'c, T: IrText<A>, A: AttrText<A>>(
     requires live { IsSome (operation ctx.now op) }
     ensures text { OnOk result
         (AppendsText f.old (heads.operation_front_at T.IrText.own A.IrText.own A.AttrText.own A.eq ctx.now op) f.new) }
-    ensures found { IfOk result (λ found. heads.AreDirectivesAt T.IrText.own A.IrText.own A.AttrText.own A.eq ctx.now op found) }
+    ensures found { IfOk result (λ found. heads.AreDirectivesAt T.IrText.own A.IrText.own A.AttrText.own A.eq
+        ctx.now op found) }
     ensures fits { OnOk result (heads.FitsAt T.IrText.own A.IrText.own A.AttrText.own A.eq ctx.now op) }
     ensures refused { IfErr result (λ e. e ≢ refusal.Memory →
         (e ≡ refusal.Misfit) × (heads.FitsAt T.IrText.own A.IrText.own A.AttrText.own A.eq ctx.now op → ⊥)) }
@@ -75,23 +77,4 @@ pub fn begin_front<'c, T: IrText<A>, A: AttrText<A>>(
     let directives = find_directives(ctx, op)?;
     fmt_front(ctx, op, directives.is_none(), f)?;
     Ok(directives)
-}
-
-/// Appends what a directive of the operation's format prints, with the space before it. `directives` are those of the format. Nothing
-/// is appended if the directive prints a region, or if what it names is absent. The error is always `Memory`; what was appended up to
-/// the error remains.
-pub fn fmt_known_piece<T: IrText<A>, A: AttrText<A>>(
-    ctx: &Context<T, A>,
-    op: Ptr<Operation>,
-    directives: &[Directive],
-    directive: &Directive,
-    f: &mut String,
-) -> Result<(), Refusal>
-    requires live { IsSome (operation ctx.now op) }
-    requires format { heads.directives_at T.IrText.own A.IrText.own A.AttrText.own A.eq ctx.now op ≡ directives_of directives.now }
-    ensures text { OnOk result
-        (AppendsText f.old (heads.piece_at T.IrText.own A.IrText.own A.AttrText.own A.eq ctx.now op (directive_of directive.now)) f.new) }
-    ensures refused { IfErr result (λ e. e ≡ refusal.Memory) }
-{
-    fmt_piece(ctx, op, directives, directive, f)
 }

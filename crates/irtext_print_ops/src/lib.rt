@@ -5,13 +5,11 @@
 #![tactic(auto)]
 
 pub mod block_heads;
-pub mod blocks;
 pub mod canonical;
 pub mod fits;
 pub mod formats;
 pub mod frame;
 pub mod front;
-pub mod heads;
 mod lists;
 pub mod marks;
 pub mod names;
@@ -21,4 +19,3 @@ pub mod pieces;
 pub mod results;
 mod step;
 pub mod walk;
-pub mod writers;

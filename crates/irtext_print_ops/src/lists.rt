@@ -175,8 +175,10 @@ fn fmt_operand_type<T: IrText<A>, A: AttrText<A>>(
     f: &mut String,
 ) -> Result<bool, fmt::Error>
     requires { ValueStands ctx.now.graph value }
-    ensures text { OnOk result (AppendsText f.old (texts.next_text first (texts.operand_type_text T.IrText.written ctx.now value)) f.new) }
-    ensures left { IfOk result (λ left. left ≡ (first && not (is_some (texts.operand_type_text T.IrText.written ctx.now value)))) }
+    ensures text { OnOk result (AppendsText f.old (texts.next_text first (texts.operand_type_text
+        T.IrText.written ctx.now value)) f.new) }
+    ensures left { IfOk result (λ left. left ≡ (first && not
+        (is_some (texts.operand_type_text T.IrText.written ctx.now value)))) }
 {
     keeps_values(ctx, value);
     fmt_typed(ctx, value, Facet::Type, first, f)
@@ -208,8 +210,10 @@ fn fmt_item<T: IrText<A>, A: AttrText<A>>(
 ) -> Result<bool, fmt::Error>
     requires stands { IsLive ctx.now.graph (owner listed) }
     requires within { index < length (texts.texts_of T.IrText.written ctx.now listed) }
-    ensures text { OnOk result (AppendsText f.old (texts.next_text first (texts.text_at T.IrText.written ctx.now listed index)) f.new) }
-    ensures left { IfOk result (λ left. left ≡ (first && not (is_some (texts.text_at T.IrText.written ctx.now listed index)))) }
+    ensures text { OnOk result (AppendsText f.old (texts.next_text first (texts.text_at T.IrText.written
+        ctx.now listed index)) f.new) }
+    ensures left { IfOk result (λ left. left ≡ (first && not (is_some (texts.text_at T.IrText.written ctx.now
+        listed index)))) }
 {
     match listed {
         Listed::Operands(op) => {
@@ -238,8 +242,10 @@ pub(crate) fn fmt_listed<T: IrText<A>, A: AttrText<A>>(
     f: &mut String,
 ) -> Result<bool, fmt::Error>
     requires { IsLive ctx.now.graph (owner listed) }
-    ensures text { OnOk result (AppendsText f.old (texts.list_text T.IrText.written ctx.now listed from) f.new) }
-    ensures none { IfOk result (λ none. none ≡ texts.are_none (known_types (drop from (texts.texts_of T.IrText.written ctx.now listed)))) }
+    ensures text { OnOk result (AppendsText f.old (texts.list_text T.IrText.written ctx.now listed
+        from) f.new) }
+    ensures none { IfOk result (λ none. none ≡ texts.are_none
+        (known_types (drop from (texts.texts_of T.IrText.written ctx.now listed)))) }
 {
     let mut first = true;
     for index in from..count(ctx, listed) {

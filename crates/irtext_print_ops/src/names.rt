@@ -19,7 +19,8 @@ use std::fmt;
 /// What printing finds in a context by a value's number belongs to that value: its given name, and its type. Does nothing: the contract
 /// hands that out.
 pub(crate) fn keeps_values<T: IrText<A>, A: AttrText<A>>(ctx: &Context<T, A>, value: Value)
-    ensures given { IfSome (value_at ctx.now.graph value) (λ t. given_to ctx.now t.number ≡ given_name ctx.now value) }
+    ensures given { IfSome (value_at ctx.now.graph value) (λ t. given_to ctx.now t.number ≡ given_name
+        ctx.now value) }
     ensures of_type { IfSome (value_at ctx.now.graph value) (λ t. type_of ctx.now t.number ≡ t.of_type) }
 {
     ctx.graph().keeps_numbers();

@@ -7,13 +7,26 @@ ghost use Rattle.irtext_graph.specs.declared.object.Object.TheVariants.{TheRegio
 ghost use Rattle.irtext_print.specs.Printers.Appended.{AppendsText};
 ghost use Rattle.irtext_print.specs.declared.printable.refusal.Refusal.TheVariants as refusal;
 ghost use Rattle.irtext_print_ops.specs.Heads as heads;
+ghost use Rattle.irtext_print_ops.specs.Steps.{begun_frames, listed};
 
-use crate::blocks::{print_block_inside, print_region_inside};
-use crate::walk::{print_inside, print_mark};
-use crate::writers::Heads;
+use crate::block_heads::fmt_block_head;
+use crate::frame::{BlockFrame, Frame, RegionFrame};
+use crate::opening::{begin_region, deeper, fmt_colon};
+use crate::step::{begin_operation, end_operation, fmt_block_mark};
+use crate::walk::{print_frames, print_operation};
 use irtext_base::text::{AttrText, IrText};
 use irtext_context::base::{BasicBlock, Context, Item, Operation, Ptr, Region};
 use irtext_print::printable::{Refusal, State};
+
+/// Returns the frame of a region that was begun, if it is not elided.
+fn region_frame<'c>(begun: Option<RegionFrame>) -> Option<Frame<'c>>
+    ensures { listed result ≡ begun_frames begun }
+{
+    match begun {
+        Some(begun) => Some(Frame::Region(begun)),
+        None => None,
+    }
+}
 
 /// Appends the text of an operation with everything nested in it, at the state's indentation and under its limit, and after it its
 /// mark, if `marked`. Items are added to `items`, in the order of their marks; the index of a mark is its item's place in `items`. Does
@@ -30,14 +43,21 @@ pub fn print_nested<T: IrText<A>, A: AttrText<A>, U>(
     f: &mut String,
 ) -> Result<(), Refusal>
     requires live { IsSome (operation ctx.now op) }
-    ensures text { OnOk result (AppendsText f.old (heads.text_under T.IrText.own A.IrText.own A.AttrText.own A.eq ctx.now op state.now
+    ensures text { OnOk result (AppendsText f.old (heads.text_under T.IrText.own A.IrText.own A.AttrText.own
+        A.eq ctx.now op state.now
         marked (length items.old.items)) f.new) }
     ensures items { OnOk result (items.new.items ≡ items.old.items ++
         heads.items_under T.IrText.own A.IrText.own A.AttrText.own A.eq ctx.now op state.now marked) }
-    ensures fits { OnOk result (heads.MisfitsUnder T.IrText.own A.IrText.own A.AttrText.own A.eq ctx.now op state.now → ⊥) }
-    ensures refused { IfErr result (heads.RefusesUnder T.IrText.own A.IrText.own A.AttrText.own A.eq ctx.now op state.now) }
+    ensures fits { OnOk result (heads.MisfitsUnder T.IrText.own A.IrText.own A.AttrText.own A.eq ctx.now op
+        state.now → ⊥) }
+    ensures refused { IfErr result (heads.RefusesUnder T.IrText.own A.IrText.own A.AttrText.own A.eq ctx.now
+        op state.now) }
 {
-    print_inside::<Heads, T, A, U>(ctx, op, marked, state, items, f)
+    let width = state.indent_width();
+    let indent = state.current_indent();
+    let limit = state.current_region_print_depth_limit();
+    let begun = begin_operation(ctx, op, marked, indent, limit, f)?;
+    print_operation(ctx, width, begun, items, f)
 }
 
 /// Appends the text of a block with everything nested in it, at the state's indentation and under its limit, with its mark if it has
@@ -55,15 +75,32 @@ pub fn print_nested_block<T: IrText<A>, A: AttrText<A>, U>(
     f: &mut String,
 ) -> Result<(), Refusal>
     requires live { IsSome (context.block ctx.now block) }
-    ensures text { OnOk result (AppendsText f.old (heads.block_text_under T.IrText.own A.IrText.own A.AttrText.own A.eq ctx.now block
+    ensures text { OnOk result (AppendsText f.old (heads.block_text_under T.IrText.own A.IrText.own
+        A.AttrText.own A.eq ctx.now block
         state.now (length items.old.items)) f.new) }
     ensures items { OnOk result (items.new.items ≡ items.old.items ++
         heads.block_items_under T.IrText.own A.IrText.own A.AttrText.own A.eq ctx.now block state.now) }
     ensures fits { OnOk result (
         heads.BlockFaultUnder T.IrText.own A.IrText.own A.AttrText.own A.eq ctx.now block state.now refusal.Misfit → ⊥) }
-    ensures refused { IfErr result (heads.RefusesBlockUnder T.IrText.own A.IrText.own A.AttrText.own A.eq ctx.now block state.now) }
+    ensures refused { IfErr result (heads.RefusesBlockUnder T.IrText.own A.IrText.own A.AttrText.own A.eq
+        ctx.now block state.now) }
 {
-    print_block_inside::<Heads, T, A, U>(ctx, block, state, items, f)
+    let width = state.indent_width();
+    let indent = state.current_indent();
+    let limit = state.current_region_print_depth_limit();
+    let inner = deeper(indent, width)?;
+    fmt_block_head(ctx, block, f)?;
+    fmt_block_mark(ctx, block, items, f)?;
+    fmt_colon(inner, f)?;
+    let first = Frame::Block(BlockFrame {
+        block,
+        operation: 0,
+        first: true,
+        indent,
+        limit,
+    });
+    let mut frames = Vec::new(ctx.allocator());
+    print_frames(ctx, width, Some(first), &mut frames, items, f)
 }
 
 /// Appends the text of a region with everything nested in it, at the state's indentation and under its limit. Items are added to
@@ -80,15 +117,22 @@ pub fn print_nested_region<T: IrText<A>, A: AttrText<A>, U>(
     f: &mut String,
 ) -> Result<(), Refusal>
     requires live { IsLive ctx.now.graph (TheRegion region) }
-    ensures text { OnOk result (AppendsText f.old (heads.region_text_under T.IrText.own A.IrText.own A.AttrText.own A.eq ctx.now region
+    ensures text { OnOk result (AppendsText f.old (heads.region_text_under T.IrText.own A.IrText.own
+        A.AttrText.own A.eq ctx.now region
         state.now (length items.old.items)) f.new) }
     ensures items { OnOk result (items.new.items ≡ items.old.items ++
         heads.region_items_under T.IrText.own A.IrText.own A.AttrText.own A.eq ctx.now region state.now) }
     ensures fits { OnOk result (
         heads.RegionFaultUnder T.IrText.own A.IrText.own A.AttrText.own A.eq ctx.now region state.now refusal.Misfit → ⊥) }
-    ensures refused { IfErr result (heads.RefusesRegionUnder T.IrText.own A.IrText.own A.AttrText.own A.eq ctx.now region state.now) }
+    ensures refused { IfErr result (heads.RefusesRegionUnder T.IrText.own A.IrText.own A.AttrText.own A.eq
+        ctx.now region state.now) }
 {
-    print_region_inside::<Heads, T, A, U>(ctx, region, state, items, f)
+    let width = state.indent_width();
+    let indent = state.current_indent();
+    let limit = state.current_region_print_depth_limit();
+    let begun = begin_region(region, true, indent, width, limit, f)?;
+    let mut frames = Vec::new(ctx.allocator());
+    print_frames(ctx, width, region_frame(begun), &mut frames, items, f)
 }
 
 /// Appends the mark of an operation, if it has one, and adds the operation to `items`; the mark's index is its place there. The error
@@ -100,11 +144,12 @@ pub fn print_nested_mark<T: IrText<A>, A: AttrText<A>>(
     f: &mut String,
 ) -> Result<(), Refusal>
     requires live { IsSome (operation ctx.now op) }
-    ensures text { OnOk result (AppendsText f.old (heads.own_mark_at T.IrText.own A.IrText.own A.AttrText.own A.eq ctx.now op true
+    ensures text { OnOk result (AppendsText f.old (heads.own_mark_at T.IrText.own A.IrText.own A.AttrText.own
+        A.eq ctx.now op true
         (length items.old.items)) f.new) }
     ensures items { OnOk result (items.new.items ≡ items.old.items ++
         heads.own_items_at T.IrText.own A.IrText.own A.AttrText.own A.eq ctx.now op true) }
     ensures refused { IfErr result (λ e. e ≡ refusal.Memory) }
 {
-    print_mark::<Heads, T, A>(ctx, op, items, f)
+    end_operation(ctx, op, true, items, f)
 }

@@ -149,7 +149,8 @@ pub(crate) fn begin_region(
 ) -> Result<Option<RegionFrame>, Refusal>
     ensures text { OnOk result (AppendsText f.old (cond joins [] (codes " ") ++ region_front width indent limit) f.new) }
     ensures opens { IfOk result (λ begun. begun_frames begun ≡ region_frames region indent limit) }
-    ensures refused { IfErr result (λ e. e ≢ refusal.Memory → (e ≡ refusal.Depth) × IsTooDeep width indent limit) }
+    ensures refused { IfErr result (λ e. e ≢ refusal.Memory → (e ≡ refusal.Depth)
+        × IsTooDeep width indent limit) }
 {
     let Some(limit) = inside(limit) else {
         fmt_elided(joins, f)?;

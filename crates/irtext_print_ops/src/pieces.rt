@@ -35,7 +35,8 @@ use std::fmt;
 
 /// What an operation uses is live. Does nothing: the contract hands that out.
 pub(crate) fn keeps_operands<T: IrText<A>, A: AttrText<A>>(ctx: &Context<T, A>, op: Ptr<Operation>)
-    ensures { (i : ℕ) (v : code.Value) → slice_get (operands ctx.now.graph op) i ≡ Some v → ValueStands ctx.now.graph v }
+    ensures { (i : ℕ) (v : code.Value) → slice_get (operands ctx.now.graph op) i ≡ Some v
+        → ValueStands ctx.now.graph v }
 {
     ctx.graph().keeps_nesting();
 }
@@ -48,7 +49,8 @@ fn fmt_operand_at<T: IrText<A>, A: AttrText<A>>(
     f: &mut String,
 ) -> fmt::Result
     requires { IsLive ctx.now.graph (TheOperation op) }
-    ensures { OnOk result (AppendsText f.old (spaced_if (texts.text_at T.IrText.written ctx.now (listed.Operands op) index)) f.new) }
+    ensures { OnOk result (AppendsText f.old (spaced_if (texts.text_at T.IrText.written ctx.now
+        (listed.Operands op) index)) f.new) }
 {
     if index >= ctx.graph().num_operands(op) {
         return Ok(());
@@ -66,7 +68,8 @@ fn fmt_successor_at<T: IrText<A>, A: AttrText<A>>(
     f: &mut String,
 ) -> fmt::Result
     requires { IsLive ctx.now.graph (TheOperation op) }
-    ensures { OnOk result (AppendsText f.old (spaced_if (texts.text_at T.IrText.written ctx.now (listed.Successors op) index)) f.new) }
+    ensures { OnOk result (AppendsText f.old (spaced_if (texts.text_at T.IrText.written ctx.now
+        (listed.Successors op) index)) f.new) }
 {
     if index >= ctx.graph().num_successors(op) {
         return Ok(());
@@ -124,7 +127,8 @@ fn fmt_spaced<T: IrText<A>, A: AttrText<A>>(
     f: &mut String,
 ) -> fmt::Result
     requires { IsLive ctx.now.graph (owner list) }
-    ensures { OnOk result (AppendsText f.old (spaced (texts.list_text T.IrText.written ctx.now list from)) f.new) }
+    ensures { OnOk result (AppendsText f.old (spaced (texts.list_text T.IrText.written ctx.now list
+        from)) f.new) }
 {
     f.push_str(" ")?;
     fmt_listed(ctx, list, from, f)?;
@@ -138,7 +142,11 @@ fn writes_operand(directive: &Directive) -> bool
 }
 
 fn writes_successor(directive: &Directive) -> bool
-    ensures { result ≡ is_some (elim (directive_of directive.now) [ format.successor i ↦ Some i | _ ↦ None ]) }
+    ensures { result ≡ is_some (elim (directive_of directive.now) [
+      | format.successor i ↦ Some i
+      | _
+          ↦ None
+    ]) }
 {
     matches!(directive, Directive::Successor(_))
 }

@@ -28,7 +28,8 @@ fn fmt_defined<T: IrText<A>, A: AttrText<A>>(
     f: &mut String,
 ) -> fmt::Result
     requires { IsLive ctx.now.graph (TheOperation op) }
-    ensures { OnOk result (AppendsText f.old (defined_text (known_types (texts_of T.IrText.written ctx.now (Results op)))) f.new) }
+    ensures { OnOk result (AppendsText f.old (defined_text (known_types (texts_of T.IrText.written ctx.now
+        (Results op)))) f.new) }
 {
     let none = fmt_listed(ctx, Listed::Results(op), 0, f)?;
     if none {

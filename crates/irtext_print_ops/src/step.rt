@@ -10,12 +10,15 @@ ghost use Rattle.irtext_print_ops.specs.Heads as heads;
 ghost use Rattle.irtext_print_ops.specs.Steps as steps;
 ghost use Rattle.irtext_print_ops.specs.declared.frame.Frame.TheVariants as framed;
 
+use crate::block_heads::fmt_block_head;
 use crate::frame::{BlockFrame, BlockTurn, Frame, OperationFrame, RegionFrame, Turn, gather, open};
-use crate::heads::WritesHeads;
+use crate::front::begin_front;
+use crate::marks::{is_block_marked, is_operation_marked};
 use crate::opening::{
     begin_region, deeper, fmt_between_blocks, fmt_between_operations, fmt_closing, fmt_colon,
     fmt_index,
 };
+use crate::pieces::fmt_piece;
 use irtext_base::format::Directive;
 use irtext_base::text::{AttrText, IrText};
 use irtext_context::base::{BasicBlock, Context, Item, Operation, OperationAccess, Ptr};
@@ -35,7 +38,7 @@ pub(crate) enum Stop {
 
 /// Appends what the directives that were found for an operation print from this one on, before the first that prints a region.
 #[inline(always)]
-fn fmt_pieces<H: WritesHeads<T, A>, T: IrText<A>, A: AttrText<A>>(
+fn fmt_pieces<T: IrText<A>, A: AttrText<A>>(
     ctx: &Context<T, A>,
     op: Ptr<Operation>,
     found: Option<&[Directive]>,
@@ -44,8 +47,10 @@ fn fmt_pieces<H: WritesHeads<T, A>, T: IrText<A>, A: AttrText<A>>(
 ) -> Result<Stop, Refusal>
     requires live { IsSome (operation ctx.now op) }
     requires format { heads.AreDirectivesAt T.IrText.own A.IrText.own A.AttrText.own A.eq ctx.now op found }
-    ensures text { OnOk result (AppendsText f.old (heads.pieces_at T.IrText.own A.IrText.own A.AttrText.own A.eq ctx.now op from) f.new) }
-    ensures stop { IfOk result (λ stop. heads.StopsAt T.IrText.own A.IrText.own A.AttrText.own A.eq ctx.now op from stop) }
+    ensures text { OnOk result (AppendsText f.old (heads.pieces_at T.IrText.own A.IrText.own A.AttrText.own
+        A.eq ctx.now op from) f.new) }
+    ensures stop { IfOk result (λ stop. heads.StopsAt T.IrText.own A.IrText.own A.AttrText.own A.eq ctx.now op
+        from stop) }
     ensures refused { IfErr result (λ e. e ≡ refusal.Memory) }
 {
     let Some(directives) = found else {
@@ -58,7 +63,7 @@ fn fmt_pieces<H: WritesHeads<T, A>, T: IrText<A>, A: AttrText<A>>(
         match directive {
             Directive::Region(_) => return Ok(Stop::Region(at)),
             Directive::Regions => return Ok(Stop::Regions(at)),
-            _ => H::fmt_piece(ctx, op, directives, directive, f)?,
+            _ => fmt_piece(ctx, op, directives, directive, f)?,
         }
     }
     Ok(Stop::End)
@@ -66,7 +71,7 @@ fn fmt_pieces<H: WritesHeads<T, A>, T: IrText<A>, A: AttrText<A>>(
 
 /// Checks that an operation fits its format, and appends what comes before its parts. Returns the frame with its parts open.
 #[inline(always)]
-pub(crate) fn begin_operation<'c, H: WritesHeads<T, A>, T: IrText<A>, A: AttrText<A>>(
+pub(crate) fn begin_operation<'c, T: IrText<A>, A: AttrText<A>>(
     ctx: &'c Context<T, A>,
     op: Ptr<Operation>,
     marked: bool,
@@ -79,12 +84,13 @@ pub(crate) fn begin_operation<'c, H: WritesHeads<T, A>, T: IrText<A>, A: AttrTex
         (AppendsText f.old (heads.operation_front_at T.IrText.own A.IrText.own A.AttrText.own A.eq ctx.now op) f.new) }
     ensures begun { IfOk result (λ begun. begun ≡
         heads.begun_at T.IrText.own A.IrText.own A.AttrText.own A.eq ctx.now op begun.directives marked indent limit) }
-    ensures found { IfOk result (λ begun. heads.AreDirectivesAt T.IrText.own A.IrText.own A.AttrText.own A.eq ctx.now op begun.directives) }
+    ensures found { IfOk result (λ begun. heads.AreDirectivesAt T.IrText.own A.IrText.own A.AttrText.own A.eq
+        ctx.now op begun.directives) }
     ensures fits { OnOk result (heads.FitsAt T.IrText.own A.IrText.own A.AttrText.own A.eq ctx.now op) }
     ensures refused { IfErr result (λ e. e ≢ refusal.Memory →
         (e ≡ refusal.Misfit) × (heads.FitsAt T.IrText.own A.IrText.own A.AttrText.own A.eq ctx.now op → ⊥)) }
 {
-    let directives = H::begin(ctx, op, f)?;
+    let directives = begin_front(ctx, op, f)?;
     Ok(OperationFrame {
         op,
         directives,
@@ -109,7 +115,8 @@ fn region_turn<'c, T: IrText<A>, A: AttrText<A>>(
     ensures text { OnOk result (AppendsText f.old (steps.region_turn_text ctx.now width frame.old) f.new) }
     ensures left { IfOk result (λ begun. framed.Operation frame.new ∷ steps.begun_frames begun ≡
         steps.region_turn_frames ctx.now frame.old) }
-    ensures refused { IfErr result (λ e. e ≢ refusal.Memory → (e ≡ refusal.Depth) × steps.NextTooDeep ctx.now width frame.old) }
+    ensures refused { IfErr result (λ e. e ≢ refusal.Memory → (e ≡ refusal.Depth) × steps.NextTooDeep ctx.now
+        width frame.old) }
 {
     if frame.region >= frame.op.num_regions(ctx) {
         frame.repeats = false;
@@ -128,7 +135,8 @@ fn entered<T: IrText<A>, A: AttrText<A>>(
     begun: Option<RegionFrame>,
     f: &mut String,
 ) -> Result<Turn, Refusal>
-    requires stand { heads.FramesFitAt T.IrText.own A.IrText.own A.AttrText.own A.eq ctx.now (steps.begun_frames begun) }
+    requires stand { heads.FramesFitAt T.IrText.own A.IrText.own A.AttrText.own A.eq ctx.now
+        (steps.begun_frames begun) }
     ensures text { OnOk result (AppendsText f.old (steps.ended_text ctx.now begun) f.new) }
     ensures left { IfOk result (λ turn. turn ≡ steps.ended_turn ctx.now begun) }
     ensures refused { IfErr result (λ e. e ≡ refusal.Memory) }
@@ -145,7 +153,7 @@ fn entered<T: IrText<A>, A: AttrText<A>>(
 
 /// Appends the mark of an operation after its text, if it has one and it is to be printed.
 #[inline(always)]
-pub(crate) fn end_operation<H: WritesHeads<T, A>, T: IrText<A>, A: AttrText<A>>(
+pub(crate) fn end_operation<T: IrText<A>, A: AttrText<A>>(
     ctx: &Context<T, A>,
     op: Ptr<Operation>,
     marked: bool,
@@ -153,7 +161,8 @@ pub(crate) fn end_operation<H: WritesHeads<T, A>, T: IrText<A>, A: AttrText<A>>(
     f: &mut String,
 ) -> Result<(), Refusal>
     requires live { IsSome (operation ctx.now op) }
-    ensures text { OnOk result (AppendsText f.old (heads.own_mark_at T.IrText.own A.IrText.own A.AttrText.own A.eq ctx.now op marked
+    ensures text { OnOk result (AppendsText f.old (heads.own_mark_at T.IrText.own A.IrText.own A.AttrText.own
+        A.eq ctx.now op marked
         (length items.old.items)) f.new) }
     ensures items { OnOk result (items.new.items ≡ items.old.items ++
         heads.own_items_at T.IrText.own A.IrText.own A.AttrText.own A.eq ctx.now op marked) }
@@ -162,7 +171,7 @@ pub(crate) fn end_operation<H: WritesHeads<T, A>, T: IrText<A>, A: AttrText<A>>(
     if !marked {
         return Ok(());
     }
-    if !H::is_operation_marked(ctx, op) {
+    if !is_operation_marked(ctx, op) {
         return Ok(());
     }
     let index = gather(items, Item::Operation(op))?;
@@ -171,20 +180,21 @@ pub(crate) fn end_operation<H: WritesHeads<T, A>, T: IrText<A>, A: AttrText<A>>(
 
 /// Appends the mark of a block, if it has one.
 #[inline(always)]
-pub(crate) fn fmt_block_mark<H: WritesHeads<T, A>, T: IrText<A>, A: AttrText<A>>(
+pub(crate) fn fmt_block_mark<T: IrText<A>, A: AttrText<A>>(
     ctx: &Context<T, A>,
     block: Ptr<BasicBlock>,
     items: &mut Vec<Item>,
     f: &mut String,
 ) -> Result<(), Refusal>
     requires live { IsSome (context.block ctx.now block) }
-    ensures text { OnOk result (AppendsText f.old (heads.block_mark_at T.IrText.own A.IrText.own A.AttrText.own A.eq ctx.now block
+    ensures text { OnOk result (AppendsText f.old (heads.block_mark_at T.IrText.own A.IrText.own
+        A.AttrText.own A.eq ctx.now block
         (length items.old.items)) f.new) }
     ensures items { OnOk result (items.new.items ≡ items.old.items ++
         heads.block_items_at T.IrText.own A.IrText.own A.AttrText.own A.eq ctx.now block) }
     ensures refused { IfErr result (λ e. e ≡ refusal.Memory) }
 {
-    if !H::is_block_marked(ctx, block) {
+    if !is_block_marked(ctx, block) {
         return Ok(());
     }
     let index = gather(items, Item::Block(block))?;
@@ -193,18 +203,20 @@ pub(crate) fn fmt_block_mark<H: WritesHeads<T, A>, T: IrText<A>, A: AttrText<A>>
 
 /// Prints what comes next of an operation: its pieces up to a region, and the beginning of that; or its mark after the last piece.
 #[inline(always)]
-fn operation_turn<'c, H: WritesHeads<T, A>, T: IrText<A>, A: AttrText<A>>(
+fn operation_turn<'c, T: IrText<A>, A: AttrText<A>>(
     ctx: &'c Context<T, A>,
     width: u16,
     frame: &mut OperationFrame<'c>,
     items: &mut Vec<Item>,
     f: &mut String,
 ) -> Result<Turn, Refusal>
-    requires fits { heads.FrameFitsAt T.IrText.own A.IrText.own A.AttrText.own A.eq ctx.now (framed.Operation frame.old) }
+    requires fits { heads.FrameFitsAt T.IrText.own A.IrText.own A.AttrText.own A.eq ctx.now
+        (framed.Operation frame.old) }
     ensures steps { IfOk result (λ turn.
         heads.StepsAt T.IrText.own A.IrText.own A.AttrText.own A.eq ctx.now width (framed.Operation frame.old)
         items.old.items items.new.items [] (steps.turn_frames frame.new turn) f.old f.new) }
-    ensures refused { IfErr result (heads.RefusesFrame T.IrText.own A.IrText.own A.AttrText.own A.eq ctx.now width
+    ensures refused { IfErr result (heads.RefusesFrame T.IrText.own A.IrText.own A.AttrText.own A.eq
+        ctx.now width
         (framed.Operation frame.old)) }
 {
     ctx.graph().keeps_nesting();
@@ -212,9 +224,9 @@ fn operation_turn<'c, H: WritesHeads<T, A>, T: IrText<A>, A: AttrText<A>>(
         let begun = region_turn(ctx, width, frame, f)?;
         return entered(ctx, begun, f);
     }
-    match fmt_pieces::<H, T, A>(ctx, frame.op, frame.directives, frame.directive, f)? {
+    match fmt_pieces(ctx, frame.op, frame.directives, frame.directive, f)? {
         Stop::End => {
-            end_operation::<H, T, A>(ctx, frame.op, frame.marked, items, f)?;
+            end_operation(ctx, frame.op, frame.marked, items, f)?;
             Ok(Turn::Ends)
         }
         Stop::Region(directive) => {
@@ -233,22 +245,24 @@ fn operation_turn<'c, H: WritesHeads<T, A>, T: IrText<A>, A: AttrText<A>>(
 
 /// Prints the rest of an operation, up to the first of its regions that has blocks. That region is begun, and its frame returned.
 #[inline(always)]
-pub(crate) fn operation_turns<'c, H: WritesHeads<T, A>, T: IrText<A>, A: AttrText<A>>(
+pub(crate) fn operation_turns<'c, T: IrText<A>, A: AttrText<A>>(
     ctx: &'c Context<T, A>,
     width: u16,
     frame: &mut OperationFrame<'c>,
     items: &mut Vec<Item>,
     f: &mut String,
 ) -> Result<Option<RegionFrame>, Refusal>
-    requires fits { heads.FrameFitsAt T.IrText.own A.IrText.own A.AttrText.own A.eq ctx.now (framed.Operation frame.old) }
+    requires fits { heads.FrameFitsAt T.IrText.own A.IrText.own A.AttrText.own A.eq ctx.now
+        (framed.Operation frame.old) }
     ensures steps { IfOk result (λ inside.
         heads.StepsAt T.IrText.own A.IrText.own A.AttrText.own A.eq ctx.now width (framed.Operation frame.old)
         items.old.items items.new.items [] (steps.left_frames frame.new inside) f.old f.new) }
-    ensures refused { IfErr result (heads.RefusesFrame T.IrText.own A.IrText.own A.AttrText.own A.eq ctx.now width
+    ensures refused { IfErr result (heads.RefusesFrame T.IrText.own A.IrText.own A.AttrText.own A.eq
+        ctx.now width
         (framed.Operation frame.old)) }
 {
     loop {
-        match operation_turn::<H, T, A>(ctx, width, frame, items, f)? {
+        match operation_turn(ctx, width, frame, items, f)? {
             Turn::Stays => {}
             Turn::Enters(inside) => return Ok(Some(inside)),
             Turn::Ends => return Ok(None),
@@ -258,7 +272,7 @@ pub(crate) fn operation_turns<'c, H: WritesHeads<T, A>, T: IrText<A>, A: AttrTex
 
 /// Prints what comes next of an operation. Returns the region that was begun, if it has blocks.
 #[inline(always)]
-fn operation_step<'c, H: WritesHeads<T, A>, T: IrText<A>, A: AttrText<A>>(
+fn operation_step<'c, T: IrText<A>, A: AttrText<A>>(
     ctx: &'c Context<T, A>,
     width: u16,
     frame: OperationFrame<'c>,
@@ -266,15 +280,17 @@ fn operation_step<'c, H: WritesHeads<T, A>, T: IrText<A>, A: AttrText<A>>(
     items: &mut Vec<Item>,
     f: &mut String,
 ) -> Result<Option<RegionFrame>, Refusal>
-    requires fits { heads.FrameFitsAt T.IrText.own A.IrText.own A.AttrText.own A.eq ctx.now (framed.Operation frame) }
+    requires fits { heads.FrameFitsAt T.IrText.own A.IrText.own A.AttrText.own A.eq ctx.now
+        (framed.Operation frame) }
     ensures steps { IfOk result (λ inside.
         heads.LeadsAt T.IrText.own A.IrText.own A.AttrText.own A.eq ctx.now width (framed.Operation frame.entry)
         (option_map framed.Region inside) items.old.items items.new.items frames.old.items frames.new.items f.old f.new) }
-    ensures refused { IfErr result (heads.RefusesFrame T.IrText.own A.IrText.own A.AttrText.own A.eq ctx.now width
+    ensures refused { IfErr result (heads.RefusesFrame T.IrText.own A.IrText.own A.AttrText.own A.eq
+        ctx.now width
         (framed.Operation frame.entry)) }
 {
     let mut left = frame;
-    let Some(inside) = operation_turns::<H, T, A>(ctx, width, &mut left, items, f)? else {
+    let Some(inside) = operation_turns(ctx, width, &mut left, items, f)? else {
         return Ok(None);
     };
     open(frames, Frame::Operation(left))?;
@@ -283,7 +299,7 @@ fn operation_step<'c, H: WritesHeads<T, A>, T: IrText<A>, A: AttrText<A>>(
 
 /// Prints what comes next of a region: the head of its next block, or its closing brace. Returns the block, if there is one.
 #[inline(always)]
-fn region_step<'c, H: WritesHeads<T, A>, T: IrText<A>, A: AttrText<A>>(
+fn region_step<'c, T: IrText<A>, A: AttrText<A>>(
     ctx: &'c Context<T, A>,
     width: u16,
     frame: RegionFrame,
@@ -291,11 +307,13 @@ fn region_step<'c, H: WritesHeads<T, A>, T: IrText<A>, A: AttrText<A>>(
     items: &mut Vec<Item>,
     f: &mut String,
 ) -> Result<Option<BlockFrame>, Refusal>
-    requires fits { heads.FrameFitsAt T.IrText.own A.IrText.own A.AttrText.own A.eq ctx.now (framed.Region frame) }
+    requires fits { heads.FrameFitsAt T.IrText.own A.IrText.own A.AttrText.own A.eq ctx.now
+        (framed.Region frame) }
     ensures steps { IfOk result (λ inner.
         heads.LeadsAt T.IrText.own A.IrText.own A.AttrText.own A.eq ctx.now width (framed.Region frame)
         (option_map framed.Block inner) items.old.items items.new.items frames.old.items frames.new.items f.old f.new) }
-    ensures refused { IfErr result (heads.RefusesFrame T.IrText.own A.IrText.own A.AttrText.own A.eq ctx.now width (framed.Region frame)) }
+    ensures refused { IfErr result (heads.RefusesFrame T.IrText.own A.IrText.own A.AttrText.own A.eq ctx.now
+        width (framed.Region frame)) }
 {
     ctx.graph().keeps_nesting();
     if frame.block >= frame.region.num_blocks(ctx) {
@@ -306,8 +324,8 @@ fn region_step<'c, H: WritesHeads<T, A>, T: IrText<A>, A: AttrText<A>>(
     let indent = deeper(frame.indent, width)?;
     let inner = deeper(indent, width)?;
     fmt_between_blocks(frame.first, indent, f)?;
-    H::fmt_block_head(ctx, block, f)?;
-    fmt_block_mark::<H, T, A>(ctx, block, items, f)?;
+    fmt_block_head(ctx, block, f)?;
+    fmt_block_mark(ctx, block, items, f)?;
     fmt_colon(inner, f)?;
     open(
         frames,
@@ -329,7 +347,7 @@ fn region_step<'c, H: WritesHeads<T, A>, T: IrText<A>, A: AttrText<A>>(
 /// Prints what comes next of a block: its next operation, up to the first region of that one that has blocks, or nothing after the
 /// last. A placeholder is skipped.
 #[inline(always)]
-fn block_turn<'c, H: WritesHeads<T, A>, T: IrText<A>, A: AttrText<A>>(
+fn block_turn<'c, T: IrText<A>, A: AttrText<A>>(
     ctx: &'c Context<T, A>,
     width: u16,
     frame: BlockFrame,
@@ -337,11 +355,13 @@ fn block_turn<'c, H: WritesHeads<T, A>, T: IrText<A>, A: AttrText<A>>(
     items: &mut Vec<Item>,
     f: &mut String,
 ) -> Result<BlockTurn, Refusal>
-    requires fits { heads.FrameFitsAt T.IrText.own A.IrText.own A.AttrText.own A.eq ctx.now (framed.Block frame) }
+    requires fits { heads.FrameFitsAt T.IrText.own A.IrText.own A.AttrText.own A.eq ctx.now
+        (framed.Block frame) }
     ensures steps { IfOk result (λ turn.
         heads.LeadsAt T.IrText.own A.IrText.own A.AttrText.own A.eq ctx.now width (framed.Block frame)
         (steps.block_left turn) items.old.items items.new.items frames.old.items frames.new.items f.old f.new) }
-    ensures refused { IfErr result (heads.RefusesFrame T.IrText.own A.IrText.own A.AttrText.own A.eq ctx.now width (framed.Block frame)) }
+    ensures refused { IfErr result (heads.RefusesFrame T.IrText.own A.IrText.own A.AttrText.own A.eq ctx.now
+        width (framed.Block frame)) }
 {
     ctx.graph().keeps_nesting();
     if frame.operation >= frame.block.num_operations(ctx) {
@@ -356,13 +376,13 @@ fn block_turn<'c, H: WritesHeads<T, A>, T: IrText<A>, A: AttrText<A>>(
     }
     let indent = deeper(frame.indent, width)?;
     fmt_between_operations(frame.first, indent, f)?;
-    let mut begun = begin_operation::<H, T, A>(ctx, op, true, indent, frame.limit, f)?;
+    let mut begun = begin_operation(ctx, op, true, indent, frame.limit, f)?;
     let next = BlockFrame {
         operation: frame.operation + 1,
         first: false,
         ..frame
     };
-    let Some(inside) = operation_turns::<H, T, A>(ctx, width, &mut begun, items, f)? else {
+    let Some(inside) = operation_turns(ctx, width, &mut begun, items, f)? else {
         return Ok(BlockTurn::Stays(next));
     };
     open(frames, Frame::Block(next))?;
@@ -373,7 +393,7 @@ fn block_turn<'c, H: WritesHeads<T, A>, T: IrText<A>, A: AttrText<A>>(
 /// Prints what comes next of a block, and the head of the first block of a region that begins there. Returns the block that is innermost
 /// after that, if there is one.
 #[inline(always)]
-fn next_block<'c, H: WritesHeads<T, A>, T: IrText<A>, A: AttrText<A>>(
+fn next_block<'c, T: IrText<A>, A: AttrText<A>>(
     ctx: &'c Context<T, A>,
     width: u16,
     frame: BlockFrame,
@@ -381,23 +401,23 @@ fn next_block<'c, H: WritesHeads<T, A>, T: IrText<A>, A: AttrText<A>>(
     items: &mut Vec<Item>,
     f: &mut String,
 ) -> Result<Option<BlockFrame>, Refusal>
-    requires fits { heads.FrameFitsAt T.IrText.own A.IrText.own A.AttrText.own A.eq ctx.now (framed.Block frame) }
+    requires fits { heads.FrameFitsAt T.IrText.own A.IrText.own A.AttrText.own A.eq ctx.now
+        (framed.Block frame) }
     ensures steps { IfOk result (λ inner.
         heads.LeadsAt T.IrText.own A.IrText.own A.AttrText.own A.eq ctx.now width (framed.Block frame)
         (option_map framed.Block inner) items.old.items items.new.items frames.old.items frames.new.items f.old f.new) }
-    ensures refused { IfErr result (heads.RefusesFrame T.IrText.own A.IrText.own A.AttrText.own A.eq ctx.now width (framed.Block frame)) }
+    ensures refused { IfErr result (heads.RefusesFrame T.IrText.own A.IrText.own A.AttrText.own A.eq ctx.now
+        width (framed.Block frame)) }
 {
-    match block_turn::<H, T, A>(ctx, width, frame, frames, items, f)? {
+    match block_turn(ctx, width, frame, frames, items, f)? {
         BlockTurn::Ends => Ok(None),
         BlockTurn::Stays(next) => Ok(Some(next)),
-        BlockTurn::Enters(inside) => {
-            region_step::<H, T, A>(ctx, width, inside, frames, items, f)
-        }
+        BlockTurn::Enters(inside) => { region_step(ctx, width, inside, frames, items, f) }
     }
 }
 
 /// Prints what comes next of a block, and of the blocks that begin inside of it, up to the last operation of the innermost one.
-fn block_step<'c, H: WritesHeads<T, A>, T: IrText<A>, A: AttrText<A>>(
+fn block_step<'c, T: IrText<A>, A: AttrText<A>>(
     ctx: &'c Context<T, A>,
     width: u16,
     frame: BlockFrame,
@@ -405,15 +425,17 @@ fn block_step<'c, H: WritesHeads<T, A>, T: IrText<A>, A: AttrText<A>>(
     items: &mut Vec<Item>,
     f: &mut String,
 ) -> Result<(), Refusal>
-    requires fits { heads.FrameFitsAt T.IrText.own A.IrText.own A.AttrText.own A.eq ctx.now (framed.Block frame) }
+    requires fits { heads.FrameFitsAt T.IrText.own A.IrText.own A.AttrText.own A.eq ctx.now
+        (framed.Block frame) }
     ensures steps { OnOk result (
         heads.StepsAt T.IrText.own A.IrText.own A.AttrText.own A.eq ctx.now width (framed.Block frame)
         items.old.items items.new.items frames.old.items frames.new.items f.old f.new) }
-    ensures refused { IfErr result (heads.RefusesFrame T.IrText.own A.IrText.own A.AttrText.own A.eq ctx.now width (framed.Block frame)) }
+    ensures refused { IfErr result (heads.RefusesFrame T.IrText.own A.IrText.own A.AttrText.own A.eq ctx.now
+        width (framed.Block frame)) }
 {
     let mut left = frame;
     loop {
-        let Some(next) = next_block::<H, T, A>(ctx, width, left, frames, items, f)? else {
+        let Some(next) = next_block(ctx, width, left, frames, items, f)? else {
             return Ok(());
         };
         left = next;
@@ -422,7 +444,7 @@ fn block_step<'c, H: WritesHeads<T, A>, T: IrText<A>, A: AttrText<A>>(
 
 /// Returns the block that is innermost after a step of a frame, if there is one. A block is innermost itself, and no step is made.
 #[inline(always)]
-fn innermost_block<'c, H: WritesHeads<T, A>, T: IrText<A>, A: AttrText<A>>(
+fn innermost_block<'c, T: IrText<A>, A: AttrText<A>>(
     ctx: &'c Context<T, A>,
     width: u16,
     frame: Frame<'c>,
@@ -434,17 +456,17 @@ fn innermost_block<'c, H: WritesHeads<T, A>, T: IrText<A>, A: AttrText<A>>(
     ensures steps { IfOk result (λ inner.
         heads.ReachesAt T.IrText.own A.IrText.own A.AttrText.own A.eq ctx.now width frame.entry
         (option_map framed.Block inner) items.old.items items.new.items frames.old.items frames.new.items f.old f.new) }
-    ensures refused { IfErr result (heads.RefusesFrame T.IrText.own A.IrText.own A.AttrText.own A.eq ctx.now width frame.entry) }
+    ensures refused { IfErr result (heads.RefusesFrame T.IrText.own A.IrText.own A.AttrText.own A.eq ctx.now
+        width frame.entry) }
 {
     match frame {
         Frame::Operation(frame) => {
-            let Some(inside) = operation_step::<H, T, A>(ctx, width, frame, frames, items, f)?
-            else {
+            let Some(inside) = operation_step(ctx, width, frame, frames, items, f)? else {
                 return Ok(None);
             };
-            region_step::<H, T, A>(ctx, width, inside, frames, items, f)
+            region_step(ctx, width, inside, frames, items, f)
         }
-        Frame::Region(frame) => region_step::<H, T, A>(ctx, width, frame, frames, items, f),
+        Frame::Region(frame) => region_step(ctx, width, frame, frames, items, f),
         Frame::Block(frame) => Ok(Some(frame)),
     }
 }
@@ -452,7 +474,7 @@ fn innermost_block<'c, H: WritesHeads<T, A>, T: IrText<A>, A: AttrText<A>>(
 /// Prints what comes next of the innermost open frame, which was popped from the open ones, and of the blocks that begin inside of it.
 /// What is still open after that was pushed.
 #[inline(always)]
-pub(crate) fn step<'c, H: WritesHeads<T, A>, T: IrText<A>, A: AttrText<A>>(
+pub(crate) fn step<'c, T: IrText<A>, A: AttrText<A>>(
     ctx: &'c Context<T, A>,
     width: u16,
     frame: Frame<'c>,
@@ -464,10 +486,11 @@ pub(crate) fn step<'c, H: WritesHeads<T, A>, T: IrText<A>, A: AttrText<A>>(
     ensures steps { OnOk result (
         heads.StepsAt T.IrText.own A.IrText.own A.AttrText.own A.eq ctx.now width frame.entry
         items.old.items items.new.items frames.old.items frames.new.items f.old f.new) }
-    ensures refused { IfErr result (heads.RefusesFrame T.IrText.own A.IrText.own A.AttrText.own A.eq ctx.now width frame.entry) }
+    ensures refused { IfErr result (heads.RefusesFrame T.IrText.own A.IrText.own A.AttrText.own A.eq ctx.now
+        width frame.entry) }
 {
-    let Some(block) = innermost_block::<H, T, A>(ctx, width, frame, frames, items, f)? else {
+    let Some(block) = innermost_block(ctx, width, frame, frames, items, f)? else {
         return Ok(());
     };
-    block_step::<H, T, A>(ctx, width, block, frames, items, f)
+    block_step(ctx, width, block, frames, items, f)
 }

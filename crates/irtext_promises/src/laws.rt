@@ -37,21 +37,24 @@ use irtext_parse_spec::context::keeps_parts;
 /// arguments has given names, nothing is filled in but positions. And it is no text that is rejected (`RefusesRoot`). `keeps_parts`
 /// ensures what is required here of the parts of a root, and printing ensures that the root fits its formats.
 pub fn printed_root_comes_back<T: IrText<A>, A: AttrText<A>, U>()
-    ensures builds { (ctx : ContextView T A) (p : Ptr Operation) (g : Graph T A) (width n : ℕ) (bytes : List ℕ) →
+    ensures builds { (ctx : ContextView T A) (p : Ptr Operation) (g : Graph T A) (width n : ℕ)
+        (bytes : List ℕ) →
         let types = texts_of T.reading T.written in
         let owns = texts_of A.reading A.written in
         let C = printing_over ctx A.outlined A.print_once A.eq in
         PrintedRoot types owns (attr_at A.reading) C ctx p g width n None bytes → ClosedRoot C (isolated ctx.dialects) g →
         (q : Ptr Operation) (old new : StateStream T A U) → old.stream.rest ≡ chars bytes → old.state.ctx.now.dialects ≡ ctx.dialects →
         BuildsRoot types owns (attr_at A.reading) q old new → StandsBack types owns (attr_at A.reading) C ctx.dialects g q new }
-    ensures whole { (ctx : ContextView T A) (p : Ptr Operation) (g : Graph T A) (width n : ℕ) (bytes : List ℕ) →
+    ensures whole { (ctx : ContextView T A) (p : Ptr Operation) (g : Graph T A) (width n : ℕ)
+        (bytes : List ℕ) →
         let C = printing_over ctx A.outlined A.print_once A.eq in
         let types = texts_of T.reading T.written in
         let owns = texts_of A.reading A.written in
         PrintedRoot types owns (attr_at A.reading) C ctx p g width n None bytes → ClosedRoot C (isolated ctx.dialects) g → Named C g →
         (q : Ptr Operation) (old new : StateStream T A U) → old.stream.rest ≡ chars bytes → old.state.ctx.now.dialects ≡ ctx.dialects →
         BuildsRoot types owns (attr_at A.reading) q old new → StandsWhole types owns (attr_at A.reading) C ctx.dialects g q new }
-    ensures never_refused { (ctx : ContextView T A) (p : Ptr Operation) (g : Graph T A) (width n : ℕ) (bytes : List ℕ) →
+    ensures never_refused { (ctx : ContextView T A) (p : Ptr Operation) (g : Graph T A) (width n : ℕ)
+        (bytes : List ℕ) →
         let types = texts_of T.reading T.written in
         let owns = texts_of A.reading A.written in
         let C = printing_over ctx A.outlined A.print_once A.eq in
@@ -65,19 +68,22 @@ pub fn printed_root_comes_back<T: IrText<A>, A: AttrText<A>, U>()
 /// with results and each block with arguments has given names. What printing sees of it represents what the context holds, each number
 /// for the place of its definition. So it comes back whole: unknown locations become positions, and nothing else is filled in.
 pub fn read_root_comes_back<T: IrText<A>, A: AttrText<A>, U, V>()
-    ensures closed { (p : Ptr Operation) (before after : StateStream T A U) (g : Graph T A) (width n : ℕ) (limit : Limit) (bytes : List ℕ) →
+    ensures closed { (p : Ptr Operation) (before after : StateStream T A U) (g : Graph T A) (width n : ℕ)
+        (limit : Limit) (bytes : List ℕ) →
         let types = texts_of T.reading T.written in
         let owns = texts_of A.reading A.written in
         let C = printing_over after.state.ctx.now A.outlined A.print_once A.eq in
         IsReadAndPrinted types owns (attr_at A.reading) C p before after g width n limit bytes →
         ClosedRoot C (isolated after.state.ctx.now.dialects) g × Named C g }
-    ensures stands { (p : Ptr Operation) (before after : StateStream T A U) (g : Graph T A) (width n : ℕ) (limit : Limit) (bytes : List ℕ) →
+    ensures stands { (p : Ptr Operation) (before after : StateStream T A U) (g : Graph T A) (width n : ℕ)
+        (limit : Limit) (bytes : List ℕ) →
         let types = texts_of T.reading T.written in
         let owns = texts_of A.reading A.written in
         let C = printing_over after.state.ctx.now A.outlined A.print_once A.eq in
         IsReadAndPrinted types owns (attr_at A.reading) C p before after g width n limit bytes →
         (b : Built T A (Written A)) × (held_root after.state.ctx.now p ≡ Some b) × StandsFor (stood C (isolated after.state.ctx.now.dialects) g) b }
-    ensures whole { (p : Ptr Operation) (before after : StateStream T A U) (g : Graph T A) (width n : ℕ) (bytes : List ℕ) →
+    ensures whole { (p : Ptr Operation) (before after : StateStream T A U) (g : Graph T A) (width n : ℕ)
+        (bytes : List ℕ) →
         let types = texts_of T.reading T.written in
         let owns = texts_of A.reading A.written in
         let ctx = after.state.ctx.now in
@@ -89,7 +95,8 @@ pub fn read_root_comes_back<T: IrText<A>, A: AttrText<A>, U, V>()
 
 /// What is printed of a root under a limit that elides a region is not the text of a root: the parser builds nothing from it.
 pub fn limited_root_is_refused<T: IrText<A>, A: AttrText<A>, U>()
-    ensures { (ctx : ContextView T A) (p : Ptr Operation) (g : Graph T A) (width n : ℕ) (limit : Limit) (bytes : List ℕ) →
+    ensures { (ctx : ContextView T A) (p : Ptr Operation) (g : Graph T A) (width n : ℕ) (limit : Limit)
+        (bytes : List ℕ) →
         let types = texts_of T.reading T.written in
         let owns = texts_of A.reading A.written in
         let C = printing_over ctx A.outlined A.print_once A.eq in
@@ -101,9 +108,12 @@ pub fn limited_root_is_refused<T: IrText<A>, A: AttrText<A>, U>()
 /// The names under which the values and the blocks of a context are printed are distinct: two values with the same name are the same
 /// value, two blocks with the same name are the same block, and no value has the name of a block.
 pub fn printed_names_differ<T: IrText<A>, A: AttrText<A>>(ctx: &Context<T, A>)
-    ensures values { (v w : Value) (name : List ℕ) → value_name ctx.now v ≡ Some name → value_name ctx.now w ≡ Some name → v ≡ w }
-    ensures blocks { (b c : Ptr BasicBlock) (name : List ℕ) → block_name ctx.now b ≡ Some name → block_name ctx.now c ≡ Some name → b ≡ c }
-    ensures between { (v : Value) (b : Ptr BasicBlock) (name : List ℕ) → value_name ctx.now v ≡ Some name → block_name ctx.now b ≡ Some name → ⊥ }
+    ensures values { (v w : Value) (name : List ℕ) → value_name ctx.now v ≡ Some name → value_name ctx.now
+        w ≡ Some name → v ≡ w }
+    ensures blocks { (b c : Ptr BasicBlock) (name : List ℕ) → block_name ctx.now b ≡ Some name
+        → block_name ctx.now c ≡ Some name → b ≡ c }
+    ensures between { (v : Value) (b : Ptr BasicBlock) (name : List ℕ) → value_name ctx.now v ≡ Some name
+        → block_name ctx.now b ≡ Some name → ⊥ }
 {
     keeps_parts(ctx);
 }

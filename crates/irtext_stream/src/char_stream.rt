@@ -55,7 +55,8 @@ pub trait CharStream {
     /// Moves the stream to a position that `position` returned on this stream. A failed stream stays failed.
     fn reset(&mut self, place: Place)
         requires { IsPlaceOf place (view self.old) }
-        ensures { AtPlace place (view self.old) (λ passed rest. self.new ≡ at self.old (moved (view self.old) passed rest)) };
+        ensures { AtPlace place (view self.old) (λ passed rest. self.new ≡ at self.old (moved (view self.old)
+            passed rest)) };
 
     /// Marks the stream as failed: from now on every parser fails on it.
     fn fail(&mut self)

@@ -103,7 +103,8 @@ pub(crate) fn comes_at(text: &str, at: usize, word: &str) -> bool
     requires within { at ≤ length text.now }
     requires passed_utf8 { IsUtf8 (take at text.now) }
     requires rest_utf8 { IsUtf8 (drop at text.now) }
-    ensures { MatchBool result (ComesAt text.now at word.now) (BeginsOtherwise (chars word.now) (chars (drop at text.now))) }
+    ensures { MatchBool result (ComesAt text.now at word.now) (BeginsOtherwise (chars word.now)
+        (chars (drop at text.now))) }
 {
     let bytes = text.as_bytes();
     let word = word.as_bytes();

@@ -1,5 +1,5 @@
 -- The law of a part: how its text is parsed back, whatever precedes and follows it.
-use Rattle.std.specs.Prelude.{◌≡◌, ℕ, Bool, true, ◌&&◌, ◌==◌, ◌∷◌, ◌++◌, codes}
+use Rattle.std.specs.Prelude.{◌≡◌, ◌↔◌, ℕ, Bool, true, IsTrue, ◌&&◌, ◌==◌, ◌∷◌, ◌++◌, codes}
 use Rattle.std.specs.Str.{all_scalars}
 use Rattle.irtext_base.specs.Text.{Text, begins, after_space}
 use Rattle.irtext_base.specs.Format.{has}
@@ -25,6 +25,17 @@ pub record PartLaw {X : Type 0} (reading : Text → Outcome X) (written : X → 
   pub closed : (rest : Text) → closes rest ≡ true → ends rest ≡ true
   pub scalars : (x : X) → all_scalars (written x) ≡ true
   pub sincere : Sincere reading
+
+-- the text of a part: what is parsed of a text, what is printed for a value, and whether a text can come right after that
+pub record PartText (X : Type 0) : Type 0 where
+  pub reading : Text → Outcome X
+  pub written : X → Text
+  pub ends : Text → Bool
+
+-- the laws of a part: that of its text, and that equal values are one
+pub record PartLaws {X : Type 0} (text : PartText X) (test : X → X → Bool) : Type 0 where
+  pub law : PartLaw text.reading text.written text.ends
+  pub decides : (x y : X) → IsTrue (test x y) ↔ (x ≡ y)
 
 -- no value is found where a closing character comes
 pub record MissesClosers {X : Type 0} (reading : Text → Outcome X) : Type 0 where

@@ -1,6 +1,6 @@
 -- Families whose texts begin with dotted words.
 use Rattle.std.proofs.Common.{◌≡◌, true, false, Bool, Option, Some, List, ◌++◌}
-use Rattle.std.specs.Prelude.{◌&&◌}
+use Rattle.std.specs.Prelude.{◌&&◌, Result}
 use Rattle.std.specs.List.{list_all}
 use Rattle.std.specs.Str.{all_scalars}
 use Rattle.irtext_base.specs.Text.{Text, begins, after_space, begins_word, in_dotted}
@@ -8,12 +8,19 @@ use Rattle.irtext_base.specs.Answers.{Outcome}
 use Rattle.irtext_base.specs.Families.{is_one_of}
 use Rattle.irtext_base.specs.Faults.{Demand}
 use Rattle.irtext_base.specs.Own.{found, standing, Ends}
+use Rattle.irtext_base.specs.Stream.{StreamView}
+use Rattle.irtext_base.specs.declared.parsable.fault.ParseFault.{ParseFault}
 use Rattle.irtext_tokens.specs.Infix.{Reader, ◌▶◌}
+use Rattle.irtext_tokens.specs.MustRead.{MayRead}
 use Rattle.irtext_syntax.specs.Words.{dotted_at}
 
 -- a word that the table has, and what comes after it; an unknown word is an error with a text that ends in the word
 abbrev pub table_at : {W E : Type 0} → (Text → Option W) → (W → Reader E) → Text → Demand → Reader E
 table_at choose behind refusal demand = dotted_at choose refusal demand ▶ behind
+
+-- that was parsed, or its fault
+abbrev pub ReadsTable : {W E A : Type 0} → (Text → Option W) → (W → Reader E) → Text → Demand → StreamView → Result E (ParseFault A) → StreamView → Type 0
+ReadsTable choose behind refusal demand old result new = MayRead (λ s. s) (λ s v. v) (λ x. x) (table_at choose behind refusal demand) old result new
 
 -- a dotted word, among these
 abbrev pub is_word_of : List Text → Text → Bool

@@ -35,7 +35,7 @@ pub trait Between {
 /// Says that a fixed text can come right after a part, without continuing it. It is so for each part if the text is printed as `,`, `;` or
 /// `:`; for others it is computed.
 pub trait After<A, P: Part<A>>: Between {
-    ghost after: { (rest : List ℕ) → P.ends (Self.printed ++ rest) ≡ true };
+    ghost after: { (rest : List ℕ) → P.text.ends (Self.printed ++ rest) ≡ true };
 }
 
 /// Brackets around a part. White space inside of them is skipped when they are parsed, and they are printed with the spaces that they

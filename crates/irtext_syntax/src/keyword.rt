@@ -210,15 +210,9 @@ impl<A, W: Word> Part<A> for Keyword<W> {
     ghost use Rattle.irtext_syntax.specs.NameTexts.{ends_word};
     ghost use Rattle.irtext_syntax.specs.KeywordLaws.{keyword_law, keyword_decides};
 
-    ghost reading = { keyword_at W.word };
+    ghost text = { record { reading = keyword_at W.word; written = λ k. W.word; ends = ends_word } };
 
-    ghost written = { λ k. W.word };
-
-    ghost ends = { ends_word };
-
-    ghost law = { keyword_law W.word W.is_word };
-
-    ghost decides = { keyword_decides };
+    ghost sound = { record { law = keyword_law W.word W.is_word; decides = keyword_decides } };
 
     fn read(stream: &mut TextStream) -> ParseResult<Keyword<W>, A> {
         match word_parse::<W, A>(stream) {
@@ -248,15 +242,9 @@ impl<A, W: Word> Part<A> for Flag<W> {
     ghost use Rattle.irtext_syntax.specs.KeywordTexts.{flag_text, ends_flag};
     ghost use Rattle.irtext_syntax.specs.KeywordLaws.{flag_law};
 
-    ghost reading = { flag_at W.word };
+    ghost text = { record { reading = flag_at W.word; written = flag_text W.word; ends = ends_flag W.word } };
 
-    ghost written = { flag_text W.word };
-
-    ghost ends = { ends_flag W.word };
-
-    ghost law = { flag_law W.word W.is_word };
-
-    ghost decides = { booleans_Decides };
+    ghost sound = { record { law = flag_law W.word W.is_word; decides = booleans_Decides } };
 
     fn read(stream: &mut TextStream) -> ParseResult<Flag<W>, A> {
         match flag_parse::<W, A>(stream) {

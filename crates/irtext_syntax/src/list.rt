@@ -10,7 +10,6 @@ ghost use Rattle.irtext_syntax.specs.ListParts.{SeparatorLaw, tail_text, joined_
 
 use crate::fixed::{Brackets, close_demanded, open_parse};
 use crate::part::{Closed, Item, Last, Part, TryClone};
-use crate::ready::{Angle, Curly, Round, Square};
 use irtext_base::parsable::{ParseResult, TextStream};
 use irtext_tokens::irfmt::parsers::list_parser;
 use std::alloc::{AllocError, Global};
@@ -29,54 +28,6 @@ pub trait Separated: Brackets {
         ensures { result ≡ separator };
 
     ghost separates: { SeparatorLaw separator Self.closer_printed };
-}
-
-impl Separated for Angle {
-    ghost use Rattle.irtext_syntax.specs.ListParts.{comma_in_angle};
-
-    ghost separator = { 44 };
-
-    ghost separates = { comma_in_angle };
-
-    fn separator() -> char {
-        ','
-    }
-}
-
-impl Separated for Round {
-    ghost use Rattle.irtext_syntax.specs.ListParts.{comma_in_round};
-
-    ghost separator = { 44 };
-
-    ghost separates = { comma_in_round };
-
-    fn separator() -> char {
-        ','
-    }
-}
-
-impl Separated for Square {
-    ghost use Rattle.irtext_syntax.specs.ListParts.{comma_in_square};
-
-    ghost separator = { 44 };
-
-    ghost separates = { comma_in_square };
-
-    fn separator() -> char {
-        ','
-    }
-}
-
-impl Separated for Curly {
-    ghost use Rattle.irtext_syntax.specs.ListParts.{comma_in_curly};
-
-    ghost separator = { 44 };
-
-    ghost separates = { comma_in_curly };
-
-    fn separator() -> char {
-        ','
-    }
 }
 
 /// A list of parts in the brackets of `B`, such as `[1, 2]`. It is printed with its separator and a space between two items. White space is
@@ -166,7 +117,7 @@ impl<B, P: Hash + Eq> Hash for ListOf<B, P> {
 
 /// Parses an item.
 fn item_parse<P: Part<A>, A>(stream: &mut TextStream) -> ParseResult<P, A>
-    ensures { MayRead (λ s. s) (λ s v. v) (λ x. x) P.reading stream.old result stream.new }
+    ensures { MayRead (λ s. s) (λ s v. v) (λ x. x) P.text.reading stream.old result stream.new }
 {
     <P as Part<A>>::read(stream)
 }
@@ -176,7 +127,8 @@ fn separated_parse<P: Part<A>, A: Drop>(
     stream: &mut TextStream,
     separator: char,
 ) -> ParseResult<Vec<P>, A>
-    ensures { MayRead (λ s. s) (λ s v. v) (λ items. items.items) (separated_at separator P.reading) stream.old result stream.new }
+    ensures { MayRead (λ s. s) (λ s v. v) (λ items. items.items) (separated_at separator P.text.reading) stream.old
+        result stream.new }
 {
     list_parser(stream, separator, |s: &mut TextStream| {
         item_parse::<P, A>(s)
@@ -186,7 +138,7 @@ fn separated_parse<P: Part<A>, A: Drop>(
 /// Parses items and the closing bracket, which is required.
 fn items_parse<B: Separated, P: Part<A>, A: Drop>(stream: &mut TextStream) -> ParseResult<Vec<P>, A>
     ensures { MustRead (λ s. s) (λ s v. v) (λ items. items.items)
-        (items_at B.separator P.reading B.closer) stream.old result stream.new }
+        (items_at B.separator P.text.reading B.closer) stream.old result stream.new }
 {
     let items = separated_parse(stream, B::separator())?;
     close_demanded::<B, A>(stream)?;
@@ -195,7 +147,8 @@ fn items_parse<B: Separated, P: Part<A>, A: Drop>(stream: &mut TextStream) -> Pa
 
 /// Appends the separator, a space and the item, for each item.
 fn write_tail<P: Part<A>, A>(separator: char, items: &[P], f: &mut String) -> fmt::Result
-    ensures { OnOk result (string_bytes f.new ≡ string_bytes f.old ++ encode_utf8_all (tail_text separator P.written items.now)) }
+    ensures { OnOk result (string_bytes f.new ≡ string_bytes f.old ++ encode_utf8_all
+        (tail_text separator P.text.written items.now)) }
 {
     for item in items {
         write!(f, "{separator} ")?;
@@ -206,7 +159,8 @@ fn write_tail<P: Part<A>, A>(separator: char, items: &[P], f: &mut String) -> fm
 
 /// Appends the items, with the separator and a space between two.
 fn write_joined<P: Part<A>, A>(separator: char, items: &[P], f: &mut String) -> fmt::Result
-    ensures { OnOk result (string_bytes f.new ≡ string_bytes f.old ++ encode_utf8_all (joined_text separator P.written items.now)) }
+    ensures { OnOk result (string_bytes f.new ≡ string_bytes f.old ++ encode_utf8_all (joined_text separator
+        P.text.written items.now)) }
 {
     if let Some((first, rest)) = items.split_first() {
         first.write_text(f)?;
@@ -218,7 +172,7 @@ fn write_joined<P: Part<A>, A>(separator: char, items: &[P], f: &mut String) -> 
 /// Appends the items in brackets.
 fn write_list<B: Separated, P: Part<A>, A>(items: &[P], f: &mut String) -> fmt::Result
     ensures { OnOk result (string_bytes f.new ≡
-        string_bytes f.old ++ encode_utf8_all (list_text B.opener_printed B.separator P.written B.closer_printed items.now)) }
+        string_bytes f.old ++ encode_utf8_all (list_text B.opener_printed B.separator P.text.written B.closer_printed items.now)) }
 {
     f.push_str(B::printed_opening())?;
     write_joined(B::separator(), items, f)?;
@@ -231,16 +185,17 @@ impl<A: Drop, B: Separated, P: Item<A>> Part<A> for ListOf<B, P> {
     ghost use Rattle.irtext_syntax.specs.ListLaws.{list_law};
     ghost use Rattle.std.specs.Cmp.Lexicographic.{pointwise_decides};
 
-    ghost reading = { list_at B.opener B.separator P.reading B.closer };
+    ghost text = { record {
+      reading = list_at B.opener B.separator P.text.reading B.closer;
+      written = list_text B.opener_printed B.separator P.text.written B.closer_printed;
+      ends = λ rest. true;
+    } };
 
-    ghost written = { list_text B.opener_printed B.separator P.written B.closer_printed };
-
-    ghost ends = { λ rest. true };
-
-    ghost law = { list_law B.opener B.closer B.opener_printed B.closer_printed B.separator P.reading P.written P.ends
-        B.law B.separates P.law P.misses };
-
-    ghost decides = { pointwise_decides P.decides };
+    ghost sound = { record {
+      law = list_law B.opener B.closer B.opener_printed B.closer_printed B.separator P.text.reading
+          P.text.written P.text.ends B.law B.separates P.sound.law P.misses;
+      decides = pointwise_decides P.sound.decides;
+    } };
 
     fn read(stream: &mut TextStream) -> ParseResult<ListOf<B, P>, A> {
         match open_parse::<B, A>(stream) {
@@ -261,7 +216,7 @@ impl<A: Drop, B: Separated, P: Item<A>> Part<A> for ListOf<B, P> {
 impl<A: Drop, B: Separated, P: Item<A>> Item<A> for ListOf<B, P> {
     ghost use Rattle.irtext_syntax.specs.ListLaws.{list_misses};
 
-    ghost misses = { list_misses B.opener B.closer B.opener_printed B.closer_printed B.separator P.reading B.law };
+    ghost misses = { list_misses B.opener B.closer B.opener_printed B.closer_printed B.separator P.text.reading B.law };
 }
 
 impl<A: Drop, B: Separated, P: Item<A>> Last<A> for ListOf<B, P> {

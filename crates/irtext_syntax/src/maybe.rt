@@ -11,15 +11,17 @@ impl<A: Drop, P: Item<A>> Part<A> for Option<P> {
     ghost use Rattle.irtext_syntax.specs.Maybes.{maybe_at, maybe_text, maybe_ends};
     ghost use Rattle.irtext_syntax.specs.MaybeLaws.{maybe_law, maybe_decides};
 
-    ghost reading = { maybe_at P.reading };
+    ghost text = { record {
+      reading = maybe_at P.text.reading;
+      written = maybe_text P.text.written;
+      ends = maybe_ends P.text.ends;
+    } };
 
-    ghost written = { maybe_text P.written };
-
-    ghost ends = { maybe_ends P.ends };
-
-    ghost law = { maybe_law P.reading P.written P.ends P.law P.misses };
-
-    ghost decides = { maybe_decides P.eq ⟦<Option<P> as PartialEq>⟧.eq refl (λ x. refl) (λ x. refl) (λ x y. refl) P.decides };
+    ghost sound = { record {
+      law = maybe_law P.text.reading P.text.written P.text.ends P.sound.law P.misses;
+      decides = maybe_decides P.eq ⟦<Option<P> as PartialEq>⟧.eq refl (λ x. refl) (λ x. refl) (λ x y.
+          refl) P.sound.decides;
+    } };
 
     fn read(stream: &mut TextStream) -> ParseResult<Option<P>, A> {
         match <P as Part<A>>::read(stream) {

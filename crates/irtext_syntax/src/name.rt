@@ -7,6 +7,7 @@ ghost use Rattle.std.specs.Hash as fed;
 ghost use Rattle.std.proofs.Common.{rules};
 ghost use Rattle.irtext_base.specs.Text.{is_identifier};
 ghost use Rattle.irtext_syntax.specs.NameTexts.{name_at, name_text, ends_word};
+ghost use Rattle.irtext_syntax.specs.NameLaws.{name_law, name_decides, name_misses, word_last};
 
 use crate::part::{Item, Last, Part, TryClone};
 use irtext_base::base::Identifier;
@@ -97,17 +98,9 @@ impl Hash for Name {
 }
 
 impl<A> Part<A> for Name {
-    ghost use Rattle.irtext_syntax.specs.NameLaws.{name_law, name_decides};
+    ghost text = { record { reading = name_at; written = name_text; ends = ends_word } };
 
-    ghost reading = { name_at };
-
-    ghost written = { name_text };
-
-    ghost ends = { ends_word };
-
-    ghost law = { name_law };
-
-    ghost decides = { name_decides };
+    ghost sound = { record { law = name_law; decides = name_decides } };
 
     fn read(stream: &mut TextStream) -> ParseResult<Name, A> {
         match identifier_parse(stream) {
@@ -123,13 +116,9 @@ impl<A> Part<A> for Name {
 }
 
 impl<A> Item<A> for Name {
-    ghost use Rattle.irtext_syntax.specs.NameLaws.{name_misses};
-
     ghost misses = { name_misses };
 }
 
 impl<A> Last<A> for Name {
-    ghost use Rattle.irtext_syntax.specs.NameLaws.{word_last};
-
     ghost last = { word_last };
 }

@@ -2,6 +2,7 @@
 ghost use Rattle.std.specs.Prelude.{◌≡◌, ◌↔◌, ℤ, pos, Some, IsTrue, OnOk, ◌++◌, string_bytes, true, refl};
 ghost use Rattle.std.specs.Cmp.{on_equiv, on_per, unsigned_Decides, signed_Decides};
 ghost use Rattle.std.specs.Fmt.{signed_decimal};
+ghost use Rattle.irtext_tokens.specs.Integers.{itself};
 ghost use Rattle.irtext_syntax.specs.Numbers.{fits, natural};
 
 use crate::part::{Item, Last, Part, TryClone};
@@ -88,7 +89,7 @@ impl Integer for usize {
 }
 
 impl Integer for i8 {
-    ghost of = { λ z. z };
+    ghost of = { itself };
 
     fn fits(self) {}
 
@@ -100,7 +101,7 @@ impl Integer for i8 {
 }
 
 impl Integer for i16 {
-    ghost of = { λ z. z };
+    ghost of = { itself };
 
     fn fits(self) {}
 
@@ -112,7 +113,7 @@ impl Integer for i16 {
 }
 
 impl Integer for i32 {
-    ghost of = { λ z. z };
+    ghost of = { itself };
 
     fn fits(self) {}
 
@@ -124,7 +125,7 @@ impl Integer for i32 {
 }
 
 impl Integer for i64 {
-    ghost of = { λ z. z };
+    ghost of = { itself };
 
     fn fits(self) {}
 
@@ -136,7 +137,7 @@ impl Integer for i64 {
 }
 
 impl Integer for isize {
-    ghost of = { λ z. z };
+    ghost of = { itself };
 
     fn fits(self) {}
 
@@ -231,15 +232,16 @@ impl<A, N: Integer> Part<A> for Number<N> {
     ghost use Rattle.irtext_syntax.specs.NumberOf.{number_at};
     ghost use Rattle.irtext_syntax.specs.NumberLaws.{number_text, number_law, number_decides};
 
-    ghost reading = { number_at N.FromStrRadix.own N.of };
+    ghost text = { record {
+      reading = number_at N.FromStrRadix.own N.of;
+      written = λ n. signed_decimal (N.number n.value);
+      ends = ends_digits;
+    } };
 
-    ghost written = { λ n. signed_decimal (N.number n.value) };
-
-    ghost ends = { ends_digits };
-
-    ghost law = { number_law N.FromStrRadix.own N.of N.narrow N.back };
-
-    ghost decides = { number_decides N.FromStrRadix.own N.of N.narrow N.back N.eq N.decides };
+    ghost sound = { record {
+      law = number_law N.FromStrRadix.own N.of N.narrow N.back;
+      decides = number_decides N.FromStrRadix.own N.of N.narrow N.back N.eq N.decides;
+    } };
 
     fn read(stream: &mut TextStream) -> ParseResult<Number<N>, A> {
         match int_parse(stream) {

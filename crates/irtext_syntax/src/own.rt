@@ -17,15 +17,12 @@ impl<A, T: IrText<A>> Part<A> for Own<T> {
     ghost use Rattle.irtext_syntax.specs.Owns.{own_at, own_text, ends_text};
     ghost use Rattle.irtext_syntax.specs.OwnLaws.{own_law, own_decides};
 
-    ghost reading = { own_at T.reading };
+    ghost text = { record { reading = own_at T.reading; written = own_text T.written; ends = ends_text } };
 
-    ghost written = { own_text T.written };
-
-    ghost ends = { ends_text };
-
-    ghost law = { own_law T.reading T.written T.lawful T.sincere };
-
-    ghost decides = { own_decides T.eq ⟦<Own<T> as PartialEq>⟧.eq (λ x y. refl) T.decides };
+    ghost sound = { record {
+      law = own_law T.reading T.written T.lawful T.sincere;
+      decides = own_decides T.eq ⟦<Own<T> as PartialEq>⟧.eq (λ x y. refl) T.decides;
+    } };
 
     fn read(stream: &mut TextStream) -> ParseResult<Own<T>, A> {
         match <T as IrText<A>>::read(stream) {

@@ -1,9 +1,8 @@
 //! Parts of the texts of types and attributes.
-ghost use Rattle.std.specs.Prelude.{◌≡◌, ◌↔◌, ℕ, List, ◌++◌, Bool, true, IsTrue, IfOk, MatchOption, Ok, string_bytes};
+ghost use Rattle.std.specs.Prelude.{◌≡◌, ℕ, List, ◌++◌, true, IfOk, MatchOption, Ok, string_bytes};
 ghost use Rattle.std.specs.Str.{encode_utf8_all};
-ghost use Rattle.irtext_base.specs.Answers.{Outcome};
 ghost use Rattle.irtext_tokens.specs.MustRead.{MayRead};
-ghost use Rattle.irtext_syntax.specs.PartLaws.{PartLaw, MissesClosers, EndsAnywhere};
+ghost use Rattle.irtext_syntax.specs.PartLaws.{PartText, PartLaws, MissesClosers, EndsAnywhere};
 
 use irtext_base::parsable::{ParseResult, TextStream};
 use std::alloc::AllocError;
@@ -14,49 +13,45 @@ use std::fmt;
 ///
 /// White space before a part is skipped by what puts parts together, so a part is parsed from its first character on.
 pub trait Part<A>: Sized + Drop + Eq {
-    // what `read` makes of a text that is next in the stream
-    ghost reading: { List ℕ → Outcome Self };
-    // the characters that `write_text` appends
-    ghost written: { Self → List ℕ };
-    // whether a text can come right after the text of a value: it does not continue it
-    ghost ends: { List ℕ → Bool };
+    // what `read` makes of a text that is next in the stream, the characters that `write_text` appends, and whether a text can come right
+    // after these, as it does not continue them
+    ghost text: { PartText Self };
 
     /// Parses a value. If none begins at the stream's position, the error is not committed and the stream is unchanged. If the text is bad
     /// further on, if an allocation fails, or if the stream had failed, the error is committed and the stream has failed.
     fn read(stream: &mut TextStream) -> ParseResult<Self, A>
-        ensures { MayRead (λ s. s) (λ s v. v) (λ x. x) reading stream.old result stream.new };
+        ensures { MayRead (λ s. s) (λ s v. v) (λ x. x) text.reading stream.old result stream.new };
 
     /// Parses a value as `read` does, but returns `None` in place of any error, and the stream is unchanged then. It may also return `None`
     /// where `read` finds a value, as this default does. A part that is often parsed should have it: no error is made where it succeeds.
     fn read_known(stream: &mut TextStream) -> Option<Self>
         ensures { MatchOption result (stream.new ≡ stream.old)
-            (λ x. MayRead {A = A} (λ s. s) (λ s v. v) (λ x. x) reading stream.old (Ok x) stream.new) }
+            (λ x. MayRead {A = A} (λ s. s) (λ s v. v) (λ x. x) text.reading stream.old (Ok x) stream.new) }
     {
         None
     }
 
     /// Appends the text of the value. Fails only when out of memory.
     fn write_text(&self, f: &mut String) -> fmt::Result
-        ensures { IfOk result (λ _. string_bytes f.new ≡ string_bytes f.old ++ encode_utf8_all (written self.now)) };
+        ensures { IfOk result (λ _. string_bytes f.new ≡ string_bytes f.old ++ encode_utf8_all
+            (text.written self.now)) };
 
-    ghost law: { PartLaw reading written ends };
-
-    ghost decides: { (x y : Self) → IsTrue (Self.eq x y) ↔ (x ≡ y) };
+    ghost sound: { PartLaws text Self.eq };
 }
 
 /// A part that is missing where a closing character comes, as `)` or `,`: it can be an item of a list, or be left out.
 pub trait Item<A>: Part<A> {
-    ghost misses: { MissesClosers Self.reading };
+    ghost misses: { MissesClosers Self.text.reading };
 }
 
 /// A part that can be the end of a type's or an attribute's text: whatever can come after such a text can come after the part.
 pub trait Last<A>: Part<A> {
-    ghost last: { EndsAnywhere Self.ends };
+    ghost last: { EndsAnywhere Self.text.ends };
 }
 
 /// A part after which any text can come, such as one in brackets.
 pub trait Closed<A>: Part<A> {
-    ghost closed: { (rest : List ℕ) → Self.ends rest ≡ true };
+    ghost closed: { (rest : List ℕ) → Self.text.ends rest ≡ true };
 }
 
 /// A value that can be copied. A copy equals the value.

@@ -1,6 +1,7 @@
 //! Quoted texts, such as `"a\n"`.
 ghost use Rattle.std.specs.Prelude.{true};
 ghost use Rattle.irtext_syntax.specs.QuotedParts.{characters_at, characters_text};
+ghost use Rattle.irtext_syntax.specs.QuotedLaws.{characters_law, characters_decides, characters_misses, characters_last};
 
 use crate::characters::Characters;
 use crate::part::{Closed, Item, Last, Part, TryClone};
@@ -13,17 +14,9 @@ use std::fmt;
 /// A quoted text: its characters between quotation marks, with escapes, as `quoted_string_parse` and `fmt_quoted` have them. Fails with
 /// `Unexpected`, uncommitted, if no quotation mark comes next. Every other error is committed.
 impl<A> Part<A> for Characters {
-    ghost use Rattle.irtext_syntax.specs.QuotedLaws.{characters_law, characters_decides};
+    ghost text = { record { reading = characters_at; written = characters_text; ends = λ rest. true } };
 
-    ghost reading = { characters_at };
-
-    ghost written = { characters_text };
-
-    ghost ends = { λ rest. true };
-
-    ghost law = { characters_law };
-
-    ghost decides = { characters_decides };
+    ghost sound = { record { law = characters_law; decides = characters_decides } };
 
     fn read(stream: &mut TextStream) -> ParseResult<Characters, A> {
         match quoted_string_parse(stream) {
@@ -44,14 +37,10 @@ impl TryClone for Characters {
 }
 
 impl<A> Item<A> for Characters {
-    ghost use Rattle.irtext_syntax.specs.QuotedLaws.{characters_misses};
-
     ghost misses = { characters_misses };
 }
 
 impl<A> Last<A> for Characters {
-    ghost use Rattle.irtext_syntax.specs.QuotedLaws.{characters_last};
-
     ghost last = { characters_last };
 }
 

@@ -167,15 +167,13 @@ impl<A, R: Range> Part<A> for Ranged<R> {
     ghost use Rattle.irtext_syntax.specs.RangeOf.{ranged_at};
     ghost use Rattle.irtext_syntax.specs.RangeLaws.{ranged_law, ranged_decides};
 
-    ghost reading = { ranged_at R.Range.own };
+    ghost text = { record {
+      reading = ranged_at R.Range.own;
+      written = λ n. decimal n.value;
+      ends = ends_digits;
+    } };
 
-    ghost written = { λ n. decimal n.value };
-
-    ghost ends = { ends_digits };
-
-    ghost law = { ranged_law R.Range.own R.fits };
-
-    ghost decides = { ranged_decides R.Range.own };
+    ghost sound = { record { law = ranged_law R.Range.own R.fits; decides = ranged_decides R.Range.own } };
 
     fn read(stream: &mut TextStream) -> ParseResult<Ranged<R>, A> {
         digits_parse(stream)

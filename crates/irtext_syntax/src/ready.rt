@@ -1,8 +1,10 @@
 //! Fixed texts and brackets that are ready to be used.
 ghost use Rattle.std.specs.Prelude.{codes, ◌++◌};
+ghost use Rattle.irtext_syntax.specs.ListParts.{comma_in_angle, comma_in_round, comma_in_square, comma_in_curly};
 ghost use Rattle.irtext_syntax.specs.ReadyTexts.{colon_law, comma_law, arrow_law, spaced_arrow_law, angle_law, round_law, square_law, curly_law, closing_colon, closing_comma};
 
 use crate::fixed::{After, Between, Brackets};
+use crate::list::Separated;
 use crate::part::{Closed, Last, Part};
 
 /// `:`, printed as `: `.
@@ -25,7 +27,7 @@ impl Between for Colon {
 }
 
 impl<A, P: Part<A>> After<A, P> for Colon {
-    ghost after = { λ rest. P.law.closed (codes ": " ++ rest) (closing_colon rest) };
+    ghost after = { λ rest. P.sound.law.closed (codes ": " ++ rest) (closing_colon rest) };
 }
 
 /// `,`, printed as `, `.
@@ -48,7 +50,7 @@ impl Between for Comma {
 }
 
 impl<A, P: Part<A>> After<A, P> for Comma {
-    ghost after = { λ rest. P.law.closed (codes ", " ++ rest) (closing_comma rest) };
+    ghost after = { λ rest. P.sound.law.closed (codes ", " ++ rest) (closing_comma rest) };
 }
 
 /// `->`, printed without spaces. It can come after a part that is complete in itself, such as one in brackets.
@@ -131,6 +133,16 @@ impl Brackets for Angle {
     }
 }
 
+impl Separated for Angle {
+    ghost separator = { 44 };
+
+    ghost separates = { comma_in_angle };
+
+    fn separator() -> char {
+        ','
+    }
+}
+
 /// `(` and `)`.
 pub struct Round;
 
@@ -159,6 +171,16 @@ impl Brackets for Round {
 
     fn printed_closing() -> &'static str {
         ")"
+    }
+}
+
+impl Separated for Round {
+    ghost separator = { 44 };
+
+    ghost separates = { comma_in_round };
+
+    fn separator() -> char {
+        ','
     }
 }
 
@@ -193,6 +215,16 @@ impl Brackets for Square {
     }
 }
 
+impl Separated for Square {
+    ghost separator = { 44 };
+
+    ghost separates = { comma_in_square };
+
+    fn separator() -> char {
+        ','
+    }
+}
+
 /// `{` and `}`, printed with a space inside of each.
 pub struct Curly;
 
@@ -221,5 +253,15 @@ impl Brackets for Curly {
 
     fn printed_closing() -> &'static str {
         " }"
+    }
+}
+
+impl Separated for Curly {
+    ghost separator = { 44 };
+
+    ghost separates = { comma_in_curly };
+
+    fn separator() -> char {
+        ','
     }
 }

@@ -33,7 +33,7 @@ pub struct Within<B, P> {
 
 /// Parses a required part. Every error is committed.
 pub fn demanded<P: Part<A>, A>(stream: &mut TextStream) -> ParseResult<P, A>
-    ensures { MustRead (λ s. s) (λ s v. v) (λ x. x) P.reading stream.old result stream.new }
+    ensures { MustRead (λ s. s) (λ s v. v) (λ x. x) P.text.reading stream.old result stream.new }
 {
     let answer = <P as Part<A>>::read(stream);
     committed(stream, answer)
@@ -44,7 +44,8 @@ fn second_parse<P: Part<A>, W: Between, Q: Part<A>, A>(
     stream: &mut TextStream,
     first: P,
 ) -> ParseResult<Then<P, W, Q>, A>
-    ensures { MustRead (λ s. s) (λ s v. v) (λ x. x) (second_at W.text Q.reading first) stream.old result stream.new }
+    ensures { MustRead (λ s. s) (λ s v. v) (λ x. x) (second_at W.text Q.text.reading first) stream.old result
+        stream.new }
 {
     between_demanded::<W, A>(stream)?;
     let second = demanded(stream)?;
@@ -61,7 +62,8 @@ pub fn write_then<P: Part<A>, W: Between, Q: Part<A>, A>(
     second: &Q,
     f: &mut String,
 ) -> fmt::Result
-    ensures { OnOk result (string_bytes f.new ≡ string_bytes f.old ++ encode_utf8_all (then_text P.written W.printed Q.written first.now second.now)) }
+    ensures { OnOk result (string_bytes f.new ≡ string_bytes f.old ++ encode_utf8_all
+        (then_text P.text.written W.printed Q.text.written first.now second.now)) }
 {
     first.write_text(f)?;
     f.push_str(W::printed())?;
@@ -74,15 +76,18 @@ impl<A, P: Part<A>, W: After<A, P>, Q: Part<A>> Part<A> for Then<P, W, Q> {
     ghost use Rattle.irtext_syntax.specs.Sequences.{then_at, of_then};
     ghost use Rattle.irtext_syntax.specs.SequenceLaws.{then_law, then_decides};
 
-    ghost reading = { then_at P.reading W.text Q.reading };
+    ghost text = { record {
+      reading = then_at P.text.reading W.text Q.text.reading;
+      written = of_then P.text.written W.printed Q.text.written;
+      ends = Q.text.ends;
+    } };
 
-    ghost written = { of_then P.written W.printed Q.written };
-
-    ghost ends = { Q.ends };
-
-    ghost law = { then_law P.reading P.written P.ends W.text W.printed Q.reading Q.written Q.ends P.law W.law W.after Q.law };
-
-    ghost decides = { then_decides P.eq Q.eq ⟦<Then<P, W, Q> as PartialEq>⟧.eq (λ x y. refl) P.decides Q.decides };
+    ghost sound = { record {
+      law = then_law P.text.reading P.text.written P.text.ends W.text W.printed Q.text.reading
+          Q.text.written Q.text.ends P.sound.law W.law W.after Q.sound.law;
+      decides = then_decides P.eq Q.eq ⟦<Then<P, W, Q> as PartialEq>⟧.eq (λ x y. refl) P.sound.decides
+          Q.sound.decides;
+    } };
 
     fn read(stream: &mut TextStream) -> ParseResult<Then<P, W, Q>, A> {
         match <P as Part<A>>::read(stream) {
@@ -98,7 +103,8 @@ impl<A, P: Part<A>, W: After<A, P>, Q: Part<A>> Part<A> for Then<P, W, Q> {
 
 /// Parses the part inside the brackets and the closing bracket.
 fn inside_parse<B: Brackets, P: Part<A>, A>(stream: &mut TextStream) -> ParseResult<Within<B, P>, A>
-    ensures { MustRead (λ s. s) (λ s v. v) (λ x. x) (inside_at B.closer P.reading) stream.old result stream.new }
+    ensures { MustRead (λ s. s) (λ s v. v) (λ x. x) (inside_at B.closer P.text.reading) stream.old result
+        stream.new }
 {
     let inside = demanded(stream)?;
     close_demanded::<B, A>(stream)?;
@@ -110,7 +116,8 @@ fn inside_parse<B: Brackets, P: Part<A>, A>(stream: &mut TextStream) -> ParseRes
 
 /// Appends a part in the brackets of `B`. Fails only when out of memory.
 pub fn write_within<B: Brackets, P: Part<A>, A>(inside: &P, f: &mut String) -> fmt::Result
-    ensures { OnOk result (string_bytes f.new ≡ string_bytes f.old ++ encode_utf8_all (within_text B.opener_printed P.written B.closer_printed inside.now)) }
+    ensures { OnOk result (string_bytes f.new ≡ string_bytes f.old ++ encode_utf8_all
+        (within_text B.opener_printed P.text.written B.closer_printed inside.now)) }
 {
     f.push_str(B::printed_opening())?;
     inside.write_text(f)?;
@@ -123,15 +130,17 @@ impl<A, B: Brackets, P: Part<A>> Part<A> for Within<B, P> {
     ghost use Rattle.irtext_syntax.specs.Sequences.{within_at, of_within, anything};
     ghost use Rattle.irtext_syntax.specs.SequenceLaws.{within_law, within_decides};
 
-    ghost reading = { within_at B.opener B.closer P.reading };
+    ghost text = { record {
+      reading = within_at B.opener B.closer P.text.reading;
+      written = of_within B.opener_printed P.text.written B.closer_printed;
+      ends = anything;
+    } };
 
-    ghost written = { of_within B.opener_printed P.written B.closer_printed };
-
-    ghost ends = { anything };
-
-    ghost law = { within_law B.opener B.closer B.opener_printed B.closer_printed P.reading P.written P.ends B.law P.law };
-
-    ghost decides = { within_decides P.eq ⟦<Within<B, P> as PartialEq>⟧.eq (λ x y. refl) P.decides };
+    ghost sound = { record {
+      law = within_law B.opener B.closer B.opener_printed B.closer_printed P.text.reading P.text.written
+          P.text.ends B.law P.sound.law;
+      decides = within_decides P.eq ⟦<Within<B, P> as PartialEq>⟧.eq (λ x y. refl) P.sound.decides;
+    } };
 
     fn read(stream: &mut TextStream) -> ParseResult<Within<B, P>, A> {
         match open_parse::<B, A>(stream) {
@@ -148,7 +157,7 @@ impl<A, B: Brackets, P: Part<A>> Part<A> for Within<B, P> {
 impl<A, B: Brackets, P: Part<A>> Item<A> for Within<B, P> {
     ghost use Rattle.irtext_syntax.specs.SequenceLaws.{within_misses};
 
-    ghost misses = { within_misses B.opener B.closer B.opener_printed B.closer_printed P.reading B.law };
+    ghost misses = { within_misses B.opener B.closer B.opener_printed B.closer_printed P.text.reading B.law };
 }
 
 impl<A, B: Brackets, P: Part<A>> Last<A> for Within<B, P> {
@@ -166,7 +175,7 @@ impl<A, B: Brackets, P: Part<A>> Closed<A> for Within<B, P> {
 impl<A, P: Item<A>, W: After<A, P>, Q: Part<A>> Item<A> for Then<P, W, Q> {
     ghost use Rattle.irtext_syntax.specs.SequenceLaws.{then_misses};
 
-    ghost misses = { then_misses P.reading W.text Q.reading P.misses };
+    ghost misses = { then_misses P.text.reading W.text Q.text.reading P.misses };
 }
 
 impl<A, P: Part<A>, W: After<A, P>, Q: Last<A>> Last<A> for Then<P, W, Q> {

@@ -4,9 +4,9 @@ ghost use Rattle.std.specs.Str.{encode_utf8_all};
 ghost use Rattle.irtext_base.specs.Answers.{Outcome, Gives, unless_failed};
 ghost use Rattle.irtext_base.specs.Faults.{characters, demand_of};
 ghost use Rattle.irtext_tokens.specs.Infix.{nothing, ◌▷◌};
-ghost use Rattle.irtext_tokens.specs.MustRead.{MayRead, MustRead};
+ghost use Rattle.irtext_tokens.specs.MustRead.{MustRead};
 ghost use Rattle.irtext_tokens.specs.Tokens.{space_at};
-ghost use Rattle.irtext_syntax.specs.Tables.{table_at};
+ghost use Rattle.irtext_syntax.specs.Tables.{ReadsTable};
 
 use crate::part::Part;
 use crate::sequence::demanded;
@@ -45,7 +45,7 @@ fn table_slowly<W: Table<E, A>, E: Drop, A>(
     refusal: &str,
     expected: Expected,
 ) -> ParseResult<E, A>
-    ensures { MayRead (λ s. s) (λ s v. v) (λ x. x) (table_at W.word W.behind refusal.now (demand_of expected)) stream.old result stream.new }
+    ensures { ReadsTable W.word W.behind refusal.now (demand_of expected) stream.old result stream.new }
 {
     match dotted_parse::<W, A>(stream, refusal, expected) {
         Ok(word) => word.parse(stream),
@@ -60,7 +60,7 @@ pub fn table_parse<W: Table<E, A>, E: Drop, A>(
     refusal: &str,
     expected: Expected,
 ) -> ParseResult<E, A>
-    ensures { MayRead (λ s. s) (λ s v. v) (λ x. x) (table_at W.word W.behind refusal.now (demand_of expected)) stream.old result stream.new }
+    ensures { ReadsTable W.word W.behind refusal.now (demand_of expected) stream.old result stream.new }
 {
     let Some(word) = dotted_there::<W>(stream) else {
         return table_slowly::<W, E, A>(stream, refusal, expected);
@@ -73,7 +73,7 @@ pub fn table_parse<W: Table<E, A>, E: Drop, A>(
 
 /// Parses a required part after a word, with optional white space between. Every error is committed.
 pub fn behind_word<P: Part<A>, A>(stream: &mut TextStream) -> ParseResult<P, A>
-    ensures { MustRead (λ s. s) (λ s v. v) (λ x. x) (space_at ▷ P.reading) stream.old result stream.new }
+    ensures { MustRead (λ s. s) (λ s v. v) (λ x. x) (space_at ▷ P.text.reading) stream.old result stream.new }
 {
     if stream.has_failed() {
         return Err(refuse(stream, Cause::StreamFailed));
@@ -86,7 +86,7 @@ pub fn behind_word<P: Part<A>, A>(stream: &mut TextStream) -> ParseResult<P, A>
 #[inline(always)]
 pub fn behind_known<P: Part<A>, A>(stream: &mut TextStream) -> Option<P>
     ensures { MatchOption result (stream.new ≡ stream.old)
-        (λ x. MustRead {A = A} (λ s. s) (λ s v. v) (λ x. x) (space_at ▷ P.reading) stream.old (Ok x) stream.new) }
+        (λ x. MustRead {A = A} (λ s. s) (λ s v. v) (λ x. x) (space_at ▷ P.text.reading) stream.old (Ok x) stream.new) }
 {
     if stream.has_failed() {
         return None;
@@ -103,7 +103,8 @@ pub fn behind_known<P: Part<A>, A>(stream: &mut TextStream) -> Option<P>
 /// Returns the value of a word that has nothing after it, or `None` on a stream that has failed.
 #[inline(always)]
 pub fn alone_known<E: Drop>(stream: &TextStream, value: E) -> Option<E>
-    ensures { IfSome result (λ x. Gives (λ s. s) (λ s v. v) (unless_failed stream.now.failed (nothing value stream.now.rest)) stream.now x stream.now) }
+    ensures { IfSome result (λ x. Gives (λ s. s) (λ s v. v) (unless_failed stream.now.failed
+        (nothing value stream.now.rest)) stream.now x stream.now) }
 {
     if stream.has_failed() {
         return None;
@@ -123,7 +124,8 @@ pub fn word_alone<E: Drop, A>(stream: &mut TextStream, value: E) -> ParseResult<
 
 /// Appends a word, a space and a part. Fails only when out of memory.
 pub fn write_row<P: Part<A>, A>(word: &str, part: &P, f: &mut String) -> fmt::Result
-    ensures { OnOk result (string_bytes f.new ≡ string_bytes f.old ++ encode_utf8_all (characters word.now ++ (32 ∷ P.written part.now))) }
+    ensures { OnOk result (string_bytes f.new ≡ string_bytes f.old ++ encode_utf8_all
+        (characters word.now ++ (32 ∷ P.text.written part.now))) }
 {
     f.push_str(word)?;
     f.push_str(" ")?;

@@ -1,7 +1,10 @@
 -- Integers of every type, hexadecimal numbers and truth values: the outcome of each parser on a text.
-use Rattle.std.specs.Prelude.{ℕ, ◌+◌, ◌-◌, ◌^◌, ℤ, pos, Bool, true, false, cond, nat_lt, Option, Some, None, [], ◌∷◌, ◌++◌, codes}
+use mir.Val.{bits}
+use Rattle.std.specs.Prelude.{ℕ, ◌+◌, ◌-◌, ◌^◌, ℤ, pos, Bool, true, false, cond, nat_lt, Option, Some, None, Result, [], ◌∷◌, ◌++◌, codes}
 use Rattle.std.specs.Char.{is_ascii_digit, is_ascii_hexdigit}
-use Rattle.std.specs.Str.Parse.{digits_value}
+use Rattle.std.specs.Int.{Width}
+use Rattle.std.specs.Str.Parse.{digits_value, ParsesSigned, ParsesUnsigned, ExplainsSignedError, ExplainsUnsignedError}
+use Rattle.std.specs.declared.num.ParseIntError.{ParseIntError}
 use Rattle.irtext_base.specs.Text.{Text, begins, front, after}
 use Rattle.irtext_base.specs.Reading.{the}
 use Rattle.irtext_base.specs.Stream.{first_of}
@@ -17,6 +20,18 @@ unsigned_below bits negative = cond negative 0 (2 ^ bits)
 -- how many magnitudes fit a signed type with this many bits: one more after a minus
 abbrev pub signed_below : ℕ → Bool → ℕ
 signed_below bits negative = cond negative (2 ^ (bits - 1) + 1) (2 ^ (bits - 1))
+
+-- a signed number as an integer
+abbrev pub itself : ℤ → ℤ
+itself z = z
+
+-- the result of parsing a text in this radix as an unsigned type of this width does, with the type's own errors
+abbrev pub unsigned_parses : Width → ℕ → Text → Result ℕ ParseIntError → Type 0
+unsigned_parses w radix text r = ParsesUnsigned (bits w) radix text r × ExplainsUnsignedError radix text r
+
+-- the same of a signed type
+abbrev pub signed_parses : Width → ℕ → Text → Result ℤ ParseIntError → Type 0
+signed_parses w radix text r = ParsesSigned w radix text r × ExplainsSignedError radix text r
 
 -- the integer with this magnitude, negated if `negative`
 abbrev pub integer_by : Bool → ℕ → ℤ

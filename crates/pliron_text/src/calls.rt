@@ -60,7 +60,8 @@ fn text_of_root<T: IrText<A>, A: AttrText<A>>(
     requires live { IsSome (operation ctx.now op) }
     ensures text { IfOk result (λ s. IsPrinted T.IrText.own A.IrText.own A.AttrText.own A.eq ctx.now op
         (fresh layout.now.width layout.now.indent layout.now.limit) (string_bytes s)) }
-    ensures refused { IfErr result (heads.RefusesUnder T.IrText.own A.IrText.own A.AttrText.own A.eq ctx.now op
+    ensures refused { IfErr result (heads.RefusesUnder T.IrText.own A.IrText.own A.AttrText.own
+        A.eq ctx.now op
         (fresh layout.now.width layout.now.indent layout.now.limit)) }
 {
     let alloc = ctx.allocator();
@@ -102,7 +103,8 @@ fn fresh_parse<T: IrText<A>, A: AttrText<A>, U>(
 ) -> ParseResult<Ptr<Operation>, A>
     requires fresh { IsFresh s.old }
     ensures lent { s.new.state.ctx.ghost_name ≡ s.old.state.ctx.ghost_name }
-    ensures builds { IfOk result (λ op. BuildsRoot (texts_of T.reading T.written) (texts_of A.reading A.written)
+    ensures builds { IfOk result (λ op. BuildsRoot (texts_of T.reading T.written)
+        (texts_of A.reading A.written)
         (attr_at A.reading) op s.old s.new) }
     ensures unresolved { IfErr result (UnlessMemory
         (RefusesRoot (texts_of T.reading T.written) (texts_of A.reading A.written) T.reading
@@ -149,21 +151,25 @@ fn there_and_back<T: IrText<A>, A: AttrText<A>>(
 ) -> Result<Ptr<Operation>, NotBack<A>>
     requires live { IsSome (operation ctx.now op) }
     requires dialects { other.old.dialects ≡ ctx.now.dialects }
-    ensures back { levels layout.now.limit ≡ None → block_round ctx.now op ≡ None → (g : Graph T A) → seen_root A.written ctx.now op ≡ Some g →
+    ensures back { levels layout.now.limit ≡ None → block_round ctx.now op ≡ None → (g : Graph T A)
+        → seen_root A.written ctx.now op ≡ Some g →
         let C = printing_over ctx.now A.outlined A.print_once A.eq in
         (Fit C (isolated ctx.now.dialects) g → ClosedRoot C (isolated ctx.now.dialects) g) →
         IfOk result (λ q. ComesBack (texts_of T.reading T.written) (texts_of A.reading A.written) (attr_at A.reading) C
         ctx.now.dialects g q other.new) }
-    ensures whole { levels layout.now.limit ≡ None → block_round ctx.now op ≡ None → (g : Graph T A) → seen_root A.written ctx.now op ≡ Some g →
+    ensures whole { levels layout.now.limit ≡ None → block_round ctx.now op ≡ None → (g : Graph T A)
+        → seen_root A.written ctx.now op ≡ Some g →
         let C = printing_over ctx.now A.outlined A.print_once A.eq in
         (Fit C (isolated ctx.now.dialects) g → ClosedRoot C (isolated ctx.now.dialects) g × Named C g) →
         IfOk result (λ q. ComesBackWhole (texts_of T.reading T.written) (texts_of A.reading A.written) (attr_at A.reading) C
         ctx.now.dialects g q other.new) }
-    ensures limited { block_round ctx.now op ≡ None → (g : Graph T A) → seen_root A.written ctx.now op ≡ Some g →
+    ensures limited { block_round ctx.now op ≡ None → (g : Graph T A) → seen_root A.written ctx.now
+        op ≡ Some g →
         let C = printing_over ctx.now A.outlined A.print_once A.eq in
         Fit C (isolated ctx.now.dialects) g → (AllShown (written C (levels layout.now.limit) g) → ⊥) → IfOk result (λ q. ⊥) }
     ensures only { IfOk result (λ q. OnlyNew q other.old other.new) }
-    ensures refused { levels layout.now.limit ≡ None → block_round ctx.now op ≡ None → (g : Graph T A) → seen_root A.written ctx.now op ≡ Some g →
+    ensures refused { levels layout.now.limit ≡ None → block_round ctx.now op ≡ None → (g : Graph T A)
+        → seen_root A.written ctx.now op ≡ Some g →
         let C = printing_over ctx.now A.outlined A.print_once A.eq in
         (Fit C (isolated ctx.now.dialects) g → ClosedRoot C (isolated ctx.now.dialects) g) →
         IfErr result (IsExcused T.IrText.own A.IrText.own A.AttrText.own A.eq ctx.now op
@@ -239,9 +245,11 @@ pub fn read_printed_and_read<T: IrText<A>, A: AttrText<A>>(
 ) -> Result<(Ptr<Operation>, Ptr<Operation>), NotAgain<A>>
     requires unlimited { levels layout.now.limit ≡ None }
     requires dialects { other.old.dialects ≡ ctx.old.dialects }
-    ensures again { IfOk result (λ r. IsAgain (texts_of T.reading T.written) (texts_of A.reading A.written) (attr_at A.reading)
+    ensures again { IfOk result (λ r. IsAgain (texts_of T.reading T.written) (texts_of A.reading A.written)
+        (attr_at A.reading)
         (printing_over ctx.new A.outlined A.print_once A.eq) text.now ctx.old r.0 ctx.new other.old r.1 other.new) }
-    ensures refused { IfErr result (IsExcusedAgain T.IrText.own A.IrText.own A.AttrText.own A.eq text.now ctx.old ctx.new
+    ensures refused { IfErr result (IsExcusedAgain T.IrText.own A.IrText.own A.AttrText.own A.eq text.now
+        ctx.old ctx.new
         (fresh layout.now.width layout.now.indent layout.now.limit)) }
 {
     let root = match read_text(ctx, text) {

@@ -67,7 +67,8 @@ pub fn placeholders_are_two_passes<T, A, X>()
 
 /// The same for each part that is parsed alone, such as the regions of an operation.
 pub fn parts_alone()
-    ensures { (x : Script) → AgreesWith (failures same_text no_scope x) (bound same_text [] [] x) (read (Ok fresh_tracker) (events x)) }
+    ensures { (x : Script) → AgreesWith (failures same_text no_scope x) (bound same_text [] [] x)
+        (read (Ok fresh_tracker) (events x)) }
 {}
 
 /// In a tree that a text parses as, with its section, a use refers to a definition exactly if the operation that is built there has
@@ -94,7 +95,8 @@ pub fn operands_are_there<T: IrText<A>, A: AttrText<A>, X>()
 /// Distinct values have distinct printed names, and so do distinct blocks, whatever their given names and labels. A value and a block
 /// never have the same printed name.
 pub fn printed_names_differ()
-    ensures values { (g h : Option (List ℕ)) (m n : ℕ) → m < 2 ^ 64 → n < 2 ^ 64 → value_name g m ≡ value_name h n → m ≡ n }
+    ensures values { (g h : Option (List ℕ)) (m n : ℕ) → m < 2 ^ 64 → n < 2 ^ 64 → value_name g m ≡ value_name
+        h n → m ≡ n }
     ensures blocks { (l k : Option (List ℕ)) (b c : ℕ × ℕ) → b.0 < 2 ^ 64 → b.1 < 2 ^ 64 → c.0 < 2 ^ 64 →
         c.1 < 2 ^ 64 → block_name l b ≡ block_name k c → (b.0 ≡ c.0) × (b.1 ≡ c.1) }
     ensures between { (g l : Option (List ℕ)) (n : ℕ) (b : ℕ × ℕ) → n < 2 ^ 64 → b.0 < 2 ^ 64 →
@@ -107,7 +109,8 @@ pub fn names_come_back<T, A, X>()
     ensures resolves { (C : Printing T A) (isolated : Id → Bool) (g : Graph T A) (t : Tree ℕ T A) →
         Fit C isolated g → SmallGraph C isolated g → GraphKeepsKeys g → Closed C isolated g →
         bare t ≡ written C None g → failures same_text no_scope (tree_script isolated t done) ≡ [] }
-    ensures shapes { (C : Printing T A) (isolated : Id → Bool) (first : ℕ → X) (es : List (Entry ℕ A X)) (g : Graph T A) (t : Tree ℕ T A) →
+    ensures shapes { (C : Printing T A) (isolated : Id → Bool) (first : ℕ → X) (es : List (Entry ℕ A X))
+        (g : Graph T A) (t : Tree ℕ T A) →
         Fit C isolated g → SmallGraph C isolated g →
         bare t ≡ written C None g → SameShapes (stood C isolated g) (build isolated first es t) }
 {}

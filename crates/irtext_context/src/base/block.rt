@@ -60,7 +60,8 @@ impl<T: IrText<A>, A: AttrText<A>> Context<T, A> {
         ensures value { option_map (λ b. b.attributes) (block self.old p) ≡ Some result.now }
         ensures edits { (left : List (Text × AttrObj A)) →
             EditsBlock self.old (with_changed_block self.old p (with_block_attributes left)) p (with_block_attributes left) }
-        ensures kept { (left : List (Text × AttrObj A)) (mark : ℕ) → before mark self.old.graph.blocks p ≡ None →
+        ensures kept { (left : List (Text × AttrObj A)) (mark : ℕ)
+            → before mark self.old.graph.blocks p ≡ None →
             KeepsOlder mark self.old (with_changed_block self.old p (with_block_attributes left)) }
     {
         &mut self.graph.block_mut(p).attributes
@@ -104,13 +105,15 @@ pub trait BlockAccess: Sized {
     )
         requires { IsSome (block ctx.old (pointer self)) }
         ensures edits { EditsBlock ctx.old ctx.new (pointer self) (with_label label) }
-        ensures kept { (mark : ℕ) → before mark ctx.old.graph.blocks (pointer self) ≡ None → KeepsOlder mark ctx.old ctx.new };
+        ensures kept { (mark : ℕ) → before mark ctx.old.graph.blocks (pointer self) ≡ None
+            → KeepsOlder mark ctx.old ctx.new };
 
     /// Sets the block's location. Nothing else changes.
     fn set_loc<T: IrText<A>, A: AttrText<A>>(self, ctx: &mut Context<T, A>, loc: Location<A>)
         requires { IsSome (block ctx.old (pointer self)) }
         ensures edits { EditsBlock ctx.old ctx.new (pointer self) (with_block_loc loc) }
-        ensures kept { (mark : ℕ) → before mark ctx.old.graph.blocks (pointer self) ≡ None → KeepsOlder mark ctx.old ctx.new };
+        ensures kept { (mark : ℕ) → before mark ctx.old.graph.blocks (pointer self) ≡ None
+            → KeepsOlder mark ctx.old ctx.new };
 
     /// Sets an attribute of the block, as `OperationAccess::set_attribute` does for an operation, with the same errors. On an error the
     /// context is unchanged.
@@ -121,11 +124,13 @@ pub trait BlockAccess: Sized {
         attr: AttrObj<A>,
     ) -> Result<(), Refusal>
         requires { IsSome (block ctx.old (pointer self)) }
-        ensures edits { OnOk result (EditsBlock ctx.old ctx.new (pointer self) (with_block_attribute key attr)) }
+        ensures edits { OnOk result (EditsBlock ctx.old ctx.new (pointer self) (with_block_attribute
+            key attr)) }
         ensures allowed { OnOk result (is_reserved_for key attr ≡ false) }
         ensures err { OnErr result (ctx.new ≡ ctx.old) }
         ensures refused { IfErr result (RefusesEntry key attr) }
-        ensures kept { (mark : ℕ) → before mark ctx.old.graph.blocks (pointer self) ≡ None → KeepsOlder mark ctx.old ctx.new };
+        ensures kept { (mark : ℕ) → before mark ctx.old.graph.blocks (pointer self) ≡ None
+            → KeepsOlder mark ctx.old ctx.new };
 }
 
 impl BlockAccess for Ptr<BasicBlock> {

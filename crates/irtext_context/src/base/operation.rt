@@ -67,7 +67,8 @@ impl<T: IrText<A>, A: AttrText<A>> Context<T, A> {
         ensures value { option_map (λ op. op.attributes) (operation self.old p) ≡ Some result.now }
         ensures edits { (left : List (Text × AttrObj A)) →
             EditsOperation self.old (with_changed_operation self.old p (with_attributes left)) p (with_attributes left) }
-        ensures kept { (left : List (Text × AttrObj A)) (mark : ℕ) → before mark self.old.graph.operations p ≡ None →
+        ensures kept { (left : List (Text × AttrObj A)) (mark : ℕ)
+            → before mark self.old.graph.operations p ≡ None →
             KeepsOlder mark self.old (with_changed_operation self.old p (with_attributes left)) }
     {
         attributes_of(self.graph.operation_mut(p))
@@ -104,7 +105,8 @@ pub trait OperationAccess: Sized {
     fn set_loc<T: IrText<A>, A: AttrText<A>>(self, ctx: &mut Context<T, A>, loc: Location<A>)
         requires { IsSome (operation ctx.old (pointer self)) }
         ensures edits { EditsOperation ctx.old ctx.new (pointer self) (with_loc loc) }
-        ensures kept { (mark : ℕ) → before mark ctx.old.graph.operations (pointer self) ≡ None → KeepsOlder mark ctx.old ctx.new };
+        ensures kept { (mark : ℕ) → before mark ctx.old.graph.operations (pointer self) ≡ None
+            → KeepsOlder mark ctx.old ctx.new };
 
     /// Sets the attribute under a key of the operation, as `AttributeDict::insert` does. Nothing else changes. Fails with `ReservedKey`
     /// and the key if the key is `builtin_given_names` and the attribute is not `GivenNames`, and with `Memory` if an allocation fails.
@@ -116,11 +118,13 @@ pub trait OperationAccess: Sized {
         attr: AttrObj<A>,
     ) -> Result<(), Refusal>
         requires { IsSome (operation ctx.old (pointer self)) }
-        ensures edits { OnOk result (EditsOperation ctx.old ctx.new (pointer self) (with_attribute key attr)) }
+        ensures edits { OnOk result (EditsOperation ctx.old ctx.new (pointer self)
+            (with_attribute key attr)) }
         ensures allowed { OnOk result (is_reserved_for key attr ≡ false) }
         ensures err { OnErr result (ctx.new ≡ ctx.old) }
         ensures refused { IfErr result (RefusesEntry key attr) }
-        ensures kept { (mark : ℕ) → before mark ctx.old.graph.operations (pointer self) ≡ None → KeepsOlder mark ctx.old ctx.new };
+        ensures kept { (mark : ℕ) → before mark ctx.old.graph.operations (pointer self) ≡ None
+            → KeepsOlder mark ctx.old ctx.new };
 
     /// Adds an empty region to the operation, after its other regions. Nothing else changes. Fails if an allocation fails or a counter is
     /// at its limit; then the context is unchanged.
@@ -131,7 +135,8 @@ pub trait OperationAccess: Sized {
         requires { IsSome (operation ctx.old (pointer self)) }
         ensures added { IfOk result (λ r. AddsRegion ctx.old ctx.new (pointer self) r) }
         ensures err { OnErr result (ctx.new ≡ ctx.old) }
-        ensures kept { (mark : ℕ) → mark ≤ ctx.old.graph.made → before mark ctx.old.graph.operations (pointer self) ≡ None →
+        ensures kept { (mark : ℕ) → mark ≤ ctx.old.graph.made → before mark ctx.old.graph.operations
+            (pointer self) ≡ None →
             KeepsOlder mark ctx.old ctx.new };
 }
 

@@ -52,7 +52,8 @@ impl Dialect {
     /// Returns the id with these texts and what the dialect records of its operation, or `None` if it is not registered. It allocates
     /// nothing.
     pub fn op_named(&self, dialect: &str, name: &str) -> Option<(&OpId, &OpInfo)>
-        ensures found { option_map (λ e. known_of e.1.now) result ≡ lookup (same_id (id_of_texts dialect.now name.now)) self.now.entries }
+        ensures found { option_map (λ e. known_of e.1.now) result ≡ lookup
+            (same_id (id_of_texts dialect.now name.now)) self.now.entries }
         ensures id { IfSome result (λ e. e.0.now ≡ id_of_texts dialect.now name.now) }
         ensures accepted { IfSome result (λ e. Accepted (format_of e.1.now.format)) }
     {

@@ -30,7 +30,8 @@ fn checked_id<A>(
 ) -> result::Result<OpId, A>
     ensures ok { IfOk result (λ id. id ≡ id_of_texts dialect.now name.now) }
     ensures fits { OnOk result (CanRegister dialect.now name.now (format_of format.now)) }
-    ensures refused { IfErr result (λ e. (own : _) → RefusesOp own dialect.now name.now (format_of format.now) e.err) }
+    ensures refused { IfErr result (λ e. (own : _) → RefusesOp own dialect.now name.now
+        (format_of format.now) e.err) }
     ensures kind { IfErr result (λ e. (e.kind ≡ ErrorKind.InvalidArgument) × (e.loc ≡ Unknown)) }
 {
     match check_format(format) {
@@ -57,7 +58,8 @@ fn put_first<A>(
 ) -> result::Result<(), A>
     requires absent { lookup (bytes_eq id.dialect) dialects.old.entries ≡ None }
     requires accepted { Accepted (format_of format) }
-    ensures ok { OnOk result (dialects.new.entries ≡ with_operation dialects.old.entries id (format_of format) isolated) }
+    ensures ok { OnOk result (dialects.new.entries ≡ with_operation dialects.old.entries id (format_of format)
+        isolated) }
     ensures err { OnErr result (dialects.new.entries ≡ dialects.old.entries) }
     ensures refused { IfErr result (λ e. IsRefusedBy id.dialect id format e.err) }
     ensures kind { IfErr result (λ e. (e.kind ≡ ErrorKind.InvalidArgument) × (e.loc ≡ Unknown)) }
@@ -91,10 +93,12 @@ impl<T: IrText<A>, A: AttrText<A>> Context<T, A> {
         isolated: bool,
     ) -> result::Result<(), A>
         requires { IsKeptAt self.old.dialects id.dialect index self.old.dialects }
-        ensures ok { OnOk result (self.new.dialects ≡ with_operation self.old.dialects id (format_of format) isolated) }
+        ensures ok { OnOk result (self.new.dialects ≡ with_operation self.old.dialects id (format_of format)
+            isolated) }
         ensures rest { self.new ≡ record self.old { dialects = self.new.dialects } }
         ensures err { OnErr result (self.new ≡ self.old) }
-        ensures refused { IfErr result (λ e. IsRefusedBy (dialect_or_new self.old.dialects id.dialect).name id format e.err) }
+        ensures refused { IfErr result (λ e. IsRefusedBy (dialect_or_new self.old.dialects id.dialect).name id
+            format e.err) }
         ensures kind { IfErr result (λ e. (e.kind ≡ ErrorKind.InvalidArgument) × (e.loc ≡ Unknown)) }
     {
         self.dialect_at(index).add_op(id, format, isolated)
@@ -103,10 +107,12 @@ impl<T: IrText<A>, A: AttrText<A>> Context<T, A> {
     /// Registers an operation, and its dialect if it is not registered yet. On an error the context is unchanged.
     fn put_op(&mut self, id: OpId, format: OpFormat, isolated: bool) -> result::Result<(), A>
         requires { Accepted (format_of format) }
-        ensures ok { OnOk result (self.new.dialects ≡ with_operation self.old.dialects id (format_of format) isolated) }
+        ensures ok { OnOk result (self.new.dialects ≡ with_operation self.old.dialects id (format_of format)
+            isolated) }
         ensures rest { self.new ≡ record self.old { dialects = self.new.dialects } }
         ensures err { OnErr result (self.new ≡ self.old) }
-        ensures refused { IfErr result (λ e. IsRefusedBy (dialect_or_new self.old.dialects id.dialect).name id format e.err) }
+        ensures refused { IfErr result (λ e. IsRefusedBy (dialect_or_new self.old.dialects id.dialect).name id
+            format e.err) }
         ensures kind { IfErr result (λ e. (e.kind ≡ ErrorKind.InvalidArgument) × (e.loc ≡ Unknown)) }
     {
         let alloc = self.allocator();
@@ -131,11 +137,13 @@ impl<T: IrText<A>, A: AttrText<A>> Context<T, A> {
         format: OpFormat,
         isolated: bool,
     ) -> result::Result<(), A>
-        ensures ok { OnOk result (self.new.dialects ≡ with_operation self.old.dialects (id_of_texts dialect.now name.now) (format_of format) isolated) }
+        ensures ok { OnOk result (self.new.dialects ≡ with_operation self.old.dialects
+            (id_of_texts dialect.now name.now) (format_of format) isolated) }
         ensures fits { OnOk result (CanRegister dialect.now name.now (format_of format)) }
         ensures rest { self.new ≡ record self.old { dialects = self.new.dialects } }
         ensures err { OnErr result (self.new ≡ self.old) }
-        ensures refused { IfErr result (λ e. RefusesOp (dialect_or_new self.old.dialects dialect.now).name dialect.now name.now (format_of format) e.err) }
+        ensures refused { IfErr result (λ e. RefusesOp (dialect_or_new self.old.dialects dialect.now).name
+            dialect.now name.now (format_of format) e.err) }
         ensures kind { IfErr result (λ e. (e.kind ≡ ErrorKind.InvalidArgument) × (e.loc ≡ Unknown)) }
     {
         let id = checked_id(self.allocator(), dialect, name, &format)?;

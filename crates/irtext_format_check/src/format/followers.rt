@@ -67,7 +67,8 @@ fn can_follow(directives: &[Directive], character: char) -> bool
 
 /// Whether no character that can come after a directive could continue a list that it prints.
 pub(crate) fn list_ends(directive: &Directive, rest: &[Directive]) -> bool
-    ensures { result ≡ disjoint (continuings (directive_of directive.now)) (followers (directives_of rest.now)) }
+    ensures { result ≡ disjoint (continuings (directive_of directive.now))
+        (followers (directives_of rest.now)) }
 {
     match directive {
         Directive::Operands => !can_follow(rest, '_') && !can_follow(rest, ','),

@@ -25,7 +25,8 @@ enum Rule {
 }
 
 fn place_again(part: Part, directive: &Directive, rest: &[Directive]) -> bool
-    ensures { result ≡ again ◌==◌ (place_of part (directive_of directive.now)) (places_of part (directives_of rest.now)) }
+    ensures { result ≡ again ◌==◌ (place_of part (directive_of directive.now))
+        (places_of part (directives_of rest.now)) }
 {
     match parts::place_of(part, directive) {
         Some(place) => parts::has_place(part, place, rest),

@@ -27,7 +27,8 @@ impl<T: IrText<A>, A: AttrText<A>, U> Parsable<T, A, U> for SourcePosition {
     /// `Unexpected`, uncommitted; every other error is committed. If a number does not fit, the error is `NumberRange`, at the beginning
     /// of the number. Nothing but the stream changes.
     fn parse(stream: &mut StateStream<'_, T, A, U>, _arg: ()) -> ParseResult<SourcePosition, A>
-        ensures read { MayRead itself replaced (λ at. at) position_at stream.old.stream result stream.new.stream }
+        ensures read { MayRead itself replaced (λ at. at) position_at stream.old.stream result
+            stream.new.stream }
         ensures state { stream.new.state ≡ stream.old.state }
     {
         position_parse(&mut stream.stream)
@@ -47,7 +48,8 @@ impl<T: IrText<A>, A: AttrText<A>, U> Parsable<T, A, U> for Source {
         ensures adds { AddsPaths stream.old.state.ctx.now stream.new.state.ctx.now }
         ensures rest { KeepsRest stream.old.state stream.new.state }
         ensures marks { marks_of stream.new.state ≡ marks_of stream.old.state }
-        ensures read { MayReadOver is_known path_of source_at stream.new.state.ctx.now.paths stream.old.stream result stream.new.stream }
+        ensures read { MayReadOver is_known path_of source_at stream.new.state.ctx.now.paths stream.old.stream
+            result stream.new.stream }
         ensures paths { IfOk result
             (λ source. stream.new.state.ctx.now.paths ≡ path_kept stream.old.state.ctx.now.paths
             (path_of stream.new.state.ctx.now.paths source)) }

@@ -25,7 +25,8 @@ impl<T: IrText<A>, A: AttrText<A>, U> Parsable<T, A, U> for usize {
 
     /// Parses a number as `int_parse` does, with the same errors. Nothing but the stream changes.
     fn parse(stream: &mut StateStream<'_, T, A, U>, _arg: ()) -> ParseResult<usize, A>
-        ensures read { MayRead itself replaced pos (int_at (unsigned_below 64)) stream.old.stream result stream.new.stream }
+        ensures read { MayRead itself replaced pos (int_at (unsigned_below 64)) stream.old.stream result
+            stream.new.stream }
         ensures state { stream.new.state ≡ stream.old.state }
     {
         int_parse(&mut stream.stream)
@@ -39,7 +40,8 @@ impl<T: IrText<A>, A: AttrText<A>, U> Parsable<T, A, U> for u64 {
 
     /// Parses a number as `int_parse` does, with the same errors. Nothing but the stream changes.
     fn parse(stream: &mut StateStream<'_, T, A, U>, _arg: ()) -> ParseResult<u64, A>
-        ensures read { MayRead itself replaced pos (int_at (unsigned_below 64)) stream.old.stream result stream.new.stream }
+        ensures read { MayRead itself replaced pos (int_at (unsigned_below 64)) stream.old.stream result
+            stream.new.stream }
         ensures state { stream.new.state ≡ stream.old.state }
     {
         int_parse(&mut stream.stream)
@@ -53,7 +55,8 @@ impl<T: IrText<A>, A: AttrText<A>, U> Parsable<T, A, U> for u32 {
 
     /// Parses a number as `int_parse` does, with the same errors. Nothing but the stream changes.
     fn parse(stream: &mut StateStream<'_, T, A, U>, _arg: ()) -> ParseResult<u32, A>
-        ensures read { MayRead itself replaced pos (int_at (unsigned_below 32)) stream.old.stream result stream.new.stream }
+        ensures read { MayRead itself replaced pos (int_at (unsigned_below 32)) stream.old.stream result
+            stream.new.stream }
         ensures state { stream.new.state ≡ stream.old.state }
     {
         int_parse(&mut stream.stream)
@@ -67,7 +70,8 @@ impl<T: IrText<A>, A: AttrText<A>, U> Parsable<T, A, U> for u16 {
 
     /// Parses a number as `int_parse` does, with the same errors. Nothing but the stream changes.
     fn parse(stream: &mut StateStream<'_, T, A, U>, _arg: ()) -> ParseResult<u16, A>
-        ensures read { MayRead itself replaced pos (int_at (unsigned_below 16)) stream.old.stream result stream.new.stream }
+        ensures read { MayRead itself replaced pos (int_at (unsigned_below 16)) stream.old.stream result
+            stream.new.stream }
         ensures state { stream.new.state ≡ stream.old.state }
     {
         int_parse(&mut stream.stream)
@@ -81,7 +85,8 @@ impl<T: IrText<A>, A: AttrText<A>, U> Parsable<T, A, U> for u8 {
 
     /// Parses a number as `int_parse` does, with the same errors. Nothing but the stream changes.
     fn parse(stream: &mut StateStream<'_, T, A, U>, _arg: ()) -> ParseResult<u8, A>
-        ensures read { MayRead itself replaced pos (int_at (unsigned_below 8)) stream.old.stream result stream.new.stream }
+        ensures read { MayRead itself replaced pos (int_at (unsigned_below 8)) stream.old.stream result
+            stream.new.stream }
         ensures state { stream.new.state ≡ stream.old.state }
     {
         int_parse(&mut stream.stream)
@@ -95,7 +100,8 @@ impl<T: IrText<A>, A: AttrText<A>, U> Parsable<T, A, U> for i8 {
 
     /// Parses a number as `int_parse` does, with the same errors. Nothing but the stream changes.
     fn parse(stream: &mut StateStream<'_, T, A, U>, _arg: ()) -> ParseResult<i8, A>
-        ensures read { MayRead itself replaced (λ z. z) (int_at (signed_below 8)) stream.old.stream result stream.new.stream }
+        ensures read { MayRead itself replaced (λ z. z) (int_at (signed_below 8)) stream.old.stream result
+            stream.new.stream }
         ensures state { stream.new.state ≡ stream.old.state }
     {
         int_parse(&mut stream.stream)
@@ -109,7 +115,8 @@ impl<T: IrText<A>, A: AttrText<A>, U> Parsable<T, A, U> for i16 {
 
     /// Parses a number as `int_parse` does, with the same errors. Nothing but the stream changes.
     fn parse(stream: &mut StateStream<'_, T, A, U>, _arg: ()) -> ParseResult<i16, A>
-        ensures read { MayRead itself replaced (λ z. z) (int_at (signed_below 16)) stream.old.stream result stream.new.stream }
+        ensures read { MayRead itself replaced (λ z. z) (int_at (signed_below 16)) stream.old.stream result
+            stream.new.stream }
         ensures state { stream.new.state ≡ stream.old.state }
     {
         int_parse(&mut stream.stream)
@@ -123,7 +130,8 @@ impl<T: IrText<A>, A: AttrText<A>, U> Parsable<T, A, U> for i32 {
 
     /// Parses a number as `int_parse` does, with the same errors. Nothing but the stream changes.
     fn parse(stream: &mut StateStream<'_, T, A, U>, _arg: ()) -> ParseResult<i32, A>
-        ensures read { MayRead itself replaced (λ z. z) (int_at (signed_below 32)) stream.old.stream result stream.new.stream }
+        ensures read { MayRead itself replaced (λ z. z) (int_at (signed_below 32)) stream.old.stream result
+            stream.new.stream }
         ensures state { stream.new.state ≡ stream.old.state }
     {
         int_parse(&mut stream.stream)
@@ -137,7 +145,8 @@ impl<T: IrText<A>, A: AttrText<A>, U> Parsable<T, A, U> for i64 {
 
     /// Parses a number as `int_parse` does, with the same errors. Nothing but the stream changes.
     fn parse(stream: &mut StateStream<'_, T, A, U>, _arg: ()) -> ParseResult<i64, A>
-        ensures read { MayRead itself replaced (λ z. z) (int_at (signed_below 64)) stream.old.stream result stream.new.stream }
+        ensures read { MayRead itself replaced (λ z. z) (int_at (signed_below 64)) stream.old.stream result
+            stream.new.stream }
         ensures state { stream.new.state ≡ stream.old.state }
     {
         int_parse(&mut stream.stream)
@@ -165,7 +174,8 @@ impl<T: IrText<A>, A: AttrText<A>, U> Parsable<T, A, U> for Identifier {
 
     /// Parses an identifier as `identifier_parse` does, with the same errors. Nothing but the stream changes.
     fn parse(stream: &mut StateStream<'_, T, A, U>, _arg: ()) -> ParseResult<Identifier, A>
-        ensures read { MayRead itself replaced (λ name. name) identifier_at stream.old.stream result stream.new.stream }
+        ensures read { MayRead itself replaced (λ name. name) identifier_at stream.old.stream result
+            stream.new.stream }
         ensures state { stream.new.state ≡ stream.old.state }
     {
         identifier_parse(&mut stream.stream)

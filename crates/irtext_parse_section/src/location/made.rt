@@ -14,7 +14,8 @@ fn fused<A: Drop>(
     metadata: Box<Option<AttrObj<A>>>,
     locations: Vec<Location<A>>,
 ) -> Result<Location<A>, AllocError>
-    ensures { IfOk result (λ l. location_view l ≡ fused (attr_view_in metadata.value) (in_row (map location_view locations.items))) }
+    ensures { IfOk result (λ l. location_view l ≡ fused (attr_view_in metadata.value)
+        (in_row (map location_view locations.items))) }
 {
     let locations = Box::new(alloc, locations)?;
     Ok(Location::Fused {
@@ -66,7 +67,8 @@ pub(crate) fn fused_made<A: Drop>(
     metadata: Box<Option<AttrObj<A>>>,
     locations: Vec<Location<A>>,
 ) -> ParseResult<Location<A>, A>
-    ensures { Makes (fused (attr_view_in metadata.value) (in_row (map location_view locations.items))) stream.old result stream.new }
+    ensures { Makes (fused (attr_view_in metadata.value) (in_row (map location_view locations.items)))
+        stream.old result stream.new }
 {
     let made = fused(stream.allocator(), metadata, locations);
     answered(stream, made)

@@ -1,18 +1,19 @@
 //! Parsing of locations of every kind. The context keeps the paths of their files.
-ghost use Rattle.std.specs.Prelude.{◌≡◌, false, IfOk, map, string_bytes};
+ghost use Rattle.std.specs.Prelude.{◌≡◌, false, map, string_bytes};
 ghost use Rattle.irtext_base.specs.Text.{begins};
 ghost use Rattle.irtext_base.specs.Locations.{attr_view, attr_view_in, in_row, location_view};
 ghost use Rattle.irtext_base.specs.Moves.{all_kept};
 ghost use Rattle.irtext_tokens.specs.AttrTexts.{attr_at};
 ghost use Rattle.irtext_parse_spec.specs.Readers.Locations.{begins_source, begins_location, metadata_at};
-ghost use Rattle.irtext_parse_spec.specs.Readers.Locations.{name_at, location_within, location_at};
+ghost use Rattle.irtext_parse_spec.specs.Readers.Locations.{name_at, location_at};
 ghost use Rattle.irtext_tokens.specs.MustRead.{MustRead};
 ghost use Rattle.irtext_grammar.specs.Contexts.Held.{location_over};
-ghost use Rattle.irtext_parse_spec.specs.Readers.NewPaths.{AddsPaths, MayReadOver, MustReadWithin, known_location, PushesRow};
+ghost use Rattle.irtext_parse_spec.specs.Readers.NewPaths.{AddsPaths, MayReadOver, known_location, PushesRow};
 ghost use Rattle.irtext_parse_spec.specs.Readers.Streams.{itself, replaced};
 ghost use Rattle.irtext_parse_section.specs.Frames.{progress_over, progress_kept, fused_opening_at};
 ghost use Rattle.irtext_parse_section.specs.Frames.{call_site_head_at, ReadsProgress, ReadsBehind};
 ghost use Rattle.irtext_parse_section.specs.Frames.{ReadsOpening, row_end_at};
+ghost use Rattle.irtext_parse_section.specs.Sourced.{Keeps, ReadsWithin, ReadsNested};
 ghost use Rattle.irtext_parse_section.specs.declared.location.frame.Frame.TheVariants.{Fused};
 ghost use Rattle.irtext_parse_section.specs.declared.location.frame.Progress.TheVariants.{Inside};
 
@@ -59,7 +60,8 @@ fn attr_demanded<A: AttrText<A>>(stream: &mut TextStream) -> ParseResult<AttrObj
 
 /// Parses an attribute in `<` and `>` if `<` comes next; otherwise returns `None`.
 fn metadata_demanded<A: AttrText<A>>(stream: &mut TextStream) -> ParseResult<Option<AttrObj<A>>, A>
-    ensures { MustRead itself replaced attr_view_in (metadata_at (attr_at A.IrText.reading)) stream.old result stream.new }
+    ensures { MustRead itself replaced attr_view_in (metadata_at (attr_at A.IrText.reading)) stream.old result
+        stream.new }
 {
     if stream.has_failed() {
         return Err(refuse(stream, Cause::StreamFailed));
@@ -120,7 +122,8 @@ fn row_ended<A: Drop>(
     metadata: Box<Option<AttrObj<A>>>,
     locations: Vec<Location<A>>,
 ) -> ParseResult<Progress<A>, A>
-    ensures { ReadsProgress (row_end_at (attr_view_in metadata.value) (in_row (map location_view locations.items)))
+    ensures { ReadsProgress (row_end_at (attr_view_in metadata.value)
+        (in_row (map location_view locations.items)))
         stream.old result stream.new }
 {
     text_demanded(stream, "]")?;
@@ -162,7 +165,7 @@ fn location_opened<T: IrText<A>, A: AttrText<A>>(
 ) -> ParseResult<Progress<A>, A>
     ensures adds { AddsPaths ctx.old ctx.new }
     ensures read { ReadsOpening A.IrText.reading ctx.new.paths stream.old result stream.new }
-    ensures paths { IfOk result (λ p. ctx.new.paths ≡ progress_kept ctx.old.paths (progress_over ctx.new.paths p)) }
+    ensures paths { Keeps progress_over progress_kept ctx.old.paths ctx.new.paths result }
 {
     if stream.has_failed() {
         return Err(refuse(stream, Cause::StreamFailed));
@@ -247,9 +250,8 @@ fn nested_demanded<T: IrText<A>, A: AttrText<A>>(
     ctx: &mut Context<T, A>,
 ) -> ParseResult<Location<A>, A>
     ensures adds { AddsPaths ctx.old ctx.new }
-    ensures read { MustReadWithin known_location location_over (location_within (attr_at A.IrText.reading))
-        ctx.new.paths stream.old result stream.new }
-    ensures paths { IfOk result (λ l. ctx.new.paths ≡ all_kept ctx.old.paths (location_over ctx.new.paths l)) }
+    ensures read { ReadsWithin A.IrText.reading ctx.new.paths stream.old result stream.new }
+    ensures paths { Keeps location_over all_kept ctx.old.paths ctx.new.paths result }
 {
     let mut frames = Vec::new(stream.allocator());
     let mut progress = location_opened(stream, ctx)?;
@@ -283,10 +285,7 @@ pub fn location_demanded<T: IrText<A>, A: AttrText<A>>(
     stream: &mut TextStream,
     ctx: &mut Context<T, A>,
 ) -> ParseResult<Location<A>, A>
-    ensures adds { AddsPaths ctx.old ctx.new }
-    ensures read { MustReadWithin known_location location_over (location_within (attr_at A.IrText.reading))
-        ctx.new.paths stream.old result stream.new }
-    ensures paths { IfOk result (λ l. ctx.new.paths ≡ all_kept ctx.old.paths (location_over ctx.new.paths l)) }
+    ensures { ReadsNested A.IrText.reading ctx.old stream.old ctx.new result stream.new }
 {
     if begins_source(stream) {
         return place_demanded(stream, ctx);
@@ -303,7 +302,7 @@ pub fn location_parse<T: IrText<A>, A: AttrText<A>>(
     ensures adds { AddsPaths ctx.old ctx.new }
     ensures read { MayReadOver known_location location_over (location_at (attr_at A.IrText.reading))
         ctx.new.paths stream.old result stream.new }
-    ensures paths { IfOk result (λ l. ctx.new.paths ≡ all_kept ctx.old.paths (location_over ctx.new.paths l)) }
+    ensures paths { Keeps location_over all_kept ctx.old.paths ctx.new.paths result }
 {
     if stream.has_failed() {
         return Err(refuse(stream, Cause::StreamFailed));

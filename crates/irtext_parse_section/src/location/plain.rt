@@ -1,19 +1,36 @@
-//! Numbers, lines and columns in their usual form: one space after each `:` and `,`, and no signs.
-ghost use Rattle.std.specs.Prelude.{FitsSigned};
-ghost use Rattle.std.specs.Int.{w32};
-ghost use Rattle.irtext_tokens.specs.Tokens.{integer_at};
-ghost use Rattle.irtext_parse_section.specs.Plain.{TakesDigits, TakesNumber, Looks, Sees, Gets, GetsInteger, line_at, column_at, behind_source_at};
+//! Numbers, lines and columns in their usual form: one space after each `:` and `,`, and no signs. And fixed texts with space after them.
+ghost use Rattle.std.specs.Prelude.{◌≡◌};
+ghost use Rattle.std.specs.Bool.{MatchBool};
+ghost use Rattle.std.specs.Str.{chars};
+ghost use Rattle.irtext_parse_section.specs.Plain.{TakesDigits, DigitsBehind, NumberBehind, SpaceBehind, Looks, Sees, Gets, behind_source_at};
 
 use irtext_base::parsable::{CharStream, SourcePosition, TextStream};
 use irtext_tokens::irfmt::faults::begins;
-use irtext_tokens::irfmt::parsers::FromStrRadix;
 use irtext_tokens::irfmt::parsers::class::Class;
 use irtext_tokens::irfmt::parsers::digits::{Radix, take_digits};
+use irtext_tokens::irfmt::parsers::{FromStrRadix, skip_white_space};
+
+/// Consumes this text and the white space after it. If the text does not come next, or the stream has failed, returns `false`, and the
+/// stream is unchanged.
+#[inline(always)]
+pub(crate) fn spaced_there(stream: &mut TextStream, text: &str) -> bool
+    ensures { MatchBool result (SpaceBehind (chars text.now) stream.old stream.new)
+        (stream.new ≡ stream.old) }
+{
+    if stream.has_failed() {
+        return false;
+    }
+    if !stream.accept(text) {
+        return false;
+    }
+    skip_white_space(stream);
+    true
+}
 
 /// Parses the digits that come next, and returns their number if it fits 64 bits. If there is none, the new position of the stream is
 /// unspecified.
 #[inline(always)]
-pub fn digits_there(stream: &mut TextStream) -> Option<u64>
+fn digits_there(stream: &mut TextStream) -> Option<u64>
     ensures { Looks (λ n. TakesDigits stream.old n stream.new) stream.old result stream.new }
 {
     if !begins(stream, Class::Digit) {
@@ -22,35 +39,25 @@ pub fn digits_there(stream: &mut TextStream) -> Option<u64>
     take_digits(stream, Radix::Decimal)
 }
 
-/// Parses the digits that come next, and returns their number if it fits 32 bits with a sign.
+/// Parses this text and the digits right after it, and returns their number if it fits 64 bits. Otherwise the new position of the stream is
+/// unspecified.
 #[inline(always)]
-fn number_there(stream: &mut TextStream) -> Option<i32>
-    ensures { Looks (λ z. TakesNumber integer_at stream.old z stream.new × FitsSigned w32 z) stream.old result stream.new }
+pub(crate) fn digits_behind(stream: &mut TextStream, before: &str) -> Option<u64>
+    ensures { Looks (DigitsBehind (chars before.now) stream.old stream.new) stream.old result stream.new }
 {
-    let magnitude = digits_there(stream)?;
+    if !stream.accept(before) {
+        return None;
+    }
+    digits_there(stream)
+}
+
+/// The same for a number that fits 32 bits with a sign.
+#[inline(always)]
+fn number_behind(stream: &mut TextStream, before: &str) -> Option<i32>
+    ensures { Looks (NumberBehind (chars before.now) stream.old stream.new) stream.old result stream.new }
+{
+    let magnitude = digits_behind(stream, before)?;
     i32::from_magnitude(false, magnitude)
-}
-
-/// Parses `:` and a line.
-#[inline(always)]
-fn line_there(stream: &mut TextStream) -> Option<i32>
-    ensures { Looks (GetsInteger line_at stream.old stream.new) stream.old result stream.new }
-{
-    if !stream.accept(": line: ") {
-        return None;
-    }
-    number_there(stream)
-}
-
-/// Parses `,` and a column.
-#[inline(always)]
-fn column_there(stream: &mut TextStream) -> Option<i32>
-    ensures { Looks (GetsInteger column_at stream.old stream.new) stream.old result stream.new }
-{
-    if !stream.accept(", column: ") {
-        return None;
-    }
-    number_there(stream)
 }
 
 /// Parses `:`, a line and a column.
@@ -58,8 +65,8 @@ fn column_there(stream: &mut TextStream) -> Option<i32>
 fn both_there(stream: &mut TextStream) -> Option<SourcePosition>
     ensures { Looks (Gets behind_source_at stream.old stream.new) stream.old result stream.new }
 {
-    let line = line_there(stream)?;
-    let column = column_there(stream)?;
+    let line = number_behind(stream, ": line: ")?;
+    let column = number_behind(stream, ", column: ")?;
     Some(SourcePosition { line, column })
 }
 

@@ -1,13 +1,13 @@
 //! Parsing of sources, and of sources with a line and a column.
 ghost use Rattle.std.specs.Prelude.{◌≡◌, IfOk, string_bytes};
-ghost use Rattle.irtext_base.specs.Moves.{path_kept, all_kept};
+ghost use Rattle.irtext_base.specs.Moves.{path_kept};
 ghost use Rattle.irtext_base.specs.Paths.{path_of, is_known};
 ghost use Rattle.irtext_parse_spec.specs.Readers.Positions.{position_at};
 ghost use Rattle.irtext_parse_spec.specs.Readers.Locations.{bytes_at, path_at, source_at, place_at};
 ghost use Rattle.irtext_tokens.specs.MustRead.{MustRead, MayRead};
-ghost use Rattle.irtext_grammar.specs.Contexts.Held.{location_over};
-ghost use Rattle.irtext_parse_spec.specs.Readers.NewPaths.{AddsPaths, MustReadOver, MayReadOver, known_location};
+ghost use Rattle.irtext_parse_spec.specs.Readers.NewPaths.{AddsPaths, MayReadOver};
 ghost use Rattle.irtext_parse_spec.specs.Readers.Streams.{itself, replaced};
+ghost use Rattle.irtext_parse_section.specs.Sourced.{ReadsSource, ReadsLocation};
 
 use crate::location::nested::begins_source;
 use crate::location::read::{position_behind, position_demanded};
@@ -34,9 +34,7 @@ fn path_demanded<T: IrText<A>, A: AttrText<A>>(
     stream: &mut TextStream,
     ctx: &mut Context<T, A>,
 ) -> ParseResult<Source, A>
-    ensures adds { AddsPaths ctx.old ctx.new }
-    ensures read { MustReadOver is_known path_of path_at ctx.new.paths stream.old result stream.new }
-    ensures paths { IfOk result (λ source. ctx.new.paths ≡ path_kept ctx.old.paths (path_of ctx.new.paths source)) }
+    ensures { ReadsSource path_at ctx.old stream.old ctx.new result stream.new }
 {
     let path = quoted_demanded(stream)?;
     let Ok(key) = ctx.keep_path(&path) else {
@@ -50,9 +48,7 @@ fn source_demanded<T: IrText<A>, A: AttrText<A>>(
     stream: &mut TextStream,
     ctx: &mut Context<T, A>,
 ) -> ParseResult<Source, A>
-    ensures adds { AddsPaths ctx.old ctx.new }
-    ensures read { MustReadOver is_known path_of source_at ctx.new.paths stream.old result stream.new }
-    ensures paths { IfOk result (λ source. ctx.new.paths ≡ path_kept ctx.old.paths (path_of ctx.new.paths source)) }
+    ensures { ReadsSource source_at ctx.old stream.old ctx.new result stream.new }
 {
     if stream.has_failed() {
         return Err(refuse(stream, Cause::StreamFailed));
@@ -74,9 +70,7 @@ pub(crate) fn place_demanded<T: IrText<A>, A: AttrText<A>>(
     stream: &mut TextStream,
     ctx: &mut Context<T, A>,
 ) -> ParseResult<Location<A>, A>
-    ensures adds { AddsPaths ctx.old ctx.new }
-    ensures read { MustReadOver known_location location_over place_at ctx.new.paths stream.old result stream.new }
-    ensures paths { IfOk result (λ l. ctx.new.paths ≡ all_kept ctx.old.paths (location_over ctx.new.paths l)) }
+    ensures { ReadsLocation place_at ctx.old stream.old ctx.new result stream.new }
 {
     if stream.has_failed() {
         return place_parse(stream, ctx);
@@ -97,9 +91,7 @@ fn place_parse<T: IrText<A>, A: AttrText<A>>(
     stream: &mut TextStream,
     ctx: &mut Context<T, A>,
 ) -> ParseResult<Location<A>, A>
-    ensures adds { AddsPaths ctx.old ctx.new }
-    ensures read { MustReadOver known_location location_over place_at ctx.new.paths stream.old result stream.new }
-    ensures paths { IfOk result (λ l. ctx.new.paths ≡ all_kept ctx.old.paths (location_over ctx.new.paths l)) }
+    ensures { ReadsLocation place_at ctx.old stream.old ctx.new result stream.new }
 {
     let src = source_demanded(stream, ctx)?;
     let pos = position_behind(stream)?;
@@ -114,7 +106,8 @@ pub fn source_parse<T: IrText<A>, A: AttrText<A>>(
 ) -> ParseResult<Source, A>
     ensures adds { AddsPaths ctx.old ctx.new }
     ensures read { MayReadOver is_known path_of source_at ctx.new.paths stream.old result stream.new }
-    ensures paths { IfOk result (λ source. ctx.new.paths ≡ path_kept ctx.old.paths (path_of ctx.new.paths source)) }
+    ensures paths { IfOk result (λ source. ctx.new.paths ≡ path_kept ctx.old.paths
+        (path_of ctx.new.paths source)) }
 {
     if stream.has_failed() {
         return Err(refuse(stream, Cause::StreamFailed));

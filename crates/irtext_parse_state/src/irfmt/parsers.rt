@@ -20,7 +20,8 @@ pub fn location<T: IrText<A>, A: AttrText<A>, U>(stream: &StateStream<'_, T, A, 
 pub fn type_parse<T: IrText<A>, A: AttrText<A>, U>(
     stream: &mut StateStream<'_, T, A, U>,
 ) -> ParseResult<T, A>
-    ensures read { MayRead (λ s. s) (λ s v. v) (λ t. t) T.IrText.reading stream.old.stream result stream.new.stream }
+    ensures read { MayRead (λ s. s) (λ s v. v) (λ t. t) T.IrText.reading stream.old.stream result
+        stream.new.stream }
     ensures state { stream.new.state ≡ stream.old.state }
 {
     T::read(&mut stream.stream)

@@ -35,8 +35,10 @@ fn note_last<X: Drop>(
     item: X,
 ) -> Result<(), AllocError>
     requires { lookup (same_index index) others.old.entries ≡ None }
-    ensures ok { OnOk result (all_numbered dense.new.items others.new.entries ≡ all_numbered dense.old.items others.old.entries ++ (index, item) ∷ []) }
-    ensures err { OnErr result (all_numbered dense.new.items others.new.entries ≡ all_numbered dense.old.items others.old.entries) }
+    ensures ok { OnOk result (all_numbered dense.new.items others.new.entries ≡ all_numbered dense.old.items
+        others.old.entries ++ (index, item) ∷ []) }
+    ensures err { OnErr result (all_numbered dense.new.items others.new.entries ≡ all_numbered dense.old.items
+        others.old.entries) }
 {
     if others.is_empty() && index == dense.len() {
         dense.push(item)?;

@@ -94,7 +94,8 @@ impl<'c, T: IrText<A>, A: AttrText<A>, U> Noting for State<'c, T, A, U> {
         ensures ctx { self.new.ctx.now ≡ self.old.ctx.now }
         ensures src { self.new.src ≡ self.old.src }
         ensures aux_data { self.new.aux_data ≡ self.old.aux_data }
-        ensures marks { IfOk result (λ noted. Notes index item noted (marks_of self.old) (marks_of self.new)) }
+        ensures marks { IfOk result (λ noted. Notes index item noted (marks_of self.old)
+            (marks_of self.new)) }
         ensures err { OnErr result (marks_of self.new ≡ marks_of self.old) }
     {
         self.marks.note(index, item)

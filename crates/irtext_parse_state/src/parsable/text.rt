@@ -45,7 +45,8 @@ where
     T: IrText<A>,
     A: AttrText<A>,
     requires callable { (s : _) → F.pre parse s }
-    requires lent { (s : _) (answer : R) (t : _) → F.post parse s answer t → t.now.state.ctx.ghost_name ≡ s.now.state.ctx.ghost_name }
+    requires lent { (s : _) (answer : R) (t : _) → F.post parse s answer t
+        → t.now.state.ctx.ghost_name ≡ s.now.state.ctx.ghost_name }
     ensures { Runs (F.post parse) stream ctx.old result ctx.new }
 {
     let state = State::new(ctx, Source::InMemory, ());
@@ -111,8 +112,10 @@ where
     A: AttrText<A>,
     R: ParseAnswer,
     requires callable { (s : _) → F.pre parse s }
-    requires lent { (s : _) (answer : R) (t : _) → F.post parse s answer t → t.now.state.ctx.ghost_name ≡ s.now.state.ctx.ghost_name }
-    ensures { Ran R.passes (F.post parse) text.now ctx.old result ctx.new ⊎ (R.starved result × (ctx.new ≡ ctx.old)) }
+    requires lent { (s : _) (answer : R) (t : _) → F.post parse s answer t
+        → t.now.state.ctx.ghost_name ≡ s.now.state.ctx.ghost_name }
+    ensures { Ran R.passes (F.post parse) text.now ctx.old result ctx.new ⊎ (R.starved result
+        × (ctx.new ≡ ctx.old)) }
 {
     let alloc = ctx.allocator();
     let Ok(stream) = TextStream::new(alloc, text) else {
@@ -135,7 +138,8 @@ pub fn state_stream_from_iterator<
 ) -> std::result::Result<StateStream<'c, T, A, U>, AllocError>
     requires can { I.can_next iterator }
     requires finite { IsFinite (I.remaining iterator) }
-    ensures text { IfOk result (λ s. (items : List ℕ) × Drains I.next_gives iterator items × (s.stream ≡ at_beginning (encode_utf8_all items))) }
+    ensures text { IfOk result (λ s. (items : List ℕ) × Drains I.next_gives iterator items
+        × (s.stream ≡ at_beginning (encode_utf8_all items))) }
     ensures state { IfOk result (λ s. s.state ≡ state.entry) }
 {
     let alloc = state.ctx.allocator();

@@ -61,7 +61,8 @@ fn fmt_whole<'l, T: IrText<A>, A: AttrText<A>>(
     waiting: &mut Vec<Part<'l, A>>,
     f: &mut String,
 ) -> Result<Option<Part<'l, A>>, fmt::Error>
-    ensures { IfOk result (WritesPart A.written ctx.now.paths (Whole location.entry) waiting.old f.old waiting.new f.new) }
+    ensures { IfOk result (WritesPart A.written ctx.now.paths (Whole location.entry) waiting.old f.old
+        waiting.new f.new) }
 {
     match location {
         Location::SrcPos { src, pos } => {
@@ -105,7 +106,8 @@ pub(super) fn fmt_part<'l, T: IrText<A>, A: AttrText<A>>(
     waiting: &mut Vec<Part<'l, A>>,
     f: &mut String,
 ) -> Result<Option<Part<'l, A>>, fmt::Error>
-    ensures { IfOk result (WritesPart A.written ctx.now.paths part.entry waiting.old f.old waiting.new f.new) }
+    ensures { IfOk result (WritesPart A.written ctx.now.paths part.entry waiting.old f.old
+        waiting.new f.new) }
 {
     match part {
         Part::Whole(location) => fmt_whole(location, ctx, waiting, f),

@@ -103,6 +103,7 @@ pub(super) fn fmt_metadata<A: AttrText<A>>(
 }
 
 /// Appends a source, a line and a column: `<in-memory>: line: 1, column: 21`.
+#[inline(always)]
 pub(crate) fn fmt_place<T: IrText<A>, A: AttrText<A>>(
     src: Source,
     pos: &SourcePosition,

@@ -49,7 +49,8 @@ impl<U> DerefMut for IndentGuard<'_, U> {
     ghost deref_mut_gives = { λ p x. x ≡ p.state.now };
 
     fn deref_mut(&mut self) -> &mut State<U>
-        ensures* writes_back { sem 𝓛 (follows (indent_guard.the_row (record { mir = named 1; lft = [] }) U.row) (the_row U.row)
+        ensures* writes_back { sem 𝓛 (follows (indent_guard.the_row (record { mir = named 1; lft = [] })
+            U.row) (the_row U.row)
             self.entry.ghost_name result.ghost_name (λ s. record self.old { state = record self.old.state { now = s } })) }
         ensures value { result.now ≡ self.old.state.now }
     {
@@ -82,7 +83,8 @@ impl<U> DerefMut for RegionDepthGuard<'_, U> {
     ghost deref_mut_gives = { λ p x. x ≡ p.state.now };
 
     fn deref_mut(&mut self) -> &mut State<U>
-        ensures* writes_back { sem 𝓛 (follows (depth_guard.the_row (record { mir = named 1; lft = [] }) U.row) (the_row U.row)
+        ensures* writes_back { sem 𝓛 (follows (depth_guard.the_row (record { mir = named 1; lft = [] }) U.row)
+            (the_row U.row)
             self.entry.ghost_name result.ghost_name (λ s. record self.old { state = record self.old.state { now = s } })) }
         ensures value { result.now ≡ self.old.state.now }
     {

@@ -1,5 +1,5 @@
 //! Numbers in decimal digits. These calls fail only if out of memory; what was appended up to the error remains.
-ghost use Rattle.std.specs.Prelude.{◌≡◌, ◌+◌, ◌/◌, ◌%◌, ◌<◌, ◌≤◌, ◌∷◌, ◌++◌, [], OnOk, decimal, length, string_bytes};
+ghost use Rattle.std.specs.Prelude.{◌≡◌, ◌+◌, ◌/◌, ◌%◌, ◌<◌, ◌≤◌, ◌∷◌, ◌++◌, [], OnOk, IfSome, decimal, length, string_bytes};
 ghost use Rattle.std.specs.Fmt.{signed_decimal};
 ghost use Rattle.std.specs.Str.{IsAscii};
 ghost use Rattle.irtext_print.specs.Printers.Appended.{AppendsText};
@@ -47,6 +47,73 @@ fn fmt_short(number: usize, f: &mut String) -> fmt::Result
     }
     f.push_str(digit(number))?;
     Ok(())
+}
+
+/// A text of at most 64 bytes that is put together in place, and appended at once.
+pub(crate) type InPlace = ArrayString<64>;
+
+/// Puts a number below 100 at the end of a text.
+#[inline(always)]
+fn put_short(number: usize, text: &mut InPlace)
+    requires few { number < 100 }
+    requires room { length text.old.bytes ≤ 62 }
+    ensures bytes { text.new.bytes ≡ text.old.bytes ++ decimal number }
+    ensures len { length text.new.bytes ≤ length text.old.bytes + 2 }
+{
+    if number >= 10 {
+        text.push_str(pair(number));
+        return;
+    }
+    text.push_str(digit(number));
+}
+
+/// Puts a number below 10,000 at the end of a text.
+#[inline(always)]
+fn put_small(number: usize, text: &mut InPlace)
+    requires few { number < 10000 }
+    requires room { length text.old.bytes ≤ 60 }
+    ensures bytes { text.new.bytes ≡ text.old.bytes ++ decimal number }
+    ensures len { length text.new.bytes ≤ length text.old.bytes + 4 }
+{
+    if number < 100 {
+        put_short(number, text);
+        return;
+    }
+    put_short(number / 100, text);
+    text.push_str(pair(number % 100));
+}
+
+/// Puts a number below 1,000,000 at the end of a text.
+#[inline(always)]
+pub(crate) fn put_number(number: usize, text: &mut InPlace)
+    requires few { number < 1000000 }
+    requires room { length text.old.bytes ≤ 58 }
+    ensures bytes { text.new.bytes ≡ text.old.bytes ++ decimal number }
+    ensures len { length text.new.bytes ≤ length text.old.bytes + 6 }
+{
+    if number < 10_000 {
+        put_small(number, text);
+        return;
+    }
+    put_small(number / 100, text);
+    text.push_str(pair(number % 100));
+}
+
+/// Returns a number as it is put in place, if it has at most six digits and no sign.
+#[inline(always)]
+pub(crate) fn in_place(number: &i32) -> Option<usize>
+    ensures value { IfSome result (λ digits. decimal digits ≡ signed_decimal number.now) }
+    ensures few { IfSome result (λ digits. digits < 1000000) }
+{
+    let number = *number;
+    if number < 0 {
+        return None;
+    }
+    let digits = number as usize;
+    if digits >= 1_000_000 {
+        return None;
+    }
+    Some(digits)
 }
 
 /// Appends three texts of at most eight bytes together.

@@ -48,7 +48,13 @@ impl<U> State<U> {
     /// Returns a state with two spaces per indentation step, indentation 0, no depth limit, and nothing gathered. Allocates nothing
     /// yet.
     pub fn new(alloc: Global, aux_data: U) -> State<U>
-        ensures { result ≡ record { width = 2; indent = 0; limit = RegionPrintDepthLimit.Unlimited; gathered = []; aux = aux_data } }
+        ensures { result ≡ record {
+          width = 2;
+          indent = 0;
+          limit = RegionPrintDepthLimit.Unlimited;
+          gathered = [];
+          aux = aux_data;
+        } }
     {
         State {
             indent_width: 2,
@@ -67,7 +73,13 @@ impl<U> State<U> {
         limit: RegionPrintDepthLimit,
         aux_data: U,
     ) -> State<U>
-        ensures { result ≡ record { width = indent_width; indent = current_indent; limit = limit; gathered = []; aux = aux_data } }
+        ensures { result ≡ record {
+          width = indent_width;
+          indent = current_indent;
+          limit = limit;
+          gathered = [];
+          aux = aux_data;
+        } }
     {
         State {
             indent_width,
@@ -110,7 +122,8 @@ impl<U> State<U> {
     /// Enters a region: the limit is one level lower until the guard is dropped. `None` if the region has to be elided; then the state
     /// is unchanged.
     pub fn enter_region(&mut self) -> Option<RegionDepthGuard<'_, U>>
-        ensures* unchanged_at_none { sem 𝓛 (RestsIfNone (the_row U.row) self.entry depth_name result (λ n. n ≡ self.old)) }
+        ensures* unchanged_at_none { sem 𝓛 (RestsIfNone (the_row U.row) self.entry depth_name result
+            (λ n. n ≡ self.old)) }
         ensures same_reference { IfSome result (λ g. g.state.ghost_name ≡ self.entry.ghost_name) }
         ensures saved { IfSome result (λ g. g.saved ≡ limit_of self.old) }
         ensures state { IfSome result (λ g. g.state.now ≡ with_limit self.old (limit_of g.state.now)) }
@@ -153,10 +166,12 @@ impl<U> State<U> {
 
     /// Indents by one step until the guard is dropped. Fails if the number of spaces does not fit 16 bits; then the state is unchanged.
     pub fn indent(&mut self) -> Result<IndentGuard<'_, U>, fmt::Error>
-        ensures* unchanged_at_err { sem 𝓛 (RestsIfErr (the_row U.row) self.entry guard_name result (λ n. n ≡ self.old)) }
+        ensures* unchanged_at_err { sem 𝓛 (RestsIfErr (the_row U.row) self.entry guard_name result
+            (λ n. n ≡ self.old)) }
         ensures same_reference { IfOk result (λ g. g.state.ghost_name ≡ self.entry.ghost_name) }
         ensures saved { IfOk result (λ g. g.saved ≡ indent_of self.old) }
-        ensures state { IfOk result (λ g. g.state.now ≡ with_indent self.old (indent_of self.old + width_of self.old)) }
+        ensures state { IfOk result (λ g. g.state.now ≡ with_indent self.old (indent_of self.old + width_of
+            self.old)) }
         ensures succeeds { IsOk result ↔ (indent_of self.old + width_of self.old < 2 ^ 16) }
     {
         let saved = self.current_indent;

@@ -36,7 +36,8 @@ impl<'a, X: Printable<(), T, A>, T: IrText<A>, A: AttrText<A>> Displayable<'a, X
     /// remains.
     pub fn append_to(&self, f: &mut String) -> fmt::Result
         ensures prints { OnOk result (ShownOnce X.prints self.now f.old f.new) }
-        ensures text { OnOk result (IfSome (shown_by X.gives self.now) (λ text. string_bytes f.new ≡ string_bytes f.old ++ text)) }
+        ensures text { OnOk result (IfSome (shown_by X.gives self.now) (λ text. string_bytes
+            f.new ≡ string_bytes f.old ++ text)) }
     {
         let mut state = State::with_layout(
             self.alloc,
@@ -71,7 +72,8 @@ pub trait Disp<T: IrText<A>, A: AttrText<A>>: Printable<(), T, A> {
     where
         Self: Sized,
         requires { Self.can_print self.now ctx.now }
-        ensures text { shown_by Self.gives result ≡ text_of (Self.gives self.now ctx.now (fresh 2 0 RegionPrintDepthLimit.Unlimited)) }
+        ensures text { shown_by Self.gives result ≡ text_of (Self.gives self.now ctx.now
+            (fresh 2 0 RegionPrintDepthLimit.Unlimited)) }
         ensures shows { Displays result self.now ctx.now (fresh 2 0 RegionPrintDepthLimit.Unlimited) };
 
     /// Returns the value as a `Display` that uses, at each formatting, a state of the same indent width, indentation and depth limit as
@@ -82,7 +84,8 @@ pub trait Disp<T: IrText<A>, A: AttrText<A>>: Printable<(), T, A> {
         requires { Self.can_print self.now ctx.now }
         ensures text { shown_by Self.gives result ≡ text_of
             (Self.gives self.now ctx.now (fresh state.now.width state.now.indent state.now.limit)) }
-        ensures shows { Displays result self.now ctx.now (fresh state.now.width state.now.indent state.now.limit) };
+        ensures shows { Displays result self.now ctx.now (fresh state.now.width state.now.indent
+            state.now.limit) };
 }
 
 impl<X: Printable<(), T, A>, T: IrText<A>, A: AttrText<A>> Disp<T, A> for X {

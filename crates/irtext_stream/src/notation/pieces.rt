@@ -55,7 +55,8 @@ pub fn closed(
     close: &str,
     expected: NotationPart,
 ) -> Result<usize, NotationFault>
-    ensures { Reads (λ i. i) (whole stream.old) (closed_at (characters close.now) expected stream.old.rest) result stream.new }
+    ensures { Reads (λ i. i) (whole stream.old) (closed_at (characters close.now) expected stream.old.rest)
+        result stream.new }
 {
     let index = index(stream, NotationPart::Index)?;
     if !past(stream, close) {
@@ -83,7 +84,8 @@ pub fn next_is_key(stream: &TextStream) -> bool
 
 /// Consumes and returns the next character if it is printable ASCII. Otherwise returns `None` and leaves the stream unchanged.
 fn letter(stream: &mut TextStream) -> Option<char>
-    ensures { MatchOption result (IsNoLetter stream.old stream.new) (λ c. TakesLetter c stream.old stream.new) }
+    ensures { MatchOption result (IsNoLetter stream.old stream.new) (λ c. TakesLetter c stream.old
+        stream.new) }
 {
     let c = stream.peek()?;
     if !c.is_ascii_graphic() {
@@ -95,7 +97,8 @@ fn letter(stream: &mut TextStream) -> Option<char>
 
 /// Parses the characters of a literal, and the backquote after them.
 pub fn letters(stream: &mut TextStream) -> Result<String, NotationFault>
-    ensures { Reads (λ s. chars (string_bytes s)) (whole stream.old) (letters_after [] false stream.old.rest) result stream.new }
+    ensures { Reads (λ s. chars (string_bytes s)) (whole stream.old) (letters_after [] false stream.old.rest)
+        result stream.new }
 {
     let mut text = String::new(stream.allocator());
     while let Some(c) = letter(stream) {

@@ -19,7 +19,8 @@ pub fn fmt_index<W: fmt::Write>(
     index: usize,
     f: &mut fmt::Formatter<W>,
 ) -> fmt::Result
-    ensures { WritesOnOk W.write_str_gives f.old result (encode_utf8_all (characters opening.now ++ decimal index)) f.new }
+    ensures { WritesOnOk W.write_str_gives f.old result (encode_utf8_all (characters opening.now ++ decimal
+        index)) f.new }
 {
     f.write_str(opening)?;
     write!(f, "{index}")
@@ -51,7 +52,8 @@ fn fmt_letter<W: fmt::Write>(c: char, f: &mut fmt::Formatter<W>) -> fmt::Result
 
 /// Writes the characters of a literal.
 fn fmt_letters<W: fmt::Write>(text: &str, f: &mut fmt::Formatter<W>) -> fmt::Result
-    ensures { WritesOnOk W.write_str_gives f.old result (encode_utf8_all (flat_map spelled (chars text.now))) f.new }
+    ensures { WritesOnOk W.write_str_gives f.old result
+        (encode_utf8_all (flat_map spelled (chars text.now))) f.new }
 {
     for c in text.chars() {
         fmt_letter(c, f)?;

@@ -63,7 +63,8 @@ fn gives_back(graph: &mut Numbers) -> Result<bool, AllocError> {
 /// Adds two regions to the only object, an operation, and returns whether they are in it in the order in which they were added.
 fn adds_two(graph: &mut Numbers, op: Ptr<Operation>) -> Result<bool, AllocError>
     requires { IsLive graph.old (TheOperation op) }
-    ensures kept { (m : ℕ) → m ≤ graph.old.made → before m graph.old.operations op ≡ None → KeepsOlder m graph.old graph.new }
+    ensures kept { (m : ℕ) → m ≤ graph.old.made → before m graph.old.operations op ≡ None
+        → KeepsOlder m graph.old graph.new }
 {
     let module = Object::TheOperation(op);
     let first = graph.add_region(op)?;

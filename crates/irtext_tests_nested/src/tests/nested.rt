@@ -1,11 +1,8 @@
 //! Operations that are printed with everything nested in them, with the items (operations and blocks with a mark); or why they are not.
 use crate::tests::steps::{FUNCTION, Made, Shape, Step, Used, built, operation_of};
 use irtext_context::base::Item;
-use irtext_demo::{DemoAttr, DemoType};
 use irtext_print::printable::{RegionPrintDepthLimit, State};
 use irtext_print_ops::nested::print_nested;
-use irtext_print_ops::walk::print_inside;
-use irtext_print_ops::writers::Heads;
 use irtext_tests_common::contexts::{Ctx, with_context};
 use std::alloc::Global;
 use std::test::Fail;
@@ -245,9 +242,7 @@ fn walked(alloc: Global, ctx: &Ctx, made: &Made, layout: Layout) -> Result<Strin
     let state = State::with_layout(alloc, layout.0, layout.1, layout.2, ());
     let mut items = Vec::new(alloc);
     let mut text = String::new(alloc);
-    match print_inside::<Heads, DemoType, DemoAttr, ()>(
-        ctx, op, layout.3, &state, &mut items, &mut text,
-    ) {
+    match print_nested(ctx, op, layout.3, &state, &mut items, &mut text) {
         Ok(()) => Ok(text),
         Err(refusal) => Ok(format!(in alloc; "{refusal:?}")?),
     }

@@ -68,7 +68,8 @@ pub fn refuse<S: CharStream, A>(stream: &mut S, cause: Cause<A>) -> ParseFault<A
 pub fn refuse_at<S: CharStream, A>(stream: &mut S, place: Place, cause: Cause<A>) -> ParseFault<A>
     ensures cause { result.cause ≡ cause }
     ensures committed { result.committed ≡ true }
-    ensures at { AtPlace place (S.view stream.old) (λ passed rest. IsAt result.pos.line result.pos.column passed) }
+    ensures at { AtPlace place (S.view stream.old) (λ passed rest. IsAt result.pos.line
+        result.pos.column passed) }
     ensures left { stream.new ≡ S.at stream.old (after_failure (S.view stream.old)) }
 {
     let pos = stream.locate(place);
@@ -102,7 +103,8 @@ pub fn pass<S: CharStream, A>(stream: &S, cause: Cause<A>) -> ParseFault<A>
 #[cold]
 #[inline(never)]
 pub fn unexpected<S: CharStream, A>(stream: &S, expected: Expected) -> ParseFault<A>
-    ensures { Passes S.view S.at (Unexpected (first_of (S.view stream.now).rest) (demand_of expected)) stream.now result stream.now }
+    ensures { Passes S.view S.at (Unexpected (first_of (S.view stream.now).rest) (demand_of expected))
+        stream.now result stream.now }
 {
     let found = stream.peek();
     pass(stream, Cause::Unexpected { found, expected })
@@ -113,7 +115,8 @@ pub fn unexpected<S: CharStream, A>(stream: &S, expected: Expected) -> ParseFaul
 #[cold]
 #[inline(never)]
 pub fn commit_unexpected<S: CharStream, A>(stream: &mut S, expected: Expected) -> ParseFault<A>
-    ensures { Commits S.view S.at (Unexpected (first_of (S.view stream.old).rest) (demand_of expected)) [] stream.old result stream.new }
+    ensures { Commits S.view S.at (Unexpected (first_of (S.view stream.old).rest) (demand_of expected)) []
+        stream.old result stream.new }
 {
     let found = stream.peek();
     refuse(stream, Cause::Unexpected { found, expected })

@@ -9,7 +9,8 @@ pub trait OwnStream: CharStream {
     /// Parses a value by its own parser, whose errors are returned unchanged. Only the stream's text is read, and nothing but the stream
     /// changes.
     fn read_own<X: IrText<A>, A>(&mut self) -> ParseResult<X, A>
-        ensures { MayRead Self.CharStream.view Self.CharStream.at (λ x. x) X.IrText.reading self.old result self.new };
+        ensures { MayRead Self.CharStream.view Self.CharStream.at (λ x. x) X.IrText.reading self.old result
+            self.new };
 }
 
 impl OwnStream for TextStream {

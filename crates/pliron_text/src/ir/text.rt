@@ -48,7 +48,8 @@ pub trait OperationText {
         ensures rest { KeepsRest stream.old.state stream.new.state }
         ensures refused { IfErr result (λ fault. Refusal stream.old.stream fault stream.new.stream) }
         ensures failed { RefusesFailed stream.old.stream result stream.new.stream }
-        ensures read { IfOk result (λ op. ReadsAny T.reading (attr_at A.reading) true op stream.old stream.new) }
+        ensures read { IfOk result (λ op. ReadsAny T.reading (attr_at A.reading) true op stream.old
+            stream.new) }
         ensures missed { stream.old.stream.failed ≡ false →
             IfErr result (UnlessMemory (MissesAny T.reading (attr_at A.reading) true stream.old)) }
         ensures builds { IsFresh stream.old →
@@ -73,7 +74,8 @@ pub trait OperationText {
         ensures rest { KeepsRest stream.old.state stream.new.state }
         ensures refused { IfErr result (λ fault. Refusal stream.old.stream fault stream.new.stream) }
         ensures failed { RefusesFailed stream.old.stream result stream.new.stream }
-        ensures read { IfOk result (λ op. ReadsWholeAny T.reading (attr_at A.reading) op stream.old stream.new) }
+        ensures read { IfOk result (λ op. ReadsWholeAny T.reading (attr_at A.reading) op stream.old
+            stream.new) }
         ensures missed { stream.old.stream.failed ≡ false →
             IfErr result (UnlessMemory (MissesWholeAny T.reading (attr_at A.reading) stream.old)) }
         ensures builds { IsFresh stream.old →

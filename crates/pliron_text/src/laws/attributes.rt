@@ -22,7 +22,8 @@ pub fn attribute_comes_back<A: AttrText<A>>()
 
 /// If a text does not begin with a letter or `_`, the parser finds no attribute there.
 pub fn attributes_are_missing<A: AttrText<A>>()
-    ensures { (text : List ℕ) → begins begins_word text ≡ false → (cause : Fault) × (attr_at A.reading text ≡ Missing cause) }
+    ensures { (text : List ℕ) → begins begins_word text ≡ false → (cause : Fault)
+        × (attr_at A.reading text ≡ Missing cause) }
 {}
 
 /// The parser of attributes accepts a text with a value and a rest exactly if the grammar of trees does, with the same value and rest.

@@ -23,7 +23,8 @@ pub fn location_comes_back<A>()
         (rest : List ℕ) (n : ℕ) → AllRead attr text_of l → AllFit l → EndsLocation rest →
         let text = written_text text_of l ++ rest in length text ≤ n → GivesBack (location_within attr n text) l text (left_behind l rest) }
     ensures leaves { (l : Written A) (rest : List ℕ) → after_space (left_behind l rest) ≡ after_space rest }
-    ensures leaves_all { (l : Written A) (rest : List ℕ) → begins is_whitespace rest ≡ false → left_behind l rest ≡ rest }
+    ensures leaves_all { (l : Written A) (rest : List ℕ) → begins is_whitespace rest ≡ false
+        → left_behind l rest ≡ rest }
 {}
 
 /// Two locations with the same text are the same location, if the text of each parses back.
@@ -42,5 +43,6 @@ pub fn bound_is_enough<A>()
         location_within attr m text ≡ location_within attr n text }
     ensures rows { (attr : List ℕ → Outcome (AttrView A)) (m n : ℕ) (text : List ℕ) → LeavesNoMore attr →
         length text ≤ m → length text ≤ n → more_within attr m text ≡ more_within attr n text }
-    ensures leaves_no_more { (attr : List ℕ → Outcome (AttrView A)) → LeavesNoMore attr → LeavesNoMore (location_at attr) }
+    ensures leaves_no_more { (attr : List ℕ → Outcome (AttrView A)) → LeavesNoMore attr
+        → LeavesNoMore (location_at attr) }
 {}

@@ -19,7 +19,8 @@ ghost use Rattle.irtext_grammar.specs.Grammar.Tree.{shown, Brace, Head, Name, Op
 /// The place of a used label is after its `^`, where its name begins. Outside of every region the use fails, with that place. Inside a
 /// region the use itself never fails.
 pub fn used_labels<T, A>()
-    ensures at_name { (types : Texts T) (owns : Texts A) (formats : Id → Option Format) (n : Name ℕ) (text rest : List ℕ) →
+    ensures at_name { (types : Texts T) (owns : Texts A) (formats : Id → Option Format) (n : Name ℕ)
+        (text rest : List ℕ) →
         target (language types owns formats) n text rest →
         (name : List ℕ) × (text ≡ codes "^" ++ name) × (n.place ≡ length name) × (n.text ≡ front in_word name) }
     ensures no_scope { (types : Texts T) (owns : Texts A) (formats : Id → Option Format) (n : Name ℕ)
@@ -37,7 +38,8 @@ pub fn labels_left_open<T, A>()
         (blocks : Blocks (Op ℕ T A) (Head ℕ T A) (Brace ℕ)) (text rest : List ℕ) →
         let l = language types owns formats in
         region_read l (shown place) (block_readings l blocks) text rest → (begins (the 123) text ≡ true) × (place ≡ length text) }
-    ensures reported { (place : ℕ) (scopes : Scopes) (isolated : Bool) (body behind : Script) (name : List ℕ) (user : User) →
+    ensures reported { (place : ℕ) (scopes : Scopes) (isolated : Bool) (body behind : Script) (name : List ℕ)
+        (user : User) →
         In (uses name user) (facts body).labels → (IsDefined name (facts body).labels → ⊥) →
         In (record { cause = UnresolvedReference name; at = Some place }) (failures scopes (within isolated place body behind)) }
     ensures nowhere_else { (place : ℕ) (isolated : Bool) (body : Script) (failure : Failure) →
@@ -47,7 +49,8 @@ pub fn labels_left_open<T, A>()
 /// The place of a block's label is its `^`. If its scope has a label of that name already, the definition fails, with that place.
 /// Otherwise it does not fail.
 pub fn block_labels<T, A>()
-    ensures at_caret { (types : Texts T) (owns : Texts A) (formats : Id → Option Format) (n : Name ℕ) (text rest : List ℕ) →
+    ensures at_caret { (types : Texts T) (owns : Texts A) (formats : Id → Option Format) (n : Name ℕ)
+        (text rest : List ℕ) →
         label (language types owns formats) n text rest → (begins (the 94) text ≡ true) × (n.place ≡ length text) }
     ensures again { (types : Texts T) (owns : Texts A) (formats : Id → Option Format) (n : Name ℕ)
         (text rest : List ℕ) (scopes : Scopes) (place : Place) (scope : List Fact) →
@@ -61,7 +64,8 @@ pub fn block_labels<T, A>()
 /// If one text is parsed as a block's label and also as a used label, both have the same name, and the place of the block's label is
 /// one character before the place of the used label.
 pub fn one_character_apart<T, A>()
-    ensures { (types : Texts T) (owns : Texts A) (formats : Id → Option Format) (block used : Name ℕ) (text t u : List ℕ) →
+    ensures { (types : Texts T) (owns : Texts A) (formats : Id → Option Format) (block used : Name ℕ)
+        (text t u : List ℕ) →
         let l = language types owns formats in
         label l block text t → target l used text u → (block.text ≡ used.text) × (block.place ≡ suc used.place) }
 {}

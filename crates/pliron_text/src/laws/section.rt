@@ -44,7 +44,8 @@ pub fn section_comes_back<T: IrText<A>, A: AttrText<A>, X>()
 /// as many as the section has items. The indices of the section's entries are in order too: the items' entries come first, and the
 /// print-once attributes follow without a gap, each in one entry.
 pub fn indices_in_order<T, A>()
-    ensures marks { (C : Printing T A) (isolated : Id → Bool) (l : Option ℕ) (g : Graph T A) → HasIdentifiers C g → Fit C isolated g →
+    ensures marks { (C : Printing T A) (isolated : Id → Bool) (l : Option ℕ) (g : Graph T A)
+        → HasIdentifiers C g → Fit C isolated g →
         (facts same_text (tree_script isolated (written C l g) done)).marks ≡ numbers 0 (length (entries_of C l g)) }
     ensures entries { (C : Printing T A) (l : Option ℕ) (g : Graph T A) →
         map index_of (written_section C (entries_of C l g)) ≡ numbers 0 (length (entries_of C l g) + length (shared C (entries_of C l g))) }

@@ -45,7 +45,8 @@ pub trait Making<T: IrText<A>, A: AttrText<A>> {
         ensures made { IfOk result (λ p. MakesOperation (seen self.old) (seen self.new) p
             (record { id = id; attributes = attributes; loc = loc }) [] [] []) }
         ensures err { OnErr result (seen self.new ≡ seen self.old) }
-        ensures kept { (mark : ℕ) → mark ≤ (seen self.old).graph.made → KeepsOlder mark (seen self.old) (seen self.new) };
+        ensures kept { (mark : ℕ) → mark ≤ (seen self.old).graph.made → KeepsOlder mark (seen self.old)
+            (seen self.new) };
 
     /// Makes an operation without regions, with results of these types and these operands and successors. Fails if an allocation fails or
     /// a counter is at its limit; then the context is unchanged.
@@ -63,7 +64,8 @@ pub trait Making<T: IrText<A>, A: AttrText<A>> {
         ensures made { IfOk result (λ p. MakesOperation (seen self.old) (seen self.new) p
             (record { id = id; attributes = attributes; loc = loc }) result_types operands.now successors.now) }
         ensures err { OnErr result (seen self.new ≡ seen self.old) }
-        ensures kept { (mark : ℕ) → mark ≤ (seen self.old).graph.made → KeepsOlder mark (seen self.old) (seen self.new) };
+        ensures kept { (mark : ℕ) → mark ≤ (seen self.old).graph.made → KeepsOlder mark (seen self.old)
+            (seen self.new) };
 
     /// Makes a block without a parent and without operations, with arguments of these types. Fails if an allocation fails or a counter is
     /// at its limit; then the context is unchanged.
@@ -77,7 +79,8 @@ pub trait Making<T: IrText<A>, A: AttrText<A>> {
         ensures made { IfOk result (λ p. MakesBlock (seen self.old) (seen self.new) p
             (record { label = label; attributes = attributes; loc = loc }) arg_types) }
         ensures err { OnErr result (seen self.new ≡ seen self.old) }
-        ensures kept { (mark : ℕ) → mark ≤ (seen self.old).graph.made → KeepsOlder mark (seen self.old) (seen self.new) };
+        ensures kept { (mark : ℕ) → mark ≤ (seen self.old).graph.made → KeepsOlder mark (seen self.old)
+            (seen self.new) };
 
     /// Adds an empty region to an operation, after its other regions. Fails if an allocation fails or a counter is at its limit; then the
     /// context is unchanged.
@@ -85,7 +88,8 @@ pub trait Making<T: IrText<A>, A: AttrText<A>> {
         requires { IsLive (seen self.old).graph (TheOperation op) }
         ensures added { IfOk result (λ r. AddsRegion (seen self.old) (seen self.new) op r) }
         ensures err { OnErr result (seen self.new ≡ seen self.old) }
-        ensures kept { (mark : ℕ) → mark ≤ (seen self.old).graph.made → before mark (seen self.old).graph.operations op ≡ None →
+        ensures kept { (mark : ℕ) → mark ≤ (seen self.old).graph.made
+            → before mark (seen self.old).graph.operations op ≡ None →
             KeepsOlder mark (seen self.old) (seen self.new) };
 
     /// Removes every object that was made since `made` returned this mark. Paths and dialects stay. It allocates nothing.
@@ -98,7 +102,8 @@ pub trait Making<T: IrText<A>, A: AttrText<A>> {
     /// Fails if an allocation fails or the index of the path takes more than 32 bits; then the context is unchanged.
     fn keep_path(&mut self, path: &str) -> Result<PathKey, AllocError>
         ensures key { IfOk result (λ key. key.index ≡ path_index (seen self.old).paths path.now) }
-        ensures kept { OnOk result (seen self.new ≡ record (seen self.old) { paths = with_path (seen self.old).paths path.now }) }
+        ensures kept { OnOk result (seen self.new ≡ record (seen self.old)
+            { paths = with_path (seen self.old).paths path.now }) }
         ensures err { OnErr result (seen self.new ≡ seen self.old) }
         ensures known { OnErr result (MayBeRefused (seen self.old).paths path.now) };
 }

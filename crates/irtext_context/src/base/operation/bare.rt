@@ -28,7 +28,8 @@ pub trait NewBareOperation {
         ensures registered { OnOk result (IsSome (registered ctx.old.dialects id)) }
         ensures kept { (mark : ℕ) → mark ≤ ctx.old.graph.made → KeepsOlder mark ctx.old ctx.new }
         ensures objects { OnErr result (SameObjects ctx.old ctx.new) }
-        ensures refused { IfErr result (λ e. (IsSome (registered ctx.old.dialects id) × (e.err ≡ Cause.Memory)) ⊎
+        ensures refused { IfErr result (λ e. (IsSome (registered ctx.old.dialects id)
+            × (e.err ≡ Cause.Memory)) ⊎
             IsUnregistered ctx.old.dialects id e.err) }
         ensures kind { IfErr result (λ e. (e.kind ≡ ErrorKind.InvalidArgument) × (e.loc ≡ Unknown)) };
 }

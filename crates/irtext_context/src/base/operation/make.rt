@@ -31,7 +31,8 @@ pub fn add_regions<T: IrText<A>, A: AttrText<A>>(
 ) -> Result<(), AllocError>
     requires { IsLive ctx.old.graph (TheOperation op) }
     ensures adds { OnOk result (AddsRegions count ctx.old ctx.new op) }
-    ensures kept { (mark : ℕ) → mark ≤ ctx.old.graph.made → before mark ctx.old.graph.operations op ≡ None → KeepsOlder mark ctx.old ctx.new }
+    ensures kept { (mark : ℕ) → mark ≤ ctx.old.graph.made → before mark ctx.old.graph.operations op ≡ None
+        → KeepsOlder mark ctx.old ctx.new }
 {
     for _region in 0..count {
         ctx.add_region(op)?;
@@ -51,7 +52,8 @@ fn make<T: IrText<A>, A: AttrText<A>>(
 ) -> Result<Ptr<Operation>, AllocError>
     requires operands { ValuesStand ctx.old operands.now }
     requires successors { BlocksStand ctx.old successors.now }
-    ensures made { IfOk result (λ op. MakesWithRegions num_regions ctx.old ctx.new op id result_types operands.now successors.now) }
+    ensures made { IfOk result (λ op. MakesWithRegions num_regions ctx.old ctx.new op id result_types
+        operands.now successors.now) }
     ensures kept { (mark : ℕ) → mark ≤ ctx.old.graph.made → KeepsOlder mark ctx.old ctx.new }
 {
     let attributes = AttributeDict::new(ctx.allocator());
@@ -83,11 +85,13 @@ pub trait NewOperation {
     ) -> result::Result<Ptr<Operation>, A>
         requires operands { ValuesStand ctx.old operands.now }
         requires successors { BlocksStand ctx.old successors.now }
-        ensures made { IfOk result (λ op. MakesWithRegions num_regions ctx.old ctx.new op id result_types operands.now successors.now) }
+        ensures made { IfOk result (λ op. MakesWithRegions num_regions ctx.old ctx.new op id result_types
+            operands.now successors.now) }
         ensures registered { OnOk result (IsSome (registered ctx.old.dialects id)) }
         ensures kept { (mark : ℕ) → mark ≤ ctx.old.graph.made → KeepsOlder mark ctx.old ctx.new }
         ensures objects { OnErr result (SameObjects ctx.old ctx.new) }
-        ensures refused { IfErr result (λ e. (IsSome (registered ctx.old.dialects id) × (e.err ≡ Cause.Memory)) ⊎
+        ensures refused { IfErr result (λ e. (IsSome (registered ctx.old.dialects id)
+            × (e.err ≡ Cause.Memory)) ⊎
             IsUnregistered ctx.old.dialects id e.err) }
         ensures kind { IfErr result (λ e. (e.kind ≡ ErrorKind.InvalidArgument) × (e.loc ≡ Unknown)) };
 }

@@ -153,7 +153,8 @@ fn put<A: Drop>(
 ) -> Result<(), AllocError>
     requires few { IsFew stored.old }
     requires differ { distinct bytes_eq (keys_of (entries_of stored.old)) ≡ true }
-    ensures ok { OnOk result (entries_of stored.new ≡ insert_entry bytes_eq (entries_of stored.old) key attr) }
+    ensures ok { OnOk result (entries_of stored.new ≡ insert_entry bytes_eq (entries_of stored.old)
+        key attr) }
     ensures err { OnErr result (entries_of stored.new ≡ entries_of stored.old) }
     ensures few { IsFew stored.new }
 {
@@ -177,7 +178,8 @@ fn put<A: Drop>(
 fn take<A: Drop>(stored: &mut Stored<A>, key: &Identifier) -> Option<(usize, AttrObj<A>)>
     ensures entries { entries_of stored.new ≡ shift_remove_entry (bytes_eq key.now) (entries_of stored.old) }
     ensures value { option_map (λ p. p.1) result ≡ lookup (bytes_eq key.now) (entries_of stored.old) }
-    ensures index { IfSome result (λ p. position (bytes_eq key.now) (keys_of (entries_of stored.old)) ≡ Some p.0) }
+    ensures index { IfSome result (λ p. position (bytes_eq key.now) (keys_of (entries_of stored.old)) ≡
+        Some p.0) }
     ensures few { IsFew stored.old → IsFew stored.new }
 {
     match stored {

@@ -9,7 +9,8 @@ use Rattle.irtext_parse_nested.specs.Definitions.{defined_value, DefinesRow, Fai
 use Rattle.irtext_parse_nested.specs.Ends.{numbers_of}
 use Rattle.irtext_parse_nested.proofs.Losing.{loses_more, defined_loses}
 use Rattle.irtext_parse_nested.proofs.Numbered.{known_at, number_more, number_here, numbers_before, numbered_within, take_numbers}
-use Rattle.irtext_parse_nested.proofs.Rowed.{still_ready, define_open, define_length, define_more, define_fails}
+use Rattle.irtext_names.proofs.Results.{still_ready, define_open}
+use Rattle.irtext_parse_nested.proofs.Rowed.{define_length, define_more, define_fails}
 use Rattle.irtext_parse_nested.proofs.definitions.define_values.Goals as goal
 
 pub ssa_def-requires-clause-known : goal.ssa_def-requires-clause-known
@@ -55,8 +56,8 @@ loop-index-preserved g c =
     let more = define_more value (take n ns) number c.args.names.now c.loop-index.names c.ssa_def.new.names c.args.graph.now c.loop-index.graph c.ssa_def.new.graph i.rest.0 i.defines follows in
     record {
       defines = subst (λ ms. DefinesRow value ms c.args.names.now c.ssa_def.new.names c.args.graph.now c.ssa_def.new.graph) (sym (number_more ns n number is)) more;
-      ready = λ j l. still_ready value number v (value j) c.loop-index.names.values c.ssa_def.new.names.values c.loop-index.names.labels c.loop-index.graph c.ssa_def.new.graph i.tied defines (i.ready j l);
-      scope = define_open value number v c.loop-index.names.values c.ssa_def.new.names.values c.loop-index.graph c.ssa_def.new.graph defines i.scope;
+      ready = λ j l. still_ready number v (value j) c.loop-index.names.values c.ssa_def.new.names.values c.loop-index.names.labels c.loop-index.graph c.ssa_def.new.graph i.tied defines (i.ready j l);
+      scope = define_open number v c.loop-index.names.values c.ssa_def.new.names.values c.loop-index.graph c.ssa_def.new.graph defines i.scope;
       loses = loses_more i.loses (defined_loses OfValue c.loop-index.names.values c.ssa_def.new.names.values c.loop-index.graph c.ssa_def.new.graph number v i.tied.value_ties defines);
       values = define_length value number v c.loop-index.names.values c.ssa_def.new.names.values c.loop-index.graph c.ssa_def.new.graph defines ∙ i.values;
       rest = (s.rest.0 ∙ i.rest.0, s.rest.1 ∙ i.rest.1);

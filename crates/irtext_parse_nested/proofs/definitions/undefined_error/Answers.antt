@@ -3,15 +3,15 @@ use Rattle.irtext_parse_nested.specs.Ends.{numbers_of}
 use Rattle.irtext_parse_nested.proofs.Numbered.{known_at, item_there, number_there}
 use Rattle.irtext_parse_nested.proofs.definitions.undefined_error.Goals as goal
 
-pub redefinition_error-requires : goal.redefinition_error-requires
-redefinition_error-requires g c =
+pub name_error-requires : goal.name_error-requires
+name_error-requires g c =
     let ns = c.args.defined.now in
     let i = c.args.undefined.index in
     let read = c.index.result.now in
     known_at (length c.args.names.now.names) (numbers_of ns) i read.name (number_there ns i read (item_there ns i read c.requires.within c.index.ensures)) c.requires.known
 
 pub returns-in-MultipleDefinitions : goal.returns-in-MultipleDefinitions
-returns-in-MultipleDefinitions g c = elim c.redefinition_error.ensures [
+returns-in-MultipleDefinitions g c = elim c.name_error.ensures [
   | inl starved ↦ inl starved
   | inr says ↦ inr (record {
     twice = c.in-MultipleDefinitions.is;

@@ -1,15 +1,7 @@
-use Rattle.std.proofs.Common.{◌≡◌, map}
-use Rattle.irtext_grammar.specs.Graphs.Build.{put_all}
 use Rattle.irtext_grammar.specs.Contexts.Held.{entries_of}
 use Rattle.irtext_grammar.specs.Names.Acts.{block_may_hold}
-use Rattle.irtext_parse_nested.specs.declared.operation_parts.NotGathered.{NotGathered}
-use Rattle.irtext_parse_nested.specs.Blocks.{AreAllowed, Forbids}
-use Rattle.irtext_parse_nested.specs.Gathered.{entry_read}
+use Rattle.irtext_parse_nested.proofs.EntriesStored.{StoresEntries}
 use Rattle.irtext_parse_nested.proofs.dictionary.block_entries_stored.Given as goal
 
 abbrev pub invariant-loop-entry : goal.invariant-loop-entry
-invariant-loop-entry g l = record {
-  stored : put_all (entries_of l.attributes) (map entry_read l.entry-iterator.rest.items) ≡ put_all (entries_of l.fn.attributes) (map entry_read l.fn.entries.items);
-  allowed : AreAllowed block_may_hold l.entry-iterator.rest.items → AreAllowed block_may_hold l.fn.entries.items;
-  refused : (r : NotGathered) → Forbids block_may_hold l.entry-iterator.rest.items r → Forbids block_may_hold l.fn.entries.items r;
-}
+invariant-loop-entry g l = StoresEntries block_may_hold (entries_of l.fn.attributes) (entries_of l.attributes) l.fn.entries.items l.entry-iterator.rest.items

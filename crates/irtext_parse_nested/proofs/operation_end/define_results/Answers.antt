@@ -11,7 +11,7 @@ pub returns-then-not-has_value_scope-clause-refused : goal.returns-then-not-has_
 returns-then-not-has_value_scope-clause-refused g c =
     let counts : length c.args.begun.now.names ≡ c.args.begun.now.results = sym c.len.ensures ∙ c.if-len-begun.false in
     let there : 0 < length c.args.begun.now.names = omega (arith, counts, c.if-begun-eq0.false) in
-    elim c.no_scope_error.ensures [
+    elim c.name_error.ensures [
       | inl starved ↦ inl starved
       | inr says ↦ inr (no_scope c.index.result.now (item_there c.args.begun.now.names 0 c.index.result.now there c.index.ensures) counts (sym c.has_value_scope.ensures ∙ c.if-not-has_value_scope.true) says)
     ]

@@ -1,14 +1,12 @@
-use Rattle.std.proofs.Common.{◌≡◌, subst}
+use Rattle.std.proofs.Common.{subst}
 use Rattle.irtext_graph.specs.declared.object.Object.TheVariants.{TheBlock, TheRegion}
 use Rattle.irtext_graph.specs.Graph.{children, parent}
 use Rattle.irtext_graph.specs.Nested.{Nested}
-use Rattle.irtext_graph.proofs.Inside.{alone}
+use Rattle.irtext_parse_nested.proofs.Apart.{apart_of}
 use Rattle.irtext_parse_nested.proofs.placing.put_last.Goals as goal
 
 pub insert_at_back-requires-clause-can : goal.insert_at_back-requires-clause-can
 insert_at_back-requires-clause-can g c = record {
   free = c.requires.free;
-  apart = λ w.
-      let nested = subst (λ k. Nested (children k) (parent k)) c.graph.ensures c.keeps_nesting.ensures.forest in
-      let same : TheRegion c.args.region ≡ TheBlock c.args.block = alone nested (TheBlock c.args.block) (TheRegion c.args.region) c.requires.empty w in cc;
+  apart = apart_of (subst (λ k. Nested (children k) (parent k)) c.graph.ensures c.keeps_nesting.ensures.forest) (TheBlock c.args.block) (TheRegion c.args.region) c.requires.empty (λ e. cc);
 }

@@ -5,7 +5,8 @@ use Rattle.irtext_tokens.specs.AttrTexts.{attr_at}
 use Rattle.irtext_parse_spec.proofs.Edits.{region_added_came, region_added_gains, region_added_spares}
 use Rattle.irtext_parse_nested.specs.Items.{KeepsLive}
 use Rattle.irtext_parse_nested.proofs.Entering.{unentered, unbraced, braced}
-use Rattle.irtext_parse_nested.proofs.RegionBegun.{region_lasts, region_sound}
+use Rattle.irtext_parse_nested.proofs.NamesLeft.{sound_left}
+use Rattle.irtext_parse_nested.proofs.RegionBegun.{region_lasts, region_there, added_leaves}
 use Rattle.irtext_parse_nested.proofs.regions.region_begin.Goals as goal
 
 pub add-requires : goal.add-requires
@@ -21,15 +22,18 @@ returns-in_err-brace_demanded-clause-refused g c =
     let e = c.in_ok-enter_here.ensures in
     let a = c.in_ok-region.ensures in
     let p = err_from_is_err_and c.from_residual-in_err-brace_demanded.result c.from_residual-in_err-brace_demanded.ensures.1 in
-    rw (p.1, p.2) (unbraced g.T.IrText.reading (attr_at g.A.IrText.reading) c.args.isolated c.args.names.now c.args.s.now c.enter_here.new.names c.add.new.s c.args.op c.in_ok-region.region e.takes
-    (subst (λ x. AddsRegion x c.add.new.s.state.ctx.now c.args.op c.in_ok-region.region) e.ctx a.adds) c.requires.stands e.tied (a.marks ∙ e.marks) (a.stream ∙ e.stream) _ _ c.requires.fine c.in_err-brace_demanded.ensures)
+    let adds = subst (λ x. AddsRegion x c.add.new.s.state.ctx.now c.args.op c.in_ok-region.region) e.ctx a.adds in
+    rw (p.1, p.2) (unbraced g.T.IrText.reading (attr_at g.A.IrText.reading) c.args.isolated c.args.names.now c.args.s.now c.enter_here.new.names c.add.new.s e.takes
+    (added_leaves _ _ c.args.op c.in_ok-region.region adds c.requires.stands) e.tied (a.marks ∙ e.marks) (a.stream ∙ e.stream) _ _ c.requires.fine c.in_err-brace_demanded.ensures)
 
 pub returns-clause-begins : goal.returns-clause-begins
 returns-clause-begins g c =
     let e = c.in_ok-enter_here.ensures in
     let a = c.in_ok-region.ensures in
-    braced g.T.IrText.reading (attr_at g.A.IrText.reading) c.args.isolated c.args.names.now c.args.s.now c.enter_here.new.names c.add.new.s c.args.op c.in_ok-region.region e.takes
-    (subst (λ x. AddsRegion x c.add.new.s.state.ctx.now c.args.op c.in_ok-region.region) e.ctx a.adds) c.requires.stands e.tied (a.marks ∙ e.marks) (a.stream ∙ e.stream)
+    let adds = subst (λ x. AddsRegion x c.add.new.s.state.ctx.now c.args.op c.in_ok-region.region) e.ctx a.adds in
+    braced g.T.IrText.reading (attr_at g.A.IrText.reading) c.args.isolated c.args.names.now c.args.s.now c.enter_here.new.names c.add.new.s e.takes
+    (added_leaves _ _ c.args.op c.in_ok-region.region adds c.requires.stands) e.tied (a.marks ∙ e.marks) (a.stream ∙ e.stream)
+    c.in_ok-region.region (region_there _ _ c.args.op c.in_ok-region.region adds)
     (record { region = c.in_ok-region.region; isolated = c.args.isolated; at = c.position-at.result }) _ refl c.in_ok-brace_demanded.ensures refl refl
     (record { passed = c.args.s.now.stream.passed; rest = c.args.s.now.stream.rest; same = refl; stands = c.position-at.ensures; counts = refl })
 
@@ -41,7 +45,7 @@ returns-clause-sound g c = λ m le h.
     let e = c.in_ok-enter_here.ensures in
     let a = c.in_ok-region.ensures in
     let adds = subst (λ x. AddsRegion x c.add.new.s.state.ctx.now c.args.op c.in_ok-region.region) e.ctx a.adds in
-    region_sound c.args.s.now.state.ctx.now c.add.new.s.state.ctx.now c.args.op c.in_ok-region.region adds c.requires.stands c.enter_here.new.names m c.args.s.now.state c.add.new.s.state refl refl
+    sound_left c.args.s.now.state.ctx.now c.add.new.s.state.ctx.now (added_leaves _ _ c.args.op c.in_ok-region.region adds c.requires.stands) c.enter_here.new.names c.args.s.now.state c.add.new.s.state refl refl m
     (record { tied = e.tied; waiting = e.waiting m [] h.waiting; blanks = h.blanks })
 
 pub returns-clause-came : goal.returns-clause-came

@@ -1,34 +1,29 @@
 use Rattle.std.proofs.Common.{[], refl}
-use Rattle.irtext_tokens.proofs.Steps.{Lens, lens}
 use Rattle.irtext_tokens.specs.AttrTexts.{attr_at}
 use Rattle.irtext_parse_spec.specs.Heads.{argument_at}
 use Rattle.irtext_parse_pieces.proofs.Meanings.{names_more, must_refuse}
 use Rattle.irtext_parse_pieces.specs.declared.lists.NameKind.TheVariants as kind
 use Rattle.irtext_parse_pieces.proofs.Absences.{missing_followed, no_name_begins, list_unbegun}
 use Rattle.irtext_parse_pieces.proofs.Listings.{list_bad, list_none, list_arguments}
-use Rattle.irtext_parse_pieces.proofs.arguments.arguments_parse.Given as given
+use Rattle.irtext_parse_pieces.proofs.Lenses.{lens_of}
 use Rattle.irtext_parse_pieces.proofs.arguments.arguments_parse.Goals as goal
-
--- the stream's view, and the rules that it keeps
-abbrev stream : (g : given.Over) → Lens g.row.S.Denot
-stream g = let m = g.met.S.CharStream in lens g.S.CharStream.view g.S.CharStream.at m.view_at m.at_view m.at_at
 
 pub returns-then-none_named-clause-read : goal.returns-then-none_named-clause-read
 returns-then-none_named-clause-read g c =
-    list_unbegun (stream g) (argument_at g.T.IrText.reading (attr_at g.A.IrText.reading)) kind.Value (λ text b. missing_followed _ (no_name_begins text b)) c.none_named.ensures c.if-none_named.true c.none.result (rw c.none.ensures tt)
+    list_unbegun (lens_of g.world g.met.S.CharStream) (argument_at g.T.IrText.reading (attr_at g.A.IrText.reading)) kind.Value (λ text b. missing_followed _ (no_name_begins text b)) c.none_named.ensures c.if-none_named.true c.none.result (rw c.none.ensures tt)
 
 pub returns-in-Ok-clause-read : goal.returns-in-Ok-clause-read
-returns-in-Ok-clause-read g c = list_arguments (stream g) (argument_at g.T.IrText.reading (attr_at g.A.IrText.reading)) c.argument_parse.new.names.names c.more_arguments.new.names.names c.in-Ok.ensures.read c.skip_white_space.ensures c.more_arguments.ensures.read
+returns-in-Ok-clause-read g c = list_arguments (lens_of g.world g.met.S.CharStream) (argument_at g.T.IrText.reading (attr_at g.A.IrText.reading)) c.argument_parse.new.names.names c.more_arguments.new.names.names c.in-Ok.ensures.read c.skip_white_space.ensures c.more_arguments.ensures.read
 
 pub returns-in-Ok-clause-names : goal.returns-in-Ok-clause-names
 returns-in-Ok-clause-names g c = names_more _ _ _ c.in-Ok.ensures.names c.more_arguments.ensures.names
 
 pub returns-then-fault-clause-read : goal.returns-then-fault-clause-read
-returns-then-fault-clause-read g c = must_refuse (stream g) (list_bad (stream g) (argument_at g.T.IrText.reading (attr_at g.A.IrText.reading)) (λ _. []) c.if-fault.true c.in-Err.ensures.read.read)
+returns-then-fault-clause-read g c = must_refuse (lens_of g.world g.met.S.CharStream) (list_bad (lens_of g.world g.met.S.CharStream) (argument_at g.T.IrText.reading (attr_at g.A.IrText.reading)) (λ _. []) c.if-fault.true c.in-Err.ensures.read.read)
 
 pub returns-else-fault-clause-read : goal.returns-else-fault-clause-read
 returns-else-fault-clause-read g c = record {
   meant = λ _. [];
   means = rw c.none-in-Err.ensures tt;
-  read = list_none (stream g) (argument_at g.T.IrText.reading (attr_at g.A.IrText.reading)) (λ _. []) c.none-in-Err.result refl c.if-fault.false c.in-Err.ensures.read.read;
+  read = list_none (lens_of g.world g.met.S.CharStream) (argument_at g.T.IrText.reading (attr_at g.A.IrText.reading)) (λ _. []) c.none-in-Err.result refl c.if-fault.false c.in-Err.ensures.read.read;
 }

@@ -1,6 +1,5 @@
 use Rattle.std.proofs.Common.{refl, subst}
 use Rattle.irtext_base.specs.Format as format
-use Rattle.irtext_tokens.proofs.Steps.{Lens, lens}
 use Rattle.irtext_tokens.specs.AttrTexts.{attr_at}
 use Rattle.irtext_grammar.specs.Grammar.Tree as tree
 use Rattle.irtext_parse_spec.specs.Heads.{flat, dictionary_at}
@@ -8,16 +7,12 @@ use Rattle.irtext_parse_pieces.specs.declared.pieces.ReadPiece.TheVariants as re
 use Rattle.irtext_parse_pieces.proofs.CanonicalSteps.{step_read, spaced_mean}
 use Rattle.irtext_parse_pieces.specs.Entries.{AreEntries}
 use Rattle.irtext_parse_pieces.specs.Named.{whole}
-use Rattle.irtext_parse_pieces.proofs.canonical.entries_parse.Given as given
+use Rattle.irtext_parse_pieces.proofs.Lenses.{lens_of}
 use Rattle.irtext_parse_pieces.proofs.canonical.entries_parse.Goals as goal
-
--- the stream's view, and the rules that it keeps
-abbrev stream : (g : given.Over) → Lens g.row.S.Denot
-stream g = let m = g.met.S.CharStream in lens g.S.CharStream.view g.S.CharStream.at m.view_at m.at_view m.at_at
 
 pub returns : goal.returns
 returns g c = λ names fine.
-    let l = stream g in
+    let l = lens_of g.world g.met.S.CharStream in
     let text = whole (l.view c.args.stream.now) in
     step_read l g.T.IrText.reading (attr_at g.A.IrText.reading) c.args.inside (dictionary_at (attr_at g.A.IrText.reading)) tree.dictionary (flat format.dictionary) (λ u. refl) (λ es ds. AreEntries text es ds) read.Dictionary names (λ y x m. (x, refl, m))
     (spaced_mean l fine c.skip_white_space.ensures (λ e y x m. subst (λ t. AreEntries t y x) e m) c.dictionary_parse.ensures)

@@ -6,18 +6,14 @@ use Rattle.irtext_tokens.specs.AttrTexts.{attr_at}
 use Rattle.irtext_tokens.specs.ListOutcomes.{separated_at}
 use Rattle.irtext_tokens.specs.Tokens.{space_at, text_at}
 use Rattle.irtext_tokens.proofs.Exits.{handed_on}
-use Rattle.irtext_tokens.proofs.Steps.{Lens, lens, first, spaced, more, refuses, refuses_seen, last_seen}
+use Rattle.irtext_tokens.proofs.Steps.{first, spaced, more, refuses, refuses_seen, last_seen}
 use Rattle.irtext_grammar.specs.Grammar.Tree.{Name, Attribute}
 use Rattle.irtext_parse_spec.specs.Heads.{pair_at, dictionary_at}
 use Rattle.irtext_parse_pieces.specs.Entries.{AreEntries}
 use Rattle.irtext_parse_pieces.proofs.EntrySteps.{first_refused}
 use Rattle.irtext_parse_pieces.proofs.Meanings.{must_refuse, passed_whole}
-use Rattle.irtext_parse_pieces.proofs.entries.bracketed_parse.Given as given
+use Rattle.irtext_parse_pieces.proofs.Lenses.{lens_of}
 use Rattle.irtext_parse_pieces.proofs.entries.bracketed_parse.Goals as goal
-
--- the stream's view, and the rules that it keeps
-abbrev stream : (g : given.Over) → Lens g.row.S.Denot
-stream g = let m = g.met.S.CharStream in lens g.S.CharStream.view g.S.CharStream.at m.view_at m.at_view m.at_at
 
 -- what follows the entries
 abbrev behind_entries : {A : Type 0} → List (Name ℕ × Attribute A) → Text → Outcome (List (Name ℕ × Attribute A))
@@ -30,12 +26,12 @@ behind_bracket attr u t = followed (space_at t) (λ _ u. followed (separated_at 
 pub returns-in_err-text_demanded : goal.returns-in_err-text_demanded
 unfolding dictionary_at
 returns-in_err-text_demanded g c =
-    rw (handed_on c.from_residual.result c.from_residual.ensures.1) (must_refuse (stream g) (first_refused (stream g) {sees = λ _. []} (behind_bracket (attr_at g.A.IrText.reading)) c.in_err-text_demanded.ensures))
+    rw (handed_on c.from_residual.result c.from_residual.ensures.1) (must_refuse (lens_of g.world g.met.S.CharStream) (first_refused (lens_of g.world g.met.S.CharStream) {sees = λ _. []} (behind_bracket (attr_at g.A.IrText.reading)) c.in_err-text_demanded.ensures))
 
 pub returns-in_err-entries : goal.returns-in_err-entries
 unfolding dictionary_at
 returns-in_err-entries g c =
-    let l = stream g in
+    let l = lens_of g.world g.met.S.CharStream in
     let attr = attr_at g.A.IrText.reading in
     let p1 = spaced l (λ _ u. followed (separated_at 44 (pair_at attr) u) behind_entries) (first l (behind_bracket attr) c.in_ok-text_demanded.ensures) c.skip_white_space.ensures in
     rw (handed_on c.from_residual-in_err-entries.result c.from_residual-in_err-entries.ensures.1) (must_refuse l (refuses l {sees = λ _. []} behind_entries p1 c.in_err-entries.ensures.read))
@@ -43,7 +39,7 @@ returns-in_err-entries g c =
 pub returns-in_err-text_demanded-2 : goal.returns-in_err-text_demanded-2
 unfolding dictionary_at
 returns-in_err-text_demanded-2 g c =
-    let l = stream g in
+    let l = lens_of g.world g.met.S.CharStream in
     let attr = attr_at g.A.IrText.reading in
     let h = c.in_ok-entries.ensures in
     let es = h.meant c.in_ok-entries.entries in
@@ -54,7 +50,7 @@ returns-in_err-text_demanded-2 g c =
 pub returns : goal.returns
 unfolding dictionary_at
 returns g c =
-    let l = stream g in
+    let l = lens_of g.world g.met.S.CharStream in
     let attr = attr_at g.A.IrText.reading in
     let h = c.in_ok-entries.ensures in
     let es = h.meant c.in_ok-entries.entries in

@@ -1,5 +1,4 @@
 use Rattle.std.proofs.Common.{[], refl}
-use Rattle.irtext_tokens.proofs.Steps.{Lens, lens}
 use Rattle.irtext_tokens.specs.AttrTexts.{attr_at}
 use Rattle.irtext_parse_spec.specs.Heads.{pair_at}
 use Rattle.irtext_parse_pieces.proofs.Meanings.{must_refuse}
@@ -7,26 +6,22 @@ use Rattle.irtext_parse_pieces.specs.declared.lists.NameKind.TheVariants as kind
 use Rattle.irtext_parse_pieces.proofs.Absences.{missing_followed, no_name_begins, list_unbegun}
 use Rattle.irtext_parse_pieces.proofs.Listings.{list_bad, list_none}
 use Rattle.irtext_parse_pieces.proofs.EntrySteps.{list_entries}
-use Rattle.irtext_parse_pieces.proofs.entries.entries_parse.Given as given
+use Rattle.irtext_parse_pieces.proofs.Lenses.{lens_of}
 use Rattle.irtext_parse_pieces.proofs.entries.entries_parse.Goals as goal
-
--- the stream's view, and the rules that it keeps
-abbrev stream : (g : given.Over) → Lens g.row.S.Denot
-stream g = let m = g.met.S.CharStream in lens g.S.CharStream.view g.S.CharStream.at m.view_at m.at_view m.at_at
 
 pub returns-then-none_named : goal.returns-then-none_named
 returns-then-none_named g c =
-    list_unbegun (stream g) (pair_at (attr_at g.A.IrText.reading)) kind.Value (λ text b. missing_followed _ (no_name_begins text b)) c.none_named.ensures c.if-none_named.true c.new.result (rw c.new.ensures.items tt)
+    list_unbegun (lens_of g.world g.met.S.CharStream) (pair_at (attr_at g.A.IrText.reading)) kind.Value (λ text b. missing_followed _ (no_name_begins text b)) c.none_named.ensures c.if-none_named.true c.new.result (rw c.new.ensures.items tt)
 
 pub returns-in-Ok : goal.returns-in-Ok
-returns-in-Ok g c = list_entries (stream g) (pair_at (attr_at g.A.IrText.reading)) c.in-Ok.ensures c.skip_white_space.ensures c.more_entries.ensures
+returns-in-Ok g c = list_entries (lens_of g.world g.met.S.CharStream) (pair_at (attr_at g.A.IrText.reading)) c.in-Ok.ensures c.skip_white_space.ensures c.more_entries.ensures
 
 pub returns-then-fault : goal.returns-then-fault
-returns-then-fault g c = must_refuse (stream g) (list_bad (stream g) (pair_at (attr_at g.A.IrText.reading)) (λ _. []) c.if-fault.true c.in-Err.ensures.read)
+returns-then-fault g c = must_refuse (lens_of g.world g.met.S.CharStream) (list_bad (lens_of g.world g.met.S.CharStream) (pair_at (attr_at g.A.IrText.reading)) (λ _. []) c.if-fault.true c.in-Err.ensures.read)
 
 pub returns-else-fault : goal.returns-else-fault
 returns-else-fault g c = record {
   meant = λ _. [];
   means = rw c.new-in-Err.ensures.items tt;
-  read = list_none (stream g) (pair_at (attr_at g.A.IrText.reading)) (λ _. []) c.new-in-Err.result refl c.if-fault.false c.in-Err.ensures.read;
+  read = list_none (lens_of g.world g.met.S.CharStream) (pair_at (attr_at g.A.IrText.reading)) (λ _. []) c.new-in-Err.result refl c.if-fault.false c.in-Err.ensures.read;
 }

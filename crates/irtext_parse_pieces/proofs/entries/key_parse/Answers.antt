@@ -1,33 +1,28 @@
 use Rattle.std.proofs.Common.{sym, ◌∙◌}
 use Rattle.irtext_base.specs.Text.{front, after, in_word}
 use Rattle.irtext_tokens.proofs.Words.{encodes-front_word, is_identifier-front, taken_since}
-use Rattle.irtext_tokens.proofs.Steps.{Lens, lens}
 use Rattle.irtext_parse_pieces.proofs.EntrySteps.{key_there}
 use Rattle.irtext_parse_pieces.proofs.Meanings.{may_fail}
 use Rattle.irtext_parse_pieces.proofs.NameSteps.{nobody, no_name, name_starved}
 use Rattle.irtext_parse_pieces.proofs.WordSteps.{word_after, whole_taken, whole_key}
-use Rattle.irtext_parse_pieces.proofs.entries.key_parse.Given as given
+use Rattle.irtext_parse_pieces.proofs.Lenses.{lens_of}
 use Rattle.irtext_parse_pieces.proofs.entries.key_parse.Goals as goal
 
--- the stream's view, and the rules that it keeps
-abbrev stream : (g : given.Over) → Lens g.row.S.Denot
-stream g = let m = g.met.S.CharStream in lens g.S.CharStream.view g.S.CharStream.at m.view_at m.at_view m.at_at
-
 pub returns-then-has_failed : goal.returns-then-has_failed
-returns-then-has_failed g c = may_fail (stream g) nobody (sym c.has_failed.ensures ∙ c.if-has_failed.true) c.refuse.ensures
+returns-then-has_failed g c = may_fail (lens_of g.world g.met.S.CharStream) nobody (sym c.has_failed.ensures ∙ c.if-has_failed.true) c.refuse.ensures
 
 pub returns-then-not-begins : goal.returns-then-not-begins
-returns-then-not-begins g c = no_name (stream g) (sym c.has_failed.ensures ∙ c.if-has_failed.false) (sym c.begins.ensures ∙ c.if-not-begins.true) c.unexpected.ensures
+returns-then-not-begins g c = no_name (lens_of g.world g.met.S.CharStream) (sym c.has_failed.ensures ∙ c.if-has_failed.false) (sym c.begins.ensures ∙ c.if-not-begins.true) c.unexpected.ensures
 
 pub returns-in-Some : goal.returns-in-Some
 returns-in-Some g c =
-    let l = stream g in
+    let l = lens_of g.world g.met.S.CharStream in
     let w = c.in-Some.ensures in
     key_there l (record { name = c.in-Some.name; at = c.position-at.result }) (sym c.has_failed.ensures ∙ c.if-has_failed.false) (sym c.begins.ensures ∙ c.if-not-begins.false) (whole_taken l w) c.position-at.ensures (whole_key l w)
 
 pub key-requires : goal.key-requires
 key-requires g c =
-    let l = stream g in
+    let l = lens_of g.world g.met.S.CharStream in
     let old = c.args.stream.now in
     let text = (l.view old).rest in
     let t = word_after l c.key_again.ensures c.skip_class.ensures in
@@ -36,7 +31,7 @@ key-requires g c =
 
 pub returns-in-Ok : goal.returns-in-Ok
 returns-in-Ok g c =
-    let l = stream g in
+    let l = lens_of g.world g.met.S.CharStream in
     let old = c.args.stream.now in
     let text = (l.view old).rest in
     let t = word_after l c.key_again.ensures c.skip_class.ensures in
@@ -45,5 +40,5 @@ returns-in-Ok g c =
 
 pub returns-in-Err : goal.returns-in-Err
 returns-in-Err g c =
-    let l = stream g in
+    let l = lens_of g.world g.met.S.CharStream in
     name_starved l (sym c.has_failed.ensures ∙ c.if-has_failed.false) (word_after l c.key_again.ensures c.skip_class.ensures) c.out_of_memory.ensures

@@ -2,22 +2,17 @@ use Rattle.std.proofs.Common.{◌≡◌, ◌∙◌, ◌+◌, ◌<◌, ◌^◌, S
 use Rattle.irtext_format_check.specs.Directives.{format_of}
 use Rattle.irtext_tokens.specs.AttrTexts.{attr_at}
 use Rattle.irtext_tokens.proofs.Exits.{handed_on}
-use Rattle.irtext_tokens.proofs.Steps.{Lens, lens}
 use Rattle.irtext_parse_spec.specs.Heads.{steps_of}
 use Rattle.irtext_parse_pieces.proofs.Meanings.{names_none, names_more}
 use Rattle.irtext_parse_pieces.proofs.FormatSteps.{Counts, next_left, none_left, count_none, count_all, count_more, fewer_left, left_more, front_over, front_ended}
 use Rattle.irtext_parse_pieces.proofs.FrontSteps.{Fronting, front_begins, front_more, front_refused, front_ends}
 use Rattle.irtext_parse_pieces.specs.Steps.{seen_step}
-use Rattle.irtext_parse_pieces.proofs.fronts.pieces_parse.Given as given
+use Rattle.irtext_parse_pieces.proofs.Lenses.{lens_of}
 use Rattle.irtext_parse_pieces.proofs.fronts.pieces_parse.Goals as goal
-
--- the stream's view, and the rules that it keeps
-abbrev stream : (g : given.Over) → Lens g.row.S.Denot
-stream g = let m = g.met.S.CharStream in lens g.S.CharStream.view g.S.CharStream.at m.view_at m.at_view m.at_at
 
 pub loop-step-init : goal.loop-step-init
 loop-step-init g c =
-    let l = stream g in
+    let l = lens_of g.world g.met.S.CharStream in
     let old = c.args.stream.now in
     let names = c.args.names.now.names in
     let steps = steps_of (format_of c.args.format.now) in (
@@ -33,7 +28,7 @@ returns-then-not-reads_piece-clause-read g c = λ fine.
     let n = length c.loop-step.found in
     let there : slice_get steps n ≡ Some step = rw c.len.ensures at (sym c.in-Some.ensures.step) in
     let over = front_ended (drop n steps) (drop (suc n) steps) step (next_left steps n step there) (sym c.reads_piece.ensures ∙ c.if-not-reads_piece.true) in
-    front_ends (stream g) g.T.IrText.reading (attr_at g.A.IrText.reading) c.args.inside over (c.loop-step.invariant.2 fine)
+    front_ends (lens_of g.world g.met.S.CharStream) g.T.IrText.reading (attr_at g.A.IrText.reading) c.args.inside over (c.loop-step.invariant.2 fine)
 
 pub returns-then-not-reads_piece-clause-count : goal.returns-then-not-reads_piece-clause-count
 returns-then-not-reads_piece-clause-count g c =
@@ -49,7 +44,7 @@ word_found-requires g c = rw c.len.ensures at c.in-Some.ensures.fits
 
 pub loop-step-preserved-then-word_found : goal.loop-step-preserved-then-word_found
 loop-step-preserved-then-word_found g c =
-    let l = stream g in
+    let l = lens_of g.world g.met.S.CharStream in
     let steps = steps_of (format_of c.args.format.now) in
     let step = seen_step c.in-Some.step in
     let found = c.loop-step.found in
@@ -88,14 +83,14 @@ returns-in_err-step_found-clause-read g c = λ fine.
     let read0 = rw c.if-word_found.ensures.0 at c.in_err-step_found.ensures.read in
     let read = rw c.if-word_found.ensures.1 at read0 in
     rw (handed_on c.from_residual.result c.from_residual.ensures.1)
-    (front_refused (stream g) g.T.IrText.reading (attr_at g.A.IrText.reading) c.args.inside (drop (suc n) steps) step (next_left steps n step there) (sym c.reads_piece.ensures ∙ c.if-not-reads_piece.false) (c.loop-step.invariant.2 fine) c.skip_white_space.ensures read)
+    (front_refused (lens_of g.world g.met.S.CharStream) g.T.IrText.reading (attr_at g.A.IrText.reading) c.args.inside (drop (suc n) steps) step (next_left steps n step there) (sym c.reads_piece.ensures ∙ c.if-not-reads_piece.false) (c.loop-step.invariant.2 fine) c.skip_white_space.ensures read)
 
 pub returns-in_err-step_found-clause-names : goal.returns-in_err-step_found-clause-names
 returns-in_err-step_found-clause-names g c = names_more _ _ _ c.loop-step.invariant.0 c.in_err-step_found.ensures.names
 
 pub loop-step-preserved : goal.loop-step-preserved
 loop-step-preserved g c =
-    let l = stream g in
+    let l = lens_of g.world g.met.S.CharStream in
     let steps = steps_of (format_of c.args.format.now) in
     let step = seen_step c.in-Some.step in
     let found = c.loop-step.found in
@@ -128,7 +123,7 @@ returns-clause-read g c = λ fine.
     let steps = steps_of (format_of c.args.format.now) in
     let n = length c.loop-step.found in
     let none : slice_get steps n ≡ None = rw c.len.ensures at (sym c.in_default.ensures.step) in
-    front_ends (stream g) g.T.IrText.reading (attr_at g.A.IrText.reading) c.args.inside (front_over (drop n steps) (none_left steps n none)) (c.loop-step.invariant.2 fine)
+    front_ends (lens_of g.world g.met.S.CharStream) g.T.IrText.reading (attr_at g.A.IrText.reading) c.args.inside (front_over (drop n steps) (none_left steps n none)) (c.loop-step.invariant.2 fine)
 
 pub returns-clause-count : goal.returns-clause-count
 returns-clause-count g c =

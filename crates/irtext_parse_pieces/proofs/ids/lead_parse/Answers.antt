@@ -8,30 +8,26 @@ use Rattle.irtext_parse_spec.specs.Heads.{lead_at}
 use Rattle.irtext_parse_pieces.specs.Named.{StandsFor, Each}
 use Rattle.irtext_parse_pieces.specs.Results.{results_if_at}
 use Rattle.irtext_parse_pieces.proofs.Meanings.{must_fail, must_refuse, passed_whole}
-use Rattle.irtext_tokens.proofs.Steps.{Lens, lens, starts, spaced, more, refuses, last_spaced}
-use Rattle.irtext_parse_pieces.proofs.ids.lead_parse.Given as given
+use Rattle.irtext_tokens.proofs.Steps.{starts, spaced, more, refuses, last_spaced}
+use Rattle.irtext_parse_pieces.proofs.Lenses.{lens_of}
 use Rattle.irtext_parse_pieces.proofs.ids.lead_parse.Goals as goal
-
--- the stream's view, and the rules that it keeps
-abbrev stream : (g : given.Over) → Lens g.row.S.Denot
-stream g = let m = g.met.S.CharStream in lens g.S.CharStream.view g.S.CharStream.at m.view_at m.at_view m.at_at
 
 -- what follows the results
 abbrev behind_results : List (Name ℕ) → Text → Outcome (List (Name ℕ))
 behind_results x v = mapped (λ _. x) (space_at v)
 
 pub returns-then-has_failed-clause-read : goal.returns-then-has_failed-clause-read
-returns-then-has_failed-clause-read g c = must_fail (stream g) [] (sym c.has_failed.ensures ∙ c.if-has_failed.true) c.refuse.ensures
+returns-then-has_failed-clause-read g c = must_fail (lens_of g.world g.met.S.CharStream) [] (sym c.has_failed.ensures ∙ c.if-has_failed.true) c.refuse.ensures
 
 pub returns-in_err-results-clause-read : goal.returns-in_err-results-clause-read
 returns-in_err-results-clause-read g c =
-    let l = stream g in
+    let l = lens_of g.world g.met.S.CharStream in
     let p = spaced l (λ _ u. followed (results_if_at u) behind_results) (starts l lead_at lead_at c.args.stream.now (sym c.has_failed.ensures ∙ c.if-has_failed.false) refl) c.skip_white_space.ensures in
     rw (handed_on c.from_residual.result c.from_residual.ensures.1) (must_refuse l (refuses l {sees = λ _. []} behind_results p c.in_err-results.ensures.read.read))
 
 pub returns-clause-read : goal.returns-clause-read
 returns-clause-read g c =
-    let l = stream g in
+    let l = lens_of g.world g.met.S.CharStream in
     let h = c.in_ok-results.ensures.read in
     let ns = c.in_ok-results.results in
     let p = spaced l (λ _ u. followed (results_if_at u) behind_results) (starts l lead_at lead_at c.args.stream.now (sym c.has_failed.ensures ∙ c.if-has_failed.false) refl) c.skip_white_space.ensures in

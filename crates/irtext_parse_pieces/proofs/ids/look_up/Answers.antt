@@ -7,29 +7,25 @@ use Rattle.irtext_context.specs.Named.{id_of_texts}
 use Rattle.irtext_tokens.proofs.Words.{encodes-front_word, taken_since}
 use Rattle.irtext_parse_spec.proofs.Readers.Steps.{Lens, lens}
 use Rattle.irtext_parse_pieces.proofs.Leads.{dotted, dotted_stands, word_stands, found_there}
-use Rattle.irtext_parse_pieces.proofs.ids.look_up.Given as given
+use Rattle.irtext_parse_pieces.proofs.Lenses.{lens_of}
 use Rattle.irtext_parse_pieces.proofs.ids.look_up.Goals as goal
-
--- the stream's view, and the rules that it keeps
-abbrev stream : (g : given.Over) → Lens g.row.S.Denot
-stream g = let m = g.met.S.CharStream in lens g.S.CharStream.view g.S.CharStream.at m.view_at m.at_view m.at_at
 
 pub returns-then-not-skip_identifier-2-clause-stands : goal.returns-then-not-skip_identifier-2-clause-stands
 returns-then-not-skip_identifier-2-clause-stands g c =
     let word = c.if-not-skip_identifier.ensures in
-    let d = dotted (stream g) c.args.stream.now c.skip_identifier.new.stream c.take.new.self word.0 word.1 (sym c.next_is.ensures ∙ c.if-not-next_is.false) c.take.ensures.after in
-    dotted_stands (stream g) d c.if-not-skip_identifier-2.ensures
+    let d = dotted (lens_of g.world g.met.S.CharStream) c.args.stream.now c.skip_identifier.new.stream c.take.new.self word.0 word.1 (sym c.next_is.ensures ∙ c.if-not-next_is.false) c.take.ensures.after in
+    dotted_stands (lens_of g.world g.met.S.CharStream) d c.if-not-skip_identifier-2.ensures
 
 pub text_since-requires-2 : goal.text_since-requires-2
 text_since-requires-2 g c =
-    let l = stream g in
+    let l = lens_of g.world g.met.S.CharStream in
     let mid = c.take.new.self in
     let text = (l.view mid).rest in
     ((l.view mid).passed, front in_word text, sym (ap (λ v. v.passed) (seen_after l.view l.at l.view_at l.at_at mid c.skip_identifier-2.new.stream (front in_word text) (after in_word text) c.if-not-skip_identifier-2.ensures.1)), c.position-place-2.ensures)
 
 pub returns-clause-read : goal.returns-clause-read
 returns-clause-read g c =
-    let l = stream g in
+    let l = lens_of g.world g.met.S.CharStream in
     let old = c.args.stream.now in
     let mid = c.take.new.self in
     let text = (l.view old).rest in
@@ -46,5 +42,5 @@ returns-clause-read g c =
 pub returns-clause-stands : goal.returns-clause-stands
 returns-clause-stands g c =
     let word = c.if-not-skip_identifier.ensures in
-    let d = dotted (stream g) c.args.stream.now c.skip_identifier.new.stream c.take.new.self word.0 word.1 (sym c.next_is.ensures ∙ c.if-not-next_is.false) c.take.ensures.after in
-    word_stands (stream g) d c.if-not-skip_identifier-2.ensures.1
+    let d = dotted (lens_of g.world g.met.S.CharStream) c.args.stream.now c.skip_identifier.new.stream c.take.new.self word.0 word.1 (sym c.next_is.ensures ∙ c.if-not-next_is.false) c.take.ensures.after in
+    word_stands (lens_of g.world g.met.S.CharStream) d c.if-not-skip_identifier-2.ensures.1

@@ -4,27 +4,22 @@ use Rattle.irtext_tokens.proofs.Exits.{handed_on}
 use Rattle.irtext_tokens.proofs.Words.{taken_since}
 use Rattle.irtext_parse_spec.proofs.Readers.Leads.{is_led-bytes}
 use Rattle.irtext_parse_pieces.proofs.Leads.{lead_taken, lead_refused, led_read, led_missed}
-use Rattle.irtext_tokens.proofs.Steps.{Lens, lens}
-use Rattle.irtext_parse_pieces.proofs.ids.results_and_id_parse.Given as given
+use Rattle.irtext_parse_pieces.proofs.Lenses.{lens_of}
 use Rattle.irtext_parse_pieces.proofs.ids.results_and_id_parse.Goals as goal
 
--- the stream's view, and the rules that it keeps
-abbrev stream : (g : given.Over) → Lens g.row.S.Denot
-stream g = let m = g.met.S.CharStream in lens g.S.CharStream.view g.S.CharStream.at m.view_at m.at_view m.at_at
-
 pub returns-in_err-results-clause-read : goal.returns-in_err-results-clause-read
-returns-in_err-results-clause-read g c = rw (handed_on c.from_residual.result c.from_residual.ensures.1) (lead_refused (stream g) c.args.ctx.now.dialects c.in_err-results.ensures.read)
+returns-in_err-results-clause-read g c = rw (handed_on c.from_residual.result c.from_residual.ensures.1) (lead_refused (lens_of g.world g.met.S.CharStream) c.args.ctx.now.dialects c.in_err-results.ensures.read)
 
 pub text_since-requires : goal.text_since-requires
 text_since-requires g c =
-    let l = stream g in
+    let l = lens_of g.world g.met.S.CharStream in
     let old = c.args.stream.now in
     let t = lead_taken l c.in_ok-results.ensures.read in
     ((l.view old).passed, t.taken, sym (ap (λ v. v.passed) (seen_after l.view l.at l.view_at l.at_at old c.lead_parse.new.stream t.taken (l.view c.lead_parse.new.stream).rest t.takes)), c.position-start.ensures)
 
 pub returns-in_err-id-clause-read : goal.returns-in_err-id-clause-read
 returns-in_err-id-clause-read g c =
-    let l = stream g in
+    let l = lens_of g.world g.met.S.CharStream in
     let old = c.args.stream.now in
     let h = c.in_ok-results.ensures.read in
     let t = lead_taken l h in
@@ -34,7 +29,7 @@ returns-in_err-id-clause-read g c =
 
 pub returns-clause-read : goal.returns-clause-read
 returns-clause-read g c =
-    let l = stream g in
+    let l = lens_of g.world g.met.S.CharStream in
     let old = c.args.stream.now in
     let h = c.in_ok-results.ensures.read in
     let t = lead_taken l h in

@@ -1,18 +1,13 @@
 use Rattle.std.proofs.Common.{[], ◌∷◌, sym, ◌∙◌, subst}
-use Rattle.irtext_tokens.proofs.Steps.{Lens, lens}
 use Rattle.irtext_parse_pieces.specs.Kinds.{named_at}
 use Rattle.irtext_parse_pieces.specs.Named.{whole, StandsFor, Each}
 use Rattle.irtext_parse_pieces.proofs.Listings.{Listing, listing_first, listing_all}
-use Rattle.irtext_parse_pieces.proofs.lists.names_after.Given as given
+use Rattle.irtext_parse_pieces.proofs.Lenses.{lens_of}
 use Rattle.irtext_parse_pieces.proofs.lists.names_after.Goals as goal
-
--- the stream's view, and the rules that it keeps
-abbrev stream : (g : given.Over) → Lens g.row.S.Denot
-stream g = let m = g.met.S.CharStream in lens g.S.CharStream.view g.S.CharStream.at m.view_at m.at_view m.at_at
 
 pub returns-then-not-next_is-clause-read : goal.returns-then-not-next_is-clause-read
 returns-then-not-next_is-clause-read g c = λ name means fine.
-    let l = stream g in
+    let l = lens_of g.world g.met.S.CharStream in
     let old = c.args.stream.now in
     let item = named_at c.args.kind c.args.inside in
     let stands = StandsFor c.args.names.now.names (whole (l.view old)) in

@@ -4,28 +4,23 @@ use Rattle.irtext_tokens.proofs.Words.{encodes-front_word, is_identifier-front, 
 use Rattle.irtext_parse_pieces.proofs.Interned.{words_with}
 use Rattle.irtext_parse_pieces.specs.Named.{AreWords}
 use Rattle.irtext_parse_pieces.proofs.NameSteps.{unstored, name_there}
-use Rattle.irtext_tokens.proofs.Steps.{Lens, lens}
-use Rattle.irtext_parse_pieces.proofs.names.name_parse.Given as given
+use Rattle.irtext_parse_pieces.proofs.Lenses.{lens_of}
 use Rattle.irtext_parse_pieces.proofs.names.name_parse.Goals as goal
-
--- the stream's view, and the rules that it keeps
-abbrev stream : (g : given.Over) → Lens g.row.S.Denot
-stream g = let m = g.met.S.CharStream in lens g.S.CharStream.view g.S.CharStream.at m.view_at m.at_view m.at_at
 
 pub returns-in-Ok-clause-read : goal.returns-in-Ok-clause-read
 returns-in-Ok-clause-read g c =
-    let l = stream g in
+    let l = lens_of g.world g.met.S.CharStream in
     let old = c.args.stream.now in
     let text = (l.view old).rest in
     let w = taken_since l.view l.at l.view_at l.at_at old c.skip_class.new.stream c.position-at.result c.text_since.result.now (front in_word text) (after in_word text) c.skip_class.ensures c.position-at.ensures c.text_since.ensures ∙ encodes-front_word text in
     name_there l c.intern.new.self.names (record { name = c.in-Ok.name; at = c.position-at.result }) (sym c.has_failed.ensures ∙ c.if-has_failed.false) (sym c.begins.ensures ∙ c.if-not-begins.false) c.skip_class.ensures c.position-at.ensures (c.in-Ok.ensures.named ∙ ap Some w)
 
 pub returns-in-Err-clause-read : goal.returns-in-Err-clause-read
-returns-in-Err-clause-read g c = unstored (stream g) c.name_unstored.result (sym c.has_failed.ensures ∙ c.if-has_failed.false) c.skip_class.ensures c.name_unstored.ensures
+returns-in-Err-clause-read g c = unstored (lens_of g.world g.met.S.CharStream) c.name_unstored.result (sym c.has_failed.ensures ∙ c.if-has_failed.false) c.skip_class.ensures c.name_unstored.ensures
 
 pub returns-in-Ok-clause-names : goal.returns-in-Ok-clause-names
 returns-in-Ok-clause-names g c =
-    let l = stream g in
+    let l = lens_of g.world g.met.S.CharStream in
     let old = c.args.stream.now in
     let text = (l.view old).rest in
     let w = taken_since l.view l.at l.view_at l.at_at old c.skip_class.new.stream c.position-at.result c.text_since.result.now (front in_word text) (after in_word text) c.skip_class.ensures c.position-at.ensures c.text_since.ensures ∙ encodes-front_word text in

@@ -1,18 +1,13 @@
 use Rattle.std.proofs.Common.{ap, sym}
 use Rattle.irtext_tokens.proofs.Exits.{handed_on}
-use Rattle.irtext_tokens.proofs.Steps.{Lens, lens}
 use Rattle.irtext_grammar.specs.Grammar.Tree as tree
 use Rattle.irtext_parse_pieces.proofs.PieceSteps.{each_same, no_tree, piece_there, piece_refused}
 use Rattle.irtext_parse_pieces.specs.declared.pieces.ReadPiece.TheVariants as read
-use Rattle.irtext_parse_pieces.proofs.pieces.types_piece.Given as given
+use Rattle.irtext_parse_pieces.proofs.Lenses.{lens_of}
 use Rattle.irtext_parse_pieces.proofs.pieces.types_piece.Goals as goal
 
--- the stream's view, and the rules that it keeps
-abbrev stream : (g : given.Over) → Lens g.row.S.Denot
-stream g = let m = g.met.S.CharStream in lens g.S.CharStream.view g.S.CharStream.at m.view_at m.at_view m.at_at
-
 pub returns-in_err-found : goal.returns-in_err-found
-returns-in_err-found g c = λ names. rw (handed_on c.from_residual.result c.from_residual.ensures.1) (piece_refused (stream g) tree.types no_tree c.in_err-found.ensures.read)
+returns-in_err-found g c = λ names. rw (handed_on c.from_residual.result c.from_residual.ensures.1) (piece_refused (lens_of g.world g.met.S.CharStream) tree.types no_tree c.in_err-found.ensures.read)
 
 pub returns : goal.returns
-returns g c = λ names. piece_there (stream g) tree.types (read.Types c.in_ok-found.found) c.in_ok-found.ensures (ap tree.types (sym (each_same c.in_ok-found.found (c.in_ok-found.ensures.meant c.in_ok-found.found) c.in_ok-found.ensures.means)))
+returns g c = λ names. piece_there (lens_of g.world g.met.S.CharStream) tree.types (read.Types c.in_ok-found.found) c.in_ok-found.ensures (ap tree.types (sym (each_same c.in_ok-found.found (c.in_ok-found.ensures.meant c.in_ok-found.found) c.in_ok-found.ensures.means)))

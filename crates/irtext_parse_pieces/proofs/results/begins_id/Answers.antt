@@ -3,17 +3,12 @@ use Rattle.irtext_base.specs.Text.{front, after, in_word}
 use Rattle.irtext_base.proofs.Compose.{takes_stands}
 use Rattle.irtext_tokens.proofs.SetBack.{set_back, set_within}
 use Rattle.irtext_parse_pieces.proofs.Looks.{dotted_there}
-use Rattle.irtext_tokens.proofs.Steps.{Lens, lens}
-use Rattle.irtext_parse_pieces.proofs.results.begins_id.Given as given
+use Rattle.irtext_parse_pieces.proofs.Lenses.{lens_of}
 use Rattle.irtext_parse_pieces.proofs.results.begins_id.Goals as goal
-
--- the stream's view, and the rules that it keeps
-abbrev stream : (g : given.Over) → Lens g.row.S.Denot
-stream g = let m = g.met.S.CharStream in lens g.S.CharStream.view g.S.CharStream.at m.view_at m.at_view m.at_at
 
 pub reset-requires : goal.reset-requires
 reset-requires g c =
-    let l = stream g in
+    let l = lens_of g.world g.met.S.CharStream in
     let old = c.args.stream.now in
     let mid = c.skip_identifier.new.stream in
     let text = (l.view old).rest in
@@ -23,11 +18,11 @@ reset-requires g c =
 pub returns-clause-no_results : goal.returns-clause-no_results
 returns-clause-no_results g c = λ e.
     let word = c.if-not-skip_identifier.ensures in
-    dotted_there (stream g) c.args.stream.now c.skip_identifier.new.stream word.0 word.1 (sym c.next_is-dotted.ensures ∙ e)
+    dotted_there (lens_of g.world g.met.S.CharStream) c.args.stream.now c.skip_identifier.new.stream word.0 word.1 (sym c.next_is-dotted.ensures ∙ e)
 
 pub returns-clause-still : goal.returns-clause-still
 returns-clause-still g c =
-    let l = stream g in
+    let l = lens_of g.world g.met.S.CharStream in
     let old = c.args.stream.now in
     let mid = c.skip_identifier.new.stream in
     let text = (l.view old).rest in

@@ -3,26 +3,21 @@ use Rattle.irtext_parse_spec.specs.Heads.{name_at}
 use Rattle.irtext_parse_pieces.proofs.Meanings.{names_more}
 use Rattle.irtext_parse_pieces.proofs.Listings.{list_none}
 use Rattle.irtext_parse_pieces.proofs.Looks.{list_looks, name_starves}
-use Rattle.irtext_tokens.proofs.Steps.{Lens, lens}
-use Rattle.irtext_parse_pieces.proofs.results.names_there.Given as given
+use Rattle.irtext_parse_pieces.proofs.Lenses.{lens_of}
 use Rattle.irtext_parse_pieces.proofs.results.names_there.Goals as goal
 
--- the stream's view, and the rules that it keeps
-abbrev stream : (g : given.Over) → Lens g.row.S.Denot
-stream g = let m = g.met.S.CharStream in lens g.S.CharStream.view g.S.CharStream.at m.view_at m.at_view m.at_at
-
 pub returns-in-Ok-clause-looks : goal.returns-in-Ok-clause-looks
-returns-in-Ok-clause-looks g c = λ fine. list_looks (stream g) c.name_parse.new.names.names c.results_after.new.names.names c.results_after.new.stream c.results_after.result c.in-Ok.ensures.read c.skip_white_space.ensures c.results_after.ensures.looks
+returns-in-Ok-clause-looks g c = λ fine. list_looks (lens_of g.world g.met.S.CharStream) c.name_parse.new.names.names c.results_after.new.names.names c.results_after.new.stream c.results_after.result c.in-Ok.ensures.read c.skip_white_space.ensures c.results_after.ensures.looks
 
 pub returns-in-Ok-clause-names : goal.returns-in-Ok-clause-names
 returns-in-Ok-clause-names g c = names_more _ _ _ c.in-Ok.ensures.names c.results_after.ensures.names
 
 pub returns-then-fault-clause-looks : goal.returns-then-fault-clause-looks
-returns-then-fault-clause-looks g c = λ fine. name_starves (stream g) fine c.in-Err.ensures.read.read c.if-fault.true
+returns-then-fault-clause-looks g c = λ fine. name_starves (lens_of g.world g.met.S.CharStream) fine c.in-Err.ensures.read.read c.if-fault.true
 
 pub returns-else-fault-clause-looks : goal.returns-else-fault-clause-looks
 returns-else-fault-clause-looks g c = λ fine. record {
   meant = λ _. [];
   means = rw c.none.ensures tt;
-  read = list_none (stream g) name_at (λ _. []) c.none.result refl c.if-fault.false c.in-Err.ensures.read.read;
+  read = list_none (lens_of g.world g.met.S.CharStream) name_at (λ _. []) c.none.result refl c.if-fault.false c.in-Err.ensures.read.read;
 }

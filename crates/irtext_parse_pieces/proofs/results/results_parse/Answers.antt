@@ -5,30 +5,25 @@ use Rattle.irtext_parse_pieces.specs.Results.{is_read}
 use Rattle.irtext_tokens.proofs.Exits.{handed_on}
 use Rattle.irtext_tokens.proofs.SetBack.{set_back, set_within}
 use Rattle.irtext_parse_pieces.proofs.Looks.{results_none, results_starve, results_fail}
-use Rattle.irtext_tokens.proofs.Steps.{Lens, lens}
-use Rattle.irtext_parse_pieces.proofs.results.results_parse.Given as given
+use Rattle.irtext_parse_pieces.proofs.Lenses.{lens_of}
 use Rattle.irtext_parse_pieces.proofs.results.results_parse.Goals as goal
 
--- the stream's view, and the rules that it keeps
-abbrev stream : (g : given.Over) → Lens g.row.S.Denot
-stream g = let m = g.met.S.CharStream in lens g.S.CharStream.view g.S.CharStream.at m.view_at m.at_view m.at_at
-
 pub returns-then-has_failed-clause-read : goal.returns-then-has_failed-clause-read
-returns-then-has_failed-clause-read g c = results_fail (stream g) (sym c.has_failed.ensures ∙ c.if-has_failed.true) c.refuse.ensures
+returns-then-has_failed-clause-read g c = results_fail (lens_of g.world g.met.S.CharStream) (sym c.has_failed.ensures ∙ c.if-has_failed.true) c.refuse.ensures
 
 pub returns-then-begins_id-clause-read : goal.returns-then-begins_id-clause-read
-returns-then-begins_id-clause-read g c = results_none (stream g) c.none.result c.none.ensures (sym c.has_failed.ensures ∙ c.if-has_failed.false) (c.begins_id.ensures.no_results c.if-begins_id.true) c.begins_id.ensures.still
+returns-then-begins_id-clause-read g c = results_none (lens_of g.world g.met.S.CharStream) c.none.result c.none.ensures (sym c.has_failed.ensures ∙ c.if-has_failed.false) (c.begins_id.ensures.no_results c.if-begins_id.true) c.begins_id.ensures.still
 
 pub returns-in_err-results-clause-read : goal.returns-in_err-results-clause-read
 returns-in_err-results-clause-read g c =
-    let l = stream g in
+    let l = lens_of g.world g.met.S.CharStream in
     let still = c.begins_id.ensures.still in
     let fine = ap (λ s. (l.view s).failed) still ∙ (sym c.has_failed.ensures ∙ c.if-has_failed.false) in
     rw (handed_on c.from_residual.result c.from_residual.ensures.1) (results_starve l still (c.in_err-results.ensures.looks fine))
 
 pub returns-in-None-clause-read : goal.returns-in-None-clause-read
 returns-in-None-clause-read g c =
-    let l = stream g in
+    let l = lens_of g.world g.met.S.CharStream in
     let start = c.begins_id.new.stream in
     let mid = c.results_there.new.stream in
     let still = c.begins_id.ensures.still in

@@ -1,17 +1,12 @@
 use Rattle.std.proofs.Common.{◌≡◌, [], ◌∷◌, refl, sym, ◌∙◌, subst}
-use Rattle.irtext_tokens.proofs.Steps.{Lens, lens}
 use Rattle.irtext_parse_pieces.specs.Named.{Each}
 use Rattle.irtext_parse_pieces.proofs.Listings.{Listing, listing_first, listing_all}
-use Rattle.irtext_parse_pieces.proofs.types.types_after.Given as given
+use Rattle.irtext_parse_pieces.proofs.Lenses.{lens_of}
 use Rattle.irtext_parse_pieces.proofs.types.types_after.Goals as goal
-
--- the stream's view, and the rules that it keeps
-abbrev stream : (g : given.Over) → Lens g.row.S.Denot
-stream g = let m = g.met.S.CharStream in lens g.S.CharStream.view g.S.CharStream.at m.view_at m.at_view m.at_at
 
 pub returns-then-not-next_is : goal.returns-then-not-next_is
 returns-then-not-next_is g c = λ fine.
-    let l = stream g in
+    let l = lens_of g.world g.met.S.CharStream in
     let old = c.args.stream.now in
     let item = g.T.IrText.reading in
     let p = subst (λ z. Listing l item ◌≡◌ (c.args.first ∷ []) old old z) (sym c.one.ensures) (listing_first l item c.args.first c.args.first old fine refl) in

@@ -2,7 +2,7 @@ use Rattle.std.proofs.Common.{ap, sym, subst}
 use Rattle.irtext_context.specs.Context.{KeepsOlder}
 use Rattle.irtext_tokens.specs.AttrTexts.{attr_at}
 use Rattle.irtext_parse_state.specs.States.{marks_of}
-use Rattle.irtext_parse_root.proofs.Chains.{lasts_still}
+use Rattle.irtext_parse_nested.proofs.Lasting.{lasts_itself}
 use Rattle.irtext_parse_root.proofs.Handing.{leaves_given, remains_same}
 use Rattle.irtext_parse_root.proofs.Looping.{keeps_itself}
 use Rattle.irtext_parse_root.proofs.turns.leave.Goals as goal
@@ -14,7 +14,7 @@ pub returns-clause-leaves : goal.returns-clause-leaves
 returns-clause-leaves g c =
     let e = c.region_end.ensures in
     leaves_given g.T.IrText.reading (attr_at g.A.IrText.reading) c.args.names.now c.args.s.now c.region_end.new.names c.region_end.new.s (record { src = ap (λ s. s.src) e.state; aux_data = ap (λ s. s.aux_data) e.state }) c.args.region c.region_end.result c.requires.begun e.state e.names e.ends e.values e.labels e.sound
-    (lasts_still c.args.s.now.state.ctx.now)
+    (lasts_itself c.args.s.now.state.ctx.now)
 
 pub returns-clause-remains : goal.returns-clause-remains
 returns-clause-remains g c =

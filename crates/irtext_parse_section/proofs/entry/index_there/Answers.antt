@@ -1,8 +1,12 @@
 use Rattle.irtext_parse_section.proofs.SetBack.{earlier, restored}
+use Rattle.irtext_parse_section.proofs.PlainEntries.{index_behind}
 use Rattle.irtext_parse_section.proofs.entry.index_there.Goals as goal
 
+pub returns-in-Some : goal.returns-in-Some
+returns-in-Some c = index_behind c.args.stream.now c.digits_behind.new.stream c.in-Some.index c.in-Some.ensures
+
 pub reset-requires : goal.reset-requires
-reset-requires c = earlier c.position-place.result c.args.stream.now c.marked_digits.new.stream c.in-None.ensures c.position-place.ensures
+reset-requires c = earlier c.position-place.result c.args.stream.now c.digits_behind.new.stream c.in-None.ensures c.position-place.ensures
 
 pub returns-in-None : goal.returns-in-None
-returns-in-None c = restored c.position-place.result c.args.stream.now c.marked_digits.new.stream c.in-None.ensures c.position-place.ensures c.reset.new.self c.reset.ensures
+returns-in-None c = restored c.position-place.result c.args.stream.now c.digits_behind.new.stream c.in-None.ensures c.position-place.ensures c.reset.new.self c.reset.ensures

@@ -15,7 +15,8 @@ fn lacking_key<'d, A: AttrText<A>>(
     attributes: &AttributeDict<A>,
     directive: &'d Directive,
 ) -> Option<&'d Identifier>
-    ensures { option_copied result ≡ faults.lacking_key (entries_of attributes.now) (directive_of directive.now) }
+    ensures { option_copied result ≡ faults.lacking_key (entries_of attributes.now)
+        (directive_of directive.now) }
 {
     match directive {
         Directive::Attr(key) => match attribute_under(attributes, key.as_str()) {
@@ -40,7 +41,8 @@ pub fn missing_key<'d, A: AttrText<A>>(
     attributes: &AttributeDict<A>,
     directives: &'d [Directive],
 ) -> Option<&'d Identifier>
-    ensures { option_copied result ≡ faults.missing_key (entries_of attributes.now) (directives_of directives.now) }
+    ensures { option_copied result ≡ faults.missing_key (entries_of attributes.now)
+        (directives_of directives.now) }
 {
     for directive in directives {
         match lacking_key(attributes, directive) {

@@ -59,7 +59,8 @@ pub fn is_outlined<A: AttrText<A>>(attr: &AttrObj<A>) -> bool
 
 /// Appends the text of an attribute, or `!outlined` if it is outlined.
 fn fmt_inline<A: AttrText<A>>(attr: &AttrObj<A>, f: &mut String) -> fmt::Result
-    ensures { OnOk result (AppendsText f.old (pieces.inline_text A.IrText.written A.outlined (attribute_of attr.now)) f.new) }
+    ensures { OnOk result (AppendsText f.old (pieces.inline_text A.IrText.written A.outlined
+        (attribute_of attr.now)) f.new) }
 {
     if is_outlined(attr) {
         f.push_str("!outlined")?;
@@ -74,7 +75,8 @@ pub fn fmt_keyed<A: AttrText<A>>(
     key: &Identifier,
     f: &mut String,
 ) -> fmt::Result
-    ensures { OnOk result (AppendsText f.old (pieces.keyed_text A.IrText.written A.outlined key.now (entries_of attributes.now)) f.new) }
+    ensures { OnOk result (AppendsText f.old (pieces.keyed_text A.IrText.written A.outlined key.now
+        (entries_of attributes.now)) f.new) }
 {
     let Some(attr) = attribute_under(attributes, key.as_str()) else {
         return Ok(());
@@ -111,7 +113,8 @@ pub(crate) fn attribute_under<'a, A: AttrText<A>>(
 
 /// Returns the symbol's name, if the attribute under its key is an identifier.
 pub fn symbol_of<A: AttrText<A>>(attributes: &AttributeDict<A>) -> Option<&Identifier>
-    ensures { option_copied result ≡ pieces.symbol_in (graph.lookup sym_name_key (entries_of attributes.now)) }
+    ensures { option_copied result ≡ pieces.symbol_in (graph.lookup sym_name_key
+        (entries_of attributes.now)) }
 {
     match attribute_under(attributes, "builtin_sym_name") {
         Some(attr) => ident_of(attr),
@@ -159,7 +162,11 @@ pub fn is_key_written(directives: &[Directive], key: &str) -> bool
 
 /// Whether the dictionary prints an entry: no other directive does, and it is not outlined.
 fn is_listed<A: AttrText<A>>(directives: &[Directive], key: &Identifier, attr: &AttrObj<A>) -> bool
-    ensures { result ≡ pieces.is_listed A.outlined (directives_of directives.now) (key.now, attribute_of attr.now) }
+    ensures { result ≡ pieces.is_listed A.outlined (directives_of directives.now) (
+      key.now,
+      attribute_of
+          attr.now,
+    ) }
 {
     !is_outlined(attr) && !is_key_written(directives, key.as_str())
 }
@@ -171,7 +178,11 @@ fn fmt_entry<A: AttrText<A>>(
     attr: &AttrObj<A>,
     f: &mut String,
 ) -> fmt::Result
-    ensures { OnOk result (AppendsText f.old (pieces.next_text A.IrText.written first (key.now, attribute_of attr.now)) f.new) }
+    ensures { OnOk result (AppendsText f.old (pieces.next_text A.IrText.written first (
+      key.now,
+      attribute_of
+          attr.now,
+    )) f.new) }
 {
     if !first {
         f.push_str(", ")?;

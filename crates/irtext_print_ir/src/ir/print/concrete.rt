@@ -25,9 +25,11 @@ pub fn print_concrete<T: IrText<A>, A: AttrText<A>, U>(
     f: &mut String,
 ) -> Result<(), Refusal>
     requires live { IsSome (operation ctx.now op) }
-    ensures prints { OnOk result (printed.PrintsConcrete T.IrText.own A.IrText.own A.AttrText.own A.eq ctx.now op state.old f.old state.new
+    ensures prints { OnOk result (printed.PrintsConcrete T.IrText.own A.IrText.own A.AttrText.own A.eq ctx.now
+        op state.old f.old state.new
         f.new) }
-    ensures refused { IfErr result (heads.RefusesUnder T.IrText.own A.IrText.own A.AttrText.own A.eq ctx.now op state.old) }
+    ensures refused { IfErr result (heads.RefusesUnder T.IrText.own A.IrText.own A.AttrText.own A.eq ctx.now
+        op state.old) }
     ensures rest { state.new ≡ with_gathered state.old (gathered_of state.new) }
 {
     gather_operation(ctx, op, false, state, f)

@@ -17,8 +17,10 @@ fn fmt_dbg<T: IrText<A>, A: AttrText<A>>(
     f: &mut String,
 ) -> Result<(), Refusal>
     requires live { IsSome (operation ctx.now op) }
-    ensures prints { OnOk result (printed.PrintsElided T.IrText.own A.IrText.own A.AttrText.own A.eq ctx.now op f.old f.new) }
-    ensures refused { IfErr result (heads.RefusesUnder T.IrText.own A.IrText.own A.AttrText.own A.eq ctx.now op printed.debugging) }
+    ensures prints { OnOk result (printed.PrintsElided T.IrText.own A.IrText.own A.AttrText.own A.eq ctx.now
+        op f.old f.new) }
+    ensures refused { IfErr result (heads.RefusesUnder T.IrText.own A.IrText.own A.AttrText.own A.eq ctx.now
+        op printed.debugging) }
 {
     let mut state = State::new(ctx.allocator(), ());
     state.set_region_print_depth_limit(RegionPrintDepthLimit::Max(0));
@@ -34,8 +36,10 @@ pub fn print_dbg<T: IrText<A>, A: AttrText<A>>(
     f: &mut String,
 ) -> fmt::Result
     requires live { IsSome (operation ctx.now op) }
-    ensures prints { OnOk result (printed.PrintsElided T.IrText.own A.IrText.own A.AttrText.own A.eq ctx.now op f.old f.new) }
-    ensures defined { OnOk result (printed.WritesElided T.IrText.own A.IrText.own A.AttrText.own A.eq ctx.now op f.old f.new) }
+    ensures prints { OnOk result (printed.PrintsElided T.IrText.own A.IrText.own A.AttrText.own A.eq ctx.now
+        op f.old f.new) }
+    ensures defined { OnOk result (printed.WritesElided T.IrText.own A.IrText.own A.AttrText.own A.eq ctx.now
+        op f.old f.new) }
 {
     fmt_dbg(ctx, op, f)?;
     Ok(())

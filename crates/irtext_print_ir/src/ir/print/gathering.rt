@@ -27,12 +27,15 @@ pub(crate) fn gather_operation<T: IrText<A>, A: AttrText<A>, U>(
     f: &mut String,
 ) -> Result<(), Refusal>
     requires live { IsSome (operation ctx.now op) }
-    ensures text { OnOk result (AppendsText f.old (heads.text_under T.IrText.own A.IrText.own A.AttrText.own A.eq ctx.now op state.old
+    ensures text { OnOk result (AppendsText f.old (heads.text_under T.IrText.own A.IrText.own A.AttrText.own
+        A.eq ctx.now op state.old
         marked (length (gathered_of state.old))) f.new) }
     ensures state { OnOk result (state.new ≡ printed.gathers state.old
         (heads.items_under T.IrText.own A.IrText.own A.AttrText.own A.eq ctx.now op state.old marked)) }
-    ensures fits { OnOk result (heads.MisfitsUnder T.IrText.own A.IrText.own A.AttrText.own A.eq ctx.now op state.old → ⊥) }
-    ensures refused { IfErr result (heads.RefusesUnder T.IrText.own A.IrText.own A.AttrText.own A.eq ctx.now op state.old) }
+    ensures fits { OnOk result (heads.MisfitsUnder T.IrText.own A.IrText.own A.AttrText.own A.eq ctx.now op
+        state.old → ⊥) }
+    ensures refused { IfErr result (heads.RefusesUnder T.IrText.own A.IrText.own A.AttrText.own A.eq ctx.now
+        op state.old) }
     ensures rest { state.new ≡ with_gathered state.old (gathered_of state.new) }
 {
     let mut items = take_gathered(state, ctx.allocator());
@@ -49,7 +52,8 @@ pub(crate) fn gather_mark<T: IrText<A>, A: AttrText<A>, U>(
     f: &mut String,
 ) -> Result<(), Refusal>
     requires live { IsSome (operation ctx.now op) }
-    ensures text { OnOk result (AppendsText f.old (heads.own_mark_at T.IrText.own A.IrText.own A.AttrText.own A.eq ctx.now op true
+    ensures text { OnOk result (AppendsText f.old (heads.own_mark_at T.IrText.own A.IrText.own A.AttrText.own
+        A.eq ctx.now op true
         (length (gathered_of state.old))) f.new) }
     ensures state { OnOk result (state.new ≡ printed.gathers state.old
         (heads.own_items_at T.IrText.own A.IrText.own A.AttrText.own A.eq ctx.now op true)) }
@@ -70,13 +74,16 @@ pub(crate) fn gather_block<T: IrText<A>, A: AttrText<A>, U>(
     f: &mut String,
 ) -> Result<(), Refusal>
     requires live { IsSome (context.block ctx.now block) }
-    ensures text { OnOk result (AppendsText f.old (heads.block_text_under T.IrText.own A.IrText.own A.AttrText.own A.eq ctx.now block
+    ensures text { OnOk result (AppendsText f.old (heads.block_text_under T.IrText.own A.IrText.own
+        A.AttrText.own A.eq ctx.now block
         state.old (length (gathered_of state.old))) f.new) }
     ensures state { OnOk result (state.new ≡ printed.gathers state.old
         (heads.block_items_under T.IrText.own A.IrText.own A.AttrText.own A.eq ctx.now block state.old)) }
-    ensures fits { OnOk result (heads.BlockFaultUnder T.IrText.own A.IrText.own A.AttrText.own A.eq ctx.now block state.old refusal.Misfit →
+    ensures fits { OnOk result (heads.BlockFaultUnder T.IrText.own A.IrText.own A.AttrText.own A.eq ctx.now
+        block state.old refusal.Misfit →
         ⊥) }
-    ensures refused { IfErr result (heads.RefusesBlockUnder T.IrText.own A.IrText.own A.AttrText.own A.eq ctx.now block state.old) }
+    ensures refused { IfErr result (heads.RefusesBlockUnder T.IrText.own A.IrText.own A.AttrText.own A.eq
+        ctx.now block state.old) }
     ensures rest { state.new ≡ with_gathered state.old (gathered_of state.new) }
 {
     let mut items = take_gathered(state, ctx.allocator());
@@ -93,13 +100,16 @@ pub(crate) fn gather_region<T: IrText<A>, A: AttrText<A>, U>(
     f: &mut String,
 ) -> Result<(), Refusal>
     requires live { IsLive ctx.now.graph (TheRegion region) }
-    ensures text { OnOk result (AppendsText f.old (heads.region_text_under T.IrText.own A.IrText.own A.AttrText.own A.eq ctx.now region
+    ensures text { OnOk result (AppendsText f.old (heads.region_text_under T.IrText.own A.IrText.own
+        A.AttrText.own A.eq ctx.now region
         state.old (length (gathered_of state.old))) f.new) }
     ensures state { OnOk result (state.new ≡ printed.gathers state.old
         (heads.region_items_under T.IrText.own A.IrText.own A.AttrText.own A.eq ctx.now region state.old)) }
-    ensures fits { OnOk result (heads.RegionFaultUnder T.IrText.own A.IrText.own A.AttrText.own A.eq ctx.now region state.old refusal.Misfit
+    ensures fits { OnOk result (heads.RegionFaultUnder T.IrText.own A.IrText.own A.AttrText.own A.eq ctx.now
+        region state.old refusal.Misfit
         → ⊥) }
-    ensures refused { IfErr result (heads.RefusesRegionUnder T.IrText.own A.IrText.own A.AttrText.own A.eq ctx.now region state.old) }
+    ensures refused { IfErr result (heads.RefusesRegionUnder T.IrText.own A.IrText.own A.AttrText.own A.eq
+        ctx.now region state.old) }
     ensures rest { state.new ≡ with_gathered state.old (gathered_of state.new) }
 {
     let mut items = take_gathered(state, ctx.allocator());

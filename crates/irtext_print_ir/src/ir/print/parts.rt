@@ -32,9 +32,11 @@ pub fn print_block<T: IrText<A>, A: AttrText<A>, U>(
     f: &mut String,
 ) -> Result<(), Refusal>
     requires live { IsSome (context.block ctx.now block) }
-    ensures prints { OnOk result (printed.PrintsBlock T.IrText.own A.IrText.own A.AttrText.own A.eq ctx.now block state.old f.old state.new
+    ensures prints { OnOk result (printed.PrintsBlock T.IrText.own A.IrText.own A.AttrText.own A.eq ctx.now
+        block state.old f.old state.new
         f.new) }
-    ensures refused { IfErr result (heads.RefusesBlockUnder T.IrText.own A.IrText.own A.AttrText.own A.eq ctx.now block state.old) }
+    ensures refused { IfErr result (heads.RefusesBlockUnder T.IrText.own A.IrText.own A.AttrText.own A.eq
+        ctx.now block state.old) }
     ensures rest { state.new ≡ with_gathered state.old (gathered_of state.new) }
 {
     gather_block(ctx, block, state, f)
@@ -52,9 +54,11 @@ pub fn print_region<T: IrText<A>, A: AttrText<A>, U>(
     f: &mut String,
 ) -> Result<(), Refusal>
     requires live { IsLive ctx.now.graph (TheRegion region) }
-    ensures prints { OnOk result (printed.PrintsRegion T.IrText.own A.IrText.own A.AttrText.own A.eq ctx.now region state.old f.old
+    ensures prints { OnOk result (printed.PrintsRegion T.IrText.own A.IrText.own A.AttrText.own A.eq ctx.now
+        region state.old f.old
         state.new f.new) }
-    ensures refused { IfErr result (heads.RefusesRegionUnder T.IrText.own A.IrText.own A.AttrText.own A.eq ctx.now region state.old) }
+    ensures refused { IfErr result (heads.RefusesRegionUnder T.IrText.own A.IrText.own A.AttrText.own A.eq
+        ctx.now region state.old) }
     ensures rest { state.new ≡ with_gathered state.old (gathered_of state.new) }
 {
     gather_region(ctx, region, state, f)

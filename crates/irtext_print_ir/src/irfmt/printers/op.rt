@@ -91,7 +91,8 @@ pub fn print_typed_symb_op_header<T: IrText<A>, A: AttrText<A>>(
     f: &mut String,
 ) -> Result<(), Refusal>
     requires live { IsSome (operation ctx.now op) }
-    ensures prints { OnOk result (WritesPart (parts.typed_header_of (T.written ty.now)) ctx.now op f.old f.new) }
+    ensures prints { OnOk result (WritesPart (parts.typed_header_of (T.written ty.now)) ctx.now op
+        f.old f.new) }
     ensures refused { IfErr result (parts.RefusesPart (parts.typed_header_of (T.written ty.now)) ctx.now op) }
 {
     print_symb_op_header(ctx, op, f)?;
@@ -110,8 +111,10 @@ pub fn print_region<T: IrText<A>, A: AttrText<A>, U>(
     f: &mut String,
 ) -> Result<(), Refusal>
     requires live { IsSome (operation ctx.now op) }
-    ensures prints { OnOk result (parts.PrintsOne T.IrText.own A.IrText.own A.AttrText.own A.eq ctx.now op state.old f.old state.new f.new) }
-    ensures refused { IfErr result (parts.RefusesOne T.IrText.own A.IrText.own A.AttrText.own A.eq ctx.now op state.old) }
+    ensures prints { OnOk result (parts.PrintsOne T.IrText.own A.IrText.own A.AttrText.own A.eq ctx.now op
+        state.old f.old state.new f.new) }
+    ensures refused { IfErr result (parts.RefusesOne T.IrText.own A.IrText.own A.AttrText.own A.eq ctx.now op
+        state.old) }
     ensures rest { state.new ≡ with_gathered state.old (gathered_of state.new) }
 {
     if op.num_regions(ctx) != 1 {

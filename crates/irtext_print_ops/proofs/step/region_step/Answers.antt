@@ -1,5 +1,4 @@
-use Rattle.std.proofs.Common.{◌∷◌, [], refl, sym, subst, string_bytes, arith, true, false, length, ◌≤◌, ◌+◌, ◌^◌}
-use Rattle.std.proofs.Math.ListN.{drop_of_length-le}
+use Rattle.std.proofs.Common.{◌∷◌, [], refl, sym, subst, string_bytes, arith, true, false, ◌≤◌, ◌+◌, ◌^◌}
 use Rattle.irtext_dict.proofs.Drops.{one_left}
 use Rattle.irtext_graph.specs.Graph.{children, parent}
 use Rattle.irtext_graph.specs.Nested.{Nested}
@@ -8,32 +7,20 @@ use Rattle.irtext_print_ops.specs.Heads as heads
 use Rattle.irtext_print_ops.specs.declared.frame.Frame.TheVariants as framed
 use Rattle.irtext_print_ops.proofs.Turned.{block_stands, region_ended, region_begins}
 use Rattle.irtext_print_ops.proofs.Descents.{entered}
+use Rattle.irtext_print_ops.proofs.Tests.{past_all}
 use Rattle.irtext_print_ops.proofs.Refused.{handed_on, block_refused}
 use Rattle.irtext_print_ops.proofs.step.region_step.Goals as goal
 
 pub returns-then-frame-num_blocks-clause-steps : goal.returns-then-frame-num_blocks-clause-steps
 returns-then-frame-num_blocks-clause-steps g c =
-    let ctx = c.args.ctx.now in
-    let bks = blocks ctx.graph c.args.frame.region in
-    let none : length bks ≤ c.args.frame.block = omega (arith, c.if-frame-num_blocks.true, c.num_blocks.ensures) in
-    region_ended (heads.printing_of g.T.IrText g.A.IrText g.A.AttrText g.A.PartialEq.eq ctx) (heads.language_of g.T.IrText g.A.IrText g.A.AttrText g.A.PartialEq.eq ctx) ctx c.args.width
-    c.args.frame c.args.items.now.items c.args.frames.now.items (string_bytes c.args.f.now) (string_bytes c.fmt_closing.new.f) (drop_of_length-le bks none) c.in_ok-fmt_closing.ensures.text
+    region_ended (heads.printing_of g.T.IrText g.A.IrText g.A.AttrText g.A.PartialEq.eq c.args.ctx.now) (heads.language_of g.T.IrText g.A.IrText g.A.AttrText g.A.PartialEq.eq c.args.ctx.now) c.args.ctx.now c.args.width c.args.frame c.args.items.now.items c.args.frames.now.items (string_bytes c.args.f.now) (string_bytes c.fmt_closing.new.f)
+    (past_all (blocks c.args.ctx.now.graph c.args.frame.region) c.num_blocks.result c.args.frame.block c.num_blocks.ensures (omega (arith, c.if-frame-num_blocks.true))) c.in_ok-fmt_closing.ensures.text
 
 pub fmt_block_head-requires : goal.fmt_block_head-requires
-fmt_block_head-requires g c =
-    let ctx = c.args.ctx.now in
-    record {
-      live = block_stands (heads.printing_of g.T.IrText g.A.IrText g.A.AttrText g.A.PartialEq.eq ctx) (heads.language_of g.T.IrText g.A.IrText g.A.AttrText g.A.PartialEq.eq ctx) ctx c.args.width
-          (subst (λ z. Nested (children z) (parent z)) c.graph.ensures c.keeps_nesting.ensures.forest) c.args.frame.region c.get_block-block.result c.args.frame.block c.get_block-block.ensures;
-    }
+fmt_block_head-requires g c = record { live = block_stands (heads.printing_of g.T.IrText g.A.IrText g.A.AttrText g.A.PartialEq.eq c.args.ctx.now) (heads.language_of g.T.IrText g.A.IrText g.A.AttrText g.A.PartialEq.eq c.args.ctx.now) c.args.ctx.now c.args.width (subst (λ z. Nested (children z) (parent z)) c.graph.ensures c.keeps_nesting.ensures.forest) c.args.frame.region c.get_block-block.result c.args.frame.block c.get_block-block.ensures }
 
 pub fmt_block_mark-requires : goal.fmt_block_mark-requires
-fmt_block_mark-requires g c =
-    let ctx = c.args.ctx.now in
-    record {
-      live = block_stands (heads.printing_of g.T.IrText g.A.IrText g.A.AttrText g.A.PartialEq.eq ctx) (heads.language_of g.T.IrText g.A.IrText g.A.AttrText g.A.PartialEq.eq ctx) ctx c.args.width
-          (subst (λ z. Nested (children z) (parent z)) c.graph.ensures c.keeps_nesting.ensures.forest) c.args.frame.region c.get_block-block.result c.args.frame.block c.get_block-block.ensures;
-    }
+fmt_block_mark-requires g c = record { live = block_stands (heads.printing_of g.T.IrText g.A.IrText g.A.AttrText g.A.PartialEq.eq c.args.ctx.now) (heads.language_of g.T.IrText g.A.IrText g.A.AttrText g.A.PartialEq.eq c.args.ctx.now) c.args.ctx.now c.args.width (subst (λ z. Nested (children z) (parent z)) c.graph.ensures c.keeps_nesting.ensures.forest) c.args.frame.region c.get_block-block.result c.args.frame.block c.get_block-block.ensures }
 
 pub returns-clause-steps : goal.returns-clause-steps
 returns-clause-steps g c =

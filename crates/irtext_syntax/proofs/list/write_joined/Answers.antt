@@ -4,5 +4,5 @@ use Rattle.irtext_syntax.proofs.list.write_joined.Goals as goal
 
 pub returns-in_ok-write_tail : goal.returns-in_ok-write_tail
 returns-in_ok-write_tail g c =
-    first_written c.args.separator g.P.Part.written c.in-Some.first.now c.in-Some.rest.now c.args.items.now (string_bytes c.args.f.now) (string_bytes c.write_text.new.f) (string_bytes c.write_tail.new.f)
+    first_written c.args.separator g.P.Part.text.written c.in-Some.first.now c.in-Some.rest.now c.args.items.now (string_bytes c.args.f.now) (string_bytes c.write_text.new.f) (string_bytes c.write_tail.new.f)
     c.in-Some.ensures.cases.0 c.in_ok-write_text.ensures c.in_ok-write_tail.ensures

@@ -4,4 +4,4 @@ use Rattle.irtext_syntax.specs.ListParts.{tail_text}
 use Rattle.irtext_syntax.proofs.list.write_tail.Given as goal
 
 abbrev pub invariant-loop-item : goal.invariant-loop-item
-invariant-loop-item g l = string_bytes l.f ++ encode_utf8_all (tail_text l.fn.separator g.P.Part.written (drop l.item-index l.items)) ≡ string_bytes l.fn.f ++ encode_utf8_all (tail_text l.fn.separator g.P.Part.written l.items)
+invariant-loop-item g l = string_bytes l.f ++ encode_utf8_all (tail_text l.fn.separator g.P.Part.text.written (drop l.item-index l.items)) ≡ string_bytes l.fn.f ++ encode_utf8_all (tail_text l.fn.separator g.P.Part.text.written l.items)

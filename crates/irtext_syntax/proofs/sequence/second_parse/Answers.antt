@@ -8,10 +8,10 @@ use Rattle.irtext_syntax.proofs.sequence.second_parse.Goals as goal
 
 pub returns-in_err-second : goal.returns-in_err-second
 returns-in_err-second g c =
-    let behind = λ (u : Unit {0}) (t : Text). mapped (then_with c.args.first) (g.Q.Part.reading t) in
+    let behind = λ (u : Unit {0}) (t : Text). mapped (then_with c.args.first) (g.Q.Part.text.reading t) in
     rw (handed_on c.from_residual-in_err-second.result c.from_residual-in_err-second.ensures.1) (refuses_seen alone (then_with c.args.first) (first alone behind c.in_ok-between_demanded.ensures) c.in_err-second.ensures)
 
 pub returns : goal.returns
 returns g c =
-    let behind = λ (u : Unit {0}) (t : Text). mapped (then_with c.args.first) (g.Q.Part.reading t) in
+    let behind = λ (u : Unit {0}) (t : Text). mapped (then_with c.args.first) (g.Q.Part.text.reading t) in
     last_seen alone (λ x. x) (then_with c.args.first) _ refl (first alone behind c.in_ok-between_demanded.ensures) c.in_ok-second.ensures

@@ -9,7 +9,7 @@ use Rattle.irtext_syntax.proofs.table.behind_known.Goals as goal
 
 pub returns-in-Some : goal.returns-in-Some
 returns-in-Some g c =
-    let item = g.P.Part.reading in
+    let item = g.P.Part.text.reading in
     let p = starts alone (space_at ▷ item) (space_at ▷ item) c.args.stream.now (sym c.has_failed.ensures ∙ c.if-has_failed.false) refl in
     last alone (spaced alone (λ _ t. item t) p c.skip_white_space.ensures) (insisted alone c.in-Some.ensures (refl, refl))
 

@@ -96,7 +96,8 @@ fn given_names<S: CharStream, A: Drop>(stream: &mut S) -> ParseResult<Vec<Option
 
 /// Parses an identifier, after its word.
 fn ident<S: CharStream, A>(stream: &mut S) -> ParseResult<Identifier, A>
-    ensures { (S.view stream.old).failed ≡ false → MustRead S.view S.at (λ name. name) spaced_identifier_at stream.old result stream.new }
+    ensures { (S.view stream.old).failed ≡ false → MustRead S.view S.at (λ name. name) spaced_identifier_at
+        stream.old result stream.new }
 {
     skip_white_space(stream);
     identifier_demanded(stream)
@@ -104,7 +105,8 @@ fn ident<S: CharStream, A>(stream: &mut S) -> ParseResult<Identifier, A>
 
 /// Parses an attribute. Its first word selects the parser.
 fn led_parse<S: OwnStream, A: AttrText<A>>(stream: &mut S) -> ParseResult<AttrObj<A>, A>
-    ensures { MayRead S.CharStream.view S.CharStream.at attr_view (attr_at A.IrText.reading) stream.old result stream.new }
+    ensures { MayRead S.CharStream.view S.CharStream.at attr_view (attr_at A.IrText.reading) stream.old result
+        stream.new }
 {
     if stream.has_failed() {
         return Err(refuse(stream, Cause::StreamFailed));
@@ -121,7 +123,8 @@ fn led_parse<S: OwnStream, A: AttrText<A>>(stream: &mut S) -> ParseResult<AttrOb
 /// caller's own parser, whose errors are returned unchanged. White space is allowed between all tokens. After one of the two words every
 /// error is committed, and leaves the stream failed. Only the stream's text is read, and nothing but the stream changes.
 pub fn attr_parse<S: OwnStream, A: AttrText<A>>(stream: &mut S) -> ParseResult<AttrObj<A>, A>
-    ensures read { MayRead S.CharStream.view S.CharStream.at attr_view (attr_at A.IrText.reading) stream.old result stream.new }
+    ensures read { MayRead S.CharStream.view S.CharStream.at attr_view (attr_at A.IrText.reading) stream.old
+        result stream.new }
     ensures beside { stream.new ≡ S.CharStream.at stream.old (S.CharStream.view stream.new) }
 {
     led_parse(stream)

@@ -31,7 +31,8 @@ fn spell<S: CharStream>(stream: &mut S, text: &str) -> Option<bool>
 #[cold]
 #[inline(never)]
 fn missing<S: CharStream, A>(stream: &mut S, begun: bool, expected: Expected) -> ParseFault<A>
-    ensures { Misses S.view S.at begun (Unexpected (first_of (S.view stream.old).rest) (demand_of expected)) stream.old result stream.new }
+    ensures { Misses S.view S.at begun (Unexpected (first_of (S.view stream.old).rest) (demand_of expected))
+        stream.old result stream.new }
 {
     let fault = unexpected(stream, expected);
     if begun {
@@ -59,7 +60,8 @@ pub fn held(alloc: Global, text: &str) -> Result<Expected, AllocError>
 #[inline(never)]
 fn spelled_parse<S: CharStream, A>(stream: &mut S, text: &str) -> ParseResult<(), A>
     requires { (S.view stream.old).failed ≡ false }
-    ensures answers { Answers S.view S.at (λ u. u) (text_at (characters text.now) (S.view stream.old).rest) stream.old result stream.new }
+    ensures answers { Answers S.view S.at (λ u. u) (text_at (characters text.now) (S.view stream.old).rest)
+        stream.old result stream.new }
     ensures spares { NeedsNoMemory (text_at (characters text.now) (S.view stream.old).rest) result }
 {
     let Some(begun) = spell(stream, text) else {
@@ -76,7 +78,8 @@ fn spelled_parse<S: CharStream, A>(stream: &mut S, text: &str) -> ParseResult<()
 /// `Memory`.
 #[inline]
 pub fn text_parse<S: CharStream, A>(stream: &mut S, text: &str) -> ParseResult<(), A>
-    ensures answers { ReadsAs S.view S.at (λ u. u) (text_at (characters text.now)) stream.old result stream.new }
+    ensures answers { ReadsAs S.view S.at (λ u. u) (text_at (characters text.now)) stream.old result
+        stream.new }
     ensures spares { SparesMemory S.view (text_at (characters text.now)) stream.old result }
 {
     if stream.has_failed() {

@@ -2,10 +2,9 @@
 ghost use Rattle.std.specs.Prelude.{◌≡◌, ◌<◌, ◌≤◌, ◌^◌, ◌+◌, ◌≤ℤ◌, ◌<ℤ◌, neg_ℤ, ℕ, ℤ, pos, Bool, cond, IfSome, List, Result, true, false};
 ghost use Rattle.std.specs.Int.{w8, w16, w32, w64};
 ghost use Rattle.std.specs.Option.{option_map};
-ghost use Rattle.std.specs.Str.Parse.{ExplainsSignedError, ExplainsUnsignedError, ParsesSigned, ParsesUnsigned};
 ghost use Rattle.std.proofs.Common.{lit≤};
 ghost use Rattle.std.specs.declared.num.ParseIntError.{ParseIntError};
-ghost use Rattle.irtext_tokens.specs.Integers.{signed_below, unsigned_below, within};
+ghost use Rattle.irtext_tokens.specs.Integers.{itself, signed_below, signed_parses, unsigned_below, unsigned_parses, within};
 
 use std::num::ParseIntError;
 
@@ -35,109 +34,16 @@ pub trait FromStrRadix: Sized {
     ghost narrow: { (negative : Bool) → below negative ≤ 2 ^ 64 };
 }
 
-impl FromStrRadix for u8 {
-    ghost number = { pos };
-
-    ghost below = { unsigned_below 8 };
-
-    ghost parses = { λ radix text r. ParsesUnsigned 8 radix text r × ExplainsUnsignedError radix text r };
-
-    fn from_str_radix(src: &str, radix: u32) -> Result<u8, ParseIntError> {
-        u8::from_str_radix(src, radix)
+/// Returns the magnitude if it is at most the greatest one, and not negated.
+fn unsigned(negative: bool, magnitude: u64, greatest: u64) -> Option<u64>
+    ensures value { option_map pos result ≡
+        within (λ negative. cond negative 0 (greatest + 1)) negative magnitude }
+    ensures high { IfSome result (λ n. n ≤ greatest) }
+{
+    if negative || magnitude > greatest {
+        return None;
     }
-
-    fn from_magnitude(negative: bool, magnitude: u64) -> Option<u8> {
-        if negative || magnitude > 255 {
-            return None;
-        }
-        Some(magnitude as u8)
-    }
-
-    ghost narrow = { elim [ true ↦ lit≤ tt | false ↦ lit≤ tt ] };
-}
-
-impl FromStrRadix for u16 {
-    ghost number = { pos };
-
-    ghost below = { unsigned_below 16 };
-
-    ghost parses = { λ radix text r. ParsesUnsigned 16 radix text r × ExplainsUnsignedError radix text r };
-
-    fn from_str_radix(src: &str, radix: u32) -> Result<u16, ParseIntError> {
-        u16::from_str_radix(src, radix)
-    }
-
-    fn from_magnitude(negative: bool, magnitude: u64) -> Option<u16> {
-        if negative || magnitude > 65535 {
-            return None;
-        }
-        Some(magnitude as u16)
-    }
-
-    ghost narrow = { elim [ true ↦ lit≤ tt | false ↦ lit≤ tt ] };
-}
-
-impl FromStrRadix for u32 {
-    ghost number = { pos };
-
-    ghost below = { unsigned_below 32 };
-
-    ghost parses = { λ radix text r. ParsesUnsigned 32 radix text r × ExplainsUnsignedError radix text r };
-
-    fn from_str_radix(src: &str, radix: u32) -> Result<u32, ParseIntError> {
-        u32::from_str_radix(src, radix)
-    }
-
-    fn from_magnitude(negative: bool, magnitude: u64) -> Option<u32> {
-        if negative || magnitude > 4294967295 {
-            return None;
-        }
-        Some(magnitude as u32)
-    }
-
-    ghost narrow = { elim [ true ↦ lit≤ tt | false ↦ lit≤ tt ] };
-}
-
-impl FromStrRadix for u64 {
-    ghost number = { pos };
-
-    ghost below = { unsigned_below 64 };
-
-    ghost parses = { λ radix text r. ParsesUnsigned 64 radix text r × ExplainsUnsignedError radix text r };
-
-    fn from_str_radix(src: &str, radix: u32) -> Result<u64, ParseIntError> {
-        u64::from_str_radix(src, radix)
-    }
-
-    fn from_magnitude(negative: bool, magnitude: u64) -> Option<u64> {
-        if negative {
-            return None;
-        }
-        Some(magnitude)
-    }
-
-    ghost narrow = { elim [ true ↦ lit≤ tt | false ↦ lit≤ tt ] };
-}
-
-impl FromStrRadix for usize {
-    ghost number = { pos };
-
-    ghost below = { unsigned_below 64 };
-
-    ghost parses = { λ radix text r. ParsesUnsigned 64 radix text r × ExplainsUnsignedError radix text r };
-
-    fn from_str_radix(src: &str, radix: u32) -> Result<usize, ParseIntError> {
-        usize::from_str_radix(src, radix)
-    }
-
-    fn from_magnitude(negative: bool, magnitude: u64) -> Option<usize> {
-        if negative {
-            return None;
-        }
-        Some(magnitude as usize)
-    }
-
-    ghost narrow = { elim [ true ↦ lit≤ tt | false ↦ lit≤ tt ] };
+    Some(magnitude)
 }
 
 /// Returns the integer with this magnitude if the magnitude is less than the limit; a negative one may also be equal to it.
@@ -163,12 +69,102 @@ fn signed(negative: bool, magnitude: u64, limit: u64) -> Option<i64>
     Some(magnitude as i64)
 }
 
+impl FromStrRadix for u8 {
+    ghost number = { pos };
+
+    ghost below = { unsigned_below 8 };
+
+    ghost parses = { unsigned_parses w8 };
+
+    fn from_str_radix(src: &str, radix: u32) -> Result<u8, ParseIntError> {
+        u8::from_str_radix(src, radix)
+    }
+
+    fn from_magnitude(negative: bool, magnitude: u64) -> Option<u8> {
+        Some(unsigned(negative, magnitude, 255)? as u8)
+    }
+
+    ghost narrow = { elim [ true ↦ lit≤ tt | false ↦ lit≤ tt ] };
+}
+
+impl FromStrRadix for u16 {
+    ghost number = { pos };
+
+    ghost below = { unsigned_below 16 };
+
+    ghost parses = { unsigned_parses w16 };
+
+    fn from_str_radix(src: &str, radix: u32) -> Result<u16, ParseIntError> {
+        u16::from_str_radix(src, radix)
+    }
+
+    fn from_magnitude(negative: bool, magnitude: u64) -> Option<u16> {
+        Some(unsigned(negative, magnitude, 65535)? as u16)
+    }
+
+    ghost narrow = { elim [ true ↦ lit≤ tt | false ↦ lit≤ tt ] };
+}
+
+impl FromStrRadix for u32 {
+    ghost number = { pos };
+
+    ghost below = { unsigned_below 32 };
+
+    ghost parses = { unsigned_parses w32 };
+
+    fn from_str_radix(src: &str, radix: u32) -> Result<u32, ParseIntError> {
+        u32::from_str_radix(src, radix)
+    }
+
+    fn from_magnitude(negative: bool, magnitude: u64) -> Option<u32> {
+        Some(unsigned(negative, magnitude, 4294967295)? as u32)
+    }
+
+    ghost narrow = { elim [ true ↦ lit≤ tt | false ↦ lit≤ tt ] };
+}
+
+impl FromStrRadix for u64 {
+    ghost number = { pos };
+
+    ghost below = { unsigned_below 64 };
+
+    ghost parses = { unsigned_parses w64 };
+
+    fn from_str_radix(src: &str, radix: u32) -> Result<u64, ParseIntError> {
+        u64::from_str_radix(src, radix)
+    }
+
+    fn from_magnitude(negative: bool, magnitude: u64) -> Option<u64> {
+        Some(unsigned(negative, magnitude, 18446744073709551615)? as u64)
+    }
+
+    ghost narrow = { elim [ true ↦ lit≤ tt | false ↦ lit≤ tt ] };
+}
+
+impl FromStrRadix for usize {
+    ghost number = { pos };
+
+    ghost below = { unsigned_below 64 };
+
+    ghost parses = { unsigned_parses w64 };
+
+    fn from_str_radix(src: &str, radix: u32) -> Result<usize, ParseIntError> {
+        usize::from_str_radix(src, radix)
+    }
+
+    fn from_magnitude(negative: bool, magnitude: u64) -> Option<usize> {
+        Some(unsigned(negative, magnitude, 18446744073709551615)? as usize)
+    }
+
+    ghost narrow = { elim [ true ↦ lit≤ tt | false ↦ lit≤ tt ] };
+}
+
 impl FromStrRadix for i8 {
-    ghost number = { λ z. z };
+    ghost number = { itself };
 
     ghost below = { signed_below 8 };
 
-    ghost parses = { λ radix text r. ParsesSigned w8 radix text r × ExplainsSignedError radix text r };
+    ghost parses = { signed_parses w8 };
 
     fn from_str_radix(src: &str, radix: u32) -> Result<i8, ParseIntError> {
         i8::from_str_radix(src, radix)
@@ -182,11 +178,11 @@ impl FromStrRadix for i8 {
 }
 
 impl FromStrRadix for i16 {
-    ghost number = { λ z. z };
+    ghost number = { itself };
 
     ghost below = { signed_below 16 };
 
-    ghost parses = { λ radix text r. ParsesSigned w16 radix text r × ExplainsSignedError radix text r };
+    ghost parses = { signed_parses w16 };
 
     fn from_str_radix(src: &str, radix: u32) -> Result<i16, ParseIntError> {
         i16::from_str_radix(src, radix)
@@ -200,11 +196,11 @@ impl FromStrRadix for i16 {
 }
 
 impl FromStrRadix for i32 {
-    ghost number = { λ z. z };
+    ghost number = { itself };
 
     ghost below = { signed_below 32 };
 
-    ghost parses = { λ radix text r. ParsesSigned w32 radix text r × ExplainsSignedError radix text r };
+    ghost parses = { signed_parses w32 };
 
     fn from_str_radix(src: &str, radix: u32) -> Result<i32, ParseIntError> {
         i32::from_str_radix(src, radix)
@@ -218,29 +214,29 @@ impl FromStrRadix for i32 {
 }
 
 impl FromStrRadix for i64 {
-    ghost number = { λ z. z };
+    ghost number = { itself };
 
     ghost below = { signed_below 64 };
 
-    ghost parses = { λ radix text r. ParsesSigned w64 radix text r × ExplainsSignedError radix text r };
+    ghost parses = { signed_parses w64 };
 
     fn from_str_radix(src: &str, radix: u32) -> Result<i64, ParseIntError> {
         i64::from_str_radix(src, radix)
     }
 
     fn from_magnitude(negative: bool, magnitude: u64) -> Option<i64> {
-        signed(negative, magnitude, 9223372036854775808)
+        Some(signed(negative, magnitude, 9223372036854775808)? as i64)
     }
 
     ghost narrow = { elim [ true ↦ lit≤ tt | false ↦ lit≤ tt ] };
 }
 
 impl FromStrRadix for isize {
-    ghost number = { λ z. z };
+    ghost number = { itself };
 
     ghost below = { signed_below 64 };
 
-    ghost parses = { λ radix text r. ParsesSigned w64 radix text r × ExplainsSignedError radix text r };
+    ghost parses = { signed_parses w64 };
 
     fn from_str_radix(src: &str, radix: u32) -> Result<isize, ParseIntError> {
         isize::from_str_radix(src, radix)

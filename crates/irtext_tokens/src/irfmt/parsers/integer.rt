@@ -17,7 +17,8 @@ use irtext_base::result::{Cause, Expected};
 /// If a sign comes next, consumes and returns it.
 fn take_sign<S: CharStream>(stream: &mut S) -> Option<char>
     ensures sign { result ≡ first_of (sign_of (S.view stream.old).rest) }
-    ensures takes { Takes S.view S.at (sign_of (S.view stream.old).rest) (after_sign (S.view stream.old).rest) stream.old stream.new }
+    ensures takes { Takes S.view S.at (sign_of (S.view stream.old).rest) (after_sign (S.view stream.old).rest)
+        stream.old stream.new }
 {
     match stream.peek() {
         Some(c) if c == '+' || c == '-' => {

@@ -16,7 +16,8 @@ use irtext_base::result::{Cause, Expected};
 /// Whether no character was consumed since an earlier position.
 fn is_still_at<S: CharStream>(stream: &S, place: Place) -> bool
     requires { HasPassed place (S.view stream.now) }
-    ensures { SincePlace place (S.view stream.now) (λ passed taken. MatchBool result (taken ≡ []) (taken ≡ [] → ⊥)) }
+    ensures { SincePlace place (S.view stream.now) (λ passed taken. MatchBool result (taken ≡ [])
+        (taken ≡ [] → ⊥)) }
 {
     stream.text_since(place).is_empty()
 }
@@ -76,7 +77,8 @@ fn tail<S: CharStream, X: Drop, A: Drop, F: FnMut(&mut S) -> ParseResult<X, A> +
 where
     requires callable { F.IsAlwaysCallable item }
     requires rules { AlwaysKeepsRules S.view S.at (λ r. r) F.FnMut }
-    ensures { TailAfter S.view S.at (Calls (λ r. r) F.FnMut) sep found.items item stream.old (listed result) stream.new }
+    ensures { TailAfter S.view S.at (Calls (λ r. r) F.FnMut) sep found.items item stream.old (listed result)
+        stream.new }
 {
     while next_is(stream, sep) {
         let _ = stream.take();
@@ -156,7 +158,8 @@ pub fn delimited_list_parser<
 where
     requires callable { F.IsAlwaysCallable item }
     requires rules { AlwaysKeepsRules S.view S.at (λ r. r) F.FnMut }
-    ensures answers { UnlessFailed S.view S.at (Delimited S.view S.at (Calls (λ r. r) F.FnMut) left right sep item)
+    ensures answers { UnlessFailed S.view S.at (Delimited S.view S.at (Calls (λ r. r) F.FnMut) left
+        right sep item)
         (S.view stream.old).failed stream.old (listed result) stream.new }
     ensures kept { KeepsRules S.view S.at stream.old result stream.new }
 {
@@ -188,7 +191,8 @@ pub fn list_with_sep_parser<
 where
     requires callable { F.IsAlwaysCallable item }
     requires rules { AlwaysKeepsRules S.view S.at (λ r. r) F.FnMut }
-    ensures answers { UnlessFailed S.view S.at (WithSeparator S.view S.at (Calls (λ r. r) F.FnMut) (character_of sep) item)
+    ensures answers { UnlessFailed S.view S.at (WithSeparator S.view S.at (Calls (λ r. r) F.FnMut)
+        (character_of sep) item)
         (S.view stream.old).failed stream.old (listed result) stream.new }
     ensures kept { KeepsRules S.view S.at stream.old result stream.new }
 {

@@ -51,7 +51,8 @@ fn character(number: Option<u64>) -> Option<char>
 #[inline(never)]
 fn no_character<S: CharStream, A>(stream: &mut S, escape: Place, digits: Place) -> ParseFault<A>
     requires { HasPassed digits (S.view stream.old) }
-    ensures { AtPlace escape (S.view stream.old) (λ before rest. SincePlace digits (S.view stream.old) (λ passed taken.
+    ensures { AtPlace escape (S.view stream.old) (λ before rest. SincePlace digits (S.view stream.old)
+        (λ passed taken.
         StarvesOrFails S.view S.at (BadUnicodeEscape (encode_utf8_all taken)) before stream.old result stream.new)) }
 {
     match String::from_str(stream.allocator(), stream.text_since(digits)) {
@@ -153,7 +154,8 @@ fn units_parse<S: CharStream, A>(stream: &mut S) -> ParseResult<String, A>
 /// If no quotation mark comes first, fails with `Unexpected`, uncommitted, and the stream is unchanged. Every other error is committed:
 /// `BadEscape` and `BadUnicodeEscape` at the escape's backslash, and `Unexpected` at the position of a missing character.
 pub fn quoted_string_parse<S: CharStream, A>(stream: &mut S) -> ParseResult<String, A>
-    ensures { ReadsAs S.view S.at (λ s. string_bytes s) (λ text. mapped encode_utf8_all (quoted_at text)) stream.old result stream.new }
+    ensures { ReadsAs S.view S.at (λ s. string_bytes s) (λ text. mapped encode_utf8_all (quoted_at text))
+        stream.old result stream.new }
 {
     text_parse(stream, "\"")?;
     units_parse(stream)

@@ -1,4 +1,4 @@
-use Rattle.std.proofs.Common.{ap, refl, sym, ◌∙◌}
+use Rattle.std.proofs.Common.{ap, refl, sym, ◌∙◌, rules}
 use Rattle.irtext_base.specs.Locations.{src_pos}
 use Rattle.irtext_base.specs.Paths.{path_of, written_with}
 use Rattle.irtext_base.specs.declared.location.Location.{SrcPos}
@@ -11,22 +11,21 @@ use Rattle.irtext_parse_spec.proofs.Readers.Steps.{refuses_seen, last_seen}
 use Rattle.irtext_parse_section.proofs.Places.{memory_comes, source_passed}
 use Rattle.irtext_parse_section.proofs.location.source.place_demanded.Goals as goal
 
-pub returns-in_err-pos-clause-read : goal.returns-in_err-pos-clause-read
-returns-in_err-pos-clause-read g c =
+pub returns-in_err-pos : goal.returns-in_err-pos
+returns-in_err-pos g c =
     let s = memory_comes {A = g.row.A.Denot} c.args.stream.now c.accept.new.self (sym c.has_failed.ensures ∙ c.if-has_failed.false) c.if-accept.ensures in
-    rw (handed_on c.from_residual.result c.from_residual.ensures.1) (record { known = tt; read = refuses_seen alone _ (source_passed s) c.in_err-pos.ensures })
+    rw (handed_on c.from_residual.result c.from_residual.ensures.1) (record { adds = search rules; read = record { known = tt; read = refuses_seen alone _ (source_passed s) c.in_err-pos.ensures }; paths = tt })
 
-pub returns-then-accept-clause-read : goal.returns-then-accept-clause-read
-returns-then-accept-clause-read g c =
+pub returns-then-accept : goal.returns-then-accept
+returns-then-accept g c =
     let s = memory_comes {A = g.row.A.Denot} c.args.stream.now c.accept.new.self (sym c.has_failed.ensures ∙ c.if-has_failed.false) c.if-accept.ensures in
     let paths = c.args.ctx.now.paths in
     let seen = seen-src_pos {A = g.row.A.Denot} InMemory c.in_ok-pos.pos in
     record {
-      known = rw seen refl;
-      read = last_seen alone (location_over paths) (src_pos (path_of paths InMemory)) (SrcPos InMemory c.in_ok-pos.pos) (ap (written_with paths) seen) (source_passed s) c.in_ok-pos.ensures;
+      adds = search rules;
+      read = record {
+        known = rw seen refl;
+        read = last_seen alone (location_over paths) (src_pos (path_of paths InMemory)) (SrcPos InMemory c.in_ok-pos.pos) (ap (written_with paths) seen) (source_passed s) c.in_ok-pos.ensures;
+      };
+      paths = rw seen refl;
     }
-
-pub returns-then-accept-clause-paths : goal.returns-then-accept-clause-paths
-returns-then-accept-clause-paths g c =
-    let seen = seen-src_pos {A = g.row.A.Denot} InMemory c.in_ok-pos.pos in
-    rw seen refl

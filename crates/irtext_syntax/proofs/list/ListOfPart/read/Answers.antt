@@ -7,6 +7,6 @@ use Rattle.irtext_syntax.proofs.list.ListOfPart.read.Goals as goal
 
 pub returns-in-Err-items_parse : goal.returns-in-Err-items_parse
 returns-in-Err-items_parse g c =
-    let inside = λ (u : Unit {0}) (t : Text). items_at g.B.Separated.separator g.P.Part.reading g.B.Brackets.closer t in
+    let inside = λ (u : Unit {0}) (t : Text). items_at g.B.Separated.separator g.P.Part.text.reading g.B.Brackets.closer t in
     let h = may_read alone (λ u. u) (open_at g.B.Brackets.opener) c.args.stream.now c.open_parse.new.stream (Ok tt) c.in-Ok.ensures.answers in
     begun_by alone inside h (last alone (begins_with alone inside h) (record { answers = c.in-Err-items_parse.ensures.answers }))
