@@ -22,7 +22,8 @@ use Rattle.irtext_names.specs.Linked.{Known, StandsAt, TakesDefinition, FailsBy}
 use Rattle.irtext_names.specs.Placeholders.{Defines}
 use Rattle.irtext_names.specs.Tied.{MatchesGraph, IsNoPlaceholder}
 use Rattle.irtext_names.proofs.Loses.{Loses}
-use Rattle.irtext_names.proofs.NamesOf.{one_value, no_block}
+use Rattle.irtext_names.specs.Kinds.{NamesOf.{values}}
+use Rattle.irtext_names.proofs.ByKind.{one_of, apart_of}
 use Rattle.irtext_names.proofs.Pairs.{lost}
 use Rattle.irtext_names.proofs.Ties.{waited}
 use Rattle.irtext_names.proofs.Linked.Kept.{made_defined}
@@ -62,9 +63,9 @@ module _ {O B T : Type 0} where
       → IsDefined g (OfValue x) × IsNoPlaceholder vs x → IsDefined k (OfValue x) × IsNoPlaceholder vs' x
   still_ready n v x vs vs' ls g k t d ready =
       let o = option_map OfValue (placeholder_of (find n (innermost vs))) in
-      let l : Loses g k o = lost OfValue OfBlock one_value no_block vs ls t.value_ties t.label_ties vs' n v d in
+      let l : Loses g k o = lost OfValue OfBlock (one_of values) (apart_of values) vs ls t.value_ties t.label_ties vs' n v d in
       let place : Place = result [] 0 in
-      let r = made_defined OfValue ((place, x) ∷ []) g k n v vs l (λ y e. (0, n, waited OfValue one_value n v vs o refl l y e)) (λ q y a. elim a [ inl e ↦ subst (λ z. IsDefined g (OfValue z) × IsNoPlaceholder vs z) (sym (ap (λ z. z.1) e)) ready | inr none ↦ absurd none ]) place x (inl refl) in
+      let r = made_defined OfValue ((place, x) ∷ []) g k n v vs l (λ y e. (0, n, waited OfValue (one_of values) n v vs o refl l y e)) (λ q y a. elim a [ inl e ↦ subst (λ z. IsDefined g (OfValue z) × IsNoPlaceholder vs z) (sym (ap (λ z. z.1) e)) ready | inr none ↦ absurd none ]) place x (inl refl) in
       (r.0, rw d.scopes_are r.1)
 
   -- a scope stays open

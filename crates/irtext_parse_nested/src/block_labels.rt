@@ -23,7 +23,7 @@ use irtext_base::parsable::{ParseResult, TextStream};
 use irtext_graph::arena::Ptr;
 use irtext_graph::graph::Graph;
 use irtext_graph::object::BasicBlock;
-use irtext_names::labels::block_def;
+use irtext_names::definitions::define_name;
 use irtext_parse_pieces::names::ReadName;
 use irtext_scopes::scopes::DefineFault;
 use irtext_tokens::irfmt::faults::out_of_memory;
@@ -55,7 +55,7 @@ pub fn label_block<O: Drop, B: Drop, T: Drop, A>(
     ensures kept { (m : ℕ) (own : List (Ptr BasicBlock)) → IsClosedBelow m graph.old
         → ArePending m own names.old.values names.old.labels graph.old → KeepsOlder m graph.old graph.new }
 {
-    match block_def(names, graph, label.name, block) {
+    match define_name(names, graph, label.name, block) {
         Ok(()) => Ok(()),
         Err(DefineFault::Memory) => Err(out_of_memory(stream)),
         Err(DefineFault::MultipleDefinitions) => Err(name_error(

@@ -21,8 +21,7 @@ use irtext_few::Few;
 use irtext_graph::arena::Ptr;
 use irtext_graph::graph::Graph;
 use irtext_graph::object::{BasicBlock, Operation, Value};
-use irtext_names::definitions::UndefinedName;
-use irtext_names::values::ssa_def;
+use irtext_names::definitions::{UndefinedName, define_name};
 use irtext_parse_pieces::names::ReadName;
 use irtext_scopes::scopes::DefineFault;
 use irtext_tokens::irfmt::faults::out_of_memory;
@@ -82,7 +81,7 @@ pub(crate) fn define_values<O: Drop, B: Drop, T: Drop>(
 {
     for index in 0..defined.len() {
         let name = number_at(defined, index);
-        if let Err(fault) = ssa_def(names, graph, name, defined_value(row, index)) {
+        if let Err(fault) = define_name(names, graph, name, defined_value(row, index)) {
             return Err(UndefinedName { fault, index });
         }
     }
