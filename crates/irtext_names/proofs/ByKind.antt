@@ -18,7 +18,7 @@ use Rattle.irtext_names.specs.Placeholders.{IsPlaceholder, Defines, StandsAsBefo
 use Rattle.irtext_names.specs.Tied.{Tied, Waiting, MatchesGraph, ArePending, IsNoPlaceholder}
 use Rattle.irtext_names.proofs.Gained.{value_same, value_placeholder, value_new, block_same, block_placeholder, block_new}
 use Rattle.irtext_names.proofs.Linked.InPlace.{in_place_operation, in_place_block}
-use Rattle.irtext_names.proofs.Loses.{Loses}
+use Rattle.irtext_names.proofs.Loses.{Loses, loses_one}
 use Rattle.irtext_names.proofs.Pairs.{same_ties, same_waits, made_ties, made_waits, defined_ties, defined_waits}
 use Rattle.irtext_names.proofs.SameBut.{SameBut, was_defined}
 
@@ -85,18 +85,6 @@ module _ {O B T V : Type 0} (kind : NamesOf V) (old new : NameTracker Value (Ptr
       let p = same_waits (defined_as kind) (defined_as (other kind)) (one_of kind) (apart_of kind) (scopes_of kind old) (scopes_of (other kind) old) (ties kind old g t) (ties (other kind) old g t) s m (own_of kind own) (own_of (other kind) own) (waits kind old g m own w) (waits (other kind) old g m own w) in
       both_wait kind new k m own (rw e p.0) (rw rest p.1)
 
-  -- a name that is new was used
-  module _ (n : ℕ) (v : V) (e : scopes_of kind new ≡ in_innermost (mentioned n (Pending v)) (scopes_of kind old)) (l : Loses k g (Some (defined_as kind v))) (p : IsPlaceholder k (defined_as kind v)) (scope : is_open (scopes_of kind old) ≡ true) (is_new : find n (innermost (scopes_of kind old)) ≡ None) where
-    pub used_ties : MatchesGraph new.values new.labels k
-    used_ties =
-        let r = made_ties (defined_as kind) (defined_as (other kind)) (one_of kind) (apart_of kind) (scopes_of kind old) (scopes_of (other kind) old) (ties kind old g t) (ties (other kind) old g t) n v l p scope is_new in
-        both_tied kind new k (rw e r.0) (rw rest r.1)
-
-    pub used_waits : (m : ℕ) (own : List (Ptr BasicBlock)) → IsNew m k (owner (defined_as kind v)) → ArePending m own old.values old.labels g → ArePending m own new.values new.labels k
-    used_waits m own late w =
-        let r = made_waits (defined_as kind) (defined_as (other kind)) (one_of kind) (apart_of kind) (scopes_of kind old) (scopes_of (other kind) old) (ties kind old g t) (ties (other kind) old g t) n v l p scope is_new m (own_of kind own) (own_of (other kind) own) late (waits kind old g m own w) (waits (other kind) old g m own w) in
-        both_wait kind new k m own (rw e r.0) (rw rest r.1)
-
   -- a name was defined
   module _ (n : ℕ) (v : V) (d : Defines (defined_as kind) (scopes_of kind old) (scopes_of kind new) g k n v) where
     pub definition_ties : IsDefined g (defined_as kind v) → IsNoPlaceholder (scopes_of kind old) v → MatchesGraph new.values new.labels k
@@ -134,3 +122,22 @@ module _ {O B T : Type 0} (g k : GraphView (Option O) B (Option T)) where
   -- all is still there
   pub made_there : {V : Type 0} (kind : NamesOf V) (blank : BlankOf B kind) (v : V) → Makes kind blank g k v → (d : Defined) → IsDefined g d → IsDefined k d
   made_there kind blank v m d e = was_defined (made_same kind blank v m) d e
+
+-- ---- a name that is new was used
+module _ {O B T V : Type 0} (kind : NamesOf V) (blank : BlankOf B kind) (old new : NameTracker Value (Ptr BasicBlock)) {g k : GraphView (Option O) B (Option T)} (rest : scopes_of (other kind) new ≡ scopes_of (other kind) old) (t : MatchesGraph old.values old.labels g)
+    (n : ℕ) (v : V) (e : scopes_of kind new ≡ in_innermost (mentioned n (Pending v)) (scopes_of kind old)) (make : Makes kind blank g k v) (scope : is_open (scopes_of kind old) ≡ true) (is_new : find n (innermost (scopes_of kind old)) ≡ None) where
+  p : IsPlaceholder k (defined_as kind v)
+  p = made_placeholder g k kind blank v make
+
+  l : Loses k g (Some (defined_as kind v))
+  l = loses_one (defined_as kind v) p (made_same g k kind blank v make)
+
+  pub used_ties : MatchesGraph new.values new.labels k
+  used_ties =
+      let r = made_ties (defined_as kind) (defined_as (other kind)) (one_of kind) (apart_of kind) (scopes_of kind old) (scopes_of (other kind) old) (ties kind old g t) (ties (other kind) old g t) n v l p scope is_new in
+      both_tied kind new k (rw e r.0) (rw rest r.1)
+
+  pub used_waits : (m : ℕ) (own : List (Ptr BasicBlock)) → m ≤ g.made → ArePending m own old.values old.labels g → ArePending m own new.values new.labels k
+  used_waits m own up w =
+      let r = made_waits (defined_as kind) (defined_as (other kind)) (one_of kind) (apart_of kind) (scopes_of kind old) (scopes_of (other kind) old) (ties kind old g t) (ties (other kind) old g t) n v l p scope is_new m (own_of kind own) (own_of (other kind) own) (made_new g k kind blank v make m up) (waits kind old g m own w) (waits (other kind) old g m own w) in
+      both_wait kind new k m own (rw e r.0) (rw rest r.1)

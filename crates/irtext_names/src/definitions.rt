@@ -5,6 +5,7 @@ ghost use Rattle.irtext_graph.specs.Graph.{KeepsOlder};
 ghost use Rattle.irtext_graph.specs.Used.{IsDefined};
 ghost use Rattle.irtext_graph.specs.declared.arena.Ptr.{Ptr};
 ghost use Rattle.irtext_graph.specs.declared.object.BasicBlock.{BasicBlock};
+ghost use Rattle.irtext_graph.specs.declared.object.Value.TheVariants.{Result};
 ghost use Rattle.irtext_grammar.specs.Names.History.{act};
 ghost use Rattle.irtext_grammar.specs.Names.Script.{Place, MultipleDefinitions};
 ghost use Rattle.irtext_grammar.specs.Names.TextScopes.{Word};
@@ -14,7 +15,7 @@ ghost use Rattle.irtext_names.specs.Kinds.{scopes_of, other, defined_as, definit
 ghost use Rattle.irtext_names.specs.Linked.{TakesDefinition, FailsBy};
 ghost use Rattle.irtext_names.specs.Placeholders.{Defines};
 ghost use Rattle.irtext_names.specs.Tied.{MatchesGraph, ArePending, IsNoPlaceholder};
-ghost use Rattle.irtext_names.specs.Rows.{AreKnown, AreReady, DefinesResults, FailsResults};
+ghost use Rattle.irtext_names.specs.Rows.{AreKnown, ValuesReady, DefinesRow, FailsRow};
 
 use crate::kinds::{Names, Referent};
 use crate::named::Named;
@@ -87,11 +88,11 @@ pub fn process_parsed_ssa_defs<N: Named, O: Drop, B: Drop, T: Drop>(
     requires open { is_open names.old.values ≡ true }
     requires known { AreKnown (length names.old.names) (map N.numbered defined.now) }
     requires tied { MatchesGraph names.old.values names.old.labels graph.old }
-    requires ready { AreReady op (length defined.now) names.old.values graph.old }
-    ensures defines { OnOk result (DefinesResults op (map N.numbered defined.now) names.old names.new
+    requires ready { ValuesReady (Result op) (length defined.now) names.old.values graph.old }
+    ensures defines { OnOk result (DefinesRow (Result op) (map N.numbered defined.now) names.old names.new
         graph.old graph.new) }
     ensures fails { IfErr result (λ undefined. undefined.fault ≡ DefineFault.MultipleDefinitions
-        → FailsResults op (map N.numbered defined.now) undefined.index names.old graph.old) }
+        → FailsRow (Result op) (map N.numbered defined.now) undefined.index names.old graph.old) }
     ensures within { IfErr result (λ undefined. undefined.index < length defined.now) }
     ensures open { is_open names.new.values ≡ true }
     ensures tied { MatchesGraph names.new.values names.new.labels graph.new }

@@ -1,12 +1,12 @@
 -- As many scopes stay open, and names still match the graph, from call to call.
-use Rattle.std.proofs.Common.{◌≡◌, ◌⊎◌, ◌<◌, ◌≤◌, ◌+◌, ◌∙◌, ℕ, zero, suc, List, [], ◌∷◌, ◌++◌, length, map, take, get_or, slice_get, Option, Some, None, Result, Ok, Err, IfOk, OnErr, IsSome, inl, inr, refl, sym, ap, subst, arith}
+use Rattle.std.proofs.Common.{◌≡◌, ◌⊎◌, ◌<◌, ◌≤◌, ◌+◌, ◌∙◌, ℕ, zero, suc, List, [], ◌∷◌, ◌++◌, length, map, get_or, slice_get, Option, Some, None, Result, Ok, Err, IfOk, OnErr, IsSome, inl, inr, refl, sym, ap, subst, arith}
 use Rattle.irtext_graph.specs.declared.arena.Ptr.{Ptr}
 use Rattle.irtext_graph.specs.declared.object.BasicBlock.{BasicBlock}
 use Rattle.irtext_graph.specs.declared.object.Value.{Value}
 use Rattle.irtext_graph.specs.declared.object.Defined.TheVariants.{OfValue}
 use Rattle.std.specs.Option.{option_map}
 use Rattle.irtext_graph.specs.declared.object.Operation.{Operation}
-use Rattle.irtext_graph.specs.declared.object.Object.TheVariants.{TheBlock, TheOperation, TheRegion}
+use Rattle.irtext_graph.specs.declared.object.Object.TheVariants.{TheOperation, TheRegion}
 use Rattle.irtext_graph.specs.declared.object.Value.TheVariants.{Result as ValueResult}
 use Rattle.irtext_graph.specs.Content.{Content, Content.{AnOperation, ARegion}, OperationContent, RegionContent}
 use Rattle.irtext_graph.specs.Erasing.{without_uses}
@@ -24,7 +24,6 @@ use Rattle.irtext_names.specs.Kinds.{NamesOf, NamesOf.{values, labels}, other, d
 use Rattle.irtext_names.specs.Linked.{TakesUse}
 use Rattle.irtext_names.specs.Placeholders.{Uses, MakesValue, MakesLabel, StandsAsBefore}
 use Rattle.irtext_names.specs.Tied.{MatchesGraph, ArePending}
-use Rattle.irtext_names.specs.Rows.{AreKnown}
 use Rattle.irtext_names.proofs.Lists.{older_itself}
 use Rattle.irtext_names.proofs.ByKind.{made_there}
 use Rattle.irtext_names.proofs.Rows.{use_there}
@@ -167,7 +166,7 @@ module _ {O B T V E : Type 0} (kind : NamesOf V) (blank : BlankOf B kind) (old n
   use_did (Err x) u e = inr (inr e)
   use_did (Ok v) u e = go (find n (innermost (scopes_of kind old))) refl
     where
-      go : (o : Option (Entry V)) → find n (innermost (scopes_of kind old)) ≡ o → (h ≡ g) ⊎ ((w : V) × (Ok v ≡ Ok w) × Makes kind blank g h w) ⊎ StandsAsBefore g h
+      go : (o : Option (Entry V)) → find n (innermost (scopes_of kind old)) ≡ o → (h ≡ g) ⊎ ((w : V) × (◌≡◌ {A = Result V E} (Ok v) (Ok w)) × Makes kind blank g h w) ⊎ StandsAsBefore g h
       go (Some x) f = inl (u.known x f).2
       go None f = inr (inl (v, refl, (u.unknown f).1))
 
@@ -198,27 +197,6 @@ module _ {O B T V E : Type 0} (kind : NamesOf V) (blank : BlankOf B kind) (old n
       ]
 
 -- ---- names in a row
-take_one : {X : Type 0} (xs : List X) (i : ℕ) (x : X) → slice_get xs i ≡ Some x → take (suc i) xs ≡ take i xs ++ x ∷ []
-take_one [] zero x e = absurd (cc)
-take_one [] (suc i) x e = absurd (cc)
-take_one (y ∷ ys) zero x e = let f : y ≡ x = cc in ap (λ z. z ∷ []) f
-take_one (y ∷ ys) (suc i) x e = ap (λ zs. y ∷ zs) (take_one ys i x e)
-
-pub take_next : {X : Type 0} (xs : List X) (i : ℕ) (x : X) → slice_get xs i ≡ Some x → take (i + 1) xs ≡ take i xs ++ x ∷ []
-take_next xs i x e = let m : i + 1 ≡ suc i = omega arith in ap (λ n. take n xs) m ∙ take_one xs i x e
-
-pub known_here : (count : ℕ) (ns : List ℕ) (i n : ℕ) → slice_get ns i ≡ Some n → AreKnown count ns → n < count
-known_here count [] zero n e k = absurd (cc)
-known_here count [] (suc i) n e k = absurd (cc)
-known_here count (m ∷ ms) zero n e k = let f : m ≡ n = cc in subst (λ z. z < count) f k.0
-known_here count (m ∷ ms) (suc i) n e k = known_here count ms i n e k.1
-
-pub take_whole : {X : Type 0} (xs : List X) (i : ℕ) → length xs ≤ i → take i xs ≡ xs
-take_whole [] zero l = refl
-take_whole [] (suc i) l = refl
-take_whole (x ∷ xs) zero l = absurd (omega (arith, l))
-take_whole (x ∷ xs) (suc i) l = ap (λ zs. x ∷ zs) (take_whole xs i (omega (arith, l)))
-
 pub length_names : {X Y : Type 0} (f : X → Y) (xs : List X) → length (map f xs) ≡ length xs
 length_names f [] = refl
 length_names f (x ∷ xs) = ap suc (length_names f xs)

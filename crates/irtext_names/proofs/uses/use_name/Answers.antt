@@ -1,8 +1,7 @@
 use Rattle.std.proofs.Common.{◌∙◌, refl, sym, arith}
 use Rattle.irtext_graph.proofs.Closed.{closed_kept, older_on}
 use Rattle.irtext_names.proofs.Gained.{back_again}
-use Rattle.irtext_names.proofs.ByKind.{ties, before_ties, before_waits, used_ties, used_waits, made_placeholder, made_same, made_new}
-use Rattle.irtext_names.proofs.Loses.{loses_one}
+use Rattle.irtext_names.proofs.ByKind.{ties, before_ties, before_waits, used_ties, used_waits, made_placeholder}
 use Rattle.irtext_names.proofs.Linked.Uses.{takes_use}
 use Rattle.irtext_names.proofs.Pairs.{there_here, accepted, refused, unknown_here, uses_known, uses_new}
 use Rattle.irtext_names.specs.Kinds.{scopes_of, defined_as}
@@ -43,25 +42,13 @@ returns-clause-there g c = (made_placeholder c.args.graph.now c.make.new.graph g
 
 pub returns-clause-tied : goal.returns-clause-tied
 returns-clause-tied g c =
-    let kind = g.K.Referent.kind in
-    let with = g.K.Referent.blank c.args.with in
-    let v = c.in_ok-placeholder.placeholder in
-    let m = c.in_ok-placeholder.ensures.made in
-    let p = made_placeholder c.args.graph.now c.make.new.graph kind with v m in
-    used_ties kind c.args.names.now c.wait.new.names c.wait.ensures.rest.1 c.requires.tied c.args.name v
-    (accepted c.wait.result c.is_err.result c.is_err.ensures.value c.if-is_err.false c.wait.ensures.ok) (loses_one (defined_as kind v) p (made_same c.args.graph.now c.make.new.graph kind with v m)) p c.requires.open
-    (unknown_here c.referred.result c.in_default.not-Some c.referred.ensures.unknown)
+    used_ties g.K.Referent.kind (g.K.Referent.blank c.args.with) c.args.names.now c.wait.new.names c.wait.ensures.rest.1 c.requires.tied c.args.name c.in_ok-placeholder.placeholder
+    (accepted c.wait.result c.is_err.result c.is_err.ensures.value c.if-is_err.false c.wait.ensures.ok) c.in_ok-placeholder.ensures.made c.requires.open (unknown_here c.referred.result c.in_default.not-Some c.referred.ensures.unknown)
 
 pub returns-clause-waiting : goal.returns-clause-waiting
-returns-clause-waiting g c = λ n own up.
-    let kind = g.K.Referent.kind in
-    let with = g.K.Referent.blank c.args.with in
-    let v = c.in_ok-placeholder.placeholder in
-    let m = c.in_ok-placeholder.ensures.made in
-    let p = made_placeholder c.args.graph.now c.make.new.graph kind with v m in
-    used_waits kind c.args.names.now c.wait.new.names c.wait.ensures.rest.1 c.requires.tied c.args.name v
-    (accepted c.wait.result c.is_err.result c.is_err.ensures.value c.if-is_err.false c.wait.ensures.ok) (loses_one (defined_as kind v) p (made_same c.args.graph.now c.make.new.graph kind with v m)) p c.requires.open
-    (unknown_here c.referred.result c.in_default.not-Some c.referred.ensures.unknown) n own (made_new c.args.graph.now c.make.new.graph kind with v m n up)
+returns-clause-waiting g c =
+    used_waits g.K.Referent.kind (g.K.Referent.blank c.args.with) c.args.names.now c.wait.new.names c.wait.ensures.rest.1 c.requires.tied c.args.name c.in_ok-placeholder.placeholder
+    (accepted c.wait.result c.is_err.result c.is_err.ensures.value c.if-is_err.false c.wait.ensures.ok) c.in_ok-placeholder.ensures.made c.requires.open (unknown_here c.referred.result c.in_default.not-Some c.referred.ensures.unknown)
 
 pub returns-in-Some-clause-follows : goal.returns-in-Some-clause-follows
 returns-in-Some-clause-follows g c = λ w u is.

@@ -1,8 +1,10 @@
 use Rattle.std.proofs.Common.{◌<◌, ◌∙◌, ◌++◌, ◌∷◌, [], length, map, take, sym, ap, subst, arith, append-nil, append_assoc}
 use Rattle.irtext_names.specs.Kinds.{defined_as, use_of, scopes_of}
 use Rattle.irtext_names.specs.Rows.{UsesRow}
+use Rattle.irtext_names.proofs.Lists.{take_whole}
 use Rattle.irtext_names.proofs.Rows.{no_uses, use_more}
-use Rattle.irtext_parse_nested.proofs.Steady.{depth_of, open_by_depth, steady_itself, steady_both, take_next, known_here, take_whole, length_names}
+use Rattle.irtext_parse_nested.proofs.Numbered.{known_at, number_more}
+use Rattle.irtext_parse_nested.proofs.Steady.{depth_of, open_by_depth, steady_itself, steady_both, length_names}
 use Rattle.irtext_parse_nested.proofs.uses.names_used.Goals as goal
 
 pub loop-index-init : goal.loop-index-init
@@ -19,7 +21,7 @@ name_used-requires-clause-open g c =
 pub name_used-requires-clause-known : goal.name_used-requires-clause-known
 name_used-requires-clause-known g c =
     subst (λ ns. c.number_at.result < length ns) (sym c.loop-index.invariant.steady.names)
-    (known_here (length c.args.names.now.names) (map (λ n. n.name) c.args.used.now) c.loop-index.index c.number_at.result c.number_at.ensures c.requires.known)
+    (known_at (length c.args.names.now.names) (map (λ n. n.name) c.args.used.now) c.loop-index.index c.number_at.result c.number_at.ensures c.requires.known)
 
 pub name_used-requires-clause-tied : goal.name_used-requires-clause-tied
 name_used-requires-clause-tied g c = c.loop-index.invariant.steady.tied
@@ -33,17 +35,17 @@ returns-in_err-push-clause-steady g c = steady_both c.loop-index.invariant.stead
 pub loop-index-preserved : goal.loop-index-preserved
 loop-index-preserved g c =
     let of = defined_as g.K.Referent.kind in
-    let use = use_of g.K.Referent.kind in
+    let by = use_of g.K.Referent.kind in
     let i = c.loop-index.invariant in
     let s = c.in_ok-referent.ensures.takes in
     let v = c.in_ok-referent.referent in
     let ns = map (λ n. n.name) c.args.used.now in
-    let more = use_more of use (take c.loop-index.index ns) c.number_at.result c.args.names.now c.loop-index.names c.name_used.new.names c.args.graph.now c.loop-index.graph c.name_used.new.graph i.uses.0 v i.steady.names i.uses.2 s.still s.there s.follows in
+    let more = use_more of by (take c.loop-index.index ns) c.number_at.result c.args.names.now c.loop-index.names c.name_used.new.names c.args.graph.now c.loop-index.graph c.name_used.new.graph i.uses.0 v i.steady.names i.uses.2 s.still s.there s.follows in
     record {
       uses = (
         i.uses.0 ++ v ∷ [],
         c.in_ok-push.ensures.items ∙ (ap (λ xs. xs ++ v ∷ []) i.uses.1 ∙ append_assoc c.args.referents.now.items i.uses.0 (v ∷ [])),
-        subst (λ zs. UsesRow of use zs c.args.names.now c.name_used.new.names c.args.graph.now c.name_used.new.graph (i.uses.0 ++ v ∷ [])) (sym (take_next ns c.loop-index.index c.number_at.result c.number_at.ensures)) more,
+        subst (λ zs. UsesRow of by zs c.args.names.now c.name_used.new.names c.args.graph.now c.name_used.new.graph (i.uses.0 ++ v ∷ [])) (sym (number_more ns c.loop-index.index c.number_at.result c.number_at.ensures)) more,
       );
       steady = steady_both i.steady c.name_used.ensures.steady;
     }
