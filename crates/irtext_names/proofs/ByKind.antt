@@ -6,8 +6,9 @@ use Rattle.irtext_graph.specs.declared.object.Value.{Value}
 use Rattle.irtext_graph.specs.declared.object.Defined.{Defined}
 use Rattle.irtext_graph.specs.declared.object.Defined.TheVariants.{OfValue, OfBlock}
 use Rattle.irtext_graph.specs.declared.object.Site.{Site}
+use Rattle.irtext_graph.specs.Back.{IsClosedBelow}
 use Rattle.irtext_graph.specs.Erasing.{owner}
-use Rattle.irtext_graph.specs.Graph.{GraphView, IsNew}
+use Rattle.irtext_graph.specs.Graph.{GraphView, IsNew, KeepsOlder}
 use Rattle.irtext_graph.specs.Used.{IsDefined, AreAlike}
 use Rattle.irtext_scopes.specs.declared.scopes.Entry.TheVariants.{Pending}
 use Rattle.irtext_scopes.specs.declared.tracker.NameTracker.{NameTracker}
@@ -15,7 +16,7 @@ use Rattle.irtext_scopes.specs.Scopes.{find, innermost, in_innermost, is_open, m
 use Rattle.irtext_names.specs.Kinds.{NamesOf, NamesOf.{values, labels}, Other, other, defined_as, scopes_of, BlankOf, Makes}
 use Rattle.irtext_names.specs.Linked.{IsInPlace}
 use Rattle.irtext_names.specs.Placeholders.{IsPlaceholder, Defines, StandsAsBefore}
-use Rattle.irtext_names.specs.Tied.{Tied, Waiting, MatchesGraph, ArePending, IsNoPlaceholder}
+use Rattle.irtext_names.specs.Tied.{Tied, Waiting, MatchesGraph, ArePending, IsNoPlaceholder, KeepsTies, SettlesTies}
 use Rattle.irtext_names.proofs.Gained.{value_same, value_placeholder, value_new, block_same, block_placeholder, block_new}
 use Rattle.irtext_names.proofs.Linked.InPlace.{in_place_operation, in_place_block}
 use Rattle.irtext_names.proofs.Loses.{Loses, loses_one}
@@ -87,15 +88,17 @@ module _ {O B T V : Type 0} (kind : NamesOf V) (old new : NameTracker Value (Ptr
 
   -- a name was defined
   module _ (n : ℕ) (v : V) (d : Defines (defined_as kind) (scopes_of kind old) (scopes_of kind new) g k n v) where
-    pub definition_ties : IsDefined g (defined_as kind v) → IsNoPlaceholder (scopes_of kind old) v → MatchesGraph new.values new.labels k
-    definition_ties there none =
-        let r = defined_ties (defined_as kind) (defined_as (other kind)) (one_of kind) (apart_of kind) (scopes_of kind old) (scopes_of (other kind) old) (ties kind old g t) (ties (other kind) old g t) (scopes_of kind new) n v d there none in
-        both_tied kind new k r.0 (rw rest r.1)
-
-    pub definition_waits : (m : ℕ) (own : List (Ptr BasicBlock)) → ArePending m own old.values old.labels g → ArePending m own new.values new.labels k
-    definition_waits m own w =
-        let r = defined_waits (defined_as kind) (defined_as (other kind)) (one_of kind) (apart_of kind) (scopes_of kind old) (scopes_of (other kind) old) (ties kind old g t) (ties (other kind) old g t) (scopes_of kind new) n v d m (own_of kind own) (own_of (other kind) own) (waits kind old g m own w) (waits (other kind) old g m own w) in
-        both_wait kind new k m own r.0 (rw rest r.1)
+    pub definition_ties : IsDefined g (defined_as kind v) → IsNoPlaceholder (scopes_of kind old) v → ((m : ℕ) (own : List (Ptr BasicBlock)) → IsClosedBelow m g → ArePending m own old.values old.labels g → KeepsOlder m g k) → SettlesTies old new g k
+    definition_ties there none kept = record {
+      tied = (
+          let r = defined_ties (defined_as kind) (defined_as (other kind)) (one_of kind) (apart_of kind) (scopes_of kind old) (scopes_of (other kind) old) (ties kind old g t) (ties (other kind) old g t) (scopes_of kind new) n v d there none in
+          both_tied kind new k r.0 (rw rest r.1)
+          );
+      waiting = λ m own w.
+          let r = defined_waits (defined_as kind) (defined_as (other kind)) (one_of kind) (apart_of kind) (scopes_of kind old) (scopes_of (other kind) old) (ties kind old g t) (ties (other kind) old g t) (scopes_of kind new) n v d m (own_of kind own) (own_of (other kind) own) (waits kind old g m own w) (waits (other kind) old g m own w) in
+          both_wait kind new k m own r.0 (rw rest r.1);
+      kept = kept;
+    }
 
 -- ---- a placeholder was made
 module _ {O B T : Type 0} (g k : GraphView (Option O) B (Option T)) where
@@ -132,12 +135,14 @@ module _ {O B T V : Type 0} (kind : NamesOf V) (blank : BlankOf B kind) (old new
   l : Loses k g (Some (defined_as kind v))
   l = loses_one (defined_as kind v) p (made_same g k kind blank v make)
 
-  pub used_ties : MatchesGraph new.values new.labels k
-  used_ties =
-      let r = made_ties (defined_as kind) (defined_as (other kind)) (one_of kind) (apart_of kind) (scopes_of kind old) (scopes_of (other kind) old) (ties kind old g t) (ties (other kind) old g t) n v l p scope is_new in
-      both_tied kind new k (rw e r.0) (rw rest r.1)
-
-  pub used_waits : (m : ℕ) (own : List (Ptr BasicBlock)) → m ≤ g.made → ArePending m own old.values old.labels g → ArePending m own new.values new.labels k
-  used_waits m own up w =
-      let r = made_waits (defined_as kind) (defined_as (other kind)) (one_of kind) (apart_of kind) (scopes_of kind old) (scopes_of (other kind) old) (ties kind old g t) (ties (other kind) old g t) n v l p scope is_new m (own_of kind own) (own_of (other kind) own) (made_new g k kind blank v make m up) (waits kind old g m own w) (waits (other kind) old g m own w) in
-      both_wait kind new k m own (rw e r.0) (rw rest r.1)
+  pub used_ties : ((m : ℕ) → m ≤ g.made → KeepsOlder m g k) → KeepsTies old new g k
+  used_ties kept = record {
+    tied = (
+        let r = made_ties (defined_as kind) (defined_as (other kind)) (one_of kind) (apart_of kind) (scopes_of kind old) (scopes_of (other kind) old) (ties kind old g t) (ties (other kind) old g t) n v l p scope is_new in
+        both_tied kind new k (rw e r.0) (rw rest r.1)
+        );
+    waiting = λ m own up w.
+        let r = made_waits (defined_as kind) (defined_as (other kind)) (one_of kind) (apart_of kind) (scopes_of kind old) (scopes_of (other kind) old) (ties kind old g t) (ties (other kind) old g t) n v l p scope is_new m (own_of kind own) (own_of (other kind) own) (made_new g k kind blank v make m up) (waits kind old g m own w) (waits (other kind) old g m own w) in
+        both_wait kind new k m own (rw e r.0) (rw rest r.1);
+    kept = kept;
+  }

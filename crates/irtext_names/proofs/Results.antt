@@ -8,6 +8,7 @@ use Rattle.irtext_graph.specs.declared.object.Defined.TheVariants.{OfValue, OfBl
 use Rattle.irtext_graph.specs.Chained.{Among}
 use Rattle.irtext_graph.specs.Graph.{GraphView}
 use Rattle.irtext_graph.specs.Used.{IsDefined}
+use Rattle.irtext_graph.proofs.Closed.{older_on, closed_kept}
 use Rattle.irtext_scopes.specs.declared.tracker.NameTracker.{NameTracker}
 use Rattle.irtext_scopes.specs.Scopes.{Scope, find, innermost, in_innermost, is_open, defined, placeholder_of}
 use Rattle.irtext_grammar.specs.Grammar.Tree.{Name}
@@ -20,8 +21,9 @@ use Rattle.irtext_names.specs.Kinds.{NamesOf.{values}}
 use Rattle.irtext_names.specs.Linked.{Known, StandsAt, TakesDefinition, FailsBy}
 use Rattle.irtext_names.specs.Placeholders.{Defines}
 use Rattle.irtext_names.specs.Rows.{AreNamed, definitions_from, AreMadeAs, DefinesRow, FailsRow}
-use Rattle.irtext_names.specs.Tied.{MatchesGraph, IsNoPlaceholder}
+use Rattle.irtext_names.specs.Tied.{MatchesGraph, IsNoPlaceholder, SettlesTies}
 use Rattle.irtext_names.proofs.ByKind.{one_of, apart_of}
+use Rattle.irtext_names.proofs.Lists.{older_itself}
 use Rattle.irtext_names.proofs.Loses.{Loses}
 use Rattle.irtext_names.proofs.Pairs.{lost}
 use Rattle.irtext_names.proofs.Ties.{waited}
@@ -62,6 +64,19 @@ made_here place value ns n ms known a = a (length ns) (let e = length_through ns
 as_many : {V : Type 0} (f : Scope V → Scope V) (ss : List (Scope V)) → length (in_innermost f ss) ≡ length ss
 as_many f [] = refl
 as_many f (s ∷ ss) = refl
+
+module _ {O B T : Type 0} where
+  -- no name was defined
+  pub settles_nothing : (names : NameTracker Value (Ptr BasicBlock)) (g : GraphView (Option O) B T) → MatchesGraph names.values names.labels g → SettlesTies names names g g
+  settles_nothing names g tied = record { tied = tied; waiting = λ m own w. w; kept = λ m own closed w. older_itself m g }
+
+  -- one call that defines names and then another
+  pub settles_both : {old mid new : NameTracker Value (Ptr BasicBlock)} {g h k : GraphView (Option O) B T} → SettlesTies old mid g h → SettlesTies mid new h k → SettlesTies old new g k
+  settles_both {g} {h} {k} s t = record {
+    tied = t.tied;
+    waiting = λ m own w. t.waiting m own (s.waiting m own w);
+    kept = λ m own closed w. let so_far = s.kept m own closed w in older_on m g h k so_far (t.kept m own (closed_kept m g h so_far closed) (s.waiting m own w));
+  }
 
 module _ {O B T : Type 0} where
   -- a definition removes no other value, and no name begins to wait with one

@@ -1,10 +1,6 @@
 //! Definitions of names, one by one or one after another, as the results of an operation.
-ghost use Rattle.std.specs.Prelude.{◌≡◌, ◌<◌, ◌↔◌, ℕ, List, length, map, slice_get, true, None, Some, OnOk, OnErr, IfErr, Err};
-ghost use Rattle.irtext_graph.specs.Back.{IsClosedBelow};
-ghost use Rattle.irtext_graph.specs.Graph.{KeepsOlder};
+ghost use Rattle.std.specs.Prelude.{◌≡◌, ◌<◌, ◌↔◌, length, map, slice_get, true, None, Some, OnOk, OnErr, IfErr, Err};
 ghost use Rattle.irtext_graph.specs.Used.{IsDefined};
-ghost use Rattle.irtext_graph.specs.declared.arena.Ptr.{Ptr};
-ghost use Rattle.irtext_graph.specs.declared.object.BasicBlock.{BasicBlock};
 ghost use Rattle.irtext_graph.specs.declared.object.Value.TheVariants.{Result};
 ghost use Rattle.irtext_grammar.specs.Names.History.{act};
 ghost use Rattle.irtext_grammar.specs.Names.Script.{Place, MultipleDefinitions};
@@ -14,7 +10,7 @@ ghost use Rattle.irtext_scopes.specs.declared.scopes.DefineFault.{DefineFault};
 ghost use Rattle.irtext_names.specs.Kinds.{scopes_of, other, defined_as, definition_of};
 ghost use Rattle.irtext_names.specs.Linked.{TakesDefinition, FailsBy};
 ghost use Rattle.irtext_names.specs.Placeholders.{Defines};
-ghost use Rattle.irtext_names.specs.Tied.{MatchesGraph, ArePending, IsNoPlaceholder};
+ghost use Rattle.irtext_names.specs.Tied.{MatchesGraph, IsNoPlaceholder, SettlesTies};
 ghost use Rattle.irtext_names.specs.Rows.{AreKnown, ValuesReady, DefinesRow, FailsRow};
 
 use crate::kinds::{Names, Referent};
@@ -55,12 +51,7 @@ pub fn define_name<K: Referent<B>, O: Drop, B: Drop, T: Drop>(
     ensures objects { OnErr result (graph.new ≡ graph.old) }
     ensures rest { (names.new.names ≡ names.old.names)
         × (scopes_of (other K.kind) names.new ≡ scopes_of (other K.kind) names.old) }
-    ensures tied { MatchesGraph names.new.values names.new.labels graph.new }
-    ensures waiting { (m : ℕ) (own : List (Ptr BasicBlock))
-        → ArePending m own names.old.values names.old.labels graph.old
-        → ArePending m own names.new.values names.new.labels graph.new }
-    ensures kept { (m : ℕ) (own : List (Ptr BasicBlock)) → IsClosedBelow m graph.old
-        → ArePending m own names.old.values names.old.labels graph.old → KeepsOlder m graph.old graph.new }
+    ensures ties { SettlesTies names.old names.new graph.old graph.new }
 {
     if let Some(placeholder) = K::define(names, name, def)? {
         settle(graph, placeholder.as_defined(), def.as_defined());
@@ -95,12 +86,8 @@ pub fn process_parsed_ssa_defs<N: Named, O: Drop, B: Drop, T: Drop>(
         → FailsRow (Result op) (map N.numbered defined.now) undefined.index names.old graph.old) }
     ensures within { IfErr result (λ undefined. undefined.index < length defined.now) }
     ensures open { is_open names.new.values ≡ true }
-    ensures tied { MatchesGraph names.new.values names.new.labels graph.new }
     ensures rest { (names.new.names ≡ names.old.names) × (names.new.labels ≡ names.old.labels) }
-    ensures waiting { (m : ℕ) (own : List (Ptr BasicBlock))
-        → ArePending m own names.old.values names.old.labels graph.old → ArePending m own names.new.values names.new.labels graph.new }
-    ensures kept { (m : ℕ) (own : List (Ptr BasicBlock)) → IsClosedBelow m graph.old
-        → ArePending m own names.old.values names.old.labels graph.old → KeepsOlder m graph.old graph.new }
+    ensures ties { SettlesTies names.old names.new graph.old graph.new }
 {
     for (index, name) in defined.iter().enumerate() {
         if let Err(fault) = define_name(names, graph, name.number(), Value::Result(op, index)) {

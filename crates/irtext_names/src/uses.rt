@@ -1,16 +1,13 @@
 //! Uses of names, one by one or one after another, as the operands and the successors of an operation.
-ghost use Rattle.std.specs.Prelude.{◌≡◌, ◌<◌, ◌≤◌, ◌++◌, ℕ, List, length, map, slice_get, true, Some, OnOk, OnErr, IfOk};
-ghost use Rattle.irtext_graph.specs.Graph.{KeepsOlder};
+ghost use Rattle.std.specs.Prelude.{◌≡◌, ◌<◌, ◌++◌, List, length, map, slice_get, true, Some, OnOk, OnErr, IfOk};
 ghost use Rattle.irtext_graph.specs.Used.{IsDefined};
-ghost use Rattle.irtext_graph.specs.declared.arena.Ptr.{Ptr};
-ghost use Rattle.irtext_graph.specs.declared.object.BasicBlock.{BasicBlock};
 ghost use Rattle.irtext_grammar.specs.Names.Script.{User};
 ghost use Rattle.irtext_grammar.specs.Names.TextScopes.{Word};
 ghost use Rattle.irtext_scopes.specs.Scopes.{is_open};
 ghost use Rattle.irtext_names.specs.Kinds.{Makes, scopes_of, other, defined_as, use_of};
 ghost use Rattle.irtext_names.specs.Linked.{TakesUse};
 ghost use Rattle.irtext_names.specs.Placeholders.{Uses, StandsAsBefore};
-ghost use Rattle.irtext_names.specs.Tied.{MatchesGraph, ArePending};
+ghost use Rattle.irtext_names.specs.Tied.{MatchesGraph, KeepsTies};
 ghost use Rattle.irtext_names.specs.Rows.{AreKnown, UsesRow};
 
 use crate::kinds::{Blank, Names, Referent};
@@ -39,11 +36,7 @@ pub fn use_name<K: Referent<B>, O: Drop, B: Drop, T: Drop>(
     ensures objects { OnErr result (StandsAsBefore graph.old graph.new) }
     ensures rest { (names.new.names ≡ names.old.names)
         × (scopes_of (other K.kind) names.new ≡ scopes_of (other K.kind) names.old) }
-    ensures tied { MatchesGraph names.new.values names.new.labels graph.new }
-    ensures waiting { (m : ℕ) (own : List (Ptr BasicBlock)) → m ≤ graph.old.made
-        → ArePending m own names.old.values names.old.labels graph.old
-        → ArePending m own names.new.values names.new.labels graph.new }
-    ensures kept { (m : ℕ) → m ≤ graph.old.made → KeepsOlder m graph.old graph.new }
+    ensures ties { KeepsTies names.old names.new graph.old graph.new }
 {
     if let Some(known) = K::referred(names, name) {
         return Ok(known);
@@ -75,11 +68,7 @@ where
     ensures open { is_open (scopes_of K.kind names.new) ≡ true }
     ensures rest { (names.new.names ≡ names.old.names)
         × (scopes_of (other K.kind) names.new ≡ scopes_of (other K.kind) names.old) }
-    ensures tied { MatchesGraph names.new.values names.new.labels graph.new }
-    ensures waiting { (m : ℕ) (own : List (Ptr BasicBlock)) → m ≤ graph.old.made
-        → ArePending m own names.old.values names.old.labels graph.old
-        → ArePending m own names.new.values names.new.labels graph.new }
-    ensures kept { (m : ℕ) → m ≤ graph.old.made → KeepsOlder m graph.old graph.new }
+    ensures ties { KeepsTies names.old names.new graph.old graph.new }
 {
     for name in used {
         let with = K::Blank::blank(graph.allocator());

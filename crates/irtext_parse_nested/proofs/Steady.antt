@@ -13,7 +13,7 @@ use Rattle.irtext_graph.specs.Erasing.{without_uses}
 use Rattle.irtext_graph.specs.Store.{get}
 use Rattle.irtext_graph.proofs.Nests.{told}
 use Rattle.irtext_graph.proofs.Same.{ptr_tells}
-use Rattle.irtext_graph.specs.Graph.{GraphView, KeepsOlder, content, parent_of, content_of}
+use Rattle.irtext_graph.specs.Graph.{GraphView, content, parent_of, content_of}
 use Rattle.irtext_graph.specs.Used.{IsDefined}
 use Rattle.irtext_graph.proofs.Closed.{older_on}
 use Rattle.irtext_scopes.specs.declared.scopes.Entry.{Entry}
@@ -23,7 +23,7 @@ use Rattle.irtext_grammar.specs.Names.TextScopes.{Word}
 use Rattle.irtext_names.specs.Kinds.{NamesOf, NamesOf.{values, labels}, other, defined_as, scopes_of, use_of, BlankOf, Makes}
 use Rattle.irtext_names.specs.Linked.{TakesUse}
 use Rattle.irtext_names.specs.Placeholders.{Uses, MakesValue, MakesLabel, StandsAsBefore}
-use Rattle.irtext_names.specs.Tied.{MatchesGraph, ArePending}
+use Rattle.irtext_names.specs.Tied.{MatchesGraph, KeepsTies}
 use Rattle.irtext_names.proofs.Lists.{older_itself}
 use Rattle.irtext_names.proofs.ByKind.{made_there}
 use Rattle.irtext_names.proofs.Rows.{use_there}
@@ -153,11 +153,10 @@ depth_of labels old new g h s = s.labels
 
 module _ {O B T : Type 0} where
   -- what stays so, where a call is about names of a kind
-  steady_by : {V : Type 0} (kind : NamesOf V) (old new : Names) (g h : GraphView (Option O) B T) → length (scopes_of kind new) ≡ length (scopes_of kind old) → (new.names ≡ old.names) × (scopes_of (other kind) new ≡ scopes_of (other kind) old) → MatchesGraph new.values new.labels h
-      → ((m : ℕ) (own : List (Ptr BasicBlock)) → m ≤ g.made → ArePending m own old.values old.labels g → ArePending m own new.values new.labels h) → ((m : ℕ) → m ≤ g.made → KeepsOlder m g h)
+  steady_by : {V : Type 0} (kind : NamesOf V) (old new : Names) (g h : GraphView (Option O) B T) → length (scopes_of kind new) ≡ length (scopes_of kind old) → (new.names ≡ old.names) × (scopes_of (other kind) new ≡ scopes_of (other kind) old) → KeepsTies old new g h
       → BringsNone g h → ((m : ℕ) → BlanksHaveResults m g → BlanksHaveResults m h) → KeepsScopes old new g h
-  steady_by values old new g h depth rest tied waiting kept brings blanks = record { names = rest.0; values = depth; labels = ap length rest.1; tied = tied; waiting = waiting; kept = kept; brings = brings; blanks = blanks }
-  steady_by labels old new g h depth rest tied waiting kept brings blanks = record { names = rest.0; values = ap length rest.1; labels = depth; tied = tied; waiting = waiting; kept = kept; brings = brings; blanks = blanks }
+  steady_by values old new g h depth rest ties brings blanks = record { names = rest.0; values = depth; labels = ap length rest.1; tied = ties.tied; waiting = ties.waiting; kept = ties.kept; brings = brings; blanks = blanks }
+  steady_by labels old new g h depth rest ties brings blanks = record { names = rest.0; values = ap length rest.1; labels = depth; tied = ties.tied; waiting = ties.waiting; kept = ties.kept; brings = brings; blanks = blanks }
 
 module _ {O B T V E : Type 0} (kind : NamesOf V) (blank : BlankOf B kind) (old new : Names) (g h : GraphView (Option O) B (Option T)) (n : ℕ) where
   -- what a use did: nothing, or it made a placeholder, or it failed
@@ -178,9 +177,8 @@ module _ {O B T V E : Type 0} (kind : NamesOf V) (blank : BlankOf B kind) (old n
 
   -- it brings nothing but a placeholder, and each operation without data has a result if that was so before
   pub use_steady : (r : Result V E) → IfOk r (λ v. Uses (Makes kind blank) (scopes_of kind old) (scopes_of kind new) g h n v) → IfOk r (λ v. IsDefined h (defined_as kind v))
-      → OnErr r (scopes_of kind new ≡ scopes_of kind old) → OnErr r (StandsAsBefore g h) → (new.names ≡ old.names) × (scopes_of (other kind) new ≡ scopes_of (other kind) old) → MatchesGraph new.values new.labels h
-      → ((m : ℕ) (own : List (Ptr BasicBlock)) → m ≤ g.made → ArePending m own old.values old.labels g → ArePending m own new.values new.labels h) → ((m : ℕ) → m ≤ g.made → KeepsOlder m g h) → KeepsScopes old new g h
-  use_steady r uses there scopes objects rest tied waiting kept = steady_by kind old new g h (depth_used (Makes kind blank) (scopes_of kind old) (scopes_of kind new) g h n r uses scopes) rest tied waiting kept brings blanks
+      → OnErr r (scopes_of kind new ≡ scopes_of kind old) → OnErr r (StandsAsBefore g h) → (new.names ≡ old.names) × (scopes_of (other kind) new ≡ scopes_of (other kind) old) → KeepsTies old new g h → KeepsScopes old new g h
+  use_steady r uses there scopes objects rest ties = steady_by kind old new g h (depth_used (Makes kind blank) (scopes_of kind old) (scopes_of kind new) g h n r uses scopes) rest ties brings blanks
     where
       brings : BringsNone g h
       brings = elim (use_did r uses objects) [

@@ -1,9 +1,8 @@
 use Rattle.std.proofs.Common.{◌<◌, ◌++◌, ◌∷◌, ◌∙◌, [], length, map, take, drop, suc, sym, ap, subst, arith, Err}
 use Rattle.irtext_graph.specs.declared.object.Value.TheVariants.{Result}
-use Rattle.irtext_graph.proofs.Closed.{older_on, closed_kept}
 use Rattle.irtext_names.specs.Rows.{DefinesRow, FailsRow}
 use Rattle.irtext_names.proofs.Lists.{known_at, number_more, number_here, numbers_before, take_whole}
-use Rattle.irtext_names.proofs.Results.{still_ready, define_open, define_more, define_fails}
+use Rattle.irtext_names.proofs.Results.{settles_both, still_ready, define_open, define_more, define_fails}
 use Rattle.irtext_names.proofs.definitions.process_parsed_ssa_defs.Goals as goal
 
 pub define_name-requires-clause-known : goal.define_name-requires-clause-known
@@ -41,12 +40,10 @@ loop-index-preserved g c =
     (rw (numbers_before f xs n (omega arith)) s.follows) in
     record {
       defines = subst (λ ns. DefinesRow (Result c.args.op) ns c.args.names.now c.define_name.new.names c.args.graph.now c.define_name.new.graph) (ap (λ m. names ++ m ∷ []) same ∙ sym (number_more f xs n c.index-defined-index.result (omega arith))) more;
-      ready = λ j l. still_ready c.number.result (Result c.args.op n) (Result c.args.op j) c.loop-index.names.values c.define_name.new.names.values c.loop-index.names.labels c.loop-index.graph c.define_name.new.graph i.tied s.defines (i.ready j l);
+      ready = λ j l. still_ready c.number.result (Result c.args.op n) (Result c.args.op j) c.loop-index.names.values c.define_name.new.names.values c.loop-index.names.labels c.loop-index.graph c.define_name.new.graph i.ties.tied s.defines (i.ready j l);
       scope = define_open c.number.result (Result c.args.op n) c.loop-index.names.values c.define_name.new.names.values c.loop-index.graph c.define_name.new.graph s.defines i.scope;
       rest = (s.rest.0 ∙ i.rest.0, s.rest.1 ∙ i.rest.1);
-      tied = s.tied;
-      waiting = λ m own w. s.waiting m own (i.waiting m own w);
-      kept = λ m own closed w. let k = i.kept m own closed w in older_on m c.args.graph.now c.loop-index.graph c.define_name.new.graph k (s.kept m own (closed_kept m c.args.graph.now c.loop-index.graph k closed) (i.waiting m own w));
+      ties = settles_both i.ties s.ties;
     }
 
 pub returns-clause-defines : goal.returns-clause-defines
@@ -54,3 +51,9 @@ returns-clause-defines g c =
     let f = g.N.Named.numbered in
     let all = take_whole c.args.defined.now c.loop-index.index (omega (arith, c.loop-index-test.false, c.loop-index.auto.index-end)) in
     subst (λ xs. DefinesRow (Result c.args.op) (map f xs) c.args.names.now c.loop-index.names c.args.graph.now c.loop-index.graph) all c.loop-index.invariant.defines
+
+pub define_name-requires-clause-tied : goal.define_name-requires-clause-tied
+define_name-requires-clause-tied g c = c.loop-index.invariant.ties.tied
+
+pub returns-in-Err-clause-ties : goal.returns-in-Err-clause-ties
+returns-in-Err-clause-ties g c = settles_both c.loop-index.invariant.ties c.define_name.ensures.ties

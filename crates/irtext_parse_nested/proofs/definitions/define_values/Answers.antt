@@ -1,6 +1,5 @@
 use Rattle.std.proofs.Common.{slice_get, Some, ◌≡◌, ◌∙◌, length, take, drop, suc, sym, ap, subst, arith, Err}
 use Rattle.irtext_graph.specs.declared.object.Defined.TheVariants.{OfValue}
-use Rattle.irtext_graph.proofs.Closed.{older_on, closed_kept}
 use Rattle.irtext_grammar.specs.Names.Script.{Place, define_value}
 use Rattle.irtext_grammar.specs.Names.TextScopes.{Word}
 use Rattle.irtext_names.specs.Linked.{TakesDefinition}
@@ -9,7 +8,7 @@ use Rattle.irtext_parse_nested.specs.Definitions.{defined_value, DefinesRow, Fai
 use Rattle.irtext_parse_nested.specs.Ends.{numbers_of}
 use Rattle.irtext_parse_nested.proofs.Losing.{loses_more, defined_loses}
 use Rattle.irtext_parse_nested.proofs.Numbered.{known_at, number_more, number_here, numbers_before, numbered_within, take_numbers}
-use Rattle.irtext_names.proofs.Results.{still_ready, define_open, define_length, define_more, define_fails}
+use Rattle.irtext_names.proofs.Results.{settles_both, still_ready, define_open, define_length, define_more, define_fails}
 use Rattle.irtext_parse_nested.proofs.definitions.define_values.Goals as goal
 
 pub define_name-requires-clause-known : goal.define_name-requires-clause-known
@@ -55,12 +54,16 @@ loop-index-preserved g c =
     let more = define_more value (take n ns) number c.args.names.now c.loop-index.names c.define_name.new.names c.args.graph.now c.loop-index.graph c.define_name.new.graph i.rest.0 i.defines follows in
     record {
       defines = subst (λ ms. DefinesRow value ms c.args.names.now c.define_name.new.names c.args.graph.now c.define_name.new.graph) (sym (number_more ns n number is)) more;
-      ready = λ j l. still_ready number v (value j) c.loop-index.names.values c.define_name.new.names.values c.loop-index.names.labels c.loop-index.graph c.define_name.new.graph i.tied defines (i.ready j l);
+      ready = λ j l. still_ready number v (value j) c.loop-index.names.values c.define_name.new.names.values c.loop-index.names.labels c.loop-index.graph c.define_name.new.graph i.ties.tied defines (i.ready j l);
       scope = define_open number v c.loop-index.names.values c.define_name.new.names.values c.loop-index.graph c.define_name.new.graph defines i.scope;
-      loses = loses_more i.loses (defined_loses OfValue c.loop-index.names.values c.define_name.new.names.values c.loop-index.graph c.define_name.new.graph number v i.tied.value_ties defines);
+      loses = loses_more i.loses (defined_loses OfValue c.loop-index.names.values c.define_name.new.names.values c.loop-index.graph c.define_name.new.graph number v i.ties.tied.value_ties defines);
       values = define_length value number v c.loop-index.names.values c.define_name.new.names.values c.loop-index.graph c.define_name.new.graph defines ∙ i.values;
       rest = (s.rest.0 ∙ i.rest.0, s.rest.1 ∙ i.rest.1);
-      tied = s.tied;
-      waiting = λ m own w. s.waiting m own (i.waiting m own w);
-      kept = λ m own closed w. let k = i.kept m own closed w in older_on m c.args.graph.now c.loop-index.graph c.define_name.new.graph k (s.kept m own (closed_kept m c.args.graph.now c.loop-index.graph k closed) (i.waiting m own w));
+      ties = settles_both i.ties s.ties;
     }
+
+pub define_name-requires-clause-tied : goal.define_name-requires-clause-tied
+define_name-requires-clause-tied g c = c.loop-index.invariant.ties.tied
+
+pub returns-in-Err-clause-ties : goal.returns-in-Err-clause-ties
+returns-in-Err-clause-ties g c = settles_both c.loop-index.invariant.ties c.define_name.ensures.ties
