@@ -15,7 +15,7 @@ ghost use Rattle.irtext_parse_nested.specs.declared.operation_parts.NotGathered.
 ghost use Rattle.irtext_parse_nested.specs.Gathered.{entry_read, refused_at, GathersAlone, RefusesAlone, MayAllHold, RefusesEntries, IsNothing, CanGather, KeepsScopes, Gathers, RefusesGathering};
 
 use crate::frame::Names;
-use crate::uses::{Placed, block_placed, blocks_used, value_placed, values_used};
+use crate::uses::{Placed, name_placed, names_used};
 use irtext_base::base::{AttrObj, Identifier, Refusal};
 use irtext_base::parsable::Place;
 use irtext_context::base::block::BlockData;
@@ -150,7 +150,7 @@ fn operand_gathered<T: Drop, A: Drop>(
         return Err(NotGathered::NoActiveScope(name));
     }
     let single = &mut gathered.operands.single;
-    let Ok(()) = value_placed(names, graph, single, index, name.name) else {
+    let Ok(()) = name_placed(names, graph, single, index, name.name) else {
         return Err(NotGathered::Memory);
     };
     Ok(())
@@ -175,7 +175,7 @@ fn successor_gathered<T: Drop, A: Drop>(
         return Err(NotGathered::NoActiveScope(name));
     }
     let single = &mut gathered.successors.single;
-    let Ok(()) = block_placed(names, graph, single, index, name.name) else {
+    let Ok(()) = name_placed(names, graph, single, index, name.name) else {
         return Err(NotGathered::Memory);
     };
     Ok(())
@@ -200,7 +200,7 @@ fn operands_gathered<T: Drop, A: Drop>(
     if !names.has_value_scope() {
         return Err(NotGathered::NoActiveScope(used[0]));
     }
-    let Ok(()) = values_used(names, graph, &used, &mut gathered.operands.list) else {
+    let Ok(()) = names_used(names, graph, &used, &mut gathered.operands.list) else {
         return Err(NotGathered::Memory);
     };
     Ok(())
@@ -226,7 +226,7 @@ fn successors_gathered<T: Drop, A: Drop>(
     if !names.has_label_scope() {
         return Err(NotGathered::NoActiveScope(used[0]));
     }
-    let Ok(()) = blocks_used(names, graph, &used, &mut gathered.successors.list) else {
+    let Ok(()) = names_used(names, graph, &used, &mut gathered.successors.list) else {
         return Err(NotGathered::Memory);
     };
     Ok(())
