@@ -202,8 +202,8 @@ module _ {T A U : Type 0} (types_at : Reader T) (reading : Reader A) (h : Splits
         → AreHere T A text ctx before (Some (framed.Operation b)) frames → Proceeds types_at attr (framed.Operation b) frames before old names new next waits
     operation_proceeds b frames next waits comes = proceeds_by (framed.Operation b) frames next waits
         (λ base u l ls here.
-            let q = operation_first b ls here.next_is in
-            comes_from base u l ls (at_operation b q.0 q.1 ∷ q.2) (framed.Operation b) frames next waits q.3 (comes base u l q.0 q.1 q.2) here)
+        let q = operation_first b ls here.next_is in
+        comes_from base u l ls (at_operation b q.0 q.1 ∷ q.2) (framed.Operation b) frames next waits q.3 (comes base u l q.0 q.1 q.2) here)
 
     within_region : (r : BegunRegion) (frames : List Frame) (next : Option Frame) (waits : List Frame)
         → ((base : Base) (u l : ℕ) (iso : Bool) (place : ℕ) (last : Option (Ptr BasicBlock)) (more : List (Level T A)) → IsHere base u l (at_region r iso place last ∷ more) before text ctx (Some (framed.Region r)) frames
@@ -212,8 +212,8 @@ module _ {T A U : Type 0} (types_at : Reader T) (reading : Reader A) (h : Splits
         → AreHere T A text ctx before (Some (framed.Region r)) frames → Proceeds types_at attr (framed.Region r) frames before old names new next waits
     within_region r frames next waits comes = proceeds_by (framed.Region r) frames next waits
         (λ base u l ls here.
-            let q = region_first r ls here.next_is in
-            comes_from base u l ls (at_region r q.0 q.1 q.2 ∷ q.3) (framed.Region r) frames next waits q.4 (comes base u l q.0 q.1 q.2 q.3) here)
+        let q = region_first r ls here.next_is in
+        comes_from base u l ls (at_region r q.0 q.1 q.2 ∷ q.3) (framed.Region r) frames next waits q.4 (comes base u l q.0 q.1 q.2 q.3) here)
 
     within_block : (kb : BegunBlock) (frames : List Frame) (next : Option Frame) (waits : List Frame)
         → ((base : Base) (u l : ℕ) (r : BegunRegion) (iso : Bool) (place : ℕ) (last : Option (Ptr BasicBlock)) (more : List (Level T A)) → IsHere base u l (at_block kb ∷ at_region r iso place last ∷ more) before text ctx (Some (framed.Block kb)) frames
@@ -222,8 +222,8 @@ module _ {T A U : Type 0} (types_at : Reader T) (reading : Reader A) (h : Splits
         → AreHere T A text ctx before (Some (framed.Block kb)) frames → Proceeds types_at attr (framed.Block kb) frames before old names new next waits
     within_block kb frames next waits comes = proceeds_by (framed.Block kb) frames next waits
         (λ base u l ls here.
-            let q = block_first base ctx.dialects u kb ls here.next_is here.nest in
-            comes_from base u l ls (at_block kb ∷ at_region q.0 q.1 q.2 q.3 ∷ q.4) (framed.Block kb) frames next waits q.5 (comes base u l q.0 q.1 q.2 q.3 q.4) here)
+        let q = block_first base ctx.dialects u kb ls here.next_is here.nest in
+        comes_from base u l ls (at_block kb ∷ at_region q.0 q.1 q.2 q.3 ∷ q.4) (framed.Block kb) frames next waits q.5 (comes base u l q.0 q.1 q.2 q.3 q.4) here)
 
   -- ---- a piece
   module _ (b next : BegunOperation) (frames : List Frame) (names : Names) (new : StateStream T A U) (c : Continues types_at attr before old b next names new) (is : IsNext ctx.dialects b comes.Piece) where
