@@ -23,7 +23,6 @@ use Rattle.irtext_names.specs.Placeholders.{Defines}
 use Rattle.irtext_names.specs.Rows.{AreNamed, definitions_from, AreMadeAs, DefinesRow, FailsRow}
 use Rattle.irtext_names.specs.Tied.{MatchesGraph, IsNoPlaceholder, SettlesTies}
 use Rattle.irtext_names.proofs.ByKind.{one_of, apart_of}
-use Rattle.irtext_names.proofs.Lists.{older_itself}
 use Rattle.irtext_names.proofs.Loses.{Loses}
 use Rattle.irtext_names.proofs.Pairs.{lost}
 use Rattle.irtext_names.proofs.Ties.{waited}
@@ -66,10 +65,6 @@ as_many f [] = refl
 as_many f (s ∷ ss) = refl
 
 module _ {O B T : Type 0} where
-  -- no name was defined
-  pub settles_nothing : (names : NameTracker Value (Ptr BasicBlock)) (g : GraphView (Option O) B T) → MatchesGraph names.values names.labels g → SettlesTies names names g g
-  settles_nothing names g tied = record { tied = tied; waiting = λ m own w. w; kept = λ m own closed w. older_itself m g }
-
   -- one call that defines names and then another
   pub settles_both : {old mid new : NameTracker Value (Ptr BasicBlock)} {g h k : GraphView (Option O) B T} → SettlesTies old mid g h → SettlesTies mid new h k → SettlesTies old new g k
   settles_both {g} {h} {k} s t = record {

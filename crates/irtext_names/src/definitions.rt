@@ -43,9 +43,11 @@ pub fn define_name<K: Referent<B>, O: Drop, B: Drop, T: Drop>(
     ensures defines { OnOk result (Defines (defined_as K.kind) (scopes_of K.kind names.old)
         (scopes_of K.kind names.new) graph.old graph.new name def) }
     ensures follows { OnOk result ((w : Word) (p : Place) → slice_get names.old.names name ≡ Some w.name
-        → TakesDefinition (definition_of K.kind w p) names.old names.new graph.old graph.new p (defined_as K.kind def)) }
+        → TakesDefinition (definition_of K.kind w p) names.old names.new graph.old graph.new p
+        (defined_as K.kind def)) }
     ensures fails { result ≡ Err DefineFault.MultipleDefinitions → (w : Word) (p : Place)
-        → slice_get names.old.names name ≡ Some w.name → FailsBy (act (definition_of K.kind w p)) names.old graph.old
+        → slice_get names.old.names name ≡ Some w.name
+        → FailsBy (act (definition_of K.kind w p)) names.old graph.old
         (record { cause = MultipleDefinitions w.name; at = Some w.at }) }
     ensures scopes { OnErr result (scopes_of K.kind names.new ≡ scopes_of K.kind names.old) }
     ensures objects { OnErr result (graph.new ≡ graph.old) }

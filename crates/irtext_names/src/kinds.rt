@@ -42,7 +42,8 @@ pub trait Referent<B: Drop>: Copy {
         ensures ok { OnOk result (scopes_of kind names.new ≡
             in_innermost (mentioned name (Pending placeholder)) (scopes_of kind names.old)) }
         ensures err { OnErr result (scopes_of kind names.new ≡ scopes_of kind names.old) }
-        ensures rest { (names.new.names ≡ names.old.names) × (scopes_of (other kind) names.new ≡ scopes_of (other kind) names.old) };
+        ensures rest { (names.new.names ≡ names.old.names)
+            × (scopes_of (other kind) names.new ≡ scopes_of (other kind) names.old) };
 
     /// Defines a name in the innermost scope, and returns the placeholder with which it waited. On an error nothing changes.
     fn define(names: &mut Names, name: usize, def: Self) -> Result<Option<Self>, DefineFault>
@@ -50,11 +51,15 @@ pub trait Referent<B: Drop>: Copy {
         requires known { name < length names.old.names }
         ensures twice { (result ≡ Err DefineFault.MultipleDefinitions) ↔
             (is_defined (find name (innermost (scopes_of kind names.old))) ≡ true) }
-        ensures memory { result ≡ Err DefineFault.Memory → find name (innermost (scopes_of kind names.old)) ≡ None }
-        ensures placeholder { IfOk result (λ h. h ≡ placeholder_of (find name (innermost (scopes_of kind names.old)))) }
-        ensures ok { OnOk result (scopes_of kind names.new ≡ in_innermost (defined name def) (scopes_of kind names.old)) }
+        ensures memory { result ≡ Err DefineFault.Memory
+            → find name (innermost (scopes_of kind names.old)) ≡ None }
+        ensures placeholder { IfOk result
+            (λ h. h ≡ placeholder_of (find name (innermost (scopes_of kind names.old)))) }
+        ensures ok { OnOk result (scopes_of kind names.new ≡
+            in_innermost (defined name def) (scopes_of kind names.old)) }
         ensures err { OnErr result (scopes_of kind names.new ≡ scopes_of kind names.old) }
-        ensures rest { (names.new.names ≡ names.old.names) × (scopes_of (other kind) names.new ≡ scopes_of (other kind) names.old) };
+        ensures rest { (names.new.names ≡ names.old.names)
+            × (scopes_of (other kind) names.new ≡ scopes_of (other kind) names.old) };
 
     /// Returns it as what operations use.
     fn as_defined(self) -> Defined

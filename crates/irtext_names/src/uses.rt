@@ -31,7 +31,8 @@ pub fn use_name<K: Referent<B>, O: Drop, B: Drop, T: Drop>(
         (scopes_of K.kind names.new) graph.old graph.new name v) }
     ensures there { IfOk result (λ v. IsDefined graph.new (defined_as K.kind v)) }
     ensures follows { IfOk result (λ v. (w : Word) (u : User) → slice_get names.old.names name ≡ Some w.name
-        → TakesUse (use_of K.kind w u) names.old names.new graph.old graph.new u (defined_as K.kind v)) }
+        → TakesUse (use_of K.kind w u) names.old names.new graph.old graph.new u
+        (defined_as K.kind v)) }
     ensures scopes { OnErr result (scopes_of K.kind names.new ≡ scopes_of K.kind names.old) }
     ensures objects { OnErr result (StandsAsBefore graph.old graph.new) }
     ensures rest { (names.new.names ≡ names.old.names)
@@ -64,7 +65,8 @@ where
     requires known { AreKnown (length names.old.names) (map N.numbered used.now) }
     requires tied { MatchesGraph names.old.values names.old.labels graph.old }
     ensures uses { OnOk result ((more : List K) × (referents.new.items ≡ referents.old.items ++ more)
-        × UsesRow (defined_as K.kind) (use_of K.kind) (map N.numbered used.now) names.old names.new graph.old graph.new more) }
+        × UsesRow (defined_as K.kind) (use_of K.kind) (map N.numbered used.now) names.old names.new
+        graph.old graph.new more) }
     ensures open { is_open (scopes_of K.kind names.new) ≡ true }
     ensures rest { (names.new.names ≡ names.old.names)
         × (scopes_of (other K.kind) names.new ≡ scopes_of (other K.kind) names.old) }

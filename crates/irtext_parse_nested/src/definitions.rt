@@ -62,7 +62,8 @@ pub(crate) fn define_values<O: Drop, B: Drop, T: Drop>(
     requires known { AreKnown (length names.old.names) (numbers_of defined.now) }
     requires tied { MatchesGraph names.old.values names.old.labels graph.old }
     requires ready { ValuesReady (defined_value row) (length defined.now) names.old.values graph.old }
-    ensures defines { OnOk result (DefinesRow (defined_value row) (numbers_of defined.now) names.old names.new graph.old graph.new) }
+    ensures defines { OnOk result (DefinesRow (defined_value row) (numbers_of defined.now) names.old names.new
+        graph.old graph.new) }
     ensures fails { IfErr result (λ undefined. undefined.fault ≡ DefineFault.MultipleDefinitions
         → FailsRow (defined_value row) (numbers_of defined.now) undefined.index names.old graph.old) }
     ensures within { IfErr result (λ undefined. undefined.index < length defined.now) }

@@ -43,7 +43,8 @@ where
     requires open { is_open (scopes_of K.kind names.old) ≡ true }
     requires known { name < length names.old.names }
     requires tied { MatchesGraph names.old.values names.old.labels graph.old }
-    ensures takes { IfOk result (TakesName (defined_as K.kind) (use_of K.kind) name names.old names.new graph.old graph.new) }
+    ensures takes { IfOk result (TakesName (defined_as K.kind) (use_of K.kind) name names.old names.new
+        graph.old graph.new) }
     ensures steady { KeepsScopes names.old names.new graph.old graph.new }
 {
     let with = K::Blank::blank(graph.allocator());
@@ -64,7 +65,8 @@ where
     requires known { AreKnown (length names.old.names) (map (λ n. n.name) used.now) }
     requires tied { MatchesGraph names.old.values names.old.labels graph.old }
     ensures uses { OnOk result ((more : List K) × (referents.new.items ≡ referents.old.items ++ more)
-        × UsesRow (defined_as K.kind) (use_of K.kind) (map (λ n. n.name) used.now) names.old names.new graph.old graph.new more) }
+        × UsesRow (defined_as K.kind) (use_of K.kind) (map (λ n. n.name) used.now) names.old names.new
+        graph.old graph.new more) }
     ensures steady { KeepsScopes names.old names.new graph.old graph.new }
 {
     for index in 0..used.len() {
