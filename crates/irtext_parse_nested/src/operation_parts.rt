@@ -14,6 +14,7 @@ ghost use Rattle.irtext_parse_pieces.specs.declared.pieces.ReadPiece.TheVariants
 ghost use Rattle.irtext_parse_nested.specs.declared.operation_parts.NotGathered.TheVariants.{Memory};
 ghost use Rattle.irtext_parse_nested.specs.Gathered.{entry_read, refused_at, GathersAlone, RefusesAlone, MayAllHold, RefusesEntries, IsNothing, CanGather, KeepsScopes, Gathers, RefusesGathering};
 
+use crate::dictionary::{Holder, entries_stored};
 use crate::frame::Names;
 use crate::uses::{Placed, name_placed, names_used};
 use irtext_base::base::{AttrObj, Identifier, Refusal};
@@ -113,22 +114,6 @@ pub(crate) fn entry_stored<A: Drop>(
         Ok(()) => Ok(()),
         Err(refusal) => Err(refused(refusal, at)),
     }
-}
-
-/// Stores the entries of a dictionary, one after another. Fails at the first entry whose attribute is not allowed under its key, or if an
-/// allocation fails; the entries before it are stored then.
-pub(crate) fn entries_stored<A: Drop>(
-    attributes: &mut AttributeDict<A>,
-    entries: Vec<ReadEntry<A>>,
-) -> Result<(), NotGathered>
-    ensures stored { OnOk result (entries_of attributes.new ≡ put_all (entries_of attributes.old) (map entry_read entries.items)) }
-    ensures holds { OnOk result (MayAllHold entries.items) }
-    ensures refused { IfErr result (RefusesEntries entries.items) }
-{
-    for entry in entries {
-        entry_stored(attributes, entry)?;
-    }
-    Ok(())
 }
 
 /// Uses the name of an operand that has a directive of its own.
@@ -270,7 +255,7 @@ fn dictionary_gathered<T: Drop, A: Drop>(
     ensures gathers { OnOk result (GathersAlone (read.Dictionary entries ∷ []) gathered.old gathered.new) }
     ensures refused { IfErr result (RefusesAlone {T = T} {A = A} (read.Dictionary entries ∷ [])) }
 {
-    entries_stored(&mut gathered.attributes, entries)
+    entries_stored(&mut gathered.attributes, Holder::Operation, entries)
 }
 
 /// Returns the key of a symbol's name. Shares the text of `key` if it is given.
