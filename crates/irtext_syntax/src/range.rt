@@ -1,9 +1,5 @@
 //! Numbers in decimal digits without a sign: those of a range, and values of any type that are made of such numbers.
-ghost use Rattle.std.specs.Prelude.{◌≡◌, ◌^◌, ℕ, true, nat_lt, nat_eq, Option, OnOk, ◌++◌, string_bytes, decimal};
-ghost use Rattle.std.specs.Cmp.{on_equiv, on_per, partial_equiv_from_equiv, nat_eq_equiv};
-ghost use Rattle.std.specs.Hash as fed;
-ghost use Rattle.std.proofs.Common.{rules};
-ghost use Rattle.std.specs.Cmp.Rules.{hashing};
+ghost use Rattle.std.specs.Prelude.{◌≡◌, ◌^◌, ℕ, true, nat_lt, Option, OnOk, ◌++◌, string_bytes, decimal};
 ghost use Rattle.irtext_tokens.specs.MustRead.{MayRead};
 ghost use Rattle.irtext_syntax.specs.Ranges.{is_between, digits_at};
 
@@ -15,7 +11,6 @@ use irtext_tokens::irfmt::parsers::Class;
 use irtext_tokens::irfmt::parsers::digits::{Radix, out_of_range, take_digits};
 use std::alloc::AllocError;
 use std::fmt;
-use std::hash::{Hash, Hasher};
 use std::marker::PhantomData;
 
 /// A range of numbers, both ends included. The law is computed: `ghost fits = { refl }`.
@@ -68,8 +63,10 @@ pub fn digits_parse<N: FromDigits, A>(stream: &mut TextStream) -> ParseResult<N,
 /// A number of a range, as a part of a text such as `12`: as many decimal digits as come next, without a sign. It is printed in decimal. If
 /// no digit comes next, parsing fails with `Unexpected`, uncommitted. A number that is not in the range is `NumberRange` at its beginning,
 /// committed.
+#[derive_where(PartialEq, Eq, Hash, Debug)]
 pub struct Ranged<R: Range> {
     value: u64,
+    #[derive_where(skip)]
     range: PhantomData<R>,
     ghost in_range: { is_between R.low R.high value ≡ true },
 }
@@ -121,36 +118,6 @@ impl<R: Range> FromDigits for Ranged<R> {
 
     fn from_digits(number: Option<u64>) -> Option<Ranged<R>> {
         Ranged::new(number?)
-    }
-}
-
-impl<R: Range> fmt::Debug for Ranged<R> {
-    fn fmt<W: fmt::Write>(&self, f: &mut fmt::Formatter<W>) -> fmt::Result {
-        fmt::Debug::fmt(&self.value, f)
-    }
-}
-
-impl<R: Range> PartialEq for Ranged<R> {
-    ghost eq = { λ x y. nat_eq x.value y.value };
-
-    ghost laws = { on_per (λ n. n.value) (partial_equiv_from_equiv nat_eq_equiv) };
-
-    fn eq(&self, other: &Self) -> bool {
-        self.value == other.value
-    }
-}
-
-impl<R: Range> Eq for Ranged<R> {
-    ghost laws = { on_equiv (λ n. n.value) nat_eq_equiv };
-}
-
-impl<R: Range> Hash for Ranged<R> {
-    ghost hash_input = { λ n. ⟦<u64 as Hash>⟧.hash_input n.value };
-
-    ghost respects_eq = { Prim.search (hashing, rules) };
-
-    fn hash<H: Hasher>(&self, state: &mut H) {
-        self.value.hash(state);
     }
 }
 
