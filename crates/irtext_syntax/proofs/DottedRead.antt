@@ -1,5 +1,5 @@
 -- A dotted word that was parsed, and is in a table or not.
-use Rattle.std.proofs.Common.{◌≡◌, ◌⊎◌, ◌++◌, ℕ, ◌<◌, Bool, Option, Some, None, [], true, false, refl, sym, ap, subst, arith}
+use Rattle.std.proofs.Common.{◌≡◌, ◌++◌, ℕ, ◌<◌, Bool, Option, Some, None, [], true, false, refl, sym, subst, arith}
 use Rattle.std.proofs.lemmas.Bool.Decides.{nat_tests}
 use Rattle.irtext_base.specs.Text.{Text, begins, front, after, begins_word}
 use Rattle.irtext_base.specs.Stream.{StreamView}

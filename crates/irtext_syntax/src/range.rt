@@ -1,7 +1,7 @@
 //! Numbers in decimal digits without a sign: those of a range, and values of any type that are made of such numbers.
-ghost use Rattle.std.specs.Prelude.{◌≡◌, ◌^◌, ℕ, true, nat_lt, Option, OnOk, ◌++◌, string_bytes, decimal};
+ghost use Rattle.std.specs.Prelude.{◌≡◌, ℕ, true, Option, OnOk, ◌++◌, string_bytes, decimal};
 ghost use Rattle.irtext_tokens.specs.MustRead.{MayRead};
-ghost use Rattle.irtext_syntax.specs.Ranges.{is_between, digits_at};
+ghost use Rattle.irtext_syntax.specs.Ranges.{Bounds, is_between, digits_at};
 
 use crate::part::{Item, Last, Part, TryClone};
 use irtext_base::parsable::{CharStream, ParseResult, TextStream};
@@ -13,22 +13,15 @@ use std::alloc::AllocError;
 use std::fmt;
 use std::marker::PhantomData;
 
-/// A range of numbers, both ends included. The law is computed: `ghost fits = { refl }`.
+/// A range of numbers, both ends included. That they are numbers of 64 bits is computed: `ghost bounds = { from_to 1 100 refl }`.
 pub trait Range {
-    // the least number
-    ghost low: { ℕ };
-    // the greatest number
-    ghost high: { ℕ };
+    // the least and the greatest number
+    ghost bounds: { Bounds };
 
-    /// Returns the least number.
-    fn low() -> u64
-        ensures { result ≡ low };
-
-    /// Returns the greatest number.
-    fn high() -> u64
-        ensures { result ≡ high };
-
-    ghost fits: { nat_lt high (2 ^ 64) ≡ true };
+    /// Returns the least and the greatest number.
+    fn bounds() -> (u64, u64)
+        ensures low { result.0 ≡ bounds.low }
+        ensures high { result.1 ≡ bounds.high };
 }
 
 /// A type whose values are made of numbers in decimal digits without a sign.
@@ -68,7 +61,7 @@ pub struct Ranged<R: Range> {
     value: u64,
     #[derive_where(skip)]
     range: PhantomData<R>,
-    ghost in_range: { is_between R.low R.high value ≡ true },
+    ghost in_range: { is_between R.bounds.low R.bounds.high value ≡ true },
 }
 
 impl<R: Range> Copy for Ranged<R> {}
@@ -94,7 +87,8 @@ impl<R: Range> Ranged<R> {
     pub fn new(value: u64) -> Option<Ranged<R>>
         ensures { result ≡ ranged_of R.Range.own value }
     {
-        if value < R::low() || R::high() < value {
+        let (low, high) = R::bounds();
+        if value < low || high < value {
             return None;
         }
         Some(Ranged {
@@ -140,7 +134,7 @@ impl<A, R: Range> Part<A> for Ranged<R> {
       ends = ends_digits;
     } };
 
-    ghost sound = { record { law = ranged_law R.Range.own R.fits; decides = ranged_decides R.Range.own } };
+    ghost sound = { record { law = ranged_law R.Range.own; decides = ranged_decides R.Range.own } };
 
     fn read(stream: &mut TextStream) -> ParseResult<Ranged<R>, A> {
         digits_parse(stream)

@@ -1,4 +1,4 @@
-use Rattle.std.proofs.Common.{◌≡◌, ◌∙◌, ◌++◌, ◌⊎◌, None, subst, false, refl, sym, ap}
+use Rattle.std.proofs.Common.{◌≡◌, ◌∙◌, ◌++◌, ◌⊎◌, subst, false, refl, sym, ap}
 use Rattle.irtext_base.specs.Text.{front, after}
 use Rattle.irtext_base.specs.Answers.{StarvesHere, FailsBehind}
 use Rattle.irtext_base.specs.Faults.{demand_of, OwnText}
