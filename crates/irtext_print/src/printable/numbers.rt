@@ -84,8 +84,9 @@ pub(crate) fn put_number(number: usize, text: &mut InPlace)
         text.push_str(pair(number % 100));
         return;
     }
-    put_short(number / 10_000, text);
-    text.push_str(pair(number / 100 % 100));
+    let high = number / 100;
+    put_short(high / 100, text);
+    text.push_str(pair(high % 100));
     text.push_str(pair(number % 100));
 }
 

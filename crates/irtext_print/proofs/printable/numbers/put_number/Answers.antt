@@ -1,5 +1,4 @@
-use Rattle.std.proofs.Common.{◌≡◌, ◌/◌, ◌≤◌, ◌<◌, ◌++◌, ◌∙◌, ap, arith}
-use Rattle.std.specs.Fmt.{decimal}
+use Rattle.std.proofs.Common.{◌/◌, ◌≤◌, ◌<◌, arith}
 use Rattle.irtext_print.proofs.Digits.{hundreds-put}
 use Rattle.irtext_print.proofs.printable.numbers.put_number.Goals as goal
 
@@ -15,9 +14,7 @@ returns-clause-bytes c =
     let fits : c.args.number < 1000000 = omega (arith, c.requires.few) in
     let high : 100 ≤ c.args.number / 100 = omega (arith, c.if-number-lt10000.false) in
     let low : c.args.number / 100 < 1000000 = omega (arith, c.requires.few) in
-    let split : c.args.number / 10000 ≡ c.args.number / 100 / 100 = omega arith in
     let old = c.args.text.now.bytes in
-    let begun = c.put_short-2.ensures.bytes ∙ ap (λ n. old ++ decimal n) split in
     hundreds-put c.args.number old c.push_str-2.new.self.bytes c.push_str-3.new.self.bytes c.pair-3.result.now some fits
-    (hundreds-put (c.args.number / 100) old c.put_short-2.new.text.bytes c.push_str-2.new.self.bytes c.pair-2.result.now high low begun c.pair-2.ensures.value c.push_str-2.ensures.bytes)
+    (hundreds-put (c.args.number / 100) old c.put_short-2.new.text.bytes c.push_str-2.new.self.bytes c.pair-2.result.now high low c.put_short-2.ensures.bytes c.pair-2.ensures.value c.push_str-2.ensures.bytes)
     c.pair-3.ensures.value c.push_str-3.ensures.bytes
