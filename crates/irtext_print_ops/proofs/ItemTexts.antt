@@ -1,5 +1,5 @@
 -- The texts of single items: of values with their types, and of what a list has at an index.
-use Rattle.std.proofs.Common.{◌≡◌, ◌≤◌, ◌∙◌, ◌+◌, ◌++◌, ◌∷◌, ℕ, zero, suc, arith, drop, refl, sym, ap, subst, List, [], Option, Some, None, IsSome, IfSome, map, length, slice_get, codes}
+use Rattle.std.proofs.Common.{◌≡◌, ◌≤◌, ◌<◌, ◌∙◌, ◌+◌, ◌++◌, ◌∷◌, ℕ, zero, suc, arith, drop, refl, sym, ap, subst, List, [], Option, Some, None, IsSome, IfSome, true, map, length, slice_get, codes}
 use Rattle.std.specs.Option.{option_map, option_and_then}
 use Rattle.std.specs.Str.{encode_utf8_all}
 use Rattle.std.proofs.lemmas.Option.{slice_get-map}
@@ -13,7 +13,7 @@ use Rattle.irtext_grammar.specs.Contexts.Nested.{number_of}
 use Rattle.irtext_grammar.specs.Contexts.Held.{known_types}
 use Rattle.irtext_print.specs.Printers.PieceText.{spaced_if}
 use Rattle.irtext_print.proofs.Printers.Locations.{more, worded}
-use Rattle.irtext_print_ops.specs.Listed.{facet_text}
+use Rattle.irtext_print_ops.specs.Listed.{facet_text, next_text}
 use Rattle.irtext_print_ops.specs.Names.{name_of, operand_text, or_nothing}
 use Rattle.irtext_print_ops.specs.declared.lists.Facet.{Facet}
 use Rattle.irtext_print_ops.specs.declared.lists.Facet.TheVariants as facet
@@ -49,14 +49,28 @@ found_at {X = X} f xs i = go (slice_get xs i) ∙ ap (option_and_then (λ t. t))
     go None = refl
     go (Some x) = refl
 
--- the text that is kept of an item at an index
-pub found : {X : Type 0} (f : X → Option Text) (xs : List X) (i : ℕ) (x : X) → slice_get xs i ≡ Some x → f x ≡ option_and_then (λ t. t) (slice_get (map f xs) i)
-found f xs i x e = ap (option_and_then f) (sym e) ∙ found_at f xs i
+-- each item of a list has a text if it has one by itself
+pub some_at : {X : Type 0} (f : X → Option Text) (xs : List X) (i : ℕ) → ((x : X) → slice_get xs i ≡ Some x → IsSome (f x)) → i < length (map f xs) → IsSome (option_and_then (λ t. t) (slice_get (map f xs) i))
+some_at f [] i h less = absurd (omega (arith, less))
+some_at f (x ∷ xs) zero h less = h x refl
+some_at f (x ∷ xs) (suc i) h less = some_at f xs i h (omega (arith, less))
+
+-- there is none past the end
+pub none_at : (xs : List (Option Text)) (i : ℕ) → length xs ≤ i → option_and_then (λ t. t) (slice_get xs i) ≡ None
+none_at [] zero h = refl
+none_at [] (suc i) h = refl
+none_at (x ∷ xs) zero h = absurd (omega (arith, h))
+none_at (x ∷ xs) (suc i) h = none_at xs i (omega (arith, h))
 
 -- a text was written after a space
 pub spaced_written : (o u : Option Text) → IsSome o → o ≡ u → (old mid new : List ℕ) → mid ≡ old ++ codes " " → new ≡ mid ++ encode_utf8_all (or_nothing o) → new ≡ old ++ encode_utf8_all (spaced_if u)
 spaced_written None u h e old mid new p q = absurd (cc)
 spaced_written (Some t) u h e old mid new p q = worded old mid new (codes " ") t refl p q ∙ ap (λ z. old ++ encode_utf8_all (spaced_if z)) e
+
+-- the same of a list's first item
+pub item_spaced : (o : Option Text) → IsSome o → (old mid new : List ℕ) → mid ≡ old ++ codes " " → new ≡ mid ++ encode_utf8_all (next_text true o) → new ≡ old ++ encode_utf8_all (spaced_if o)
+item_spaced None h old mid new p q = absurd (cc)
+item_spaced (Some t) h old mid new p q = worded old mid new (codes " ") t refl p q
 
 -- nothing is written where there is no text
 pub nothing_written : (u : Option Text) (old : List ℕ) → u ≡ None → old ≡ old ++ encode_utf8_all (spaced_if u)

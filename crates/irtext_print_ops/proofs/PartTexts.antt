@@ -22,7 +22,7 @@ use Rattle.irtext_graph.specs.declared.object.Value.{Value}
 use Rattle.irtext_grammar.specs.Contexts.Held.{known_types, entries_of}
 use Rattle.irtext_grammar.specs.Contexts.Nested.{number_of, place_of, typed_number, seen_operation, seen_own}
 use Rattle.irtext_grammar.specs.Grammar.Tree as tree
-use Rattle.irtext_grammar.specs.Grammar.Tree.{Attribute, given_names, ident, own, Name, Part}
+use Rattle.irtext_grammar.specs.Grammar.Tree.{Attribute, ident, Name, Part}
 use Rattle.irtext_grammar.specs.Graphs.Graph.{GraphOp, Printing, lookup, outlined, part_of}
 use Rattle.irtext_grammar.specs.Spelling.Spell as spell
 use Rattle.irtext_grammar.specs.Spelling.Spell.{parts, piece, space, joined, comma}
@@ -79,9 +79,8 @@ module _ {T A : Type 0} (L : Language ⊤ T A) where
       where
         go : (x : Option (Attribute A)) → IsPiece (option_and_then (λ a. elim a [ ident n ↦ Some (tree.piece (tree.header (record { place = tt; text = n }))) | _ ↦ None ]) x)
         go None = tt
-        go (Some (given_names ns)) = tt
         go (Some (ident name)) = tt
-        go (Some (own a)) = tt
+        go (Some _) = tt
 
   module _ (ctx : ContextView T A) (p : Ptr Operation) where
     operand_here : (i : ℕ) (x : Option Value) → spaced_if (option_and_then (operand_text ctx) x) ≡ part_text L (option_map (λ n. tree.piece (tree.operand i (record { place = tt; text = name_of ctx n }))) (option_and_then (number_of ctx) x))

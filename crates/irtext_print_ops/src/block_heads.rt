@@ -11,8 +11,9 @@ ghost use Rattle.irtext_print_ops.specs.Inline.{has_inline, inline_text};
 ghost use Rattle.irtext_print_ops.specs.Listed.{list_text};
 ghost use Rattle.irtext_print_ops.specs.declared.lists.Listed.TheVariants.{Arguments};
 
-use crate::lists::{Listed, count, fmt_listed};
+use crate::lists::Listed;
 use crate::names::fmt_block_label;
+use crate::printer::Printer;
 use irtext_base::text::{AttrText, IrText};
 use irtext_context::base::{BasicBlock, BlockAccess, Context, Ptr};
 use irtext_dict::base::AttributeDict;
@@ -44,38 +45,26 @@ fn fmt_inline<A: AttrText<A>>(attributes: &AttributeDict<A>, f: &mut String) -> 
     Ok(())
 }
 
-/// Appends the arguments with their types, in parentheses.
-fn fmt_arguments<T: IrText<A>, A: AttrText<A>>(
-    ctx: &Context<T, A>,
-    block: Ptr<BasicBlock>,
-    f: &mut String,
-) -> fmt::Result
-    requires { IsLive ctx.now.graph (TheBlock block) }
-    ensures { OnOk result (AppendsText f.old (codes "(" ++ (list_text T.IrText.written ctx.now (Arguments block) 0 ++ codes ")")) f.new) }
-{
-    if count(ctx, Listed::Arguments(block)) == 0 {
-        f.push_str("()")?;
-        return Ok(());
+impl<'c, T: IrText<A>, A: AttrText<A>> Printer<'c, T, A> {
+    /// Appends the arguments with their types, in parentheses.
+    fn fmt_arguments(self, block: Ptr<BasicBlock>, f: &mut String) -> fmt::Result
+        requires { IsLive self.ctx.now.graph (TheBlock block) }
+        ensures { OnOk result (AppendsText f.old
+            (codes "(" ++ (list_text T.IrText.written self.entry.ctx.now (Arguments block) 0 ++ codes ")")) f.new) }
+    {
+        self.fmt_enclosed(Listed::Arguments(block), "(", ")", "()", f)
     }
-    f.push_str("(")?;
-    fmt_listed(ctx, Listed::Arguments(block), 0, f)?;
-    f.push_str(")")?;
-    Ok(())
-}
 
-/// Appends a block's label, its arguments and its dictionary, as [`fmt_block_head`] does.
-fn fmt_head<T: IrText<A>, A: AttrText<A>>(
-    ctx: &Context<T, A>,
-    block: Ptr<BasicBlock>,
-    f: &mut String,
-) -> fmt::Result
-    requires live { IsSome (context.block ctx.now block) }
-    ensures { OnOk result (AppendsText f.old
-        (heads.block_head_at T.IrText.own A.IrText.own A.AttrText.own A.eq ctx.now block) f.new) }
-{
-    fmt_block_label(ctx, block, f)?;
-    fmt_arguments(ctx, block, f)?;
-    fmt_inline(block.attributes(ctx), f)
+    /// Appends a block's label, its arguments and its dictionary, as [`fmt_block_head`] does.
+    fn fmt_head(self, block: Ptr<BasicBlock>, f: &mut String) -> fmt::Result
+        requires live { IsSome (context.block self.ctx.now block) }
+        ensures { OnOk result (AppendsText f.old (heads.block_head_at T.IrText.own A.IrText.own
+            A.AttrText.own A.eq self.entry.ctx.now block) f.new) }
+    {
+        fmt_block_label(self.ctx, block, f)?;
+        self.fmt_arguments(block, f)?;
+        fmt_inline(block.attributes(self.ctx), f)
+    }
 }
 
 /// Appends a block's label, its arguments (those whose types are known) with their types, and, if some attribute is not outlined, its
@@ -91,5 +80,5 @@ pub fn fmt_block_head<T: IrText<A>, A: AttrText<A>>(
         (heads.block_head_at T.IrText.own A.IrText.own A.AttrText.own A.eq ctx.now block) f.new) }
     ensures refused { IfErr result (λ e. e ≡ refusal.Memory) }
 {
-    memory_alone(fmt_head(ctx, block, f))
+    memory_alone(Printer { ctx }.fmt_head(block, f))
 }

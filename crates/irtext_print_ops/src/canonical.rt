@@ -14,7 +14,8 @@ ghost use Rattle.irtext_print_ops.specs.Listed.{list_text};
 ghost use Rattle.irtext_print_ops.specs.Names.{printing_by};
 ghost use Rattle.irtext_print_ops.specs.declared.lists.Listed.TheVariants.{Operands, Successors, OperandTypes, ResultTypes};
 
-use crate::lists::{Listed, count, fmt_listed};
+use crate::lists::Listed;
+use crate::printer::Printer;
 use irtext_base::text::{AttrText, IrText};
 use irtext_context::base::{Context, Operation, OperationAccess, Ptr};
 use irtext_print::ir::print::pieces::fmt_entries;
@@ -22,61 +23,36 @@ use irtext_print::printable::Refusal;
 use irtext_print::printable::refusal::memory_alone;
 use std::fmt;
 
-/// Appends the names of the operands in parentheses and the labels of the successors in brackets, and opens the dictionary's bracket:
-/// ` (x_v1) [^a_block1v1] [`.
-fn fmt_uses<T: IrText<A>, A: AttrText<A>>(
-    ctx: &Context<T, A>,
-    op: Ptr<Operation>,
-    f: &mut String,
-) -> fmt::Result
-    requires { IsLive ctx.now.graph (TheOperation op) }
-    ensures { OnOk result (AppendsText f.old (codes " (" ++ (list_text T.IrText.written ctx.now (Operands op) 0
-        ++ (codes ") [" ++ (list_text T.IrText.written ctx.now (Successors op) 0 ++ codes "] [")))) f.new) }
-{
-    f.push_str(" (")?;
-    fmt_listed(ctx, Listed::Operands(op), 0, f)?;
-    if count(ctx, Listed::Successors(op)) == 0 {
-        f.push_str(") [] [")?;
-        return Ok(());
+impl<'c, T: IrText<A>, A: AttrText<A>> Printer<'c, T, A> {
+    /// Appends the names of the operands in parentheses and the labels of the successors in brackets, and opens the dictionary's bracket:
+    /// ` (x_v1) [^a_block1v1] [`.
+    fn fmt_uses(self, op: Ptr<Operation>, f: &mut String) -> fmt::Result
+        requires { IsLive self.ctx.now.graph (TheOperation op) }
+        ensures { OnOk result (AppendsText f.old
+            (codes " (" ++ (list_text T.IrText.written self.entry.ctx.now (Operands op) 0 ++ (codes ") [" ++
+            (list_text T.IrText.written self.entry.ctx.now (Successors op) 0 ++ codes "] [")))) f.new) }
+    {
+        f.push_str(" (")?;
+        self.fmt_listed(Listed::Operands(op), 0, f)?;
+        self.fmt_enclosed(Listed::Successors(op), ") [", "] [", ") [] [", f)
     }
-    f.push_str(") [")?;
-    fmt_listed(ctx, Listed::Successors(op), 0, f)?;
-    f.push_str("] [")?;
-    Ok(())
-}
 
-/// Closes the dictionary's bracket, and appends the types of the operands and of the results: `]: <(test.ptr ) -> ()>`.
-fn fmt_types<T: IrText<A>, A: AttrText<A>>(
-    ctx: &Context<T, A>,
-    op: Ptr<Operation>,
-    f: &mut String,
-) -> fmt::Result
-    requires { IsLive ctx.now.graph (TheOperation op) }
-    ensures { OnOk result (AppendsText f.old (codes "]: <(" ++ (list_text T.IrText.written ctx.now (OperandTypes op) 0
-        ++ (codes ") -> (" ++ (list_text T.IrText.written ctx.now (ResultTypes op) 0 ++ codes ")>")))) f.new) }
-{
-    f.push_str("]: <(")?;
-    fmt_listed(ctx, Listed::OperandTypes(op), 0, f)?;
-    f.push_str(") -> (")?;
-    fmt_listed(ctx, Listed::ResultTypes(op), 0, f)?;
-    f.push_str(")>")?;
-    Ok(())
-}
-
-/// Appends what follows the id in the canonical form, as [`fmt_canonical_front`] does.
-fn fmt_front<T: IrText<A>, A: AttrText<A>>(
-    ctx: &Context<T, A>,
-    op: Ptr<Operation>,
-    f: &mut String,
-) -> fmt::Result
-    requires live { IsSome (operation ctx.now op) }
-    ensures { OnOk result (IfSome (seen_own A.IrText.written ctx.now op) (λ o. AppendsText f.old
-        (body_front (language_in T.IrText.own A.IrText.own ctx.now)
-        (body_of (printing_by A.AttrText.own A.eq ctx.now) o (Some format.canonical))) f.new)) }
-{
-    fmt_uses(ctx, op, f)?;
-    fmt_entries(op.attributes(ctx), &[], f)?;
-    fmt_types(ctx, op, f)
+    /// Appends what follows the id in the canonical form, as [`fmt_canonical_front`] does.
+    fn fmt_canonical(self, op: Ptr<Operation>, f: &mut String) -> fmt::Result
+        requires live { IsSome (operation self.ctx.now op) }
+        ensures { OnOk result (IfSome (seen_own A.IrText.written self.entry.ctx.now op) (λ o.
+            AppendsText f.old (body_front (language_in T.IrText.own A.IrText.own self.entry.ctx.now)
+            (body_of (printing_by A.AttrText.own A.eq self.entry.ctx.now) o (Some format.canonical))) f.new)) }
+    {
+        self.fmt_uses(op, f)?;
+        fmt_entries(op.attributes(self.ctx), &[], f)?;
+        f.push_str("]: <(")?;
+        self.fmt_listed(Listed::OperandTypes(op), 0, f)?;
+        f.push_str(") -> (")?;
+        self.fmt_listed(Listed::ResultTypes(op), 0, f)?;
+        f.push_str(")>")?;
+        Ok(())
+    }
 }
 
 /// Appends what follows the id in the canonical form, before the regions: the names of the operands, the labels of the successors, the
@@ -92,5 +68,5 @@ pub fn fmt_canonical_front<T: IrText<A>, A: AttrText<A>>(
         (body_of (printing_by A.AttrText.own A.eq ctx.now) o (Some format.canonical))) f.new)) }
     ensures refused { IfErr result (λ e. e ≡ refusal.Memory) }
 {
-    memory_alone(fmt_front(ctx, op, f))
+    memory_alone(Printer { ctx }.fmt_canonical(op, f))
 }

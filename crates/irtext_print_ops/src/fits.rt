@@ -15,8 +15,8 @@ ghost use Rattle.irtext_print_ops.specs.Listed as texts;
 ghost use Rattle.irtext_print_ops.specs.Names.{printing_by};
 ghost use Rattle.irtext_print_ops.specs.declared.lists.Listed.TheVariants as listed;
 
-use crate::lists::{Listed, count};
-use crate::pieces::{keeps_operands, known_type};
+use crate::lists::Listed;
+use crate::printer::Printer;
 use irtext_base::base::{AttrObj, Identifier};
 use irtext_base::format::{Directive, OpFormat};
 use irtext_base::text::{AttrText, IrText};
@@ -271,34 +271,36 @@ fn check_parts<'c, A: AttrText<A>>(
     }
 }
 
-/// Counts the results of an operation with known types.
-fn count_typed<T: IrText<A>, A: AttrText<A>>(ctx: &Context<T, A>, op: Ptr<Operation>) -> usize
-    requires { IsLive ctx.now.graph (TheOperation op) }
-    ensures { result ≡ length (known_types (texts.texts_of T.IrText.written ctx.now
-        (listed.ResultTypes op))) }
-{
-    let mut typed = 0;
-    for place in 0..count(ctx, Listed::ResultTypes(op)) {
-        let Some(_of_type) = known_type(ctx, Value::Result(op, place)) else {
-            continue;
-        };
-        typed += 1;
+impl<'c, T: IrText<A>, A: AttrText<A>> Printer<'c, T, A> {
+    /// Counts the results of an operation with known types.
+    fn count_typed(self, op: Ptr<Operation>) -> usize
+        requires { IsLive self.ctx.now.graph (TheOperation op) }
+        ensures { result ≡ length (known_types (texts.texts_of T.IrText.written self.entry.ctx.now
+            (listed.ResultTypes op))) }
+    {
+        let mut typed = 0;
+        for place in 0..self.count(Listed::ResultTypes(op)) {
+            let Some(_of_type) = self.known_type(Value::Result(op, place)) else {
+                continue;
+            };
+            typed += 1;
+        }
+        typed
     }
-    typed
-}
 
-/// Counts the parts of an operation.
-fn count_parts<T: IrText<A>, A: AttrText<A>>(ctx: &Context<T, A>, op: Ptr<Operation>) -> Counts
-    requires { IsSome (operation ctx.now op) }
-    ensures { IfSome (seen_own A.IrText.written ctx.now op) (λ o. result ≡ fits.counts_of o
-        (length (regions ctx.now.graph op))) }
-{
-    keeps_operands(ctx, op);
-    Counts {
-        operands: count(ctx, Listed::Operands(op)),
-        successors: count(ctx, Listed::Successors(op)),
-        results: count_typed(ctx, op),
-        regions: op.num_regions(ctx),
+    /// Counts the parts of an operation.
+    fn count_parts(self, op: Ptr<Operation>) -> Counts
+        requires { IsSome (operation self.ctx.now op) }
+        ensures { IfSome (seen_own A.IrText.written self.entry.ctx.now op) (λ o. result ≡ fits.counts_of o
+            (length (regions self.entry.ctx.now.graph op))) }
+    {
+        self.keeps_operands(op);
+        Counts {
+            operands: self.count(Listed::Operands(op)),
+            successors: self.count(Listed::Successors(op)),
+            results: self.count_typed(op),
+            regions: op.num_regions(self.ctx),
+        }
     }
 }
 
@@ -324,7 +326,7 @@ pub fn fitting_directives<'c, T: IrText<A>, A: AttrText<A>>(
         OpFormat::Canonical => Ok(None),
         OpFormat::Custom(directives) => {
             let directives = directives.as_slice();
-            let counts = count_parts(ctx, op);
+            let counts = Printer { ctx }.count_parts(op);
             match check_parts(directives, counts, op.attributes(ctx)) {
                 Ok(()) => Ok(Some(directives)),
                 Err(fault) => Err(fault),

@@ -16,6 +16,7 @@ pub mod names;
 pub mod nested;
 mod opening;
 pub mod pieces;
+pub mod printer;
 pub mod results;
 mod step;
 pub mod walk;

@@ -12,7 +12,8 @@ ghost use Rattle.irtext_print_ops.specs.Steps.{begun_frames, listed};
 use crate::block_heads::fmt_block_head;
 use crate::frame::{BlockFrame, Frame, RegionFrame};
 use crate::opening::{begin_region, deeper, fmt_colon};
-use crate::step::{begin_operation, end_operation, fmt_block_mark};
+use crate::printer::Printer;
+use crate::step::begin_operation;
 use crate::walk::{print_frames, print_operation};
 use irtext_base::text::{AttrText, IrText};
 use irtext_context::base::{BasicBlock, Context, Item, Operation, Ptr, Region};
@@ -90,7 +91,7 @@ pub fn print_nested_block<T: IrText<A>, A: AttrText<A>, U>(
     let limit = state.current_region_print_depth_limit();
     let inner = deeper(indent, width)?;
     fmt_block_head(ctx, block, f)?;
-    fmt_block_mark(ctx, block, items, f)?;
+    Printer { ctx }.fmt_block_mark(block, items, f)?;
     fmt_colon(inner, f)?;
     let first = Frame::Block(BlockFrame {
         block,
@@ -133,23 +134,4 @@ pub fn print_nested_region<T: IrText<A>, A: AttrText<A>, U>(
     let begun = begin_region(region, true, indent, width, limit, f)?;
     let mut frames = Vec::new(ctx.allocator());
     print_frames(ctx, width, region_frame(begun), &mut frames, items, f)
-}
-
-/// Appends the mark of an operation, if it has one, and adds the operation to `items`; the mark's index is its place there. The error
-/// is always `Memory`.
-pub fn print_nested_mark<T: IrText<A>, A: AttrText<A>>(
-    ctx: &Context<T, A>,
-    op: Ptr<Operation>,
-    items: &mut Vec<Item>,
-    f: &mut String,
-) -> Result<(), Refusal>
-    requires live { IsSome (operation ctx.now op) }
-    ensures text { OnOk result (AppendsText f.old (heads.own_mark_at T.IrText.own A.IrText.own A.AttrText.own
-        A.eq ctx.now op true
-        (length items.old.items)) f.new) }
-    ensures items { OnOk result (items.new.items ≡ items.old.items ++
-        heads.own_items_at T.IrText.own A.IrText.own A.AttrText.own A.eq ctx.now op true) }
-    ensures refused { IfErr result (λ e. e ≡ refusal.Memory) }
-{
-    end_operation(ctx, op, true, items, f)
 }

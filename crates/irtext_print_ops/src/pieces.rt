@@ -1,5 +1,5 @@
 //! What a directive of a format prints of an operation, if it prints no region.
-ghost use Rattle.std.specs.Prelude.{◌≡◌, ℕ, is_some, option_map, option_and_then, length, slice_get, Some, None, IsSome, IfSome, IfErr, OnOk};
+ghost use Rattle.std.specs.Prelude.{◌≡◌, ◌<◌, ℕ, is_some, option_map, option_and_then, length, slice_get, Some, None, IsSome, IfSome, IfErr, OnOk};
 ghost use Rattle.irtext_base.specs.Format as format;
 ghost use Rattle.irtext_base.specs.Format.{operand_places, successor_places};
 ghost use Rattle.irtext_context.specs.Context.{operation};
@@ -22,8 +22,8 @@ ghost use Rattle.irtext_print_ops.specs.Written.{part_text};
 ghost use Rattle.irtext_print_ops.specs.declared.lists.Facet.TheVariants as facet;
 ghost use Rattle.irtext_print_ops.specs.declared.lists.Listed.TheVariants as listed;
 
-use crate::lists::{Listed, count, fmt_listed, operand, successor};
-use crate::names::{fmt_block_label, fmt_value_name};
+use crate::lists::Listed;
+use crate::printer::Printer;
 use irtext_base::format::Directive;
 use irtext_base::text::{AttrText, IrText};
 use irtext_context::base::{Context, Operation, OperationAccess, Ptr, Value};
@@ -33,106 +33,109 @@ use irtext_print::printable::Refusal;
 use irtext_print::printable::refusal::memory_alone;
 use std::fmt;
 
-/// What an operation uses is live. Does nothing: the contract hands that out.
-pub(crate) fn keeps_operands<T: IrText<A>, A: AttrText<A>>(ctx: &Context<T, A>, op: Ptr<Operation>)
-    ensures { (i : ℕ) (v : code.Value) → slice_get (operands ctx.now.graph op) i ≡ Some v
-        → ValueStands ctx.now.graph v }
-{
-    ctx.graph().keeps_nesting();
-}
-
-/// Appends the name of the operand at an index, after a space, if there is one.
-fn fmt_operand_at<T: IrText<A>, A: AttrText<A>>(
-    ctx: &Context<T, A>,
-    op: Ptr<Operation>,
-    index: usize,
-    f: &mut String,
-) -> fmt::Result
-    requires { IsLive ctx.now.graph (TheOperation op) }
-    ensures { OnOk result (AppendsText f.old (spaced_if (texts.text_at T.IrText.written ctx.now
-        (listed.Operands op) index)) f.new) }
-{
-    if index >= ctx.graph().num_operands(op) {
-        return Ok(());
+impl<'c, T: IrText<A>, A: AttrText<A>> Printer<'c, T, A> {
+    /// What an operation uses is live. Does nothing: the contract hands that out.
+    pub(crate) fn keeps_operands(self, op: Ptr<Operation>)
+        ensures { (i : ℕ) (v : code.Value) → slice_get (operands self.entry.ctx.now.graph op) i ≡ Some v
+            → ValueStands self.entry.ctx.now.graph v }
+    {
+        self.ctx.graph().keeps_nesting();
     }
-    f.push_str(" ")?;
-    let value = operand(ctx, op, index);
-    fmt_value_name(ctx, value, f)
-}
 
-/// Appends the label of the successor at an index, after a space, if there is one.
-fn fmt_successor_at<T: IrText<A>, A: AttrText<A>>(
-    ctx: &Context<T, A>,
-    op: Ptr<Operation>,
-    index: usize,
-    f: &mut String,
-) -> fmt::Result
-    requires { IsLive ctx.now.graph (TheOperation op) }
-    ensures { OnOk result (AppendsText f.old (spaced_if (texts.text_at T.IrText.written ctx.now
-        (listed.Successors op) index)) f.new) }
-{
-    if index >= ctx.graph().num_successors(op) {
-        return Ok(());
-    }
-    f.push_str(" ")?;
-    let block = successor(ctx, op, index);
-    fmt_block_label(ctx, block, f)
-}
-
-/// Returns the type of a value, if it is known.
-pub(crate) fn known_type<T: IrText<A>, A: AttrText<A>>(
-    ctx: &Context<T, A>,
-    value: Value,
-) -> Option<&T>
-    requires { ValueStands ctx.now.graph value }
-    ensures { option_map (λ t. T.IrText.written t.now) result ≡
-        option_and_then (texts.typed_text T.IrText.written ctx.now facet.Type) (value_at ctx.now.graph value) }
-{
-    match ctx.graph().type_of(value) {
-        Some(of_type) => Some(of_type),
-        None => None,
-    }
-}
-
-/// Appends the type at an index among the known types of the results, after a space, if there is one.
-fn fmt_result_type_at<T: IrText<A>, A: AttrText<A>>(
-    ctx: &Context<T, A>,
-    op: Ptr<Operation>,
-    index: usize,
-    f: &mut String,
-) -> fmt::Result
-    requires { IsLive ctx.now.graph (TheOperation op) }
-    ensures { OnOk result (AppendsText f.old (spaced_if
-        (slice_get (known_types (texts.texts_of T.IrText.written ctx.now (listed.ResultTypes op))) index)) f.new) }
-{
-    let mut left = index;
-    for place in 0..count(ctx, Listed::ResultTypes(op)) {
-        let Some(of_type) = known_type(ctx, Value::Result(op, place)) else {
-            continue;
-        };
-        if left == 0 {
-            f.push_str(" ")?;
-            return of_type.write_text(f);
+    /// Appends the item at an index, after a space, if there is one; it has a text.
+    fn fmt_item_at(self, list: Listed, index: usize, f: &mut String) -> fmt::Result
+        requires live { IsLive self.ctx.now.graph (owner list) }
+        requires text { index < length (texts.texts_of T.IrText.written self.ctx.now list)
+            → IsSome (texts.text_at T.IrText.written self.ctx.now list index) }
+        ensures { OnOk result (AppendsText f.old
+            (spaced_if (texts.text_at T.IrText.written self.entry.ctx.now list index)) f.new) }
+    {
+        if index >= self.count(list) {
+            return Ok(());
         }
-        left -= 1;
+        f.push_str(" ")?;
+        self.fmt_item(list, index, true, f)?;
+        Ok(())
     }
-    Ok(())
-}
 
-/// Appends the items of a list from an index on, after a space.
-fn fmt_spaced<T: IrText<A>, A: AttrText<A>>(
-    ctx: &Context<T, A>,
-    list: Listed,
-    from: usize,
-    f: &mut String,
-) -> fmt::Result
-    requires { IsLive ctx.now.graph (owner list) }
-    ensures { OnOk result (AppendsText f.old (spaced (texts.list_text T.IrText.written ctx.now list
-        from)) f.new) }
-{
-    f.push_str(" ")?;
-    fmt_listed(ctx, list, from, f)?;
-    Ok(())
+    /// Returns the type of a value, if it is known.
+    pub(crate) fn known_type(self, value: Value) -> Option<&'c T>
+        requires { ValueStands self.ctx.now.graph value }
+        ensures { option_map (λ t. T.IrText.written t.now) result ≡
+            option_and_then (texts.typed_text T.IrText.written self.entry.ctx.now facet.Type)
+            (value_at self.entry.ctx.now.graph value) }
+    {
+        match self.ctx.graph().type_of(value) {
+            Some(of_type) => Some(of_type),
+            None => None,
+        }
+    }
+
+    /// Appends the type at an index among the known types of the results, after a space, if there is one.
+    fn fmt_result_type_at(self, op: Ptr<Operation>, index: usize, f: &mut String) -> fmt::Result
+        requires { IsLive self.ctx.now.graph (TheOperation op) }
+        ensures { OnOk result (AppendsText f.old (spaced_if (slice_get
+            (known_types (texts.texts_of T.IrText.written self.entry.ctx.now (listed.ResultTypes op))) index)) f.new) }
+    {
+        let mut left = index;
+        for place in 0..self.count(Listed::ResultTypes(op)) {
+            let Some(of_type) = self.known_type(Value::Result(op, place)) else {
+                continue;
+            };
+            if left == 0 {
+                f.push_str(" ")?;
+                return of_type.write_text(f);
+            }
+            left -= 1;
+        }
+        Ok(())
+    }
+
+    /// Appends the items of a list from an index on, after a space.
+    fn fmt_spaced(self, list: Listed, from: usize, f: &mut String) -> fmt::Result
+        requires { IsLive self.ctx.now.graph (owner list) }
+        ensures { OnOk result (AppendsText f.old
+            (spaced (texts.list_text T.IrText.written self.entry.ctx.now list from)) f.new) }
+    {
+        f.push_str(" ")?;
+        self.fmt_listed(list, from, f)?;
+        Ok(())
+    }
+
+    /// Appends what one of a format's directives prints of an operation, as [`fmt_piece`] does.
+    fn fmt_part(
+        self,
+        op: Ptr<Operation>,
+        directives: &[Directive],
+        directive: &Directive,
+        f: &mut String,
+    ) -> fmt::Result
+        requires live { IsSome (operation self.ctx.now op) }
+        ensures { OnOk result (IfSome (seen_own A.IrText.written self.entry.ctx.now op) (λ o. AppendsText
+            f.old
+            (part_text (language_in T.IrText.own A.IrText.own self.entry.ctx.now)
+            (part_of (printing_by A.AttrText.own A.eq self.entry.ctx.now) (directives_of directives.now) o
+            (directive_of directive.now))) f.new)) }
+    {
+        self.keeps_operands(op);
+        match directive {
+            Directive::Literal(word) => fmt_word(word.as_str(), f),
+            Directive::Operand(index) => self.fmt_item_at(Listed::Operands(op), *index, f),
+            Directive::Successor(index) => self.fmt_item_at(Listed::Successors(op), *index, f),
+            Directive::ResultType(index) => self.fmt_result_type_at(op, *index, f),
+            Directive::Operands => {
+                self.fmt_spaced(Listed::Operands(op), count_operands(directives), f)
+            }
+            Directive::Successors => {
+                self.fmt_spaced(Listed::Successors(op), count_successors(directives), f)
+            }
+            Directive::Attr(key) => fmt_keyed(op.attributes(self.ctx), key, f),
+            Directive::AttrDict => fmt_dictionary(op.attributes(self.ctx), directives, f),
+            Directive::SymbolHeader => fmt_symbol(op.attributes(self.ctx), f),
+            Directive::Region(_) => Ok(()),
+            Directive::Regions => Ok(()),
+        }
+    }
 }
 
 fn writes_operand(directive: &Directive) -> bool
@@ -165,40 +168,6 @@ pub(crate) fn count_successors(directives: &[Directive]) -> usize
     directives.iter().filter(|d| writes_successor(*d)).count()
 }
 
-/// Appends what one of a format's directives prints of an operation, as [`fmt_piece`] does.
-fn fmt_part<T: IrText<A>, A: AttrText<A>>(
-    ctx: &Context<T, A>,
-    op: Ptr<Operation>,
-    directives: &[Directive],
-    directive: &Directive,
-    f: &mut String,
-) -> fmt::Result
-    requires live { IsSome (operation ctx.now op) }
-    ensures { OnOk result (IfSome (seen_own A.IrText.written ctx.now op) (λ o. AppendsText f.old
-        (part_text (language_in T.IrText.own A.IrText.own ctx.now)
-        (part_of (printing_by A.AttrText.own A.eq ctx.now) (directives_of directives.now) o (directive_of directive.now)))
-        f.new)) }
-{
-    keeps_operands(ctx, op);
-    match directive {
-        Directive::Literal(word) => fmt_word(word.as_str(), f),
-        Directive::Operand(index) => fmt_operand_at(ctx, op, *index, f),
-        Directive::Successor(index) => fmt_successor_at(ctx, op, *index, f),
-        Directive::ResultType(index) => fmt_result_type_at(ctx, op, *index, f),
-        Directive::Operands => {
-            fmt_spaced(ctx, Listed::Operands(op), count_operands(directives), f)
-        }
-        Directive::Successors => {
-            fmt_spaced(ctx, Listed::Successors(op), count_successors(directives), f)
-        }
-        Directive::Attr(key) => fmt_keyed(op.attributes(ctx), key, f),
-        Directive::AttrDict => fmt_dictionary(op.attributes(ctx), directives, f),
-        Directive::SymbolHeader => fmt_symbol(op.attributes(ctx), f),
-        Directive::Region(_) => Ok(()),
-        Directive::Regions => Ok(()),
-    }
-}
-
 /// Appends what one of a format's directives prints of an operation, with the space before it. Nothing is appended if the directive
 /// prints a region, or if what it names is absent. The error is always `Memory`.
 pub fn fmt_piece<T: IrText<A>, A: AttrText<A>>(
@@ -215,5 +184,5 @@ pub fn fmt_piece<T: IrText<A>, A: AttrText<A>>(
         f.new)) }
     ensures refused { IfErr result (λ e. e ≡ refusal.Memory) }
 {
-    memory_alone(fmt_part(ctx, op, directives, directive, f))
+    memory_alone(Printer { ctx }.fmt_part(op, directives, directive, f))
 }

@@ -14,29 +14,28 @@ ghost use Rattle.irtext_print_ops.specs.Listed.{defined_text, texts_of};
 ghost use Rattle.irtext_print_ops.specs.Names.{printing_by};
 ghost use Rattle.irtext_print_ops.specs.declared.lists.Listed.TheVariants.{Results};
 
-use crate::lists::{Listed, fmt_listed};
+use crate::lists::Listed;
+use crate::printer::Printer;
 use irtext_base::text::{AttrText, IrText};
 use irtext_context::base::{Context, Operation, Ptr};
 use irtext_print::printable::Refusal;
 use irtext_print::printable::refusal::memory_alone;
 use std::fmt;
 
-/// Appends the names of an operation's results and ` = `, or nothing if there are none.
-fn fmt_defined<T: IrText<A>, A: AttrText<A>>(
-    ctx: &Context<T, A>,
-    op: Ptr<Operation>,
-    f: &mut String,
-) -> fmt::Result
-    requires { IsLive ctx.now.graph (TheOperation op) }
-    ensures { OnOk result (AppendsText f.old (defined_text (known_types (texts_of T.IrText.written ctx.now
-        (Results op)))) f.new) }
-{
-    let none = fmt_listed(ctx, Listed::Results(op), 0, f)?;
-    if none {
-        return Ok(());
+impl<'c, T: IrText<A>, A: AttrText<A>> Printer<'c, T, A> {
+    /// Appends the names of an operation's results and ` = `, or nothing if there are none.
+    fn fmt_defined(self, op: Ptr<Operation>, f: &mut String) -> fmt::Result
+        requires { IsLive self.ctx.now.graph (TheOperation op) }
+        ensures { OnOk result (AppendsText f.old
+            (defined_text (known_types (texts_of T.IrText.written self.entry.ctx.now (Results op)))) f.new) }
+    {
+        let none = self.fmt_listed(Listed::Results(op), 0, f)?;
+        if none {
+            return Ok(());
+        }
+        f.push_str(" = ")?;
+        Ok(())
     }
-    f.push_str(" = ")?;
-    Ok(())
 }
 
 /// Appends the names of an operation's results with `, ` between them, and ` = `: `x_v0, y_v1 = `. Nothing is appended if it has no
@@ -52,5 +51,5 @@ pub fn fmt_results<T: IrText<A>, A: AttrText<A>>(
         f.new)) }
     ensures refused { IfErr result (λ e. e ≡ refusal.Memory) }
 {
-    memory_alone(fmt_defined(ctx, op, f))
+    memory_alone(Printer { ctx }.fmt_defined(op, f))
 }

@@ -19,6 +19,7 @@ use crate::opening::{
     fmt_index,
 };
 use crate::pieces::fmt_piece;
+use crate::printer::Printer;
 use irtext_base::format::Directive;
 use irtext_base::text::{AttrText, IrText};
 use irtext_context::base::{BasicBlock, Context, Item, Operation, OperationAccess, Ptr};
@@ -151,54 +152,56 @@ fn entered<T: IrText<A>, A: AttrText<A>>(
     Ok(Turn::Enters(inside))
 }
 
-/// Appends the mark of an operation after its text, if it has one and it is to be printed.
-#[inline(always)]
-pub(crate) fn end_operation<T: IrText<A>, A: AttrText<A>>(
-    ctx: &Context<T, A>,
-    op: Ptr<Operation>,
-    marked: bool,
-    items: &mut Vec<Item>,
-    f: &mut String,
-) -> Result<(), Refusal>
-    requires live { IsSome (operation ctx.now op) }
-    ensures text { OnOk result (AppendsText f.old (heads.own_mark_at T.IrText.own A.IrText.own A.AttrText.own
-        A.eq ctx.now op marked
-        (length items.old.items)) f.new) }
-    ensures items { OnOk result (items.new.items ≡ items.old.items ++
-        heads.own_items_at T.IrText.own A.IrText.own A.AttrText.own A.eq ctx.now op marked) }
-    ensures refused { IfErr result (λ e. e ≡ refusal.Memory) }
-{
-    if !marked {
-        return Ok(());
+impl<'c, T: IrText<A>, A: AttrText<A>> Printer<'c, T, A> {
+    /// Appends the mark of an operation, if it has one and `marked`, and adds the operation to `items`; the mark's index is its place
+    /// there. The error is always `Memory`.
+    #[inline(always)]
+    pub fn end_operation(
+        self,
+        op: Ptr<Operation>,
+        marked: bool,
+        items: &mut Vec<Item>,
+        f: &mut String,
+    ) -> Result<(), Refusal>
+        requires live { IsSome (operation self.ctx.now op) }
+        ensures text { OnOk result (AppendsText f.old (heads.own_mark_at T.IrText.own A.IrText.own
+            A.AttrText.own
+            A.eq self.entry.ctx.now op marked (length items.old.items)) f.new) }
+        ensures items { OnOk result (items.new.items ≡ items.old.items ++
+            heads.own_items_at T.IrText.own A.IrText.own A.AttrText.own A.eq self.entry.ctx.now op marked) }
+        ensures refused { IfErr result (λ e. e ≡ refusal.Memory) }
+    {
+        if !marked {
+            return Ok(());
+        }
+        if !is_operation_marked(self.ctx, op) {
+            return Ok(());
+        }
+        let index = gather(items, Item::Operation(op))?;
+        fmt_index(index, f)
     }
-    if !is_operation_marked(ctx, op) {
-        return Ok(());
-    }
-    let index = gather(items, Item::Operation(op))?;
-    fmt_index(index, f)
-}
 
-/// Appends the mark of a block, if it has one.
-#[inline(always)]
-pub(crate) fn fmt_block_mark<T: IrText<A>, A: AttrText<A>>(
-    ctx: &Context<T, A>,
-    block: Ptr<BasicBlock>,
-    items: &mut Vec<Item>,
-    f: &mut String,
-) -> Result<(), Refusal>
-    requires live { IsSome (context.block ctx.now block) }
-    ensures text { OnOk result (AppendsText f.old (heads.block_mark_at T.IrText.own A.IrText.own
-        A.AttrText.own A.eq ctx.now block
-        (length items.old.items)) f.new) }
-    ensures items { OnOk result (items.new.items ≡ items.old.items ++
-        heads.block_items_at T.IrText.own A.IrText.own A.AttrText.own A.eq ctx.now block) }
-    ensures refused { IfErr result (λ e. e ≡ refusal.Memory) }
-{
-    if !is_block_marked(ctx, block) {
-        return Ok(());
+    /// Appends the mark of a block, if it has one.
+    #[inline(always)]
+    pub(crate) fn fmt_block_mark(
+        self,
+        block: Ptr<BasicBlock>,
+        items: &mut Vec<Item>,
+        f: &mut String,
+    ) -> Result<(), Refusal>
+        requires live { IsSome (context.block self.ctx.now block) }
+        ensures text { OnOk result (AppendsText f.old (heads.block_mark_at T.IrText.own A.IrText.own
+            A.AttrText.own A.eq self.entry.ctx.now block (length items.old.items)) f.new) }
+        ensures items { OnOk result (items.new.items ≡ items.old.items ++
+            heads.block_items_at T.IrText.own A.IrText.own A.AttrText.own A.eq self.entry.ctx.now block) }
+        ensures refused { IfErr result (λ e. e ≡ refusal.Memory) }
+    {
+        if !is_block_marked(self.ctx, block) {
+            return Ok(());
+        }
+        let index = gather(items, Item::Block(block))?;
+        fmt_index(index, f)
     }
-    let index = gather(items, Item::Block(block))?;
-    fmt_index(index, f)
 }
 
 /// Prints what comes next of an operation: its pieces up to a region, and the beginning of that; or its mark after the last piece.
@@ -226,7 +229,7 @@ fn operation_turn<'c, T: IrText<A>, A: AttrText<A>>(
     }
     match fmt_pieces(ctx, frame.op, frame.directives, frame.directive, f)? {
         Stop::End => {
-            end_operation(ctx, frame.op, frame.marked, items, f)?;
+            Printer { ctx }.end_operation(frame.op, frame.marked, items, f)?;
             Ok(Turn::Ends)
         }
         Stop::Region(directive) => {
@@ -325,7 +328,7 @@ fn region_step<'c, T: IrText<A>, A: AttrText<A>>(
     let inner = deeper(indent, width)?;
     fmt_between_blocks(frame.first, indent, f)?;
     fmt_block_head(ctx, block, f)?;
-    fmt_block_mark(ctx, block, items, f)?;
+    Printer { ctx }.fmt_block_mark(block, items, f)?;
     fmt_colon(inner, f)?;
     open(
         frames,

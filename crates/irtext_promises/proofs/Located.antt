@@ -20,8 +20,8 @@ use Rattle.irtext_graph.specs.Chained.{Among}
 use Rattle.irtext_graph.specs.Graph.{GraphView}
 use Rattle.irtext_graph.specs.Used.{used_at}
 use Rattle.irtext_grammar.specs.Grammar.Forest as forest
-use Rattle.irtext_grammar.specs.Grammar.Forest.{Regions, no_regions, Blocks, no_blocks, Operations, no_operations, Root}
-use Rattle.irtext_grammar.specs.Grammar.Tree.{Op, Head, Brace, Tree}
+use Rattle.irtext_grammar.specs.Grammar.Forest.{no_regions, no_blocks, no_operations, Root}
+use Rattle.irtext_grammar.specs.Grammar.Tree.{Tree}
 use Rattle.irtext_grammar.specs.Spelling.Spellable.{Each}
 use Rattle.irtext_grammar.specs.Names.Script.{Path, Place, result, argument, block_at, User, operand, successor}
 use Rattle.irtext_grammar.specs.Names.History.{State}
@@ -33,7 +33,7 @@ use Rattle.irtext_names.specs.Linked.{Known, StandsAt, Became, Holds}
 use Rattle.irtext_names.specs.OfItems.{IsSiteOf, AreOf}
 use Rattle.irtext_names.proofs.Linked.Moving.{among_split}
 use Rattle.irtext_promises.specs.Held.{PtrRegions, PtrBlocks, PtrOperations, placed_regions, placed_blocks, placed_operations, placed_under, path_of, value_place, block_place, defined_place}
-use Rattle.irtext_promises.specs.Placed.{RegionsAre, BlocksAre, OperationsAre, RootIs}
+use Rattle.irtext_promises.specs.Placed.{TreeRegions, TreeBlocks, TreeOperations, RegionsAre, BlocksAre, OperationsAre, RootIs}
 use Rattle.irtext_promises.proofs.Paths.{Once, path_found}
 
 -- the path of the operation that uses, and the number of the use in it
@@ -59,44 +59,39 @@ module _ {T A : Type 0} (L : ℕ → Location A → Type 0) (c : ContextView T A
   record ArePlaced (xs : List (Object × Path)) : Type 0 where
     each : (o : Object) (q : Path) → Among (o, q) xs → IsPlaced o q
 
-  placed_node : (o : Object) (q : Path) (inner next : List (Object × Path)) → IsPlaced o q → ArePlaced inner → ArePlaced next → ArePlaced ((o, q) ∷ (inner ++ next))
-  placed_node o q inner next h x y = record {
-    each = λ k r i. elim i [
-      | inl e ↦ subst (λ (z : Object × Path). IsPlaced z.0 z.1) (sym e) h
-      | inr j ↦ elim (among_split (k, r) inner next j) [ inl a ↦ x.each k r a | inr a ↦ y.each k r a ]
-    ];
-  }
+  -- an object is placed, and what is inside and what follows is, if these are the paths of both
+  placed_node : (o : Object) (q : Path) (xs ys : List (ℕ × Path)) (inner next : List (Object × Path)) → IsPlaced o q → Said (xs ++ ys) → (Said xs → ArePlaced inner) → (Said ys → ArePlaced next)
+      → ArePlaced ((o, q) ∷ (inner ++ next))
+  placed_node o q xs ys inner next h s x y =
+      let Q = λ (item : ℕ × Path). path item.0 ≡ item.1 in
+      record {
+        each = λ k r i. elim i [
+          | inl e ↦ subst (λ (z : Object × Path). IsPlaced z.0 z.1) (sym e) h
+          | inr j ↦ elim (among_split (k, r) inner next j) [ inl a ↦ (x (each_left Q xs ys s)).each k r a | inr a ↦ (y (each_right Q xs ys s)).each k r a ]
+        ];
+      }
 
   mutual
-    regions_placed : (p : Path) (j : ℕ) (ps : PtrRegions) (rs : Regions (Op ℕ T A) (Head ℕ T A) (Brace ℕ)) → Said (paths_in_regions p j rs) → RegionsAre L c items ps rs → ArePlaced (placed_regions p j ps)
-    regions_placed p j no_regions no_regions s h = record { each = λ o q i. absurd i }
-    regions_placed p j no_regions (forest.region brace hs rs) s h = absurd h
+    regions_placed : (p : Path) (j : ℕ) (ps : PtrRegions) (rs : TreeRegions T A) → Said (paths_in_regions p j rs) → RegionsAre L c items ps rs → ArePlaced (placed_regions p j ps)
+    regions_placed p j no_regions rs s h = record { each = λ o q i. absurd i }
     regions_placed p j (forest.region r bs ps) no_regions s h = absurd h
     regions_placed p j (forest.region r bs ps) (forest.region brace hs rs) s (at, k, h) =
-        let Q = λ (item : ℕ × Path). path item.0 ≡ item.1 in
-        placed_node (TheRegion r) (j ∷ p) (placed_blocks (j ∷ p) 0 bs) (placed_regions p (suc j) ps) tt
-        (blocks_placed (j ∷ p) 0 bs hs (each_left Q (paths_in_blocks (j ∷ p) 0 hs) (paths_in_regions p (suc j) rs) s) k)
-        (regions_placed p (suc j) ps rs (each_right Q (paths_in_blocks (j ∷ p) 0 hs) (paths_in_regions p (suc j) rs) s) h)
+        placed_node (TheRegion r) (j ∷ p) (paths_in_blocks (j ∷ p) 0 hs) (paths_in_regions p (suc j) rs) (placed_blocks (j ∷ p) 0 bs) (placed_regions p (suc j) ps) tt s
+        (λ t. blocks_placed (j ∷ p) 0 bs hs t k) (λ t. regions_placed p (suc j) ps rs t h)
 
-    blocks_placed : (p : Path) (j : ℕ) (ps : PtrBlocks) (bs : Blocks (Op ℕ T A) (Head ℕ T A) (Brace ℕ)) → Said (paths_in_blocks p j bs) → BlocksAre L c items ps bs → ArePlaced (placed_blocks p j ps)
-    blocks_placed p j no_blocks no_blocks s h = record { each = λ o q i. absurd i }
-    blocks_placed p j no_blocks (forest.block head os bs) s h = absurd h
+    blocks_placed : (p : Path) (j : ℕ) (ps : PtrBlocks) (bs : TreeBlocks T A) → Said (paths_in_blocks p j bs) → BlocksAre L c items ps bs → ArePlaced (placed_blocks p j ps)
+    blocks_placed p j no_blocks bs s h = record { each = λ o q i. absurd i }
     blocks_placed p j (forest.block b qs ps) no_blocks s h = absurd h
     blocks_placed p j (forest.block b qs ps) (forest.block head os bs) s (at, k, h) =
-        let Q = λ (item : ℕ × Path). path item.0 ≡ item.1 in
-        placed_node (TheBlock b) (j ∷ p) (placed_operations (j ∷ p) 0 qs) (placed_blocks p (suc j) ps) (head.label.place, at.item, s.0)
-        (operations_placed (j ∷ p) 0 qs os (each_left Q (paths_in_operations (j ∷ p) 0 os) (paths_in_blocks p (suc j) bs) s.1) k)
-        (blocks_placed p (suc j) ps bs (each_right Q (paths_in_operations (j ∷ p) 0 os) (paths_in_blocks p (suc j) bs) s.1) h)
+        placed_node (TheBlock b) (j ∷ p) (paths_in_operations (j ∷ p) 0 os) (paths_in_blocks p (suc j) bs) (placed_operations (j ∷ p) 0 qs) (placed_blocks p (suc j) ps) (head.label.place, at.item, s.0) s.1
+        (λ t. operations_placed (j ∷ p) 0 qs os t k) (λ t. blocks_placed p (suc j) ps bs t h)
 
-    operations_placed : (p : Path) (j : ℕ) (ps : PtrOperations) (os : Operations (Op ℕ T A) (Head ℕ T A) (Brace ℕ)) → Said (paths_in_operations p j os) → OperationsAre L c items ps os → ArePlaced (placed_operations p j ps)
-    operations_placed p j no_operations no_operations s h = record { each = λ o q i. absurd i }
-    operations_placed p j no_operations (forest.operation o rs os) s h = absurd h
+    operations_placed : (p : Path) (j : ℕ) (ps : PtrOperations) (os : TreeOperations T A) → Said (paths_in_operations p j os) → OperationsAre L c items ps os → ArePlaced (placed_operations p j ps)
+    operations_placed p j no_operations os s h = record { each = λ o q i. absurd i }
     operations_placed p j (forest.operation q qs ps) no_operations s h = absurd h
     operations_placed p j (forest.operation q qs ps) (forest.operation o rs os) s (at, k, h) =
-        let Q = λ (item : ℕ × Path). path item.0 ≡ item.1 in
-        placed_node (TheOperation q) (j ∷ p) (placed_regions (j ∷ p) 0 qs) (placed_operations p (suc j) ps) (o.place, at.item, s.0)
-        (regions_placed (j ∷ p) 0 qs rs (each_left Q (paths_in_regions (j ∷ p) 0 rs) (paths_in_operations p (suc j) os) s.1) k)
-        (operations_placed p (suc j) ps os (each_right Q (paths_in_regions (j ∷ p) 0 rs) (paths_in_operations p (suc j) os) s.1) h)
+        placed_node (TheOperation q) (j ∷ p) (paths_in_regions (j ∷ p) 0 rs) (paths_in_operations p (suc j) os) (placed_regions (j ∷ p) 0 qs) (placed_operations p (suc j) ps) (o.place, at.item, s.0) s.1
+        (λ t. regions_placed (j ∷ p) 0 qs rs t k) (λ t. operations_placed p (suc j) ps os t h)
 
   -- what is under a root is an item at its path
   pub located : (ps : Root (Ptr Operation) (Ptr BasicBlock) (Ptr Region)) (t : Tree ℕ T A) → Names path t → RootIs L c items ps t → (o : Object) (q : Path) → Among (o, q) (placed_under ps) → IsPlaced o q
@@ -104,26 +99,26 @@ module _ {T A : Type 0} (L : ℕ → Location A → Type 0) (c : ContextView T A
   located ps t names is o q (inr i) = (regions_placed [] 0 ps.regions t.regions names.1 is.1).each o q i
 
   -- and so is what is in regions
-  pub located_in : (ps : PtrRegions) (rs : Regions (Op ℕ T A) (Head ℕ T A) (Brace ℕ)) → Said (paths_in_regions [] 0 rs) → RegionsAre L c items ps rs → (o : Object) (q : Path) → Among (o, q) (placed_regions [] 0 ps) → IsPlaced o q
+  pub located_in : (ps : PtrRegions) (rs : TreeRegions T A) → Said (paths_in_regions [] 0 rs) → RegionsAre L c items ps rs → (o : Object) (q : Path) → Among (o, q) (placed_regions [] 0 ps) → IsPlaced o q
   located_in ps rs names is o q i = (regions_placed [] 0 ps rs names is).each o q i
 
   module _ (all : List (Object × Path)) (each_placed : (o : Object) (q : Path) → Among (o, q) all → IsPlaced o q) (single : Once all) (once : (n m : ℕ) (o : Object) → Among (n, o) items → Among (m, o) items → n ≡ m)
       (occurs : (n : ℕ) (o : Object) → Among (n, o) items → (q : Path) × Among (o, q) all) where
-    -- an operation that is an item is found at its path
-    pub operation_found : (n : ℕ) (p : Ptr Operation) → Among (n, TheOperation p) items → path_of all (TheOperation p) ≡ Some (path n)
-    operation_found n p i =
-        let x = occurs n (TheOperation p) i in
-        let f = path_found all (TheOperation p) x.0 x.1 in
-        let l = each_placed (TheOperation p) f.0 f.2 in
-        f.1 ∙ ap Some (sym l.2 ∙ ap path (once l.0 n (TheOperation p) l.1 i))
+    -- an item is found at its path, if each place of it is that of an item
+    found : (n : ℕ) (o : Object) → ((q : Path) → IsPlaced o q → (m : ℕ) × Among (m, o) items × (path m ≡ q)) → Among (n, o) items → path_of all o ≡ Some (path n)
+    found n o is i =
+        let x = occurs n o i in
+        let f = path_found all o x.0 x.1 in
+        let l = is f.0 (each_placed o f.0 f.2) in
+        f.1 ∙ ap Some (sym l.2 ∙ ap path (once l.0 n o l.1 i))
 
-    -- and so is a block
+    -- so is an operation
+    pub operation_found : (n : ℕ) (p : Ptr Operation) → Among (n, TheOperation p) items → path_of all (TheOperation p) ≡ Some (path n)
+    operation_found n p i = found n (TheOperation p) (λ q h. h) i
+
+    -- and a block
     pub block_found : (n : ℕ) (b : Ptr BasicBlock) → Among (n, TheBlock b) items → path_of all (TheBlock b) ≡ Some (path n)
-    block_found n b i =
-        let x = occurs n (TheBlock b) i in
-        let f = path_found all (TheBlock b) x.0 x.1 in
-        let l = each_placed (TheBlock b) f.0 f.2 in
-        f.1 ∙ ap Some (sym l.2 ∙ ap path (once l.0 n (TheBlock b) l.1 i))
+    block_found n b i = found n (TheBlock b) (λ q h. h) i
 
     -- an operation that is an item is at its path
     operation_there : (n : ℕ) (p : Ptr Operation) → Among (n, TheOperation p) items → Among (TheOperation p, path n) all

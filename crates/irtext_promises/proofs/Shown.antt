@@ -113,38 +113,33 @@ module _ {T A : Type 0} (c : ContextView T A) where
     abbrev pub HeldOperations : PtrOperations → Operations (BuiltOp T A (Written A)) (BuiltBlock T A (Written A)) ⊤ → Type 0
     HeldOperations = MatchOperations HeldOp HeldBlock (λ r s. ⊤)
 
-    mutual
-      -- what printing sees of regions of pointers under which all is there
-      pub regions_shown : (ps : PtrRegions) → AllRegions (OperationWhole c) (BlockWhole c) (λ r. ⊤) ps → SeenRegions ps (seen_regions text_of c ps)
-      regions_shown no_regions w = tt
-      regions_shown (forest.region r bs ps) w = (tt, blocks_shown bs w.1, regions_shown ps w.2)
-
-      blocks_shown : (ps : PtrBlocks) → AllBlocks (OperationWhole c) (BlockWhole c) (λ r. ⊤) ps → SeenBlocks ps (seen_blocks text_of c ps)
-      blocks_shown no_blocks w = tt
-      blocks_shown (forest.block b os ps) w =
-          subst (λ z. SeenBlocks (forest.block b os ps) (elim z [ Some view ↦ forest.block (seen_block text_of c b view) (seen_operations text_of c os) (seen_blocks text_of c ps) | None ↦ seen_blocks text_of c ps ])) (sym w.0.is)
-          (record { whole = w.0; sees = refl }, operations_shown os w.1, blocks_shown ps w.2)
-
-      operations_shown : (ps : PtrOperations) → AllOperations (OperationWhole c) (BlockWhole c) (λ r. ⊤) ps → SeenOperations ps (seen_operations text_of c ps)
-      operations_shown no_operations w = tt
-      operations_shown (forest.operation p rs ps) w =
-          subst (λ z. SeenOperations (forest.operation p rs ps) (elim z [ Some view ↦ forest.operation (seen_operation text_of c p view) (seen_regions text_of c rs) (seen_operations text_of c ps) | None ↦ seen_operations text_of c ps ])) (sym w.0.is)
-          (record { whole = w.0; sees = refl }, regions_shown rs w.1, operations_shown ps w.2)
+    -- what printing sees of a forest of pointers, and what is held there
+    record Both (Seen Held : Type 0) : Type 0 where
+      seen : Seen
+      held : Held
 
     mutual
-      -- what is held there
-      pub regions_kept : (ps : PtrRegions) → AllRegions (OperationWhole c) (BlockWhole c) (λ r. ⊤) ps → HeldRegions ps (held_regions c all ps)
-      regions_kept no_regions w = tt
-      regions_kept (forest.region r bs ps) w = (tt, blocks_kept bs w.1, regions_kept ps w.2)
+      -- both of regions of pointers under which all is there
+      regions_both : (ps : PtrRegions) → AllRegions (OperationWhole c) (BlockWhole c) (λ r. ⊤) ps → Both (SeenRegions ps (seen_regions text_of c ps)) (HeldRegions ps (held_regions c all ps))
+      regions_both no_regions w = record { seen = tt; held = tt }
+      regions_both (forest.region r bs ps) w = record { seen = (tt, (blocks_both bs w.1).seen, (regions_both ps w.2).seen); held = (tt, (blocks_both bs w.1).held, (regions_both ps w.2).held) }
 
-      blocks_kept : (ps : PtrBlocks) → AllBlocks (OperationWhole c) (BlockWhole c) (λ r. ⊤) ps → HeldBlocks ps (held_blocks c all ps)
-      blocks_kept no_blocks w = tt
-      blocks_kept (forest.block b os ps) w =
-          subst (λ z. HeldBlocks (forest.block b os ps) (elim z [ Some view ↦ forest.block (held_head c all view) (held_operations c all os) (held_blocks c all ps) | None ↦ held_blocks c all ps ])) (sym w.0.is)
-          (record { view = w.0.view; is = w.0.is; holds = refl }, operations_kept os w.1, blocks_kept ps w.2)
+      blocks_both : (ps : PtrBlocks) → AllBlocks (OperationWhole c) (BlockWhole c) (λ r. ⊤) ps → Both (SeenBlocks ps (seen_blocks text_of c ps)) (HeldBlocks ps (held_blocks c all ps))
+      blocks_both no_blocks w = record { seen = tt; held = tt }
+      blocks_both (forest.block b os ps) w =
+          subst (λ z. Both (SeenBlocks (forest.block b os ps) (elim z [ Some view ↦ forest.block (seen_block text_of c b view) (seen_operations text_of c os) (seen_blocks text_of c ps) | None ↦ seen_blocks text_of c ps ])) (HeldBlocks (forest.block b os ps) (elim z [ Some view ↦ forest.block (held_head c all view) (held_operations c all os) (held_blocks c all ps) | None ↦ held_blocks c all ps ]))) (sym w.0.is)
+          (record { seen = (record { whole = w.0; sees = refl }, (operations_both os w.1).seen, (blocks_both ps w.2).seen); held = (record { view = w.0.view; is = w.0.is; holds = refl }, (operations_both os w.1).held, (blocks_both ps w.2).held) })
 
-      operations_kept : (ps : PtrOperations) → AllOperations (OperationWhole c) (BlockWhole c) (λ r. ⊤) ps → HeldOperations ps (held_operations c all ps)
-      operations_kept no_operations w = tt
-      operations_kept (forest.operation p rs ps) w =
-          subst (λ z. HeldOperations (forest.operation p rs ps) (elim z [ Some view ↦ forest.operation (held_op c all p view) (held_regions c all rs) (held_operations c all ps) | None ↦ held_operations c all ps ])) (sym w.0.is)
-          (record { view = w.0.view; is = w.0.is; holds = refl }, regions_kept rs w.1, operations_kept ps w.2)
+      operations_both : (ps : PtrOperations) → AllOperations (OperationWhole c) (BlockWhole c) (λ r. ⊤) ps → Both (SeenOperations ps (seen_operations text_of c ps)) (HeldOperations ps (held_operations c all ps))
+      operations_both no_operations w = record { seen = tt; held = tt }
+      operations_both (forest.operation p rs ps) w =
+          subst (λ z. Both (SeenOperations (forest.operation p rs ps) (elim z [ Some view ↦ forest.operation (seen_operation text_of c p view) (seen_regions text_of c rs) (seen_operations text_of c ps) | None ↦ seen_operations text_of c ps ])) (HeldOperations (forest.operation p rs ps) (elim z [ Some view ↦ forest.operation (held_op c all p view) (held_regions c all rs) (held_operations c all ps) | None ↦ held_operations c all ps ]))) (sym w.0.is)
+          (record { seen = (record { whole = w.0; sees = refl }, (regions_both rs w.1).seen, (operations_both ps w.2).seen); held = (record { view = w.0.view; is = w.0.is; holds = refl }, (regions_both rs w.1).held, (operations_both ps w.2).held) })
+
+    -- what printing sees of regions of pointers under which all is there
+    pub regions_shown : (ps : PtrRegions) → AllRegions (OperationWhole c) (BlockWhole c) (λ r. ⊤) ps → SeenRegions ps (seen_regions text_of c ps)
+    regions_shown ps w = (regions_both ps w).seen
+
+    -- what is held there
+    pub regions_kept : (ps : PtrRegions) → AllRegions (OperationWhole c) (BlockWhole c) (λ r. ⊤) ps → HeldRegions ps (held_regions c all ps)
+    regions_kept ps w = (regions_both ps w).held

@@ -24,7 +24,7 @@ use Rattle.irtext_grammar.specs.Contexts.Nested.{number_of, place_of, pointers, 
 use Rattle.irtext_grammar.specs.Grammar.Forest as forest
 use Rattle.irtext_grammar.specs.Grammar.Forest.{Regions, no_regions, Blocks, no_blocks, Operations, no_operations, MatchRegions, MatchBlocks, MatchOperations, AllRegions, AllBlocks, AllOperations}
 use Rattle.irtext_grammar.specs.Grammar.Section.{Entry}
-use Rattle.irtext_grammar.specs.Grammar.Tree.{Name, Op, Head, Brace, shown, elided, Tree, operand_names, successor_labels}
+use Rattle.irtext_grammar.specs.Grammar.Tree.{Name, Op, shown, elided, Tree, operand_names, successor_labels}
 use Rattle.irtext_grammar.specs.Graphs.Build.{Built, BuiltOp, BuiltBlock, built_op, built_head, built_regions, built_blocks, built_operations, build}
 use Rattle.irtext_grammar.specs.Graphs.Closed.{Thing, a_value, a_block, same_thing, graph_blocks, FitRegions, FitBlocks, FitOperations, Fit}
 use Rattle.irtext_grammar.specs.Graphs.Graph.{Graph, GraphOp, GraphBlock, Printing}
@@ -41,6 +41,7 @@ use Rattle.irtext_parse_spec.specs.ContextParts.{KeepsCounters}
 use Rattle.irtext_parse_spec.proofs.Counted.{thing_same}
 use Rattle.irtext_promises.specs.Held.{PtrRegions, PtrBlocks, PtrOperations, placed_regions, placed_blocks, placed_operations, placed_under, path_of, value_place, block_place, held_op, held_head, held_regions, held_root, IsWhole}
 use Rattle.irtext_promises.proofs.OnePlace.{path_is, one_value, one_block}
+use Rattle.irtext_promises.specs.Placed.{TreeRegions, TreeBlocks, TreeOperations}
 use Rattle.irtext_promises.proofs.Shown.{SeenOp, SeenBlock, HeldOp, HeldBlock, SeenRegions, SeenBlocks, SeenOperations, HeldRegions, HeldBlocks, HeldOperations, typed_seen, known_again, results_seen, arguments_seen, regions_shown, regions_kept}
 use Rattle.irtext_promises.proofs.Spots.{spots, AsManyOp, AsManyBlock, blocks_say, tree_blocks_say}
 use Rattle.irtext_promises.proofs.TrueFacts.{TrueValue, TrueLabel, blocks_true}
@@ -274,18 +275,9 @@ module _ {T A : Type 0} (c : ContextView T A) (counters : KeepsCounters c.graph)
         attributes = ap (λ (z : GraphBlock T A). z.attributes) s.sees ∙ sym (ap (λ (z : BuiltBlock T A (Written A)). z.attributes) head_is);
       }
 
-    abbrev OpTrees : Type 0
-    OpTrees = Operations (Op ℕ T A) (Head ℕ T A) (Brace ℕ)
-
-    abbrev BlockTrees : Type 0
-    BlockTrees = Blocks (Op ℕ T A) (Head ℕ T A) (Brace ℕ)
-
-    abbrev RegionTrees : Type 0
-    RegionTrees = Regions (Op ℕ T A) (Head ℕ T A) (Brace ℕ)
-
     -- ---- as many of each
     mutual
-      regions_many : (v : List (Fact Text)) (r : Path) (j : ℕ) (iso : Bool) (ps : PtrRegions) (gs : Regions (GraphOp T A) (GraphBlock T A) ⊤) (ts : RegionTrees) → SeenRegions c text_of all ps gs → HeldRegions c text_of all ps (built_regions isolated first es v r j iso ts)
+      regions_many : (v : List (Fact Text)) (r : Path) (j : ℕ) (iso : Bool) (ps : PtrRegions) (gs : Regions (GraphOp T A) (GraphBlock T A) ⊤) (ts : TreeRegions T A) → SeenRegions c text_of all ps gs → HeldRegions c text_of all ps (built_regions isolated first es v r j iso ts)
           → AllRegions CountsAgree (λ h. ⊤) (λ r. ⊤) ts → MatchRegions (AsManyOp isolated) (AsManyBlock isolated) (λ r s. ⊤) ts gs
       regions_many v r j iso no_regions no_regions no_regions s h n = tt
       regions_many v r j iso no_regions no_regions (forest.region brace bs ts) s h n = absurd h
@@ -294,7 +286,7 @@ module _ {T A : Type 0} (c : ContextView T A) (counters : KeepsCounters c.graph)
       regions_many v r j iso (forest.region k qs ps) (forest.region g cs gs) no_regions s h n = absurd h
       regions_many v r j iso (forest.region k qs ps) (forest.region g cs gs) (forest.region brace bs ts) s h n = (tt, blocks_many _ _ (j ∷ r) 0 qs cs bs s.1 h.1 n.1, regions_many v r (suc j) iso ps gs ts s.2 h.2 n.2)
 
-      blocks_many : (v l : List (Fact Text)) (r : Path) (j : ℕ) (ps : PtrBlocks) (gs : Blocks (GraphOp T A) (GraphBlock T A) ⊤) (ts : BlockTrees) → SeenBlocks c text_of all ps gs → HeldBlocks c text_of all ps (built_blocks isolated first es v l r j ts)
+      blocks_many : (v l : List (Fact Text)) (r : Path) (j : ℕ) (ps : PtrBlocks) (gs : Blocks (GraphOp T A) (GraphBlock T A) ⊤) (ts : TreeBlocks T A) → SeenBlocks c text_of all ps gs → HeldBlocks c text_of all ps (built_blocks isolated first es v l r j ts)
           → AllBlocks CountsAgree (λ h. ⊤) (λ r. ⊤) ts → MatchBlocks (AsManyOp isolated) (AsManyBlock isolated) (λ r s. ⊤) ts gs
       blocks_many v l r j no_blocks no_blocks no_blocks s h n = tt
       blocks_many v l r j no_blocks no_blocks (forest.block head os ts) s h n = absurd h
@@ -307,7 +299,7 @@ module _ {T A : Type 0} (c : ContextView T A) (counters : KeepsCounters c.graph)
         blocks_many v l r (suc j) ps gs ts s.2 h.2 n.2,
       )
 
-      operations_many : (v l : List (Fact Text)) (r : Path) (j : ℕ) (ps : PtrOperations) (gs : Operations (GraphOp T A) (GraphBlock T A) ⊤) (ts : OpTrees) → SeenOperations c text_of all ps gs → HeldOperations c text_of all ps (built_operations isolated first es v l r j ts)
+      operations_many : (v l : List (Fact Text)) (r : Path) (j : ℕ) (ps : PtrOperations) (gs : Operations (GraphOp T A) (GraphBlock T A) ⊤) (ts : TreeOperations T A) → SeenOperations c text_of all ps gs → HeldOperations c text_of all ps (built_operations isolated first es v l r j ts)
           → AllOperations CountsAgree (λ h. ⊤) (λ r. ⊤) ts → MatchOperations (AsManyOp isolated) (AsManyBlock isolated) (λ r s. ⊤) ts gs
       operations_many v l r j no_operations no_operations no_operations s h n = tt
       operations_many v l r j no_operations no_operations (forest.operation x rs ts) s h n = absurd h
@@ -330,7 +322,7 @@ module _ {T A : Type 0} (c : ContextView T A) (counters : KeepsCounters c.graph)
     scoped_if false a v b w s t = t
 
     mutual
-      regions_stand : (v : List (Fact Text)) (w : List (Fact Thing)) (r : Path) (j : ℕ) (iso : Bool) (ps : PtrRegions) (gs : Regions (GraphOp T A) (GraphBlock T A) ⊤) (ts : RegionTrees) → SeenRegions c text_of all ps gs → HeldRegions c text_of all ps (built_regions isolated first es v r j iso ts)
+      regions_stand : (v : List (Fact Text)) (w : List (Fact Thing)) (r : Path) (j : ℕ) (iso : Bool) (ps : PtrRegions) (gs : Regions (GraphOp T A) (GraphBlock T A) ⊤) (ts : TreeRegions T A) → SeenRegions c text_of all ps gs → HeldRegions c text_of all ps (built_regions isolated first es v r j iso ts)
           → AllRegions CountsAgree (λ h. ⊤) (λ r. ⊤) ts → WholeRegions ts → FitRegions C isolated gs → AllRegions OpLinked (λ h. ⊤) (λ r. ⊤) (built_regions isolated first es v r j iso ts) → Into (placed_regions r j ps) → Scoped v w
           → MatchRegions StandsForOp StandsForBlock (λ r s. ⊤) (stood_regions C isolated w r j iso gs) (built_regions isolated first es v r j iso ts)
       regions_stand v w r j iso no_regions no_regions no_regions s h n e f k i sv = tt
@@ -354,7 +346,7 @@ module _ {T A : Type 0} (c : ContextView T A) (counters : KeepsCounters c.graph)
             regions_stand v w r (suc j) iso ps gs ts s.2 h.2 n.2 e.1 f.1 k.2 (λ o q a. i o q (inr (among_right (o, q) (placed_blocks (j ∷ r) 0 qs) (placed_regions r (suc j) ps) a))) sv,
           )
 
-      blocks_stand : (v l : List (Fact Text)) (w m : List (Fact Thing)) (r : Path) (j : ℕ) (ps : PtrBlocks) (gs : Blocks (GraphOp T A) (GraphBlock T A) ⊤) (ts : BlockTrees) → SeenBlocks c text_of all ps gs → HeldBlocks c text_of all ps (built_blocks isolated first es v l r j ts)
+      blocks_stand : (v l : List (Fact Text)) (w m : List (Fact Thing)) (r : Path) (j : ℕ) (ps : PtrBlocks) (gs : Blocks (GraphOp T A) (GraphBlock T A) ⊤) (ts : TreeBlocks T A) → SeenBlocks c text_of all ps gs → HeldBlocks c text_of all ps (built_blocks isolated first es v l r j ts)
           → AllBlocks CountsAgree (λ h. ⊤) (λ r. ⊤) ts → WholeBlocks ts → FitBlocks C isolated gs → AllBlocks OpLinked (λ h. ⊤) (λ r. ⊤) (built_blocks isolated first es v l r j ts) → Into (placed_blocks r j ps) → Scoped v w → Labelled l m
           → MatchBlocks StandsForOp StandsForBlock (λ r s. ⊤) (stood_blocks C isolated w m r j gs) (built_blocks isolated first es v l r j ts)
       blocks_stand v l w m r j no_blocks no_blocks no_blocks s h n e f k i sv sl = tt
@@ -368,7 +360,7 @@ module _ {T A : Type 0} (c : ContextView T A) (counters : KeepsCounters c.graph)
         blocks_stand v l w m r (suc j) ps gs ts s.2 h.2 n.2 e.1 f.1 k.2 (λ o q a. i o q (inr (among_right (o, q) (placed_operations (j ∷ r) 0 qs) (placed_blocks r (suc j) ps) a))) sv sl,
       )
 
-      operations_stand : (v l : List (Fact Text)) (w m : List (Fact Thing)) (r : Path) (j : ℕ) (ps : PtrOperations) (gs : Operations (GraphOp T A) (GraphBlock T A) ⊤) (ts : OpTrees) → SeenOperations c text_of all ps gs → HeldOperations c text_of all ps (built_operations isolated first es v l r j ts)
+      operations_stand : (v l : List (Fact Text)) (w m : List (Fact Thing)) (r : Path) (j : ℕ) (ps : PtrOperations) (gs : Operations (GraphOp T A) (GraphBlock T A) ⊤) (ts : TreeOperations T A) → SeenOperations c text_of all ps gs → HeldOperations c text_of all ps (built_operations isolated first es v l r j ts)
           → AllOperations CountsAgree (λ h. ⊤) (λ r. ⊤) ts → WholeOperations ts → FitOperations C isolated gs → AllOperations OpLinked (λ h. ⊤) (λ r. ⊤) (built_operations isolated first es v l r j ts) → Into (placed_operations r j ps) → Scoped v w → Labelled l m
           → MatchOperations StandsForOp StandsForBlock (λ r s. ⊤) (stood_operations C isolated w m r j gs) (built_operations isolated first es v l r j ts)
       operations_stand v l w m r j no_operations no_operations no_operations s h n e f k i sv sl = tt

@@ -30,6 +30,16 @@ abbrev pub operation_ptrs : PtrOperations → List (Ptr Operation)
 operation_ptrs no_operations = []
 operation_ptrs (forest.operation p rs os) = p ∷ operation_ptrs os
 
+-- the regions, the blocks and the operations of a tree
+abbrev pub TreeRegions : Type 0 → Type 0 → Type 0
+TreeRegions T A = Regions (Op ℕ T A) (Head ℕ T A) (Brace ℕ)
+
+abbrev pub TreeBlocks : Type 0 → Type 0 → Type 0
+TreeBlocks T A = Blocks (Op ℕ T A) (Head ℕ T A) (Brace ℕ)
+
+abbrev pub TreeOperations : Type 0 → Type 0 → Type 0
+TreeOperations T A = Operations (Op ℕ T A) (Head ℕ T A) (Brace ℕ)
+
 module _ {T A : Type 0} (IsLocation : ℕ → Location A → Type 0) (c : ContextView T A) (items : Made) where
   -- the operation under the pointer has this data, is the item of its place, and has these regions
   pub record OperationAt (p : Ptr Operation) (o : Op ℕ T A) (rs : List (Ptr Region)) : Type 0 where
@@ -56,19 +66,19 @@ module _ {T A : Type 0} (IsLocation : ℕ → Location A → Type 0) (c : Contex
 
   abbrev mutual
     -- the forest of pointers corresponds to these regions
-    pub RegionsAre : PtrRegions → Regions (Op ℕ T A) (Head ℕ T A) (Brace ℕ) → Type 0
+    pub RegionsAre : PtrRegions → TreeRegions T A → Type 0
     RegionsAre no_regions no_regions = ⊤
     RegionsAre (forest.region r bs rs) (forest.region brace hs more) = RegionAt r (block_ptrs bs) × BlocksAre bs hs × RegionsAre rs more
     RegionsAre _ _ = ⊥
 
     -- the same of these blocks
-    pub BlocksAre : PtrBlocks → Blocks (Op ℕ T A) (Head ℕ T A) (Brace ℕ) → Type 0
+    pub BlocksAre : PtrBlocks → TreeBlocks T A → Type 0
     BlocksAre no_blocks no_blocks = ⊤
     BlocksAre (forest.block b ps bs) (forest.block h os more) = BlockAt b h (operation_ptrs ps) × OperationsAre ps os × BlocksAre bs more
     BlocksAre _ _ = ⊥
 
     -- the same of these operations
-    pub OperationsAre : PtrOperations → Operations (Op ℕ T A) (Head ℕ T A) (Brace ℕ) → Type 0
+    pub OperationsAre : PtrOperations → TreeOperations T A → Type 0
     OperationsAre no_operations no_operations = ⊤
     OperationsAre (forest.operation p rs ps) (forest.operation o more os) = OperationAt p o (region_ptrs rs) × RegionsAre rs more × OperationsAre ps os
     OperationsAre _ _ = ⊥

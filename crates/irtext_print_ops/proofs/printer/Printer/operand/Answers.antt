@@ -3,7 +3,7 @@ use Rattle.std.specs.Option.{option_map}
 use Rattle.irtext_graph.specs.Parts.{ValueStands}
 use Rattle.irtext_graph.specs.declared.object.Defined.TheVariants.{OfValue}
 use Rattle.irtext_graph.specs.declared.object.Site.TheVariants.{AtOperand}
-use Rattle.irtext_print_ops.proofs.lists.operand.Goals as goal
+use Rattle.irtext_print_ops.proofs.printer.Printer.operand.Goals as goal
 
 pub returns-clause-there : goal.returns-clause-there
 returns-clause-there g c = subst (λ x. ValueStands x c.get_operand.result) c.graph-graph.ensures (c.keeps_nesting.ensures.uses (AtOperand c.args.op c.args.index) (OfValue c.get_operand.result) (ap (option_map OfValue) c.get_operand.ensures))

@@ -5,9 +5,9 @@ use Rattle.irtext_graph.specs.declared.object.Defined.TheVariants.{OfBlock}
 use Rattle.irtext_graph.specs.declared.object.Object.TheVariants.{TheBlock}
 use Rattle.irtext_graph.specs.declared.object.Site.TheVariants.{AtSuccessor}
 use Rattle.irtext_print_ops.proofs.Standing.{block_there}
-use Rattle.irtext_print_ops.proofs.lists.successor.Goals as goal
+use Rattle.irtext_print_ops.proofs.printer.Printer.successor.Goals as goal
 
 pub returns-clause-there : goal.returns-clause-there
 returns-clause-there g c =
-    block_there c.args.ctx.now c.get_successor.result
+    block_there c.args.self.ctx.now c.get_successor.result
     (subst (λ x. IsLive x (TheBlock c.get_successor.result)) c.graph-graph.ensures (c.keeps_nesting.ensures.uses (AtSuccessor c.args.op c.args.index) (OfBlock c.get_successor.result) (ap (option_map OfBlock) c.get_successor.ensures)))
