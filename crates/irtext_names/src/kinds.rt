@@ -154,6 +154,7 @@ impl<B: Drop> Referent<B> for Ptr<BasicBlock> {
 
 /// What a placeholder is made with if its user gives nothing.
 pub trait Blank: Drop {
+    /// Returns it: nothing for a value, and data without label and attributes for a block. Allocates nothing.
     fn blank(alloc: Global) -> Self;
 }
 
