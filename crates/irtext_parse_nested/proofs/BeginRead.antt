@@ -16,7 +16,6 @@ use Rattle.irtext_graph.specs.declared.arena.Ptr.{Ptr}
 use Rattle.irtext_graph.specs.declared.object.BasicBlock.{BasicBlock}
 use Rattle.irtext_graph.specs.declared.object.Operation.{Operation}
 use Rattle.irtext_graph.specs.declared.object.Object.TheVariants.{TheBlock, TheOperation, TheRegion}
-use Rattle.irtext_graph.specs.declared.object.Value.{Value}
 use Rattle.irtext_names.specs.Tied.{MatchesGraph}
 use Rattle.irtext_parse_spec.specs.Unchanged.{IsThere}
 use Rattle.irtext_parse_pieces.specs.declared.pieces.ReadPiece.{ReadPiece}

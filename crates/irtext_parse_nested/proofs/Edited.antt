@@ -50,11 +50,7 @@ module _ {O B T : Type 0} (g k : GraphView (Option O) B T) (op : Ptr Operation) 
 
   -- and so does what looks at its content
   view_same : {X : Type 0} (f : Option (OperationContent (Option O) T) → X) → ((e : Entry (Node BasicBlock Region (OperationContent (Option O) T))) → f (option_map (λ e. e.content.content) (written (Some e))) ≡ f (Some e.content.content)) → (p : Ptr Operation) → f (operation_at k p) ≡ f (operation_at g p)
-  view_same f same p = seen_same (λ e. f (option_map (λ e. e.content.content) e)) go p
-    where
-      go : (e : Stored) → f (option_map (λ e. e.content.content) (written e)) ≡ f (option_map (λ e. e.content.content) e)
-      go None = refl
-      go (Some e) = same e
+  view_same f same p = seen_same (λ e. f (option_map (λ e. e.content.content) e)) (elim [ None ↦ refl | Some e ↦ same e ]) p
 
   pub results_same : (p : Ptr Operation) → results k p ≡ results g p
   results_same = view_same results_of (λ e. refl)
@@ -127,18 +123,10 @@ module _ {O B T : Type 0} (g k : GraphView (Option O) B T) (op : Ptr Operation) 
   still_has p x h = let r = has_operation p x (sym (data_is p g) ∙ h) in (r.0, data_is p k ∙ r.1)
 
   parent_same : (p : Ptr Operation) → parent k (TheOperation p) ≡ parent g (TheOperation p)
-  parent_same p = ap (option_map TheBlock) (seen_same parent_of go p)
-    where
-      go : (e : Stored) → parent_of (written e) ≡ parent_of e
-      go None = refl
-      go (Some e) = refl
+  parent_same p = ap (option_map TheBlock) (seen_same parent_of (elim [ None ↦ refl | Some e ↦ refl ]) p)
 
   children_same : (p : Ptr Operation) → children k (TheOperation p) ≡ children g (TheOperation p)
-  children_same p = ap (map TheRegion) (seen_same children_of go p)
-    where
-      go : (e : Stored) → children_of (written e) ≡ children_of e
-      go None = refl
-      go (Some e) = refl
+  children_same p = ap (map TheRegion) (seen_same children_of (elim [ None ↦ refl | Some e ↦ refl ]) p)
 
   -- each object is as old as it was
   pub age_same : (m : ℕ) (q : Object) → is_older m (content k q) ≡ is_older m (content g q)

@@ -39,7 +39,6 @@ use Rattle.irtext_names.specs.Linked.{Known, StandsAt}
 use Rattle.irtext_names.proofs.Linked.Interned.{interned}
 use Rattle.irtext_scopes.specs.Names.{AreDistinct}
 use Rattle.irtext_parse_state.specs.States.{LocatesAt, marks_of}
-use Rattle.irtext_parse_state.specs.declared.parsable.state.State as code
 use Rattle.irtext_parse_state.specs.declared.parsable.state.StateStream.{StateStream}
 use Rattle.irtext_parse_spec.specs.Promises.Root.{UnlessMemory, position_behind}
 use Rattle.irtext_parse_spec.specs.Promises.Section.{Moves, indices_of}

@@ -1,5 +1,5 @@
 -- A region that is entered and appended to its operation: what stays live, what waits, and the state of the machine.
-use Rattle.std.proofs.Common.{◌≡◌, IsSome, arith, ap}
+use Rattle.std.proofs.Common.{IsSome, arith, ap}
 use Rattle.std.specs.Option.{option_map}
 use Rattle.irtext_context.specs.Context.{ContextView, operation, AddsRegion}
 use Rattle.irtext_graph.specs.declared.arena.Ptr.{Ptr}

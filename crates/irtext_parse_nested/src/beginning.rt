@@ -1,16 +1,15 @@
 //! The beginning of an operation: what precedes its first region is parsed, names are used, and the operation is created and appended to
 //! its block.
-ghost use Rattle.std.specs.Prelude.{◌≡◌, ◌≤◌, ◌<◌, ◌⊎◌, ℕ, List, [], ◌∷◌, length, cond, true, false, None, IfOk, IfErr, IfSome, OnOk, OnErr, is_some, slice_get};
+ghost use Rattle.std.specs.Prelude.{◌≡◌, ◌≤◌, ◌<◌, ℕ, List, [], length, cond, true, false, None, IfOk, IfErr, IfSome, OnOk, is_some, slice_get};
 ghost use Rattle.irtext_base.specs.Answers.{Demands};
 ghost use Rattle.irtext_base.specs.Format.{sym_name_key};
-ghost use Rattle.irtext_base.specs.Places.{StandsBehind};
 ghost use Rattle.irtext_base.specs.Text.{Text};
 ghost use Rattle.irtext_context.specs.Context.{KeepsOlder};
 ghost use Rattle.irtext_graph.specs.Graph.{IsNew, IsLive, parent, children};
 ghost use Rattle.irtext_graph.specs.declared.object.Object.TheVariants.{TheBlock, TheOperation};
 ghost use Rattle.irtext_tokens.specs.AttrTexts.{attr_at};
 ghost use Rattle.irtext_scopes.specs.Names.{AreDistinct, KeepsNames};
-ghost use Rattle.irtext_parse_state.specs.States.{LocatesAt, marks_of};
+ghost use Rattle.irtext_parse_state.specs.States.{marks_of};
 ghost use Rattle.irtext_grammar.specs.Contexts.Formats.{format_of, isolated};
 ghost use Rattle.irtext_grammar.specs.Contexts.Held.{whole};
 ghost use Rattle.irtext_grammar.specs.Grammar.Tree.{Part};
@@ -42,7 +41,6 @@ use irtext_base::text::{AttrText, IrText};
 use irtext_context::base::context::making::Making;
 use irtext_context::base::{BasicBlock, Context, Operation, Ptr};
 use irtext_context::dialect::OpInfo;
-use irtext_dict::base::AttributeDict;
 use irtext_few::Few;
 use irtext_graph::held::HasGraph;
 use irtext_parse_pieces::coming::{Coming, coming_at};

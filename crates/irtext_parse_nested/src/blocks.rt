@@ -1,5 +1,5 @@
 //! The beginning of a block: its header is parsed, it is created in its region, and the names of the header are defined.
-ghost use Rattle.std.specs.Prelude.{◌≡◌, ◌<◌, ◌≤◌, ◌∷◌, ◌++◌, [], ℕ, List, length, map, true, false, Some, IfOk, IfErr, OnOk, OnErr, IsSome, slice_get};
+ghost use Rattle.std.specs.Prelude.{◌≡◌, ◌<◌, ◌≤◌, ◌∷◌, ◌++◌, [], ℕ, length, map, true, false, Some, IfOk, IfErr, OnOk, OnErr, IsSome, slice_get};
 ghost use Rattle.irtext_base.specs.Text.{Text};
 ghost use Rattle.irtext_base.specs.Answers.{Read};
 ghost use Rattle.irtext_context.specs.Context.{KeepsOlder, with_graph};
@@ -17,7 +17,7 @@ ghost use Rattle.irtext_tokens.specs.AttrTexts.{attr_at};
 ghost use Rattle.irtext_parse_state.specs.States.{marks_of};
 ghost use Rattle.irtext_scopes.specs.Names.{KeepsNames, AreDistinct};
 ghost use Rattle.irtext_scopes.specs.Scopes.{is_open};
-ghost use Rattle.irtext_names.specs.Tied.{MatchesGraph, ArePending, IsNoPlaceholder};
+ghost use Rattle.irtext_names.specs.Tied.{MatchesGraph, IsNoPlaceholder};
 ghost use Rattle.irtext_grammar.specs.Contexts.Held.{whole};
 ghost use Rattle.irtext_grammar.specs.Grammar.Tree.{Head};
 ghost use Rattle.irtext_grammar.specs.Names.Acts.{block_may_hold};
@@ -276,6 +276,7 @@ fn head_named<T: IrText<A>, A: AttrText<A>, U>(
 /// with its label, its attributes, its location and the types of its arguments. Then its arguments are defined, its mark is recorded, and
 /// its label is defined. Fails with `ReservedKey` at a key of its dictionary, with `MultipleDefinitions` at a name, and with
 /// `DuplicateIndex` at its mark. Every error is committed.
+#[tactic(auto, using(irtext_tokens::proofs::Exits::handed_on))]
 pub fn block_begin<T: IrText<A>, A: AttrText<A>, U>(
     s: &mut StateStream<'_, T, A, U>,
     names: &mut Names,

@@ -249,6 +249,7 @@ pub(crate) fn note_mark<T: IrText<A>, A: AttrText<A>, U>(
 /// results and stored as its given names. Then its mark is parsed, if one comes next, and recorded. Every error is committed:
 /// `ResultCount` at the beginning of the operation; `NoActiveScope` or `MultipleDefinitions` at a name; `DuplicateIndex` at the mark; and
 /// `Memory` if an allocation fails.
+#[tactic(auto, using(irtext_tokens::proofs::Exits::handed_on))]
 pub fn operation_end<T: IrText<A>, A: AttrText<A>, U>(
     s: &mut StateStream<'_, T, A, U>,
     names: &mut Names,

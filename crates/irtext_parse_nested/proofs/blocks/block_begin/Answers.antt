@@ -1,4 +1,4 @@
-use Rattle.std.proofs.Common.{rules, ◌≡◌, ◌∙◌, Some, true, length, refl, sym, ap, subst, slice_get}
+use Rattle.std.proofs.Common.{◌≡◌, ◌∙◌, Some, true, length, refl, sym, ap, subst, slice_get}
 use Rattle.irtext_tokens.specs.AttrTexts.{attr_at}
 use Rattle.irtext_tokens.proofs.Exits.{handed_on}
 use Rattle.irtext_grammar.specs.Contexts.Held.{whole}
@@ -16,30 +16,28 @@ use Rattle.irtext_parse_state.specs.States.{marks_of}
 use Rattle.irtext_parse_nested.proofs.blocks.block_begin.Goals as goal
 
 -- ---- the text has no header there
-pub returns-in_err-label : goal.returns-in_err-label
-returns-in_err-label g c =
-    let e = c.in_err-label.ensures in
-    let same = handed_on c.from_residual.result c.from_residual.ensures.1 in
-    record {
-      lent = refl;
-      rest = search rules;
-      refused = rw same (head_unread g.T.IrText.reading g.A.IrText.reading g.met.T.IrText.sincere g.met.A.IrText.sincere c.args.names.now c.head_parse.new.names.names c.args.s.now c.head_parse.new.stream _ c.requires.fine e.read);
-      committed = rw same (must_commit c.requires.fine e.read.read);
-      begins = rw same tt;
-      came = rw same tt;
-      gains = rw same tt;
-      spares = rw same tt;
-      new = rw same tt;
-      noted = rw same tt;
-      lasts = rw same tt;
-      sound = rw same tt;
-      unnoted = rw same (gains_nothing refl);
-      names = e.names.kept;
-      words = e.names.words;
-      values = ap length e.names.values;
-      labels = ap length e.names.labels;
-      kept = search rules;
-    }
+pub returns-in_err-label-clause-refused : goal.returns-in_err-label-clause-refused
+returns-in_err-label-clause-refused g c =
+    rw (handed_on c.from_residual.result c.from_residual.ensures.1)
+    (head_unread g.T.IrText.reading g.A.IrText.reading g.met.T.IrText.sincere g.met.A.IrText.sincere c.args.names.now c.head_parse.new.names.names c.args.s.now c.head_parse.new.stream _ c.requires.fine c.in_err-label.ensures.read)
+
+pub returns-in_err-label-clause-committed : goal.returns-in_err-label-clause-committed
+returns-in_err-label-clause-committed g c = rw (handed_on c.from_residual.result c.from_residual.ensures.1) (must_commit c.requires.fine c.in_err-label.ensures.read.read)
+
+pub returns-in_err-label-clause-names : goal.returns-in_err-label-clause-names
+returns-in_err-label-clause-names g c = c.in_err-label.ensures.names.kept
+
+pub returns-in_err-label-clause-words : goal.returns-in_err-label-clause-words
+returns-in_err-label-clause-words g c = c.in_err-label.ensures.names.words
+
+pub returns-in_err-label-clause-values : goal.returns-in_err-label-clause-values
+returns-in_err-label-clause-values g c = ap length c.in_err-label.ensures.names.values
+
+pub returns-in_err-label-clause-labels : goal.returns-in_err-label-clause-labels
+returns-in_err-label-clause-labels g c = ap length c.in_err-label.ensures.names.labels
+
+pub returns-in_err-label-clause-unnoted : goal.returns-in_err-label-clause-unnoted
+returns-in_err-label-clause-unnoted g c = rw (handed_on c.from_residual.result c.from_residual.ensures.1) (gains_nothing refl)
 
 -- ---- a key is an error
 pub head_made-requires-clause-label : goal.head_made-requires-clause-label
@@ -99,34 +97,29 @@ head_named-requires-clause-inside g c = opened_inside g.T.IrText.reading (attr_a
 pub head_named-requires-clause-there : goal.head_named-requires-clause-there
 head_named-requires-clause-there g c = opened_there g.T.IrText.reading (attr_at g.A.IrText.reading) c.args.names.now c.head_parse.new.names c.args.s.now c.head_parse.new.stream c.in_ok-label.field-0 c.in_ok-label.ensures.read c.in_ok-label.ensures.names c.in_ok-label.ensures.distinct c.head_made.new.s.state c.args.region c.in-Ok.made.0 c.in-Ok.ensures.makes
 
-pub returns-in_err-head_named : goal.returns-in_err-head_named
-returns-in_err-head_named g c =
-    let r = c.in_ok-label.ensures in
-    let m = c.in-Ok.ensures in
-    let e = c.in_err-head_named.ensures in
-    let same = handed_on c.from_residual-in_err-head_named.result c.from_residual-in_err-head_named.ensures.1 in
-    record {
-      lent = e.lent ∙ m.lent;
-      rest = search rules;
-      refused = rw same (opened_refused g.T.IrText.reading (attr_at g.A.IrText.reading) c.args.names.now c.head_parse.new.names c.args.s.now c.head_parse.new.stream c.in_ok-label.field-0 r.read r.names r.distinct c.head_made.new.s.state c.args.region c.in-Ok.made.0 m.makes m.marks
-          c.in-Ok.made.1 m.names (whole c.head_made.new.s.stream) (ap whole m.stream) _ e.refused);
-      committed = rw same e.committed;
-      begins = rw same tt;
-      came = rw same tt;
-      gains = rw same tt;
-      spares = rw same tt;
-      new = rw same tt;
-      noted = rw same tt;
-      lasts = rw same tt;
-      sound = rw same tt;
-      unnoted = rw same (subst (λ ms. GainsMarks ms (marks_of c.head_named.new.s.state)) m.marks e.unnoted);
-      names = λ i t f. subst (λ ns. slice_get ns i ≡ Some t) (sym e.same) (r.names.kept i t f);
-      words = λ w. subst AreWords (sym e.same) (r.names.words w);
-      values = e.values ∙ ap length r.names.values;
-      labels = e.labels ∙ ap length r.names.labels;
-      kept = λ m le closed sound new. opened_kept g.T.IrText.reading (attr_at g.A.IrText.reading) c.args.names.now c.head_parse.new.names c.args.s.now c.head_parse.new.stream c.in_ok-label.field-0 r.read r.names r.distinct c.head_made.new.s.state c.args.region c.in-Ok.made.0 c.in-Ok.ensures.makes
-          c.head_named.new.s.state.ctx.now m closed sound (c.in-Ok.ensures.kept m le new) (λ there waits. e.kept m there waits);
-    }
+pub returns-in_err-head_named-clause-refused : goal.returns-in_err-head_named-clause-refused
+returns-in_err-head_named-clause-refused g c =
+    rw (handed_on c.from_residual-in_err-head_named.result c.from_residual-in_err-head_named.ensures.1)
+    (opened_refused g.T.IrText.reading (attr_at g.A.IrText.reading) c.args.names.now c.head_parse.new.names c.args.s.now c.head_parse.new.stream c.in_ok-label.field-0 c.in_ok-label.ensures.read c.in_ok-label.ensures.names c.in_ok-label.ensures.distinct c.head_made.new.s.state c.args.region c.in-Ok.made.0 c.in-Ok.ensures.makes c.in-Ok.ensures.marks c.in-Ok.made.1 c.in-Ok.ensures.names (whole c.head_made.new.s.stream) (ap whole c.in-Ok.ensures.stream) _ c.in_err-head_named.ensures.refused)
+
+pub returns-in_err-head_named-clause-names : goal.returns-in_err-head_named-clause-names
+returns-in_err-head_named-clause-names g c = λ i t e. subst (λ ns. slice_get ns i ≡ Some t) (sym c.in_err-head_named.ensures.same) (c.in_ok-label.ensures.names.kept i t e)
+
+pub returns-in_err-head_named-clause-words : goal.returns-in_err-head_named-clause-words
+returns-in_err-head_named-clause-words g c = λ w. subst AreWords (sym c.in_err-head_named.ensures.same) (c.in_ok-label.ensures.names.words w)
+
+pub returns-in_err-head_named-clause-values : goal.returns-in_err-head_named-clause-values
+returns-in_err-head_named-clause-values g c = c.in_err-head_named.ensures.values ∙ ap length c.in_ok-label.ensures.names.values
+
+pub returns-in_err-head_named-clause-labels : goal.returns-in_err-head_named-clause-labels
+returns-in_err-head_named-clause-labels g c = c.in_err-head_named.ensures.labels ∙ ap length c.in_ok-label.ensures.names.labels
+
+pub returns-in_err-head_named-clause-kept : goal.returns-in_err-head_named-clause-kept
+returns-in_err-head_named-clause-kept g c = λ m le closed sound new.
+    opened_kept g.T.IrText.reading (attr_at g.A.IrText.reading) c.args.names.now c.head_parse.new.names c.args.s.now c.head_parse.new.stream c.in_ok-label.field-0 c.in_ok-label.ensures.read c.in_ok-label.ensures.names c.in_ok-label.ensures.distinct c.head_made.new.s.state c.args.region c.in-Ok.made.0 c.in-Ok.ensures.makes c.head_named.new.s.state.ctx.now m closed sound (c.in-Ok.ensures.kept m le new) (λ there waits. c.in_err-head_named.ensures.kept m there waits)
+
+pub returns-in_err-head_named-clause-unnoted : goal.returns-in_err-head_named-clause-unnoted
+returns-in_err-head_named-clause-unnoted g c = rw (handed_on c.from_residual-in_err-head_named.result c.from_residual-in_err-head_named.ensures.1) (subst (λ ms. GainsMarks ms (marks_of c.head_named.new.s.state)) c.in-Ok.ensures.marks c.in_err-head_named.ensures.unnoted)
 
 -- ---- after an error, its mark may be recorded
 pub returns-in-Err-clause-unnoted : goal.returns-in-Err-clause-unnoted
