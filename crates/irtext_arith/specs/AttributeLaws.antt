@@ -32,7 +32,7 @@ module _ {T : Type 0} {type_at : Reader T} {type_text : T → Text} {type_eq : T
   overflow_shape_proved = within_proved angle_encloses (then_proved (flag_proved (codes "nsw") refl) comma_joins (flag_proved (codes "nuw") refl))
 
   align_shape_proved : Proved (align_shape type_at type_text type_eq)
-  align_shape_proved = ranged_proved bytes.ghosts refl
+  align_shape_proved = ranged_proved bytes.ghosts
 
   doc_shape_proved : Proved (doc_shape type_at type_text type_eq)
   doc_shape_proved = quoted_proved

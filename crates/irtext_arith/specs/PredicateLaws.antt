@@ -3,19 +3,20 @@ use Rattle.std.proofs.Common.{◌≡◌, refl, codes}
 use Rattle.std.specs.Prelude.{◌↔◌, IsTrue}
 use Rattle.irtext_base.specs.Faults.{AnAttribute}
 use Rattle.irtext_base.specs.Own.{texts_of, Lawful, Sincere}
+use Rattle.irtext_tokens.specs.Infix.{nothing}
 use Rattle.irtext_syntax.specs.OwnLaws.{own_last, text_law, text_misses}
 use Rattle.irtext_syntax.specs.Owns.{ends_text}
 use Rattle.irtext_syntax.specs.PartLaws.{PartLaw, MissesClosers, EndsAnywhere}
 use Rattle.irtext_syntax.specs.ShapeLaws.{Proved}
 use Rattle.irtext_syntax.specs.TableLaws.{word_row, word_sincere, table_lawful, table_sincere}
 use Rattle.irtext_syntax.specs.Tables.{Row}
-use Rattle.irtext_arith.specs.Predicates.{predicate_words, predicate_word, predicate_text, predicate_behind, predicate_at, predicate}
+use Rattle.irtext_arith.specs.Predicates.{predicate_words, predicate_word, predicate_text, predicate_at, predicate}
 use Rattle.irtext_arith.specs.declared.predicate.Predicate.{Predicate}
 use Rattle.irtext_arith.specs.declared.predicate.Predicate.TheVariants.{Equal, Different, Less, LessOrEqual}
 use Rattle.irtext_arith.specs.contracts.predicate.PredicatePartialEq.TheImpl as test
 
 -- how the text of each predicate is parsed back
-rows : (x : Predicate) → Row predicate_word predicate_behind predicate_words predicate_text x
+rows : (x : Predicate) → Row predicate_word nothing predicate_words predicate_text x
 rows Equal = word_row (codes "eq") Equal Equal refl refl refl (λ text. refl)
 rows Different = word_row (codes "ne") Different Different refl refl refl (λ text. refl)
 rows Less = word_row (codes "lt") Less Less refl refl refl (λ text. refl)

@@ -27,13 +27,9 @@ predicate_text Different = codes "ne"
 predicate_text Less = codes "lt"
 predicate_text LessOrEqual = codes "le"
 
--- nothing comes after the word
-abbrev pub predicate_behind : Predicate → Reader Predicate
-predicate_behind x = nothing x
-
--- the word of a predicate; any other word is an error
+-- the word of a predicate, with nothing after it; any other word is an error
 abbrev pub predicate_at : Reader Predicate
-predicate_at = table_at predicate_word predicate_behind (codes "Unknown predicate ") AnAttribute
+predicate_at = table_at predicate_word nothing (codes "Unknown predicate ") AnAttribute
 
 -- as a part of other texts
 abbrev pub predicate : Shape Predicate

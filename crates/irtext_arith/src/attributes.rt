@@ -11,8 +11,7 @@ use irtext_syntax::range::Ranged;
 use irtext_syntax::ready::{Angle, Colon, Comma};
 use irtext_syntax::sequence::{Then, Within};
 use irtext_syntax::table::{Table, behind_word, table_parse, write_row};
-use irtext_syntax::words::DottedWord;
-use irtext_syntax::{Characters, Number};
+use irtext_syntax::{Characters, Number, match_text, matches_text};
 use std::alloc::AllocError;
 use std::fmt;
 use std::hash::Hash;
@@ -54,35 +53,18 @@ pub enum AttrWord {
     Doc,
 }
 
-impl DottedWord for AttrWord {
-    ghost use Rattle.irtext_arith.specs.Attributes.{attr_word};
+impl<B, T: IrText<B>> Table<ArithAttr<T>, B> for AttrWord {
+    ghost use Rattle.irtext_arith.specs.Attributes.{attr_word, attr_behind};
 
     ghost word = { attr_word };
 
-    fn of(text: &str) -> Option<AttrWord> {
-        if text == "arith.value" {
-            return Some(AttrWord::Value);
-        }
-        if text == "arith.predicate" {
-            return Some(AttrWord::Compares);
-        }
-        if text == "arith.overflow" {
-            return Some(AttrWord::Overflow);
-        }
-        if text == "arith.align" {
-            return Some(AttrWord::Align);
-        }
-        if text == "arith.doc" {
-            return Some(AttrWord::Doc);
-        }
-        None
-    }
-}
-
-impl<B, T: IrText<B>> Table<ArithAttr<T>, B> for AttrWord {
-    ghost use Rattle.irtext_arith.specs.Attributes.{attr_behind};
-
     ghost behind = { attr_behind T.reading T.written T.eq };
+
+    fn of(text: &str) -> Option<AttrWord> {
+        match_text!(text; "arith.value" => AttrWord::Value, "arith.predicate" => AttrWord::Compares,
+            "arith.overflow" => AttrWord::Overflow, "arith.align" => AttrWord::Align,
+            "arith.doc" => AttrWord::Doc)
+    }
 
     fn parse(self, stream: &mut TextStream) -> ParseResult<ArithAttr<T>, B> {
         match self {
@@ -165,11 +147,10 @@ impl<T> Worded for ArithAttr<T> {
     ghost words = { attr_words };
 
     fn has_word(word: &str) -> bool {
-        word == "arith.value"
-            || word == "arith.predicate"
-            || word == "arith.overflow"
-            || word == "arith.align"
-            || word == "arith.doc"
+        matches_text!(
+            word,
+            "arith.value" | "arith.predicate" | "arith.overflow" | "arith.align" | "arith.doc"
+        )
     }
 }
 

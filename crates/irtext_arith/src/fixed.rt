@@ -1,5 +1,7 @@
 //! The fixed words and the ranges of numbers in the texts of the dialect `arith`.
 ghost use Rattle.std.specs.Prelude.{codes, refl};
+ghost use Rattle.irtext_syntax.specs.KeywordTexts.{fixed_word};
+ghost use Rattle.irtext_syntax.specs.Ranges.{from_to};
 
 use irtext_syntax::keyword::Word;
 use irtext_syntax::range::Range;
@@ -8,9 +10,7 @@ use irtext_syntax::range::Range;
 pub struct NoSignedWrap;
 
 impl Word for NoSignedWrap {
-    ghost word = { codes "nsw" };
-
-    ghost is_word = { refl };
+    ghost word = { fixed_word (codes "nsw") refl };
 
     fn word() -> &'static str {
         "nsw"
@@ -21,9 +21,7 @@ impl Word for NoSignedWrap {
 pub struct NoUnsignedWrap;
 
 impl Word for NoUnsignedWrap {
-    ghost word = { codes "nuw" };
-
-    ghost is_word = { refl };
+    ghost word = { fixed_word (codes "nuw") refl };
 
     fn word() -> &'static str {
         "nuw"
@@ -34,17 +32,9 @@ impl Word for NoUnsignedWrap {
 pub struct Bytes;
 
 impl Range for Bytes {
-    ghost low = { 1 };
+    ghost bounds = { from_to 1 4096 refl };
 
-    ghost high = { 4096 };
-
-    ghost fits = { refl };
-
-    fn low() -> u64 {
-        1
-    }
-
-    fn high() -> u64 {
-        4_096
+    fn bounds() -> (u64, u64) {
+        (1, 4_096)
     }
 }

@@ -1,7 +1,9 @@
 //! The operations of the dialect `arith`, with their formats.
-ghost use Rattle.std.specs.Prelude.{◌≡◌, IfOk, IfErr, OnOk, codes};
-ghost use Rattle.irtext_format_check.specs.Directives.{directive_of, format_of};
-ghost use Rattle.irtext_base.specs.Format.{word};
+ghost use Rattle.std.specs.Prelude.{◌≡◌, IfOk, IfErr, IsTrue, OnOk, codes};
+ghost use Rattle.irtext_format_check.specs.Directives.{directive_of, directives_of, format_of};
+ghost use Rattle.irtext_base.specs.Format as format;
+ghost use Rattle.irtext_base.specs.Format.{attribute, word};
+ghost use Rattle.irtext_base.specs.Text.{is_identifier};
 ghost use Rattle.irtext_base.specs.declared.location.Location.{Unknown};
 ghost use Rattle.irtext_arith.specs.Operations.{arith_op, arith_operations, with_one, with_all};
 
@@ -55,41 +57,58 @@ fn comma(alloc: Global) -> Result<Directive, AllocError>
     Ok(Directive::Literal(String::from_str(alloc, ",")?))
 }
 
+/// Returns the directive of the attribute under this key.
+fn attr(alloc: Global, key: &str) -> Result<Directive, AllocError>
+    requires { IsTrue (is_identifier key.now) }
+    ensures { IfOk result (λ d. directive_of d ≡ attribute key.now) }
+{
+    Ok(Directive::Attr(Identifier::from_word(alloc, key)?))
+}
+
+/// Returns the format of these directives.
+fn custom<const N: usize>(alloc: Global, directives: [Directive; N]) -> Result<OpFormat, AllocError>
+    ensures { IfOk result (λ f. format_of f ≡ format.custom (directives_of directives.entry)) }
+{
+    Ok(OpFormat::Custom(Vec::from_array(alloc, directives)?))
+}
+
 /// Returns the operation's format, newly allocated.
 fn op_format(alloc: Global, op: ArithOp) -> Result<OpFormat, AllocError>
     ensures { IfOk result (λ f. format_of f ≡ (arith_op op).format) }
 {
-    let mut directives = Vec::new(alloc);
     match op {
-        ArithOp::Constant => {
-            let key = Identifier::from_word(alloc, "arith_value")?;
-            directives.push(Directive::Attr(key))?;
-            directives.push(colon(alloc)?)?;
-            directives.push(Directive::ResultType(0))?;
-        }
-        ArithOp::Add => {
-            directives.push(Directive::Operand(0))?;
-            directives.push(comma(alloc)?)?;
-            directives.push(Directive::Operand(1))?;
-            directives.push(colon(alloc)?)?;
-            directives.push(Directive::ResultType(0))?;
-        }
-        ArithOp::Compare => {
-            let key = Identifier::from_word(alloc, "arith_predicate")?;
-            directives.push(Directive::Attr(key))?;
-            directives.push(Directive::Operand(0))?;
-            directives.push(comma(alloc)?)?;
-            directives.push(Directive::Operand(1))?;
-            directives.push(colon(alloc)?)?;
-            directives.push(Directive::ResultType(0))?;
-        }
-        ArithOp::Func => {
-            directives.push(Directive::SymbolHeader)?;
-            directives.push(Directive::Region(0))?;
-        }
-        ArithOp::Return => directives.push(Directive::Operands)?,
+        ArithOp::Constant => custom(
+            alloc,
+            [
+                attr(alloc, "arith_value")?,
+                colon(alloc)?,
+                Directive::ResultType(0),
+            ],
+        ),
+        ArithOp::Add => custom(
+            alloc,
+            [
+                Directive::Operand(0),
+                comma(alloc)?,
+                Directive::Operand(1),
+                colon(alloc)?,
+                Directive::ResultType(0),
+            ],
+        ),
+        ArithOp::Compare => custom(
+            alloc,
+            [
+                attr(alloc, "arith_predicate")?,
+                Directive::Operand(0),
+                comma(alloc)?,
+                Directive::Operand(1),
+                colon(alloc)?,
+                Directive::ResultType(0),
+            ],
+        ),
+        ArithOp::Func => custom(alloc, [Directive::SymbolHeader, Directive::Region(0)]),
+        ArithOp::Return => custom(alloc, [Directive::Operands]),
     }
-    Ok(OpFormat::Custom(directives))
 }
 
 /// Registers the operation, and its dialect if it is not registered yet. On an error the context is unchanged.

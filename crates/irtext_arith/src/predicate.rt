@@ -1,10 +1,12 @@
 //! A part of the dialect's own: how two integers are compared.
+ghost use Rattle.irtext_syntax.specs.OwnLaws.{own_last};
+ghost use Rattle.irtext_syntax.specs.Owns.{ends_text};
+
 use irtext_base::parsable::{ParseResult, TextStream};
 use irtext_base::result::Expected;
-use irtext_syntax::part::{Item, Last, Part, TryClone};
-use irtext_syntax::table::{Table, table_parse, word_alone, write_word};
-use irtext_syntax::words::DottedWord;
-use std::alloc::AllocError;
+use irtext_syntax::match_text;
+use irtext_syntax::part::{Item, Last, Part, Plain};
+use irtext_syntax::table::{Choice, table_parse, write_word};
 use std::fmt;
 
 /// How two integers are compared. An unknown word is an error with the text `Unknown predicate ` and the word, at its beginning.
@@ -20,42 +22,18 @@ pub enum Predicate {
     LessOrEqual,
 }
 
-/// Each predicate is its own word.
-impl DottedWord for Predicate {
+impl Choice for Predicate {
     ghost use Rattle.irtext_arith.specs.Predicates.{predicate_word};
 
-    ghost word = { predicate_word };
+    ghost chosen = { predicate_word };
 
-    fn of(text: &str) -> Option<Predicate> {
-        if text == "eq" {
-            return Some(Predicate::Equal);
-        }
-        if text == "ne" {
-            return Some(Predicate::Different);
-        }
-        if text == "lt" {
-            return Some(Predicate::Less);
-        }
-        if text == "le" {
-            return Some(Predicate::LessOrEqual);
-        }
-        None
-    }
-}
-
-/// Nothing comes after a predicate's word.
-impl<A> Table<Predicate, A> for Predicate {
-    ghost use Rattle.irtext_arith.specs.Predicates.{predicate_behind};
-
-    ghost behind = { predicate_behind };
-
-    fn parse(self, stream: &mut TextStream) -> ParseResult<Predicate, A> {
-        word_alone(stream, self)
+    fn choice(text: &str) -> Option<Predicate> {
+        match_text!(text; "eq" => Predicate::Equal, "ne" => Predicate::Different, "lt" => Predicate::Less,
+            "le" => Predicate::LessOrEqual)
     }
 }
 
 impl<A> Part<A> for Predicate {
-    ghost use Rattle.irtext_syntax.specs.Owns.{ends_text};
     ghost use Rattle.irtext_arith.specs.Predicates.{predicate_at, predicate_text};
     ghost use Rattle.irtext_arith.specs.PredicateLaws.{predicate_law, predicate_decides};
 
@@ -84,13 +62,7 @@ impl<A> Item<A> for Predicate {
 }
 
 impl<A> Last<A> for Predicate {
-    ghost use Rattle.irtext_syntax.specs.OwnLaws.{own_last};
-
     ghost last = { own_last };
 }
 
-impl TryClone for Predicate {
-    fn try_clone(&self) -> Result<Predicate, AllocError> {
-        Ok(*self)
-    }
-}
+impl Plain for Predicate {}

@@ -2,10 +2,9 @@
 use irtext_base::parsable::{ParseResult, TextStream};
 use irtext_base::result::Expected;
 use irtext_base::text::{Family, IrText, Worded};
-use irtext_syntax::Number;
 use irtext_syntax::part::TryClone;
 use irtext_syntax::table::{Table, behind_word, table_parse, word_alone, write_row, write_word};
-use irtext_syntax::words::DottedWord;
+use irtext_syntax::{Number, match_text, matches_text};
 use std::alloc::AllocError;
 use std::fmt;
 
@@ -27,26 +26,16 @@ pub enum TypeWord {
     Index,
 }
 
-impl DottedWord for TypeWord {
-    ghost use Rattle.irtext_arith.specs.Types.{type_word};
+impl<A> Table<ArithType, A> for TypeWord {
+    ghost use Rattle.irtext_arith.specs.Types.{type_word, type_behind};
 
     ghost word = { type_word };
 
-    fn of(text: &str) -> Option<TypeWord> {
-        if text == "arith.int" {
-            return Some(TypeWord::Int);
-        }
-        if text == "arith.index" {
-            return Some(TypeWord::Index);
-        }
-        None
-    }
-}
-
-impl<A> Table<ArithType, A> for TypeWord {
-    ghost use Rattle.irtext_arith.specs.Types.{type_behind};
-
     ghost behind = { type_behind };
+
+    fn of(text: &str) -> Option<TypeWord> {
+        match_text!(text; "arith.int" => TypeWord::Int, "arith.index" => TypeWord::Index)
+    }
 
     fn parse(self, stream: &mut TextStream) -> ParseResult<ArithType, A> {
         match self {
@@ -97,7 +86,7 @@ impl Worded for ArithType {
     ghost words = { type_words };
 
     fn has_word(word: &str) -> bool {
-        word == "arith.int" || word == "arith.index"
+        matches_text!(word, "arith.int" | "arith.index")
     }
 }
 

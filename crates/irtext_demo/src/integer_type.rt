@@ -8,12 +8,11 @@ ghost use Rattle.irtext_demo.specs.IntegerTypes.{integer_type_text, signedness_t
 use crate::width::Width;
 use irtext_base::parsable::{CharStream, ParseResult, TextStream};
 use irtext_base::result::{Cause, Expected};
-use irtext_syntax::part::{Last, Part, TryClone};
+use irtext_syntax::part::{Last, Part, Plain};
 use irtext_syntax::range::{FromDigits, digits_parse};
 use irtext_tokens::irfmt::faults::{begins, committed, next_is, refuse, unexpected};
 use irtext_tokens::irfmt::parsers::digits::{Radix, take_digits};
 use irtext_tokens::irfmt::parsers::{Class, text_parse};
-use std::alloc::AllocError;
 use std::fmt;
 
 /// Whether the integers of a type are signed, unsigned, or interpreted by each use.
@@ -277,8 +276,4 @@ impl<A> Last<A> for IntegerType {
     ghost last = { integer_type_last };
 }
 
-impl TryClone for IntegerType {
-    fn try_clone(&self) -> Result<IntegerType, AllocError> {
-        Ok(*self)
-    }
-}
+impl Plain for IntegerType {}

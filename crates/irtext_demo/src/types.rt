@@ -3,12 +3,11 @@ use crate::integer_type::{IntegerType, write_integer_type};
 use irtext_base::parsable::{ParseResult, TextStream};
 use irtext_base::result::Expected;
 use irtext_base::text::{Family, IrText, Worded};
-use irtext_syntax::part::{Item, Part, TryClone};
+use irtext_syntax::part::{Item, Part, Plain};
 use irtext_syntax::table::{
     Table, alone_known, behind_known, behind_word, table_parse, word_alone, write_word,
 };
 use irtext_syntax::{match_text, matches_text};
-use std::alloc::AllocError;
 use std::fmt;
 
 /// A demo type.
@@ -140,8 +139,4 @@ impl<A> Item<A> for DemoType {
     ghost misses = { type_misses };
 }
 
-impl TryClone for DemoType {
-    fn try_clone(&self) -> Result<DemoType, AllocError> {
-        Ok(*self)
-    }
-}
+impl Plain for DemoType {}

@@ -5,7 +5,7 @@ ghost use Rattle.std.specs.Fmt.{signed_decimal};
 ghost use Rattle.irtext_tokens.specs.Integers.{itself};
 ghost use Rattle.irtext_syntax.specs.Numbers.{fits, natural};
 
-use crate::part::{Item, Last, Part, TryClone};
+use crate::part::{Item, Last, Part, Plain};
 use irtext_base::parsable::{ParseResult, TextStream};
 use irtext_tokens::irfmt::parsers::{FromStrRadix, int_parse};
 use std::alloc::AllocError;
@@ -166,11 +166,7 @@ impl<N: FromStrRadix + Copy> Clone for Number<N> {
     }
 }
 
-impl<N: Integer> TryClone for Number<N> {
-    fn try_clone(&self) -> Result<Number<N>, AllocError> {
-        Ok(*self)
-    }
-}
+impl<N: Integer> Plain for Number<N> {}
 
 impl<N: Integer> fmt::Debug for Number<N> {
     fn fmt<W: fmt::Write>(&self, f: &mut fmt::Formatter<W>) -> fmt::Result {

@@ -60,3 +60,12 @@ pub trait TryClone: Sized {
     fn try_clone(&self) -> Result<Self, AllocError>
         ensures { IfOk result (λ copy. copy ≡ self.now) };
 }
+
+/// A `Copy` value, of which a copy is the value itself.
+pub trait Plain: Copy {}
+
+impl<T: Plain> TryClone for T {
+    fn try_clone(&self) -> Result<T, AllocError> {
+        Ok(*self)
+    }
+}

@@ -3,7 +3,7 @@ ghost use Rattle.std.specs.Prelude.{◌≡◌, ℕ, true, Option, OnOk, ◌++◌
 ghost use Rattle.irtext_tokens.specs.MustRead.{MayRead};
 ghost use Rattle.irtext_syntax.specs.Ranges.{Bounds, is_between, digits_at};
 
-use crate::part::{Item, Last, Part, TryClone};
+use crate::part::{Item, Last, Part, Plain};
 use irtext_base::parsable::{CharStream, ParseResult, TextStream};
 use irtext_base::result::{Cause, Expected};
 use irtext_tokens::irfmt::faults::{begins, refuse, unexpected};
@@ -74,11 +74,7 @@ impl<R: Range> Clone for Ranged<R> {
     }
 }
 
-impl<R: Range> TryClone for Ranged<R> {
-    fn try_clone(&self) -> Result<Ranged<R>, AllocError> {
-        Ok(*self)
-    }
-}
+impl<R: Range> Plain for Ranged<R> {}
 
 impl<R: Range> Ranged<R> {
     ghost use Rattle.irtext_syntax.specs.RangeOf.{ranged_of};
