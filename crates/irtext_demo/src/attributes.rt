@@ -11,7 +11,7 @@ use irtext_base::text::{AttrText, Family, IrText, Worded};
 use irtext_syntax::characters::Characters;
 use irtext_syntax::part::TryClone;
 use irtext_syntax::table::{Table, behind_word, table_parse, write_row};
-use irtext_syntax::words::DottedWord;
+use irtext_syntax::{match_text, matches_text};
 use std::alloc::AllocError;
 use std::fmt;
 
@@ -41,32 +41,17 @@ pub enum AttrWord {
     Debug,
 }
 
-impl DottedWord for AttrWord {
-    ghost use Rattle.irtext_demo.specs.Attributes.{attr_word};
+impl<B: Drop> Table<DemoAttr, B> for AttrWord {
+    ghost use Rattle.irtext_demo.specs.Attributes.{attr_word, attr_behind};
 
     ghost word = { attr_word };
 
-    fn of(text: &str) -> Option<AttrWord> {
-        if text == "builtin.integer" {
-            return Some(AttrWord::Integer);
-        }
-        if text == "builtin.string" {
-            return Some(AttrWord::String);
-        }
-        if text == "builtin.function" {
-            return Some(AttrWord::Function);
-        }
-        if text == "test.dbg" {
-            return Some(AttrWord::Debug);
-        }
-        None
-    }
-}
-
-impl<B: Drop> Table<DemoAttr, B> for AttrWord {
-    ghost use Rattle.irtext_demo.specs.Attributes.{attr_behind};
-
     ghost behind = { attr_behind };
+
+    fn of(text: &str) -> Option<AttrWord> {
+        match_text!(text; "builtin.integer" => AttrWord::Integer, "builtin.string" => AttrWord::String,
+            "builtin.function" => AttrWord::Function, "test.dbg" => AttrWord::Debug)
+    }
 
     fn parse(self, stream: &mut TextStream) -> ParseResult<DemoAttr, B> {
         match self {
@@ -140,10 +125,10 @@ impl Worded for DemoAttr {
     ghost words = { attr_words };
 
     fn has_word(word: &str) -> bool {
-        word == "builtin.integer"
-            || word == "builtin.string"
-            || word == "builtin.function"
-            || word == "test.dbg"
+        matches_text!(
+            word,
+            "builtin.integer" | "builtin.string" | "builtin.function" | "test.dbg"
+        )
     }
 }
 

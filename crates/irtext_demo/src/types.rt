@@ -7,7 +7,7 @@ use irtext_syntax::part::{Item, Part, TryClone};
 use irtext_syntax::table::{
     Table, alone_known, behind_known, behind_word, table_parse, word_alone, write_word,
 };
-use irtext_syntax::words::DottedWord;
+use irtext_syntax::{match_text, matches_text};
 use std::alloc::AllocError;
 use std::fmt;
 
@@ -29,22 +29,6 @@ pub enum TypeWord {
     Pointer,
 }
 
-impl DottedWord for TypeWord {
-    ghost use Rattle.irtext_demo.specs.Types.{type_word};
-
-    ghost word = { type_word };
-
-    fn of(text: &str) -> Option<TypeWord> {
-        if text == "builtin.integer" {
-            return Some(TypeWord::Integer);
-        }
-        if text == "test.ptr" {
-            return Some(TypeWord::Pointer);
-        }
-        None
-    }
-}
-
 impl fmt::Display for DemoType {
     ghost use Rattle.std.specs.Prelude.{Some};
     ghost use Rattle.irtext_demo.specs.Types.{type_text};
@@ -60,9 +44,15 @@ impl fmt::Display for DemoType {
 }
 
 impl<A> Table<DemoType, A> for TypeWord {
-    ghost use Rattle.irtext_demo.specs.Types.{type_behind};
+    ghost use Rattle.irtext_demo.specs.Types.{type_word, type_behind};
+
+    ghost word = { type_word };
 
     ghost behind = { type_behind };
+
+    fn of(text: &str) -> Option<TypeWord> {
+        match_text!(text; "builtin.integer" => TypeWord::Integer, "test.ptr" => TypeWord::Pointer)
+    }
 
     fn parse(self, stream: &mut TextStream) -> ParseResult<DemoType, A> {
         match self {
@@ -115,7 +105,7 @@ impl Worded for DemoType {
     ghost words = { type_words };
 
     fn has_word(word: &str) -> bool {
-        word == "builtin.integer" || word == "test.ptr"
+        matches_text!(word, "builtin.integer" | "test.ptr")
     }
 }
 

@@ -86,9 +86,6 @@ module _ {O B T : Type 0} where
   pub made_value : {g k : GraphView (Option O) B (Option T)} (p : Ptr Operation) (ts : List (Option T)) → ts ≡ None ∷ [] → MakesOperation g k p None ts [] [] → MakesValue g k (Result p 0)
   made_value {g} {k} p ts e m = record { operation = p; value = refl; makes = subst (λ xs. MakesOperation g k p None xs [] []) e m }
 
-  pub made_label : {g k : GraphView (Option O) B T} (data_of : B) (b : Ptr BasicBlock) (ts : List T) → ts ≡ [] → MakesBlock g k b data_of ts → MakesLabel data_of g k b
-  made_label {g} {k} data_of b ts e m = subst (λ xs. MakesBlock g k b data_of xs) e m
-
   -- ---- the result of an operation without data that was made is a placeholder
   module _ {g k : GraphView (Option O) B (Option T)} (v : Value) (m : MakesValue g k v) where
     pub value_same : SameBut k g (Some (owner (OfValue v)))

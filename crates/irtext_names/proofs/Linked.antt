@@ -4,6 +4,7 @@ pub mod Scopes
 pub mod InPlace
 pub mod Moving
 pub mod Kept
+pub mod Halves
 pub mod Uses
 pub mod Definitions
 pub mod Outside

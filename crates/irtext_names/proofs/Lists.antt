@@ -30,3 +30,10 @@ pub numbers_before : {X : Type 0} (f : X → ℕ) (xs : List X) (i : ℕ) → i 
 numbers_before f xs zero l = refl
 numbers_before f [] (suc i) l = absurd (omega (arith, l))
 numbers_before f (y ∷ xs) (suc i) l = ap suc (numbers_before f xs i (omega (arith, l)))
+
+-- all of a list
+pub take_whole : {X : Type 0} (xs : List X) (i : ℕ) → length xs ≤ i → take i xs ≡ xs
+take_whole [] zero l = refl
+take_whole [] (suc i) l = refl
+take_whole (x ∷ xs) zero l = absurd (omega (arith, l))
+take_whole (x ∷ xs) (suc i) l = ap (λ zs. x ∷ zs) (take_whole xs i (omega (arith, l)))

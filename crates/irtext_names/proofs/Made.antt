@@ -18,14 +18,14 @@ use Rattle.irtext_graph.specs.Used.{IsDefined, IsUse, user}
 use Rattle.irtext_graph.proofs.Preorders.{among_left, among_right}
 use Rattle.irtext_scopes.specs.declared.tracker.NameTracker.{NameTracker}
 use Rattle.irtext_scopes.specs.Scopes.{Scope}
-use Rattle.irtext_grammar.specs.Names.Script.{Path, Place, User, operand, successor}
+use Rattle.irtext_grammar.specs.Names.Script.{Path, Place, result, User, operand, successor}
 use Rattle.irtext_grammar.specs.Names.History.{State}
 use Rattle.irtext_names.specs.Linked.{Known, StandsAt}
 use Rattle.irtext_names.specs.Tied.{MatchesGraph}
 use Rattle.irtext_names.proofs.Added.{made_none}
 use Rattle.irtext_names.proofs.Gained.{operation_added}
 use Rattle.irtext_names.proofs.Linked.Steps.{operation_made}
-use Rattle.irtext_names.specs.Rows.{made_results, sites_from, with_operation, AreHeldBy, AreReady}
+use Rattle.irtext_names.specs.Rows.{made_values, made_results, sites_from, with_operation, AreHeldBy, ValuesReady}
 
 -- the use at an index is among those in a row
 site_there : {X : Type 0} (user : ℕ → User) (site : ℕ → Site) (k i : ℕ) (x : X) (xs : List X) → slice_get xs i ≡ Some x → Among (user (k + i), site (k + i)) (sites_from user site k xs)
@@ -38,14 +38,14 @@ site_there user site k (suc i) x (y ∷ xs) e = inr (subst (λ j. Among (user j,
 site_first : {X : Type 0} (user : ℕ → User) (site : ℕ → Site) (i : ℕ) (x : X) (xs : List X) → slice_get xs i ≡ Some x → Among (user i, site i) (sites_from user site 0 xs)
 site_first user site i x xs e = subst (λ j. Among (user j, site j) (sites_from user site 0 xs)) (omega arith) (site_there user site 0 i x xs e)
 
--- what is among the results in a row is one of them
-result_there : {X : Type 0} (p : Path) (op : Ptr Operation) (k : ℕ) (xs : List X) (q : Place) (v : Value) → Among (q, v) (made_results p op k xs) → (i : ℕ) × (v ≡ Result op (k + i)) × (i < length xs)
-result_there p op k [] q v a = absurd a
-result_there p op k (x ∷ xs) q v (inl e) = (0, ap (λ z. z.1) e ∙ ap (Result op) (omega arith), omega arith)
-result_there p op k (x ∷ xs) q v (inr a) = let r = result_there p op (suc k) xs q v a in (suc r.0, r.1 ∙ ap (Result op) (omega arith), let l = r.2 in omega (arith, l))
+-- what is among values in a row is one of them
+pub value_made : {X : Type 0} (place : ℕ → Place) (value : ℕ → Value) (k : ℕ) (xs : List X) (q : Place) (v : Value) → Among (q, v) (made_values place value k xs) → (i : ℕ) × (v ≡ value (k + i)) × (i < length xs)
+value_made place value k [] q v a = absurd a
+value_made place value k (x ∷ xs) q v (inl e) = (0, ap (λ z. z.1) e ∙ ap value (omega arith), omega arith)
+value_made place value k (x ∷ xs) q v (inr a) = let r = value_made place value (suc k) xs q v a in (suc r.0, r.1 ∙ ap value (omega arith), let l = r.2 in omega (arith, l))
 
 -- so many values are numbered as there are types
-numbered_there : {T : Type 0} (n i : ℕ) (ts : List T) → i < length ts → IsSome (slice_get (numbered n ts) i)
+pub numbered_there : {T : Type 0} (n i : ℕ) (ts : List T) → i < length ts → IsSome (slice_get (numbered n ts) i)
 numbered_there n i [] l = absurd (omega (arith, l))
 numbered_there n zero (t ∷ ts) l = refl
 numbered_there n (suc i) (t ∷ ts) l = numbered_there (n + 1) i ts (omega (arith, l))
@@ -79,9 +79,9 @@ module _ {O B T : Type 0} {g k : GraphView (Option O) B T} (op : Ptr Operation) 
       ]
 
       made : (q : Place) (v : Value) → Among (q, v) (made_results p op 0 types) → (owner (OfValue v) ≡ TheOperation op) × IsDefined k (OfValue v)
-      made q v a = let r = result_there p op 0 types q v a in let l = r.2 in
+      made q v a = let r = value_made (result p) (Result op) 0 types q v a in let l = r.2 in
           (ap (λ z. owner (OfValue z)) r.1, subst (λ z. IsDefined k (OfValue z)) (sym r.1) (result_here (0 + r.0) (omega (arith, l))))
 
   -- it has its results, and no name waits with one of them
-  pub made_ready : (vs' : List (Scope Value)) (ls : List (Scope (Ptr BasicBlock))) → MatchesGraph vs' ls g → AreReady op (length types) vs' k
+  pub made_ready : (vs' : List (Scope Value)) (ls : List (Scope (Ptr BasicBlock))) → MatchesGraph vs' ls g → ValuesReady (Result op) (length types) vs' k
   made_ready vs' ls t = λ i l. (result_here i l, made_none OfValue vs' (Result op i) t.value_ties (operation_added op make))

@@ -53,6 +53,9 @@ module _ {O B T V W : Type 0} (of : V → Defined) (at : W → Defined) (same : 
     pub same_ties : (Tied of vs k) × (Tied at ws k)
     same_ties = (tied_kept of vs t (loses_none (before_same s)) (λ v d e. cc), tied_kept at ws u (loses_none (before_same s)) (λ v d e. cc))
 
+    pub same_waits : (m : ℕ) (own : List V) (own' : List W) → Waiting m own of vs g → Waiting m own' at ws g → (Waiting m own of vs k) × (Waiting m own' at ws k)
+    same_waits m own own' w x = (waiting_kept of m own vs t w (loses_none (before_same s)) (λ v d e. cc), waiting_kept at m own' ws u x (loses_none (before_same s)) (λ v d e. cc))
+
   -- ---- a name of the one kind was used that is new
   module _ (n : ℕ) (h : V) (l : Loses k g (Some (of h))) (p : IsPlaceholder k (of h)) (scope : is_open vs ≡ true) (new : find n (innermost vs) ≡ None) where
     pub made_ties : (Tied of (in_innermost (mentioned n (Pending h)) vs) k) × (Tied at ws k)

@@ -18,9 +18,7 @@ use Rattle.irtext_grammar.specs.Names.TextScopes.{Act, Word, Failure}
 use Rattle.irtext_grammar.specs.Names.History.{act, Event, Outcome, going, failed, next, run, after}
 use Rattle.irtext_grammar.specs.Names.Scopes.{fact_of}
 use Rattle.irtext_names.specs.Linked.{StandsAt, TakesUse}
-use Rattle.irtext_names.specs.Placeholders.{Uses, MakesValue, MakesLabel}
-use Rattle.irtext_names.proofs.Gained.{operation_added, block_added}
-use Rattle.irtext_names.proofs.SameBut.{was_defined}
+use Rattle.irtext_names.specs.Placeholders.{Uses}
 use Rattle.irtext_names.specs.Rows.{AreNamed, uses_from, in_hand_from, TakesUses, UsesRow}
 
 -- ---- lists
@@ -152,10 +150,3 @@ module _ {O B T : Type 0} where
             let one = one_more (uses_from uses user i t.front) (uses w u) old mid new g h k (in_hand_from of user i xs) u (of x) (s.follows t.front t.are user i) (takes w u (ap (λ names. slice_get names n) same ∙ t.is)) in
             subst (λ acts. TakesUses acts old new g k (in_hand_from of user i (xs ++ x ∷ []))) (sym (uses_more uses user i t.front t.here) ∙ ap (uses_from uses user i) (sym last))
             (subst (λ hs. TakesUses (uses_from uses user i t.front ++ uses w u ∷ []) old new g k hs) (ap (λ j. in_hand_from of user i xs ++ (user j, of x) ∷ []) (sym place) ∙ sym (in_hand_more of user i xs x)) one)
-
--- making a placeholder leaves all there
-pub value_there : {O B T : Type 0} {g k : GraphView (Option O) B (Option T)} (v : Value) (d : Defined) → MakesValue g k v → IsDefined g d → IsDefined k d
-value_there v d m e = was_defined (operation_added m.operation m.makes) d e
-
-pub label_there : {O B T : Type 0} {g k : GraphView (Option O) B T} (x : B) (b : Ptr BasicBlock) (d : Defined) → MakesLabel x g k b → IsDefined g d → IsDefined k d
-label_there x b d m e = was_defined (block_added b m) d e

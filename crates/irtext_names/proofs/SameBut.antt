@@ -21,7 +21,7 @@ use Rattle.irtext_names.specs.Placeholders.{IsBlank, IsPlaceholder}
 
 module _ {O B T : Type 0} where
   -- the results of an operation, by what it is
-  abbrev results_in : Option (Content O B T) → List (Typed T)
+  abbrev pub results_in : Option (Content O B T) → List (Typed T)
   results_in None = []
   results_in (Some (AnOperation b c)) = c.results
   results_in (Some (ABlock b c)) = []
@@ -41,7 +41,7 @@ module _ {O B T : Type 0} where
   data_in (Some (ABlock b c)) = None
   data_in (Some (ARegion b c)) = None
 
-  results_are : (g : GraphView O B T) (p : Ptr Operation) → results g p ≡ results_in (option_map without_uses (content g (TheOperation p)))
+  pub results_are : (g : GraphView O B T) (p : Ptr Operation) → results g p ≡ results_in (option_map without_uses (content g (TheOperation p)))
   results_are g p = elim (get g.operations p) as (λ e. results_of (option_map (λ e. e.content.content) e) ≡ results_in (option_map without_uses (option_map (λ d. AnOperation d.0 d.1) (content_of e)))) [ None ↦ refl | Some e ↦ refl ]
 
   arguments_are : (g : GraphView O B T) (b : Ptr BasicBlock) → arguments g b ≡ arguments_in (option_map without_uses (content g (TheBlock b)))

@@ -1,3 +1,4 @@
+pub mod Kinds
 pub mod Linked
 pub mod OfItems
 pub mod Placeholders

@@ -16,8 +16,8 @@ use Rattle.irtext_graph.specs.Used.{IsDefined}
 use Rattle.irtext_scopes.specs.declared.tracker.NameTracker.{NameTracker}
 use Rattle.irtext_scopes.specs.Scopes.{Scope}
 use Rattle.irtext_grammar.specs.Grammar.Tree.{Name}
-use Rattle.irtext_grammar.specs.Names.Acts.{word_of, result_definitions}
-use Rattle.irtext_grammar.specs.Names.Script.{Path, Place, result, User, operand, successor, MultipleDefinitions}
+use Rattle.irtext_grammar.specs.Names.Acts.{word_of}
+use Rattle.irtext_grammar.specs.Names.Script.{Path, Place, result, User, operand, successor, define_value, MultipleDefinitions}
 use Rattle.irtext_grammar.specs.Names.TextScopes.{Act, Word}
 use Rattle.irtext_grammar.specs.Names.History.{act, State, going, failed, run}
 use Rattle.irtext_names.specs.Linked.{Known, StandsAt}
@@ -64,32 +64,39 @@ module _ {O B T : Type 0} where
     pub follows : (ws : List (Name ℕ)) → AreNamed old.names numbers ws → (user : ℕ → User) (i : ℕ) → TakesUses (uses_from uses user i ws) old new g k (in_hand_from of user i more)
 
 -- ---- definitions
+-- the places from index i on, one for each element, with the values that were created for them
+abbrev pub made_values : {X : Type 0} → (ℕ → Place) → (ℕ → Value) → ℕ → List X → List (Place × Value)
+made_values place value i [] = []
+made_values place value i (x ∷ xs) = (place i, value i) ∷ made_values place value (suc i) xs
 
--- the results of the operation at a path, from i on, one for each element, with the values that were created for them
+-- the results of the operation at a path, with the values that were created for them
 abbrev pub made_results : {X : Type 0} → Path → Ptr Operation → ℕ → List X → List (Place × Value)
-made_results p op i [] = []
-made_results p op i (x ∷ xs) = (result p i, Result op i) ∷ made_results p op (suc i) xs
+made_results p op = made_values (result p) (Result op)
 
--- all of these have been created
-abbrev pub AreMadeIn : List (Place × Value) → Known → Type 0
-AreMadeIn [] known = Unit {0}
-AreMadeIn (m ∷ ms) known = Among m known.values × AreMadeIn ms known
+-- the definitions of the names as the places from index i on
+abbrev pub definitions_from : (ℕ → Place) → ℕ → List (Name ℕ) → List Act
+definitions_from place i [] = []
+definitions_from place i (w ∷ ws) = define_value (word_of w) (place i) ∷ definitions_from place (suc i) ws
+
+-- the first values were created for the first places, as many as the list has elements
+abbrev pub AreMadeAs : {X : Type 0} → (ℕ → Place) → (ℕ → Value) → List X → Known → Type 0
+AreMadeAs place value xs known = (i : ℕ) → i < length xs → Among (place i, value i) known.values
 
 module _ {O B T : Type 0} where
-  -- an operation has this many results, and no name waits with one of them as its placeholder
-  abbrev pub AreReady : Ptr Operation → ℕ → List (Scope Value) → GraphView (Option O) B T → Type 0
-  AreReady op count scopes g = (i : ℕ) → i < count → IsDefined g (OfValue (Result op i)) × IsNoPlaceholder scopes (Result op i)
+  -- the first values, this many, are live, and no name waits with one of them as its placeholder
+  abbrev pub ValuesReady : (ℕ → Value) → ℕ → List (Scope Value) → GraphView (Option O) B T → Type 0
+  ValuesReady value count scopes g = (i : ℕ) → i < count → IsDefined g (OfValue (value i)) × IsNoPlaceholder scopes (value i)
 
-  -- if the old names and graph agree with a state of the machine, nothing is in hand, and the results of op were created for those of the
-  -- operation at the path, the definitions of names with these numbers take the machine to a state that the new ones agree with
-  pub record DefinesResults (op : Ptr Operation) (numbers : List ℕ) (old new : NameTracker Value (Ptr BasicBlock)) (g k : GraphView (Option O) B T) : Type 0 where
-    pub so : (ws : List (Name ℕ)) → AreNamed old.names numbers ws → (p : Path) (known : Known) (st : State) → AreMadeIn (made_results p op 0 numbers) known → StandsAt old g known [] st
-        → (next : State) × (run (going st) (map act (result_definitions p 0 ws)) ≡ going next) × StandsAt new k known [] next
+  -- if the old names and graph agree with a state of the machine, nothing is in hand, and these values were created for the places, the
+  -- definitions of names with these numbers take the machine to a state that the new ones agree with
+  pub record DefinesRow (value : ℕ → Value) (numbers : List ℕ) (old new : NameTracker Value (Ptr BasicBlock)) (g k : GraphView (Option O) B T) : Type 0 where
+    pub so : (ws : List (Name ℕ)) → AreNamed old.names numbers ws → (place : ℕ → Place) (known : Known) (st : State) → AreMadeAs place value numbers known → StandsAt old g known [] st
+        → (next : State) × (run (going st) (map act (definitions_from place 0 ws)) ≡ going next) × StandsAt new k known [] next
 
   -- in such a state, the definitions of names with these numbers fail at the name with this index, which its scope defines already
-  pub record FailsResults (op : Ptr Operation) (numbers : List ℕ) (index : ℕ) (names : NameTracker Value (Ptr BasicBlock)) (g : GraphView (Option O) B T) : Type 0 where
-    pub so : (ws : List (Name ℕ)) → AreNamed names.names numbers ws → (p : Path) (known : Known) (st : State) → AreMadeIn (made_results p op 0 numbers) known → StandsAt names g known [] st
-        → (w : Name ℕ) × (slice_get ws index ≡ Some w) × (run (going st) (map act (result_definitions p 0 ws)) ≡ failed (record { cause = MultipleDefinitions w.text; at = Some w.place }))
+  pub record FailsRow (value : ℕ → Value) (numbers : List ℕ) (index : ℕ) (names : NameTracker Value (Ptr BasicBlock)) (g : GraphView (Option O) B T) : Type 0 where
+    pub so : (ws : List (Name ℕ)) → AreNamed names.names numbers ws → (place : ℕ → Place) (known : Known) (st : State) → AreMadeAs place value numbers known → StandsAt names g known [] st
+        → (w : Name ℕ) × (slice_get ws index ≡ Some w) × (run (going st) (map act (definitions_from place 0 ws)) ≡ failed (record { cause = MultipleDefinitions w.text; at = Some w.place }))
 
 -- ---- an operation that is created
 

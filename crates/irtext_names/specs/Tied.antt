@@ -1,16 +1,18 @@
 -- How names that wait for a definition are tied to the placeholders of a graph.
-use Rattle.std.specs.Prelude.{◌≡◌, ℕ, zero, suc, List, [], ◌∷◌, Option, Some, None}
+use Rattle.std.specs.Prelude.{◌≡◌, ◌≤◌, ℕ, zero, suc, List, [], ◌∷◌, Option, Some, None}
 use Rattle.irtext_graph.specs.declared.arena.Ptr.{Ptr}
 use Rattle.irtext_graph.specs.declared.object.BasicBlock.{BasicBlock}
 use Rattle.irtext_graph.specs.declared.object.Value.{Value}
 use Rattle.irtext_graph.specs.declared.object.Defined.{Defined}
 use Rattle.irtext_graph.specs.declared.object.Defined.TheVariants.{OfValue, OfBlock}
+use Rattle.irtext_graph.specs.Back.{IsClosedBelow}
 use Rattle.irtext_graph.specs.Chained.{Among}
 use Rattle.irtext_graph.specs.Erasing.{owner}
-use Rattle.irtext_graph.specs.Graph.{GraphView, IsNew}
+use Rattle.irtext_graph.specs.Graph.{GraphView, IsNew, KeepsOlder}
 use Rattle.irtext_graph.specs.Used.{IsDefined}
 use Rattle.irtext_scopes.specs.declared.scopes.Entry.{Entry}
 use Rattle.irtext_scopes.specs.declared.scopes.Entry.TheVariants.{Pending}
+use Rattle.irtext_scopes.specs.declared.tracker.NameTracker.{NameTracker}
 use Rattle.irtext_scopes.specs.Scopes.{Scope, find, value_of}
 use Rattle.irtext_names.specs.Placeholders.{IsBlank, IsPlaceholder}
 
@@ -57,3 +59,15 @@ module _ {O B T : Type 0} where
     pub values : (v : Value) → IsDefined g (OfValue v) → IsBlank g (OfValue v) → IsNew m g (owner (OfValue v)) → ⊥
     pub labels : (b : Ptr BasicBlock) → IsDefined g (OfBlock b) → IsBlank g (OfBlock b) → IsNew m g (owner (OfBlock b))
         → (Among b own → ⊥) → ⊥
+
+  -- what calls that use names keep: names match the graph, placeholders wait for names as before, and what is older is unchanged
+  pub record KeepsTies (old new : NameTracker Value (Ptr BasicBlock)) (g k : GraphView (Option O) B T) : Type 0 where
+    pub tied : MatchesGraph new.values new.labels k
+    pub waiting : (m : ℕ) (own : List (Ptr BasicBlock)) → m ≤ g.made → ArePending m own old.values old.labels g → ArePending m own new.values new.labels k
+    pub kept : (m : ℕ) → m ≤ g.made → KeepsOlder m g k
+
+  -- what calls that define names keep: the same, where what is older than a parse uses nothing newer and is no placeholder
+  pub record SettlesTies (old new : NameTracker Value (Ptr BasicBlock)) (g k : GraphView (Option O) B T) : Type 0 where
+    pub tied : MatchesGraph new.values new.labels k
+    pub waiting : (m : ℕ) (own : List (Ptr BasicBlock)) → ArePending m own old.values old.labels g → ArePending m own new.values new.labels k
+    pub kept : (m : ℕ) (own : List (Ptr BasicBlock)) → IsClosedBelow m g → ArePending m own old.values old.labels g → KeepsOlder m g k

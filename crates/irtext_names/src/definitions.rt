@@ -1,21 +1,65 @@
-//! Names that are defined one after another: the results of an operation.
-ghost use Rattle.std.specs.Prelude.{◌≡◌, ◌<◌, ℕ, List, length, map, true, OnOk, OnErr, IfErr, Err};
-ghost use Rattle.irtext_graph.specs.Back.{IsClosedBelow};
-ghost use Rattle.irtext_graph.specs.Graph.{KeepsOlder};
-ghost use Rattle.irtext_graph.specs.declared.arena.Ptr.{Ptr};
-ghost use Rattle.irtext_graph.specs.declared.object.BasicBlock.{BasicBlock};
-ghost use Rattle.irtext_scopes.specs.Scopes.{is_open};
+//! Definitions of names, one by one or one after another, as the results of an operation.
+ghost use Rattle.std.specs.Prelude.{◌≡◌, ◌<◌, ◌↔◌, length, map, slice_get, true, None, Some, OnOk, OnErr, IfErr, Err};
+ghost use Rattle.irtext_graph.specs.Used.{IsDefined};
+ghost use Rattle.irtext_graph.specs.declared.object.Value.TheVariants.{Result};
+ghost use Rattle.irtext_grammar.specs.Names.History.{act};
+ghost use Rattle.irtext_grammar.specs.Names.Script.{Place, MultipleDefinitions};
+ghost use Rattle.irtext_grammar.specs.Names.TextScopes.{Word};
+ghost use Rattle.irtext_scopes.specs.Scopes.{innermost, is_open, find, is_defined};
 ghost use Rattle.irtext_scopes.specs.declared.scopes.DefineFault.{DefineFault};
-ghost use Rattle.irtext_names.specs.Tied.{MatchesGraph, ArePending};
-ghost use Rattle.irtext_names.specs.Rows.{AreKnown, AreReady, DefinesResults, FailsResults};
+ghost use Rattle.irtext_names.specs.Kinds.{scopes_of, other, defined_as, definition_of};
+ghost use Rattle.irtext_names.specs.Linked.{TakesDefinition, FailsBy};
+ghost use Rattle.irtext_names.specs.Placeholders.{Defines};
+ghost use Rattle.irtext_names.specs.Tied.{MatchesGraph, IsNoPlaceholder, SettlesTies};
+ghost use Rattle.irtext_names.specs.Rows.{AreKnown, ValuesReady, DefinesRow, FailsRow};
 
+use crate::kinds::{Names, Referent};
 use crate::named::Named;
-use crate::values::ssa_def;
+use crate::placeholders::settle;
 use irtext_graph::arena::Ptr;
 use irtext_graph::graph::Graph;
-use irtext_graph::object::{BasicBlock, Operation, Value};
+use irtext_graph::object::{Operation, Value};
 use irtext_scopes::scopes::DefineFault;
-use irtext_scopes::tracker::NameTracker;
+
+/// Defines a name as this value, or a label as this block. A scope of the name's kind must be open. If the name was used before, the
+/// definition replaces the placeholder in all uses, and the placeholder is erased. Fails with `MultipleDefinitions` if the scope defines
+/// the name already, and with `Memory` if an allocation fails, which can happen only for a name that is new in the scope. On an error the
+/// scopes and the graph are unchanged.
+pub fn define_name<K: Referent<B>, O: Drop, B: Drop, T: Drop>(
+    names: &mut Names,
+    graph: &mut Graph<Option<O>, B, Option<T>>,
+    name: usize,
+    def: K,
+) -> Result<(), DefineFault>
+    requires open { is_open (scopes_of K.kind names.old) ≡ true }
+    requires known { name < length names.old.names }
+    requires tied { MatchesGraph names.old.values names.old.labels graph.old }
+    requires there { IsDefined graph.old (defined_as K.kind def) }
+    requires no_placeholder { IsNoPlaceholder (scopes_of K.kind names.old) def }
+    ensures twice { (result ≡ Err DefineFault.MultipleDefinitions) ↔
+        (is_defined (find name (innermost (scopes_of K.kind names.old))) ≡ true) }
+    ensures memory { result ≡ Err DefineFault.Memory
+        → find name (innermost (scopes_of K.kind names.old)) ≡ None }
+    ensures defines { OnOk result (Defines (defined_as K.kind) (scopes_of K.kind names.old)
+        (scopes_of K.kind names.new) graph.old graph.new name def) }
+    ensures follows { OnOk result ((w : Word) (p : Place) → slice_get names.old.names name ≡ Some w.name
+        → TakesDefinition (definition_of K.kind w p) names.old names.new graph.old graph.new p
+        (defined_as K.kind def)) }
+    ensures fails { result ≡ Err DefineFault.MultipleDefinitions → (w : Word) (p : Place)
+        → slice_get names.old.names name ≡ Some w.name
+        → FailsBy (act (definition_of K.kind w p)) names.old graph.old
+        (record { cause = MultipleDefinitions w.name; at = Some w.at }) }
+    ensures scopes { OnErr result (scopes_of K.kind names.new ≡ scopes_of K.kind names.old) }
+    ensures objects { OnErr result (graph.new ≡ graph.old) }
+    ensures rest { (names.new.names ≡ names.old.names)
+        × (scopes_of (other K.kind) names.new ≡ scopes_of (other K.kind) names.old) }
+    ensures ties { SettlesTies names.old names.new graph.old graph.new }
+{
+    if let Some(placeholder) = K::define(names, name, def)? {
+        settle(graph, placeholder.as_defined(), def.as_defined());
+    }
+    Ok(())
+}
 
 /// Why names were not defined: the fault of the first name that failed, and the index of this name in the list, from 0.
 #[derive(Clone, Copy, Debug)]
@@ -29,7 +73,7 @@ pub struct UndefinedName {
 /// `MultipleDefinitions` at the first name that its scope defines already, and with `Memory` if an allocation fails; the names before
 /// that one are defined then.
 pub fn process_parsed_ssa_defs<N: Named, O: Drop, B: Drop, T: Drop>(
-    names: &mut NameTracker<Value, Ptr<BasicBlock>>,
+    names: &mut Names,
     graph: &mut Graph<Option<O>, B, Option<T>>,
     defined: &[N],
     op: Ptr<Operation>,
@@ -37,22 +81,18 @@ pub fn process_parsed_ssa_defs<N: Named, O: Drop, B: Drop, T: Drop>(
     requires open { is_open names.old.values ≡ true }
     requires known { AreKnown (length names.old.names) (map N.numbered defined.now) }
     requires tied { MatchesGraph names.old.values names.old.labels graph.old }
-    requires ready { AreReady op (length defined.now) names.old.values graph.old }
-    ensures defines { OnOk result (DefinesResults op (map N.numbered defined.now) names.old names.new
+    requires ready { ValuesReady (Result op) (length defined.now) names.old.values graph.old }
+    ensures defines { OnOk result (DefinesRow (Result op) (map N.numbered defined.now) names.old names.new
         graph.old graph.new) }
     ensures fails { IfErr result (λ undefined. undefined.fault ≡ DefineFault.MultipleDefinitions
-        → FailsResults op (map N.numbered defined.now) undefined.index names.old graph.old) }
+        → FailsRow (Result op) (map N.numbered defined.now) undefined.index names.old graph.old) }
     ensures within { IfErr result (λ undefined. undefined.index < length defined.now) }
     ensures open { is_open names.new.values ≡ true }
-    ensures tied { MatchesGraph names.new.values names.new.labels graph.new }
     ensures rest { (names.new.names ≡ names.old.names) × (names.new.labels ≡ names.old.labels) }
-    ensures waiting { (m : ℕ) (own : List (Ptr BasicBlock))
-        → ArePending m own names.old.values names.old.labels graph.old → ArePending m own names.new.values names.new.labels graph.new }
-    ensures kept { (m : ℕ) (own : List (Ptr BasicBlock)) → IsClosedBelow m graph.old
-        → ArePending m own names.old.values names.old.labels graph.old → KeepsOlder m graph.old graph.new }
+    ensures ties { SettlesTies names.old names.new graph.old graph.new }
 {
     for (index, name) in defined.iter().enumerate() {
-        if let Err(fault) = ssa_def(names, graph, name.number(), Value::Result(op, index)) {
+        if let Err(fault) = define_name(names, graph, name.number(), Value::Result(op, index)) {
             return Err(UndefinedName { fault, index });
         }
     }

@@ -3,9 +3,8 @@
 #![tactic(auto)]
 
 pub mod definitions;
-pub mod labels;
+pub mod kinds;
 pub mod named;
 mod placeholders;
 pub mod regions;
 pub mod uses;
-pub mod values;

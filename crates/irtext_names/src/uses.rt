@@ -1,76 +1,81 @@
-//! Names that are used one after another: the operands and the successors of an operation.
-ghost use Rattle.std.specs.Prelude.{◌≡◌, ◌≤◌, ◌++◌, ℕ, List, length, map, true, OnOk};
-ghost use Rattle.irtext_graph.specs.Graph.{KeepsOlder};
-ghost use Rattle.irtext_graph.specs.declared.arena.Ptr.{Ptr};
-ghost use Rattle.irtext_graph.specs.declared.object.BasicBlock.{BasicBlock};
-ghost use Rattle.irtext_graph.specs.declared.object.Value.{Value};
-ghost use Rattle.irtext_graph.specs.declared.object.Defined.TheVariants.{OfValue, OfBlock};
-ghost use Rattle.irtext_grammar.specs.Names.Script.{use_value, use_label};
+//! Uses of names, one by one or one after another, as the operands and the successors of an operation.
+ghost use Rattle.std.specs.Prelude.{◌≡◌, ◌<◌, ◌++◌, List, length, map, slice_get, true, Some, OnOk, OnErr, IfOk};
+ghost use Rattle.irtext_graph.specs.Used.{IsDefined};
+ghost use Rattle.irtext_grammar.specs.Names.Script.{User};
+ghost use Rattle.irtext_grammar.specs.Names.TextScopes.{Word};
 ghost use Rattle.irtext_scopes.specs.Scopes.{is_open};
-ghost use Rattle.irtext_names.specs.Tied.{MatchesGraph, ArePending};
+ghost use Rattle.irtext_names.specs.Kinds.{Makes, scopes_of, other, defined_as, use_of};
+ghost use Rattle.irtext_names.specs.Linked.{TakesUse};
+ghost use Rattle.irtext_names.specs.Placeholders.{Uses, StandsAsBefore};
+ghost use Rattle.irtext_names.specs.Tied.{MatchesGraph, KeepsTies};
 ghost use Rattle.irtext_names.specs.Rows.{AreKnown, UsesRow};
 
-use crate::labels::block_opd;
+use crate::kinds::{Blank, Names, Referent};
 use crate::named::Named;
-use crate::values::ssa_opd;
-use irtext_context::base::block::BlockData;
-use irtext_graph::arena::Ptr;
 use irtext_graph::graph::Graph;
-use irtext_graph::object::{BasicBlock, Value};
-use irtext_scopes::tracker::NameTracker;
 use std::alloc::AllocError;
 
-/// Appends the values that names refer to to `values`, in order. A scope of values must be open. A name that is new in its scope gets a
-/// placeholder. Fails if an allocation fails or a counter is full; some of the names may have been used then.
-pub fn ssa_opds<N: Named, O: Drop, B: Drop, T: Drop>(
-    names: &mut NameTracker<Value, Ptr<BasicBlock>>,
+/// Returns what a name refers to where it is used, a value or the block of a label: its definition, or the placeholder that waits for it.
+/// A scope of the name's kind must be open. A name that is new in its scope gets a placeholder, which for a label is made with this data.
+/// Fails if an allocation fails or a counter is full; then the scopes and each object of the graph are unchanged.
+pub fn use_name<K: Referent<B>, O: Drop, B: Drop, T: Drop>(
+    names: &mut Names,
     graph: &mut Graph<Option<O>, B, Option<T>>,
-    used: &[N],
-    values: &mut Vec<Value>,
-) -> Result<(), AllocError>
-    requires open { is_open names.old.values ≡ true }
-    requires known { AreKnown (length names.old.names) (map N.numbered used.now) }
+    name: usize,
+    with: K::Blank,
+) -> Result<K, AllocError>
+    requires open { is_open (scopes_of K.kind names.old) ≡ true }
+    requires known { name < length names.old.names }
     requires tied { MatchesGraph names.old.values names.old.labels graph.old }
-    ensures uses { OnOk result ((more : List Value) × (values.new.items ≡ values.old.items ++ more)
-        × UsesRow OfValue use_value (map N.numbered used.now) names.old names.new graph.old graph.new more) }
-    ensures open { is_open names.new.values ≡ true }
-    ensures rest { (names.new.names ≡ names.old.names) × (names.new.labels ≡ names.old.labels) }
-    ensures tied { MatchesGraph names.new.values names.new.labels graph.new }
-    ensures waiting { (m : ℕ) (own : List (Ptr BasicBlock)) → m ≤ graph.old.made
-        → ArePending m own names.old.values names.old.labels graph.old → ArePending m own names.new.values names.new.labels graph.new }
-    ensures kept { (m : ℕ) → m ≤ graph.old.made → KeepsOlder m graph.old graph.new }
+    ensures uses { IfOk result (λ v. Uses (Makes K.kind (K.blank with)) (scopes_of K.kind names.old)
+        (scopes_of K.kind names.new) graph.old graph.new name v) }
+    ensures there { IfOk result (λ v. IsDefined graph.new (defined_as K.kind v)) }
+    ensures follows { IfOk result (λ v. (w : Word) (u : User) → slice_get names.old.names name ≡ Some w.name
+        → TakesUse (use_of K.kind w u) names.old names.new graph.old graph.new u
+        (defined_as K.kind v)) }
+    ensures scopes { OnErr result (scopes_of K.kind names.new ≡ scopes_of K.kind names.old) }
+    ensures objects { OnErr result (StandsAsBefore graph.old graph.new) }
+    ensures rest { (names.new.names ≡ names.old.names)
+        × (scopes_of (other K.kind) names.new ≡ scopes_of (other K.kind) names.old) }
+    ensures ties { KeepsTies names.old names.new graph.old graph.new }
 {
-    for name in used {
-        let value = ssa_opd(names, graph, name.number())?;
-        values.push(value)?;
+    if let Some(known) = K::referred(names, name) {
+        return Ok(known);
     }
-    Ok(())
+    let mark = graph.made();
+    let placeholder = K::make(graph, with)?;
+    if K::wait(names, name, placeholder).is_err() {
+        graph.roll_back(mark);
+        return Err(AllocError);
+    }
+    Ok(placeholder)
 }
 
-/// Appends the blocks that labels refer to to `blocks`, in order. A region must be open. A label that is new in its region gets a
-/// placeholder. Fails if an allocation fails or a counter is full; some of the labels may have been used then.
-pub fn block_opds<N: Named, O: Drop, A: Drop, T: Drop>(
-    names: &mut NameTracker<Value, Ptr<BasicBlock>>,
-    graph: &mut Graph<Option<O>, BlockData<A>, Option<T>>,
+/// Appends what names of one kind refer to to `referents`, in order. A scope of this kind must be open. A name that is new in its scope
+/// gets a placeholder. Fails if an allocation fails or a counter is full; some of the names may have been used then.
+pub fn use_names<N: Named, K: Referent<B>, O: Drop, B: Drop, T: Drop>(
+    names: &mut Names,
+    graph: &mut Graph<Option<O>, B, Option<T>>,
     used: &[N],
-    blocks: &mut Vec<Ptr<BasicBlock>>,
+    referents: &mut Vec<K>,
 ) -> Result<(), AllocError>
-    requires open { is_open names.old.labels ≡ true }
+where
+    K::Blank: Blank,
+    requires open { is_open (scopes_of K.kind names.old) ≡ true }
     requires known { AreKnown (length names.old.names) (map N.numbered used.now) }
     requires tied { MatchesGraph names.old.values names.old.labels graph.old }
-    ensures uses { OnOk result ((more : List (Ptr BasicBlock)) × (blocks.new.items ≡ blocks.old.items ++ more)
-        × UsesRow OfBlock use_label (map N.numbered used.now) names.old names.new graph.old graph.new more) }
-    ensures open { is_open names.new.labels ≡ true }
-    ensures kept { (m : ℕ) → m ≤ graph.old.made → KeepsOlder m graph.old graph.new }
-    ensures waiting { (m : ℕ) (own : List (Ptr BasicBlock)) → m ≤ graph.old.made
-        → ArePending m own names.old.values names.old.labels graph.old → ArePending m own names.new.values names.new.labels graph.new }
-    ensures tied { MatchesGraph names.new.values names.new.labels graph.new }
-    ensures rest { (names.new.names ≡ names.old.names) × (names.new.values ≡ names.old.values) }
+    ensures uses { OnOk result ((more : List K) × (referents.new.items ≡ referents.old.items ++ more)
+        × UsesRow (defined_as K.kind) (use_of K.kind) (map N.numbered used.now) names.old names.new
+        graph.old graph.new more) }
+    ensures open { is_open (scopes_of K.kind names.new) ≡ true }
+    ensures rest { (names.new.names ≡ names.old.names)
+        × (scopes_of (other K.kind) names.new ≡ scopes_of (other K.kind) names.old) }
+    ensures ties { KeepsTies names.old names.new graph.old graph.new }
 {
     for name in used {
-        let value = BlockData::blank(graph.allocator());
-        let block = block_opd(names, graph, name.number(), value)?;
-        blocks.push(block)?;
+        let with = K::Blank::blank(graph.allocator());
+        let referent = use_name(names, graph, name.number(), with)?;
+        referents.push(referent)?;
     }
     Ok(())
 }

@@ -1,24 +1,33 @@
 -- What stays live while an operation is made of what its front was parsed as.
-use Rattle.std.proofs.Common.{Result, Ok, Err, IfOk, OnOk, slice_get, ◌≡◌, ◌≤◌, ◌∙◌, ◌++◌, ℕ, List, [], length, Option, Some, None, refl, sym, ap, subst, arith}
+use Rattle.std.proofs.Common.{Result, Ok, Err, IfOk, OnOk, slice_get, ◌≡◌, ◌≤◌, ◌∙◌, ◌++◌, ℕ, List, [], length, map, Option, Some, None, IsSome, refl, sym, ap, subst, arith}
 use Rattle.std.specs.Prelude.{IfSome}
+use Rattle.std.specs.Option.{option_map}
+use Rattle.irtext_base.specs.declared.base.identifier.OpId.{OpId}
+use Rattle.irtext_base.specs.declared.location.Location.{Location}
 use Rattle.irtext_context.specs.Context.{ContextView, MakesOperation, KeepsOlder, with_graph}
 use Rattle.irtext_context.specs.declared.base.operation.OperationData.{OperationData}
 use Rattle.irtext_graph.specs.Back.{AllOlder}
 use Rattle.irtext_graph.specs.Graph as graphs
-use Rattle.irtext_graph.specs.Graph.{IsLive, IsNew}
+use Rattle.irtext_graph.specs.Chained.{Among}
+use Rattle.irtext_graph.specs.Content.{AnOperation}
+use Rattle.irtext_graph.specs.Graph.{GraphView, IsLive, IsNew, content_of, parent, parent_of, children, children_of}
 use Rattle.irtext_graph.proofs.Closed.{older_on}
 use Rattle.irtext_graph.specs.declared.arena.Ptr.{Ptr}
 use Rattle.irtext_graph.specs.declared.object.BasicBlock.{BasicBlock}
 use Rattle.irtext_graph.specs.declared.object.Operation.{Operation}
-use Rattle.irtext_graph.specs.declared.object.Object.TheVariants.{TheBlock, TheOperation}
+use Rattle.irtext_graph.specs.declared.object.Object.TheVariants.{TheBlock, TheOperation, TheRegion}
 use Rattle.irtext_graph.specs.declared.object.Value.{Value}
+use Rattle.irtext_names.specs.Tied.{MatchesGraph}
 use Rattle.irtext_parse_spec.specs.Unchanged.{IsThere}
+use Rattle.irtext_parse_pieces.specs.declared.pieces.ReadPiece.{ReadPiece}
 use Rattle.irtext_grammar.specs.Grammar.Tree.{in_order}
 use Rattle.irtext_parse_nested.specs.declared.operation_parts.Gathered.{Gathered}
-use Rattle.irtext_parse_nested.specs.Beginning.{types_made}
-use Rattle.irtext_parse_nested.specs.Gathered.{KeepsScopes, IsNothing}
+use Rattle.irtext_parse_nested.specs.Beginning.{types_made, CreatesOf}
+use Rattle.irtext_parse_nested.specs.Gathered.{KeepsScopes, IsNothing, Gathers, AllStand}
 use Rattle.irtext_parse_nested.specs.Items.{Names, KeepsLive}
+use Rattle.irtext_parse_nested.proofs.Gathers.{gathers_none}
 use Rattle.irtext_parse_nested.proofs.Lasting.{lasts_then, block_stands}
+use Rattle.irtext_parse_nested.proofs.Steady.{steady_itself}
 use Rattle.irtext_parse_nested.proofs.UsedStands.{used_lasts, made_lasts, made_new}
 
 -- what holds of a result, and of the state that the call left
@@ -46,39 +55,82 @@ module _ {T A : Type 0} where
     dialects = l.dialects ∙ k.dialects;
   }
 
-module _ {T A : Type 0} (old used : ContextView T A) (before names : Names) (all_older : AllOlder old.graph.made old.graph) (steady : KeepsScopes before names old.graph used.graph) (used_is : used ≡ with_graph old used.graph) where
+-- ---- names were used
+module _ {T A : Type 0} {old used : ContextView T A} {before names : Names} (all_older : AllOlder old.graph.made old.graph) (steady : KeepsScopes before names old.graph used.graph) (used_is : used ≡ with_graph old used.graph) where
   lasts_used : KeepsLive old used
   lasts_used = used_lasts old used all_older steady.kept steady.brings (ap (λ c. c.dialects) used_is)
-
-  pub used_more : (m : ℕ) → m ≤ old.graph.made → m ≤ used.graph.made
-  used_more m le = let up = lasts_used.made in omega (arith, le, up)
 
   pub keeps_used : (m : ℕ) → m ≤ old.graph.made → KeepsOlder m old used
   keeps_used m le = used_keeps old used used_is m (steady.kept m le)
 
-  module _ (made : ContextView T A) {op : Ptr Operation} {held : OperationData A} {types : List T} {vs : List Value} {bs : List (Ptr BasicBlock)} (makes : MakesOperation used made op held types vs bs) where
-    lasts_here : KeepsLive old made
-    lasts_here = lasts_then old used made lasts_used (made_lasts used made op held types makes)
+  used_more : (m : ℕ) → m ≤ old.graph.made → m ≤ used.graph.made
+  used_more m le = let up = lasts_used.made in omega (arith, le, up)
 
-    -- the block is still live
-    pub block_there : (o : Option (Ptr BasicBlock)) → IfSome o (λ k. IsThere old (TheBlock k)) → IfSome o (λ k. IsLive made.graph (TheBlock k))
-    block_there None there = tt
-    block_there (Some k) there = block_stands made k (lasts_here.blocks k there.0 there.1).0
+  -- what is older than a mark is kept, whatever is created then
+  pub keeps_created : (new : ContextView T A) (m : ℕ) → m ≤ old.graph.made → (m ≤ used.graph.made → KeepsOlder m used new) → KeepsOlder m old new
+  keeps_created new m le f = keeps_then m old used new (keeps_used m le) (f (used_more m le))
 
-    block_newer : (m : ℕ) → m ≤ old.graph.made → (o : Option (Ptr BasicBlock)) → IfSome o (λ b. IsNew m old.graph (TheBlock b)) → IfSome o (λ b. IsNew m made.graph (TheBlock b))
-    block_newer m le None n = tt
-    block_newer m le (Some b) n = lasts_here.newer m (TheBlock b) le n
+-- ---- an operation was created
+module _ {T A : Type 0} {id : OpId} {pieces : List (ReadPiece T A)} {loc : Location A} {before : Names} {old : ContextView T A} {names : Names} {made : ContextView T A} {op : Ptr Operation} {count : ℕ}
+    (m : CreatesOf id pieces loc before old names made op count) (all_older : AllOlder old.graph.made old.graph) where
+  lasts_here : KeepsLive old made
+  lasts_here = lasts_then old m.used made (lasts_used all_older m.steady m.used_is) (made_lasts m.used made op _ _ m.makes)
 
-    -- what is older than a mark is kept, whatever was made and placed
-    pub keeps_placed : (new : ContextView T A) (o : Option (Ptr BasicBlock)) (m : ℕ) → m ≤ old.graph.made → IfSome o (λ b. IsNew m old.graph (TheBlock b)) → KeepsOlder m used made
-        → (IfSome o (λ b. IsNew m made.graph (TheBlock b)) → IsNew m made.graph (TheOperation op) → KeepsOlder m made new) → KeepsOlder m old new
-    keeps_placed new o m le n k f = keeps_then m old used new (keeps_used m le) (keeps_then m used made new k (f (block_newer m le o n) (made_new used made op held types makes m (used_more m le))))
+  -- it is live, detached and empty
+  pub op_there : IsLive made.graph (TheOperation op)
+  op_there = subst IsSome (sym (ap (λ e. option_map (λ d. AnOperation d.0 d.1) (content_of e)) m.makes.graph.operations.updates.changed)) refl
 
+  pub op_free : parent made.graph (TheOperation op) ≡ None
+  op_free = ap (λ e. option_map TheBlock (parent_of e)) m.makes.graph.operations.updates.changed
+
+  pub op_empty : children made.graph (TheOperation op) ≡ []
+  op_empty = ap (λ e. map TheRegion (children_of e)) m.makes.graph.operations.updates.changed
+
+  -- the block is still live
+  pub block_there : (o : Option (Ptr BasicBlock)) → IfSome o (λ k. IsThere old (TheBlock k)) → IfSome o (λ k. IsLive made.graph (TheBlock k))
+  block_there None there = tt
+  block_there (Some k) there = block_stands made k (lasts_here.blocks k there.0 there.1).0
+
+  block_newer : (n : ℕ) → n ≤ old.graph.made → (o : Option (Ptr BasicBlock)) → IfSome o (λ b. IsNew n old.graph (TheBlock b)) → IfSome o (λ b. IsNew n made.graph (TheBlock b))
+  block_newer n le None new = tt
+  block_newer n le (Some b) new = lasts_here.newer n (TheBlock b) le new
+
+  -- what is older than a mark is kept, wherever it is placed
+  pub keeps_placed : (new : ContextView T A) (o : Option (Ptr BasicBlock)) (n : ℕ) → n ≤ old.graph.made → IfSome o (λ b. IsNew n old.graph (TheBlock b)) → KeepsOlder n old made
+      → (IfSome o (λ b. IsNew n made.graph (TheBlock b)) → IsNew n made.graph (TheOperation op) → KeepsOlder n made new) → KeepsOlder n old new
+  keeps_placed new o n le b k f = keeps_then n old made new k (f (block_newer n le o b) (made_new m.used made op _ _ m.makes n (used_more all_older m.steady m.used_is n le)))
+
+-- ---- nothing was gathered
+-- what was gathered is live
+pub nothing_stands : {O B T A : Type 0} (g : GraphView (Option O) B (Option T)) (x : Gathered T A) → IsNothing x → AllStand g x
+nothing_stands g x n = record {
+  operands = λ e a. absurd (subst (Among e) n.operands.0 a);
+  listed_operands = λ v a. absurd (subst (Among v) n.operands.1 a);
+  successors = λ e a. absurd (subst (Among e) n.successors.0 a);
+  listed_successors = λ b a. absurd (subst (Among b) n.successors.1 a);
+}
+
+-- ---- an operation without pieces
 module _ {T A : Type 0} where
-  -- what was made of nothing has no results, operands and successors
-  pub bare_makes : (old made : ContextView T A) (op : Ptr Operation) (held : OperationData A) (x : Gathered T A) → IsNothing x → MakesOperation old made op held [] [] []
+  -- it has no results, operands and successors
+  bare_makes : (old made : ContextView T A) (op : Ptr Operation) (held : OperationData A) (x : Gathered T A) → IsNothing x → MakesOperation old made op held [] [] []
       → MakesOperation old made op held (types_made x.types.items x.listed) (in_order x.operands.single.items ++ x.operands.list.items) (in_order x.successors.single.items ++ x.successors.list.items)
   bare_makes old made op held x n k = rw (n.types.0, n.types.1, n.operands.0, n.operands.1, n.successors.0, n.successors.1) k
 
-  pub bare_count : (x : Gathered T A) → IsNothing x → 0 ≡ length (types_made x.types.items x.listed)
+  bare_count : (x : Gathered T A) → IsNothing x → 0 ≡ length (types_made x.types.items x.listed)
   bare_count x n = rw (n.types.0, n.types.1) refl
+
+  -- it was created from what no pieces give
+  pub bare_creates : (id : OpId) (pieces : List (ReadPiece T A)) → pieces ≡ [] → (loc : Location A) (names : Names) (old new : ContextView T A) → MatchesGraph names.values names.labels old.graph → (none : Gathered T A) → IsNothing none
+      → (op : Ptr Operation) (results : ℕ) → MakesOperation old new op (record { id = id; attributes = none.attributes; loc = loc }) [] [] [] → results ≡ 0 → CreatesOf id pieces loc names old names new op results
+  bare_creates id pieces bare loc names old new tied none is op results makes counts = record {
+    none = none;
+    is_none = is;
+    gathered = none;
+    used = old;
+    gathers = subst (λ ps. Gathers ps names old.graph none names old.graph none) (sym bare) (gathers_none names old.graph none);
+    steady = steady_itself names old.graph tied;
+    used_is = refl;
+    makes = bare_makes old new op _ none is makes;
+    counts = counts ∙ bare_count none is;
+  }

@@ -32,6 +32,7 @@ use Rattle.irtext_parse_pieces.specs.declared.headers.BlockHead.{BlockHead}
 use Rattle.irtext_parse_pieces.specs.Entries.{IsEntry}
 use Rattle.irtext_parse_pieces.specs.Headers.{IsHead}
 use Rattle.irtext_parse_pieces.specs.Named.{Leaves, Each}
+use Rattle.irtext_names.proofs.SameBut.{results_in, results_are}
 use Rattle.irtext_parse_nested.specs.Blocks.{entries_in, MakesHead}
 use Rattle.irtext_parse_nested.specs.Definitions.{LosesPlaceholders}
 use Rattle.irtext_parse_nested.specs.Gathered.{entry_read}
@@ -43,7 +44,6 @@ use Rattle.irtext_parse_nested.proofs.Lasting.{lasts_then}
 use Rattle.irtext_parse_nested.proofs.Faults.{stands_there, named_each}
 use Rattle.irtext_parse_nested.proofs.Headers.{keys_each, arguments_named, arguments_typed}
 use Rattle.irtext_parse_nested.proofs.Lasting.{loses_lasts}
-use Rattle.irtext_parse_nested.proofs.Losing.{results_in, results_are}
 use Rattle.irtext_parse_nested.proofs.Sparing.{loses_spares, stands_region}
 
 some_mapped : {X Y : Type 0} (f : X → Y) (o : Option X) → IsSome o → IsSome (option_map f o)

@@ -1,6 +1,6 @@
 -- A block that was made and appended to its region: names and graph still agree with the state of the machine, with the block and its
 -- arguments at places of the text.
-use Rattle.std.proofs.Common.{◌≡◌, ◌<◌, ◌+◌, ◌∙◌, inl, inr, ℕ, zero, suc, List, [], ◌∷◌, ◌++◌, length, Option, IsSome, refl, sym, ap, subst, arith, slice_get}
+use Rattle.std.proofs.Common.{◌≡◌, ◌<◌, ◌+◌, ◌∙◌, inl, inr, ℕ, List, [], ◌∷◌, ◌++◌, length, Option, refl, sym, ap, subst, arith}
 use Rattle.std.specs.Option.{option_map}
 use Rattle.irtext_graph.specs.declared.arena.Ptr.{Ptr}
 use Rattle.irtext_graph.specs.declared.object.BasicBlock.{BasicBlock}
@@ -12,7 +12,7 @@ use Rattle.irtext_graph.specs.declared.object.Defined.{Defined}
 use Rattle.irtext_graph.specs.declared.object.Defined.TheVariants.{OfValue, OfBlock}
 use Rattle.irtext_graph.specs.Chained.{Among}
 use Rattle.irtext_graph.specs.Erasing.{owner, without_uses}
-use Rattle.irtext_graph.specs.Graph.{GraphView, MakesBlock, Appends, numbered}
+use Rattle.irtext_graph.specs.Graph.{GraphView, MakesBlock, Appends}
 use Rattle.irtext_graph.specs.Used.{IsDefined}
 use Rattle.irtext_scopes.specs.declared.tracker.NameTracker.{NameTracker}
 use Rattle.irtext_scopes.specs.Scopes.{Scope}
@@ -23,29 +23,19 @@ use Rattle.irtext_names.specs.Tied.{MatchesGraph, ArePending, IsNoPlaceholder}
 use Rattle.irtext_names.proofs.Added.{made_none, added_ties, block_waits}
 use Rattle.irtext_names.proofs.Gained.{block_added}
 use Rattle.irtext_names.proofs.SameBut.{same_defined}
+use Rattle.irtext_names.specs.Rows.{made_values}
+use Rattle.irtext_names.proofs.Made.{value_made, numbered_there}
 use Rattle.irtext_names.proofs.Linked.Steps.{block_made}
 use Rattle.irtext_names.proofs.Linked.Placed.{block_placed, block_placed_ties, block_placed_waits}
 use Rattle.irtext_parse_nested.specs.Definitions.{ValuesReady}
 
 -- the arguments of the block at a path from i on, one for each of these, and what they were made into
 abbrev pub arguments_made : {X : Type 0} → Path → Ptr BasicBlock → ℕ → List X → List (Place × Value)
-arguments_made p b i [] = []
-arguments_made p b i (x ∷ xs) = (argument p i, Argument b i) ∷ arguments_made p b (suc i) xs
+arguments_made p b = made_values (argument p) (Argument b)
 
 -- what is made, and besides it the block at a path with its arguments
 abbrev pub with_block : {X : Type 0} → Path → Ptr BasicBlock → List X → Known → Known
 with_block p b types known = record { values = known.values ++ arguments_made p b 0 types; blocks = known.blocks ++ (block_at p, b) ∷ []; sites = known.sites }
-
-argument_there : {X : Type 0} (p : Path) (b : Ptr BasicBlock) (k : ℕ) (xs : List X) (q : Place) (v : Value) → Among (q, v) (arguments_made p b k xs) → (i : ℕ) × (v ≡ Argument b (k + i)) × (i < length xs)
-argument_there p b k [] q v a = absurd a
-argument_there p b k (x ∷ xs) q v (inl e) = (0, ap (λ z. z.1) e ∙ ap (Argument b) (omega arith), omega arith)
-argument_there p b k (x ∷ xs) q v (inr a) = let r = argument_there p b (suc k) xs q v a in (suc r.0, r.1 ∙ ap (Argument b) (omega arith), let l = r.2 in omega (arith, l))
-
--- so many values are numbered as there are types
-numbered_there : {T : Type 0} (n i : ℕ) (ts : List T) → i < length ts → IsSome (slice_get (numbered n ts) i)
-numbered_there n i [] l = absurd (omega (arith, l))
-numbered_there n zero (t ∷ ts) l = refl
-numbered_there n (suc i) (t ∷ ts) l = numbered_there (n + 1) i ts (omega (arith, l))
 
 module _ {O B T : Type 0} {g m k : GraphView (Option O) B T} (r : Ptr Region) (b : Ptr BasicBlock) (x : B) (types : List T) (make : MakesBlock g m b x types) (a : Appends m k (TheRegion r) (TheBlock b)) where
   argument_here : (i : ℕ) → i < length types → IsDefined m (OfValue (Argument b i))
@@ -78,7 +68,7 @@ module _ {O B T : Type 0} {g m k : GraphView (Option O) B T} (r : Ptr Region) (b
       (block_made g m names known held st b x types (arguments_made p b 0 types) ((block_at p, b) ∷ []) make arguments blocks s)
     where
       arguments : (q : Place) (v : Value) → Among (q, v) (arguments_made p b 0 types) → (owner (OfValue v) ≡ TheBlock b) × IsDefined m (OfValue v)
-      arguments q v h = let i = argument_there p b 0 types q v h in let l = i.2 in
+      arguments q v h = let i = value_made (argument p) (Argument b) 0 types q v h in let l = i.2 in
           (ap (λ z. owner (OfValue z)) i.1, subst (λ z. IsDefined m (OfValue z)) (sym i.1) (argument_here (0 + i.0) (omega (arith, l))))
 
       blocks : (q : Place) (c : Ptr BasicBlock) → Among {U = Place × Ptr BasicBlock} (q, c) ((block_at p, b) ∷ []) → (c ≡ b) × IsDefined m (OfBlock c)

@@ -3,6 +3,7 @@ use Rattle.std.proofs.Common.{◌≡◌, ◌<◌, ◌∙◌, inl, ℕ, zero, suc
 use Rattle.std.proofs.lemmas.List.{length-map}
 use Rattle.irtext_base.specs.Text.{Text}
 use Rattle.irtext_base.specs.declared.base.attributes.AttrObj.{AttrObj}
+use Rattle.irtext_base.specs.declared.location.Location.{Location}
 use Rattle.irtext_base.specs.declared.location.Source.{Source}
 use Rattle.irtext_context.specs.Context.{ContextView, known}
 use Rattle.irtext_context.specs.declared.base.block.BlockData.{BlockData}
@@ -35,6 +36,7 @@ use Rattle.irtext_parse_nested.specs.Gathered.{entry_read, AreAllowed}
 use Rattle.irtext_parse_nested.specs.Items.{Names, IsSound, BlanksDefine}
 use Rattle.irtext_parse_nested.proofs.Blanks.{blanks_on}
 use Rattle.irtext_parse_nested.proofs.Losing.{blanks_by}
+use Rattle.irtext_parse_nested.specs.Located.{IsLocatedAt}
 use Rattle.irtext_parse_nested.specs.Placing.{PlacesBlock}
 use Rattle.irtext_parse_nested.proofs.BlockPlaced.{placed_ties, placed_waits, arguments_ready}
 
@@ -87,12 +89,12 @@ module _ {T A : Type 0} (old mid : ContextView T A) (r : Ptr Region) (b : Ptr Ba
 pub makes_head : {T A : Type 0} (names : List Text) (source : Source) (text : Text) (label : ReadName) (arguments : List (ReadName × T)) (entries : List (Key × AttrObj A)) (old new : ContextView T A) (r : Ptr Region) (b : Ptr BasicBlock)
     (attributes : List (Text × AttrObj A)) (types : List T) (read : List ReadName) → types ≡ map (λ a. a.1) arguments → read ≡ map (λ a. a.0) arguments → AreAllowed block_may_hold entries
     → ((ws : List (Name ℕ)) → AreNamed names (numbers_of read) ws → entries_of attributes ≡ put_all [] (map entry_read entries ++ read_names (map (λ w. w.text) ws)))
-    → PlacesLabelled names source text label attributes types old new r b → MakesHead names source text label arguments entries old new r b
-makes_head names source text label arguments entries old new r b attributes types read typed named allowed stored p = record {
-  held = p.held;
+    → (loc : Location A) → PlacesLabelled names label loc attributes types old new r b → IsLocatedAt source text label.at loc → MakesHead names source text label arguments entries old new r b
+makes_head names source text label arguments entries old new r b attributes types read typed named allowed stored loc p located = record {
+  held = record { label = Some p.name; attributes = attributes; loc = loc };
   named = p.named;
-  located = p.located;
+  located = located;
   allowed = allowed;
-  stored = λ ws a. ap entries_of p.attributes_are ∙ stored ws (subst (λ ns. AreNamed names (numbers_of ns) ws) (sym named) a);
-  places = subst (λ ts. PlacesBlock old new r b p.held ts) typed p.places;
+  stored = λ ws a. stored ws (subst (λ ns. AreNamed names (numbers_of ns) ws) (sym named) a);
+  places = subst (λ ts. PlacesBlock old new r b (record { label = Some p.name; attributes = attributes; loc = loc }) ts) typed p.places;
 }

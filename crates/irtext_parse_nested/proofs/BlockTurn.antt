@@ -5,8 +5,9 @@ use Rattle.irtext_base.specs.Reading.{the}
 use Rattle.irtext_base.specs.Own.{Sincere}
 use Rattle.irtext_base.specs.Stream.{StreamView}
 use Rattle.std.specs.Prelude.{IfOk}
-use Rattle.irtext_base.specs.Answers.{Outcome, Read, StarvesHere}
+use Rattle.irtext_base.specs.Answers.{Outcome, Read}
 use Rattle.irtext_base.specs.Locations.{AttrView}
+use Rattle.irtext_base.specs.declared.base.attributes.AttrObj.{AttrObj}
 use Rattle.irtext_base.specs.declared.parsable.fault.ParseFault.{ParseFault}
 use Rattle.irtext_base.proofs.Sincere.{of_mapped, of_sincere}
 use Rattle.irtext_tokens.specs.AttrTexts.{attr_at}
@@ -27,19 +28,23 @@ use Rattle.irtext_parse_state.specs.declared.parsable.state.StateStream.{StateSt
 use Rattle.irtext_scopes.specs.Names.{AreDistinct}
 use Rattle.irtext_grammar.specs.Contexts.Held.{whole}
 use Rattle.irtext_grammar.specs.Grammar.Tree.{Head}
+use Rattle.irtext_grammar.specs.Names.Acts.{block_may_hold}
 use Rattle.irtext_parse_spec.specs.Promises.Root.{UnlessMemory}
-use Rattle.irtext_parse_spec.specs.Promises.Section.{IsStarved}
 use Rattle.irtext_parse_spec.specs.Readers.Streams.{itself, replaced}
 use Rattle.irtext_parse_spec.proofs.Readers.Answered.{Answered, answered}
 use Rattle.irtext_parse_spec.proofs.Readers.Honest.{honest_nothing}
 use Rattle.irtext_parse_spec.specs.Heads.{name_at, name_of, label_at, pair_at, dictionary_at, argument_at, head_at}
+use Rattle.irtext_parse_pieces.specs.declared.entries.Key.{Key}
 use Rattle.irtext_parse_pieces.specs.declared.headers.BlockHead.{BlockHead}
 use Rattle.irtext_parse_pieces.specs.Headers.{IsHead, MustHead}
 use Rattle.irtext_parse_pieces.specs.Named.{NamesRead}
 use Rattle.irtext_parse_pieces.proofs.Meanings.{must_whole}
 use Rattle.irtext_parse_nested.specs.declared.frame.BegunBlock.{BegunBlock}
-use Rattle.irtext_parse_nested.specs.Blocks.{entries_in, RefusesKeys, MakesHead, NamesHead, RefusesHead}
+use Rattle.irtext_parse_nested.specs.declared.operation_parts.NotGathered.{NotGathered}
+use Rattle.irtext_parse_nested.specs.declared.operation_parts.NotGathered.TheVariants as refusal
+use Rattle.irtext_parse_nested.specs.Blocks.{entries_in, IsOfEntries, IsRefusalFault, RefusesKeys, MakesHead, NamesHead, RefusesHead}
 use Rattle.irtext_parse_nested.specs.Ends.{noted_as}
+use Rattle.irtext_parse_nested.specs.Gathered.{Forbids}
 use Rattle.irtext_parse_nested.specs.Items.{Names, ActFails, ActsWith}
 use Rattle.irtext_parse_nested.specs.Read.{heads_of, BeginsBlock, RefusesBlock}
 use Rattle.irtext_parse_nested.proofs.OperationClosed.{noted_is}
@@ -52,9 +57,26 @@ pub if_ok : {X E : Type 0} {P Q : X → Type 0} (r : Result X E) → ((x : X) �
 if_ok (Ok x) f p = f x p
 if_ok (Err e) f p = tt
 
--- a starved stream's error is out of memory
-pub starves : {A : Type 0} {old new : StreamView} {f : ParseFault A} → StarvesHere itself replaced old f new → IsStarved f
-starves s = record { because = s.because; flag = s.committed }
+-- ---- a key is forbidden
+-- the fault is for the first such key
+keys_said : {A : Type 0} (text : Text) (entries : List (Key × AttrObj A)) (why : NotGathered) (fault : ParseFault A) → Forbids block_may_hold entries why → UnlessMemory (IsRefusalFault text why) fault → UnlessMemory (RefusesKeys text entries) fault
+keys_said text entries why fault forbids (inl s) = inl s
+keys_said text entries refusal.Memory fault forbids (inr says) = absurd says
+keys_said text entries (refusal.ReservedKey key) fault forbids (inr says) = inr (record { key = key; first = forbids; says = says })
+keys_said text entries (refusal.NoActiveScope name) fault forbids (inr says) = absurd says
+
+-- an error of the entries is not about a name
+pub of_entries : {A : Type 0} (entries : List (Key × AttrObj A)) (why : NotGathered) → Forbids block_may_hold entries why → IsOfEntries why
+of_entries entries refusal.Memory forbids = tt
+of_entries entries (refusal.ReservedKey key) forbids = tt
+of_entries entries (refusal.NoActiveScope name) forbids = absurd forbids
+
+-- and it is committed
+pub keys_commit : {A : Type 0} (text : Text) (why : NotGathered) (fault : ParseFault A) → UnlessMemory (IsRefusalFault text why) fault → fault.committed ≡ true
+keys_commit text why fault (inl s) = s.flag
+keys_commit text refusal.Memory fault (inr says) = absurd says
+keys_commit text (refusal.ReservedKey key) fault (inr says) = says.flag
+keys_commit text (refusal.NoActiveScope name) fault (inr says) = absurd says
 
 -- ---- the parser of a header
 honest_name_at : Honest name_at
@@ -114,9 +136,10 @@ module _ {T A U : Type 0} (types_at : Text → Outcome T) (attr : Text → Outco
   block_refused P fails fault u = elim u [ inl s ↦ inl s | inr r ↦ inr (inr (head, there.taken, v.rest, there.is, fails fault r)) ]
 
   -- a key of its dictionary is an error
-  pub keys_refused : (fault : ParseFault A) → UnlessMemory (RefusesKeys (whole v) (entries_in read.attributes)) fault → UnlessMemory (RefusesBlock types_at attr before old) fault
-  keys_refused = block_refused (RefusesKeys (whole v) (entries_in read.attributes))
+  pub keys_refused : (why : NotGathered) (fault : ParseFault A) → Forbids block_may_hold (entries_in read.attributes) why → UnlessMemory (IsRefusalFault (whole v) why) fault → UnlessMemory (RefusesBlock types_at attr before old) fault
+  keys_refused why fault forbids u = block_refused (RefusesKeys (whole v) (entries_in read.attributes))
       (λ fault r. key_fails before names (whole old.stream) old.state.src old.state old.state read head reads distinct is_head fault (subst (λ t. RefusesKeys t (entries_in read.attributes) fault) same_text r))
+      fault (keys_said (whole v) (entries_in read.attributes) why fault forbids u)
 
   module _ (m : code.State T A U) (r : Ptr Region) (b : Ptr BasicBlock) (makes : MakesHead names.names old.state.src (whole v) read.label read.arguments (entries_in read.attributes) old.state.ctx.now m.ctx.now r b)
       (same : marks_of m ≡ marks_of old.state) where

@@ -48,26 +48,22 @@ module _ {O B T : Type 0} (g k : GraphView (Option O) B T) (op : Ptr Operation) 
     | inr n ↦ ap f (edits.operations.updates.others p n)
   ]
 
-  pub results_same : (p : Ptr Operation) → results k p ≡ results g p
-  results_same p = seen_same (λ e. results_of (option_map (λ e. e.content.content) e)) go p
+  -- and so does what looks at its content
+  view_same : {X : Type 0} (f : Option (OperationContent (Option O) T) → X) → ((e : Entry (Node BasicBlock Region (OperationContent (Option O) T))) → f (option_map (λ e. e.content.content) (written (Some e))) ≡ f (Some e.content.content)) → (p : Ptr Operation) → f (operation_at k p) ≡ f (operation_at g p)
+  view_same f same p = seen_same (λ e. f (option_map (λ e. e.content.content) e)) go p
     where
-      go : (e : Stored) → results_of (option_map (λ e. e.content.content) (written e)) ≡ results_of (option_map (λ e. e.content.content) e)
+      go : (e : Stored) → f (option_map (λ e. e.content.content) (written e)) ≡ f (option_map (λ e. e.content.content) e)
       go None = refl
-      go (Some e) = refl
+      go (Some e) = same e
+
+  pub results_same : (p : Ptr Operation) → results k p ≡ results g p
+  results_same = view_same results_of (λ e. refl)
 
   operands_same : (p : Ptr Operation) → operands_of (operation_at k p) ≡ operands_of (operation_at g p)
-  operands_same p = seen_same (λ e. operands_of (option_map (λ e. e.content.content) e)) go p
-    where
-      go : (e : Stored) → operands_of (option_map (λ e. e.content.content) (written e)) ≡ operands_of (option_map (λ e. e.content.content) e)
-      go None = refl
-      go (Some e) = refl
+  operands_same = view_same operands_of (λ e. refl)
 
   successors_same : (p : Ptr Operation) → successors_of (operation_at k p) ≡ successors_of (operation_at g p)
-  successors_same p = seen_same (λ e. successors_of (option_map (λ e. e.content.content) e)) go p
-    where
-      go : (e : Stored) → successors_of (option_map (λ e. e.content.content) (written e)) ≡ successors_of (option_map (λ e. e.content.content) e)
-      go None = refl
-      go (Some e) = refl
+  successors_same = view_same successors_of (λ e. refl)
 
   -- the data of an operation, and whether it has any
   data_seen : Stored → Option (Option O)

@@ -4,7 +4,6 @@ pub mod Apart
 pub mod RegionAdded
 pub mod Losing
 pub mod Blanks
-pub mod Rowed
 pub mod Numbered
 pub mod Lasting
 pub mod Faults

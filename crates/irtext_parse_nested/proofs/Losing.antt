@@ -1,7 +1,6 @@
 -- A definition takes nothing away but the placeholder that waited for it.
-use Rattle.std.proofs.Common.{◌≡◌, ◌∙◌, ◌⊎◌, inl, inr, ℕ, refl, sym, ap, subst, List, [], Option, Some, None, IsSome, length, slice_get}
+use Rattle.std.proofs.Common.{◌≡◌, ◌∙◌, ◌⊎◌, inl, inr, ℕ, refl, sym, ap, subst, List, Option, Some, None, IsSome, length, slice_get}
 use Rattle.std.specs.Option.{option_map}
-use Rattle.irtext_graph.specs.declared.arena.Entry.{Entry}
 use Rattle.irtext_graph.specs.declared.arena.Ptr.{Ptr}
 use Rattle.irtext_graph.specs.declared.object.BasicBlock.{BasicBlock}
 use Rattle.irtext_graph.specs.declared.object.Operation.{Operation}
@@ -11,12 +10,10 @@ use Rattle.irtext_graph.specs.declared.object.Object.TheVariants.{TheOperation, 
 use Rattle.irtext_graph.specs.declared.object.Value.TheVariants.{Result, Argument}
 use Rattle.irtext_graph.specs.declared.object.Defined.{Defined}
 use Rattle.irtext_graph.specs.declared.object.Defined.TheVariants.{OfValue, OfBlock}
-use Rattle.irtext_graph.specs.Content.{Typed, Node, Content, Content.{AnOperation, ABlock, ARegion}, OperationContent}
 use Rattle.irtext_graph.specs.Erasing.{without_uses, owner}
-use Rattle.irtext_graph.specs.Graph.{GraphView, content, content_of, parent, IsLive, IsNew}
+use Rattle.irtext_graph.specs.Graph.{GraphView, content, parent, IsLive, IsNew}
 use Rattle.irtext_graph.specs.Objects.{is_older}
-use Rattle.irtext_graph.specs.Parts.{operation_at, results, results_of}
-use Rattle.irtext_graph.specs.Store.{get}
+use Rattle.irtext_graph.specs.Parts.{operation_at, results}
 use Rattle.irtext_graph.specs.Used.{IsDefined}
 use Rattle.irtext_graph.proofs.Nests.{told, some_eq}
 use Rattle.irtext_graph.proofs.Same.{object_tells}
@@ -26,7 +23,7 @@ use Rattle.irtext_scopes.specs.Scopes.{Scope, find, innermost, placeholder_of}
 use Rattle.irtext_names.specs.Placeholders.{IsPlaceholder, SettlesIfAny, Defines}
 use Rattle.irtext_names.specs.Tied.{Tied}
 use Rattle.irtext_names.proofs.Pairs.{held_if}
-use Rattle.irtext_names.proofs.SameBut.{SameBut, same_age, same_self, same_then, data_in, data_is, still_placeholder}
+use Rattle.irtext_names.proofs.SameBut.{SameBut, same_age, same_self, same_then, data_in, data_is, results_in, results_are, still_placeholder}
 use Rattle.irtext_names.proofs.Settled.{replaced_same, erased_same}
 use Rattle.irtext_parse_nested.specs.Definitions.{BlanksHaveResults, IsPlaced, HasAsMany, StaysAlike, LosesPlaceholders}
 
@@ -40,20 +37,6 @@ mapped_some f None h = absurd (cc)
 mapped_some f (Some x) h = refl
 
 module _ {O B T : Type 0} where
-  pub results_in : Option (Content O B T) → List (Typed T)
-  results_in None = []
-  results_in (Some (AnOperation b c)) = c.results
-  results_in (Some (ABlock b c)) = []
-  results_in (Some (ARegion b c)) = []
-
-  pub results_are : (g : GraphView O B T) (p : Ptr Operation) → results g p ≡ results_in (option_map without_uses (content g (TheOperation p)))
-  unfolding results_in
-  results_are g p = go (get g.operations p)
-    where
-      go : (e : Option (Entry (Node BasicBlock Region (OperationContent O T)))) → results_of (option_map (λ e. e.content.content) e) ≡ results_in (option_map without_uses (option_map (λ d. AnOperation d.0 d.1) (content_of e)))
-      go None = refl
-      go (Some e) = refl
-
   stands_same : (g k : GraphView O B T) (q : Object) → option_map without_uses (content k q) ≡ option_map without_uses (content g q) → IsLive g q → IsLive k q
   stands_same g k q e s = mapped_some without_uses (content k q) (subst IsSome (sym e) (some_mapped without_uses (content g q) s))
 

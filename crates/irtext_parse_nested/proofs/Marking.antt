@@ -1,5 +1,5 @@
 -- The effect of a mark that was parsed, and acts one after another.
-use Rattle.std.proofs.Common.{◌≡◌, ◌==◌, ◌∙◌, ℕ, Bool, true, false, cond, List, [], ◌∷◌, ◌++◌, map, Option, Some, None, is_some, Result, Ok, Err, OnOk, OnErr, IfErr, refl, sym, ap, subst, append-nil, nat_eq, eqb-true, eq-eqb}
+use Rattle.std.proofs.Common.{◌≡◌, ◌==◌, ◌∙◌, ℕ, Bool, true, false, cond, List, [], ◌∷◌, ◌++◌, map, Option, Some, None, is_some, Result, Ok, Err, IfOk, OnOk, OnErr, IfErr, refl, sym, ap, subst, append-nil, nat_eq, eqb-true, eq-eqb}
 use Rattle.std.specs.Map.{lookup}
 use Rattle.irtext_base.specs.Text.{Text}
 use Rattle.irtext_base.specs.Faults as causes
@@ -55,6 +55,19 @@ always_err (Err e) q = q
 pub if_err : {X E : Type 0} {P Q : E → Type 0} (r : Result X E) → ((e : E) → P e → Q e) → IfErr r P → IfErr r Q
 if_err (Ok x) f p = p
 if_err (Err e) f p = f e p
+
+pub if_ok_two : {X E : Type 0} {P Q R : X → Type 0} (r : Result X E) → ((x : X) → P x → Q x → R x) → IfOk r P → IfOk r Q → IfOk r R
+if_ok_two (Ok x) f p q = f x p q
+if_ok_two (Err e) f p q = p
+
+-- what holds of a value holds where the value is handed on
+pub if_ok_handed : {X E F : Type 0} (P : X → Type 0) (r : Result X E) (s : Result X F) → IfOk s (λ x. r ≡ Ok x) → IfOk r P → IfOk s P
+if_ok_handed P r (Ok y) e p = subst (λ r. IfOk r P) e p
+if_ok_handed P r (Err f) e p = tt
+
+pub on_ok_handed : {X E F : Type 0} (P : Type 0) (r : Result X E) (s : Result X F) → IfOk s (λ x. r ≡ Ok x) → OnOk r P → OnOk s P
+on_ok_handed P r (Ok y) e p = subst (λ r. OnOk r P) e p
+on_ok_handed P r (Err f) e p = tt
 
 -- ---- acts
 module _ {T A U : Type 0} {f h : (ℕ → Path) → Outcome → Outcome} {old mid new : Names} {s z y : code.State T A U} {ps qs rs : List Pledge} where

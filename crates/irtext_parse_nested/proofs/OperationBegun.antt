@@ -231,27 +231,27 @@ module _ {T A U : Type 0} (types_at : Text → Outcome T) (attr : Text → Outco
     abbrev new_ctx : ContextView T A
     new_ctx = new.state.ctx.now
 
-    types_same : types_made m.gathered.types.items m.gathered.listed ≡ front_types f
+    types_same : types_made m.creates.gathered.types.items m.creates.gathered.listed ≡ front_types f
     types_same =
-        ap (λ ts. types_made ts m.gathered.listed) (m.gathers.types ∙ ap (λ z. z ++ flat_map placed_type front.pieces) m.is_none.types.0)
-        ∙ ap (types_made (flat_map placed_type front.pieces)) (m.gathers.listed ∙ ap (λ z. last_list z (flat_map type_list front.pieces)) m.is_none.types.1)
+        ap (λ ts. types_made ts m.creates.gathered.listed) (m.creates.gathers.types ∙ ap (λ z. z ++ flat_map placed_type front.pieces) m.creates.is_none.types.0)
+        ∙ ap (types_made (flat_map placed_type front.pieces)) (m.creates.gathers.listed ∙ ap (λ z. last_list z (flat_map type_list front.pieces)) m.creates.is_none.types.1)
 
-    entries_same : entries_of m.gathered.attributes ≡ put_all [] (views stored f.parts)
-    entries_same = m.gathers.attributes
-        ∙ (ap (λ z. put_all (entries_of z) (flat_map stored_of front.pieces)) m.is_none.attributes
+    entries_same : entries_of m.creates.gathered.attributes ≡ put_all [] (views stored f.parts)
+    entries_same = m.creates.gathers.attributes
+        ∙ (ap (λ z. put_all (entries_of z) (flat_map stored_of front.pieces)) m.creates.is_none.attributes
         ∙ ap (put_all []) (stored_is middle.names (whole old.stream) true front.pieces (parts f).pieces (each f) ∙ ap (views stored) (sym (parts f).parts_are)))
 
     abbrev vs : List Value
-    vs = in_order m.gathered.operands.single.items ++ m.gathered.operands.list.items
+    vs = in_order m.creates.gathered.operands.single.items ++ m.creates.gathered.operands.list.items
 
     abbrev bs : List (Ptr BasicBlock)
-    bs = in_order m.gathered.successors.single.items ++ m.gathered.successors.list.items
+    bs = in_order m.creates.gathered.successors.single.items ++ m.creates.gathered.successors.list.items
 
-    operand_firsts : map (λ e. e.0) m.gathered.operands.single.items ≡ flat_map operand_place front.pieces
-    operand_firsts = m.gathers.operand_places ∙ ap (λ z. map (λ e. e.0) z ++ flat_map operand_place front.pieces) m.is_none.operands.0
+    operand_firsts : map (λ e. e.0) m.creates.gathered.operands.single.items ≡ flat_map operand_place front.pieces
+    operand_firsts = m.creates.gathers.operand_places ∙ ap (λ z. map (λ e. e.0) z ++ flat_map operand_place front.pieces) m.creates.is_none.operands.0
 
-    successor_firsts : map (λ e. e.0) m.gathered.successors.single.items ≡ flat_map successor_place front.pieces
-    successor_firsts = m.gathers.successor_places ∙ ap (λ z. map (λ e. e.0) z ++ flat_map successor_place front.pieces) m.is_none.successors.0
+    successor_firsts : map (λ e. e.0) m.creates.gathered.successors.single.items ≡ flat_map successor_place front.pieces
+    successor_firsts = m.creates.gathers.successor_places ∙ ap (λ z. map (λ e. e.0) z ++ flat_map successor_place front.pieces) m.creates.is_none.successors.0
 
     operands_placed : (are_places (flat_map operand_place front.pieces) ≡ true) × (single_operands (Some f.format) ≡ length (flat_map operand_place front.pieces))
     operands_placed = operand_places_are middle.names (whole old.stream) true front.pieces (parts f).pieces (each f) f.format f.accepted (are_of f)
@@ -260,19 +260,19 @@ module _ {T A U : Type 0} (types_at : Text → Outcome T) (attr : Text → Outco
     successors_placed = successor_places_are middle.names (whole old.stream) true front.pieces (parts f).pieces (each f) f.format f.accepted (are_of f)
 
     count_vs : length vs ≡ length (flat_map operand_place front.pieces) + length (flat_map operand_list front.pieces)
-    count_vs = placed_count m.gathered.operands.single.items _ m.gathered.operands.list.items _ _ operand_firsts operands_placed.0 m.is_none.operands.1 m.gathers.operand_count
+    count_vs = placed_count m.creates.gathered.operands.single.items _ m.creates.gathered.operands.list.items _ _ operand_firsts operands_placed.0 m.creates.is_none.operands.1 m.creates.gathers.operand_count
 
     count_bs : length bs ≡ length (flat_map successor_place front.pieces) + length (flat_map successor_list front.pieces)
-    count_bs = placed_count m.gathered.successors.single.items _ m.gathered.successors.list.items _ _ successor_firsts successors_placed.0 m.is_none.successors.1 m.gathers.successor_count
+    count_bs = placed_count m.creates.gathered.successors.single.items _ m.creates.gathered.successors.list.items _ _ successor_firsts successors_placed.0 m.creates.is_none.successors.1 m.creates.gathers.successor_count
 
     -- it was created with the data that was parsed
     pub front_came : IsLocated old.state.src (whole old.stream) (length old.stream.rest) loc → ComesInto (IsLocated old.state.src (whole old.stream)) old_ctx new_ctx b.op (front_own f) block
-    front_came located = begun_came block front at loc middle old_ctx names new_ctx b m all_older (IsLocated old.state.src (whole old.stream)) (front_own f)
-        (made_own (IsLocated old.state.src (whole old.stream)) (record { id = front.id; attributes = m.gathered.attributes; loc = loc }) (types_made m.gathered.types.items m.gathered.listed) (front_own f) refl types_same entries_same located)
+    front_came located = begun_came m all_older (IsLocated old.state.src (whole old.stream)) (front_own f)
+        (made_own (IsLocated old.state.src (whole old.stream)) (record { id = front.id; attributes = m.creates.gathered.attributes; loc = loc }) (types_made m.creates.gathered.types.items m.creates.gathered.listed) (front_own f) refl types_same entries_same located)
         count_vs count_bs place
 
     same_dialects : new_ctx.dialects ≡ old_ctx.dialects
-    same_dialects = (begun_lasts block front at loc middle old_ctx names new_ctx b m all_older).dialects
+    same_dialects = (begun_lasts m all_older).dialects
 
     -- what was begun is what was parsed
     pub front_is_begun : front.steps ≡ length (steps_in dialects (id_of front.id)) → IsStep front.coming (slice_get (steps_in dialects (id_of front.id)) (length front.pieces)) → front.isolated ≡ isolated dialects (id_of front.id) → (rest : Text) (e : mid.rest ≡ rest) → Leaves (whole old.stream) at (length old.stream.rest) → IsBegun names.names (whole old.stream) new_ctx b (begun_by types_at attr true old rest (front_reads f rest e))
@@ -280,7 +280,7 @@ module _ {T A U : Type 0} (types_at : Text → Outcome T) (attr : Text → Outco
     front_is_begun counted comes iso rest e left = record {
       inside = m.inside_is;
       place = subst (λ p. Leaves (whole old.stream) p (length old.stream.rest)) (sym m.at_is) left;
-      names_are = subst (λ ns. Each (StandsFor ns (whole old.stream)) b.names f.results) (sym m.steady.names) (subst (λ ns. Each (StandsFor middle.names (whole old.stream)) ns f.results) (sym m.names_are) f.named);
+      names_are = subst (λ ns. Each (StandsFor ns (whole old.stream)) b.names f.results) (sym m.creates.steady.names) (subst (λ ns. Each (StandsFor middle.names (whole old.stream)) ns f.results) (sym m.names_are) f.named);
       id = ap id_of m.id_is;
       known = subst (λ d. IsSome (format_of d (id_of front.id))) (sym same_dialects) (subst IsSome (sym f.known) refl);
       steps = steps_behind (steps_in dialects (id_of front.id)) ∙ (ap (λ n. drop n (steps_in dialects (id_of front.id))) (sym f.counts ∙ sym m.step_is) ∙ ap (λ d. drop b.step (steps_in d (id_of front.id))) (sym same_dialects));
@@ -290,10 +290,10 @@ module _ {T A U : Type 0} (types_at : Text → Outcome T) (attr : Text → Outco
           (subst (λ d. IsStep front.coming (slice_get (steps_in d (id_of front.id)) (length front.pieces))) (sym same_dialects) comes));
       is_isolated = m.isolated_is ∙ (iso ∙ ap (λ d. isolated d (id_of front.id)) (sym same_dialects));
       late = neither f;
-      stands = subst IsSome (sym (begun_is block front at loc middle old_ctx names new_ctx b m all_older)) refl;
-      counts = begun_counts block front at loc middle old_ctx names new_ctx b m all_older;
+      stands = subst IsSome (sym (begun_is m all_older)) refl;
+      counts = begun_counts m all_older;
       typed = λ later h. ap (λ d. length (result_types (body_of (format_of d (id_of front.id)) (f.parts ++ later)))) same_dialects
-          ∙ (ap length (typed_so f later h) ∙ (ap length (sym types_same) ∙ sym m.counts));
+          ∙ (ap length (typed_so f later h) ∙ (ap length (sym types_same) ∙ sym m.creates.counts));
     }
 
     -- ---- its names
@@ -304,17 +304,17 @@ module _ {T A U : Type 0} (types_at : Text → Outcome T) (attr : Text → Outco
       abbrev single_labels : ℕ
       single_labels = single_successors (format_of dialects (id_of front.id))
 
-      count_operands : singles ≡ length m.gathered.operands.single.items
-      count_operands = ap single_operands f.known ∙ (operands_placed.1 ∙ (ap length (sym operand_firsts) ∙ length_names (λ e. e.0) m.gathered.operands.single.items))
+      count_operands : singles ≡ length m.creates.gathered.operands.single.items
+      count_operands = ap single_operands f.known ∙ (operands_placed.1 ∙ (ap length (sym operand_firsts) ∙ length_names (λ e. e.0) m.creates.gathered.operands.single.items))
 
-      count_successors : single_labels ≡ length m.gathered.successors.single.items
-      count_successors = ap single_successors f.known ∙ (successors_placed.1 ∙ (ap length (sym successor_firsts) ∙ length_names (λ e. e.0) m.gathered.successors.single.items))
+      count_successors : single_labels ≡ length m.creates.gathered.successors.single.items
+      count_successors = ap single_successors f.known ∙ (successors_placed.1 ∙ (ap length (sym successor_firsts) ∙ length_names (λ e. e.0) m.creates.gathered.successors.single.items))
 
       placed_on : (o : Option (Ptr BasicBlock)) → IfSome o (λ k. IsThere old_ctx (TheBlock k)) → PlacedIn o m.made new_ctx b.op → (kn : Known) (st : State) → StandsAt names m.made.graph kn [] st → StandsAt names new_ctx.graph kn [] st
       placed_on None there p kn st s = subst (λ c. StandsAt names c.graph kn [] st) (sym p) s
       placed_on (Some k) there p kn st s =
-          let x = data_there m.made b.op (subst IsSome (sym (made_is block front at loc middle old_ctx names new_ctx b m all_older)) refl) in
-          operation_placed k b.op p.0 x.0 x.1 (inside_made block front at loc middle old_ctx names new_ctx b m all_older k there) names kn [] st s
+          let x = data_there m.made b.op (subst IsSome (sym (made_is m all_older)) refl) in
+          operation_placed k b.op p.0 x.0 x.1 (inside_made m all_older k there) names kn [] st s
 
       pub front_acts : (rest : Text) (e : mid.rest ≡ rest) → ActsWith ((length old.stream.rest, TheOperation b.op) ∷ []) (uses_of types_at attr true old rest (front_reads f rest e)) before old.state [] names new.state (pledge_of b (length old.stream.rest) ∷ [])
       unfolding front_reads
@@ -326,24 +326,24 @@ module _ {T A U : Type 0} (types_at : Text → Outcome T) (attr : Text → Outco
               let p = path (length old.stream.rest) in
               let acts = views (piece_acts p singles single_labels) f.parts in
               let s = interned old_ctx.graph before middle read.kept distinct (read.values, read.labels) h.known [] h.state h.stands in
-              let t = m.gathers.uses (whole old.stream) f.parts f.are p singles single_labels in
+              let t = m.creates.gathers.uses (whole old.stream) f.parts f.are p singles single_labels in
               let r = t.takes.so h.known [] h.state s in
-              let hands = hands_held p singles single_labels m.gathered.operands m.gathered.successors t.more count_operands count_successors
+              let hands = hands_held p singles single_labels m.creates.gathered.operands m.creates.gathered.successors t.more count_operands count_successors
               (ap are_places operand_firsts ∙ operands_placed.0) (ap are_places successor_firsts ∙ successors_placed.0) t.held in
-              let made = made_stands b.op (record { id = front.id; attributes = m.gathered.attributes; loc = loc }) (known (types_made m.gathered.types.items m.gathered.listed)) vs bs m.makes.graph names h.known p t.more r.0 hands r.2 in
-              let kn = with_operation p b.op vs bs (known (types_made m.gathered.types.items m.gathered.listed)) h.known in
+              let made = made_stands b.op (record { id = front.id; attributes = m.creates.gathered.attributes; loc = loc }) (known (types_made m.creates.gathered.types.items m.creates.gathered.listed)) vs bs m.creates.makes.graph names h.known p t.more r.0 hands r.2 in
+              let kn = with_operation p b.op vs bs (known (types_made m.creates.gathered.types.items m.creates.gathered.listed)) h.known in
               record {
                 known = kn;
-                of_items = of_operation path items (length old.stream.rest) b.op vs bs (known (types_made m.gathered.types.items m.gathered.listed)) h.known h.of_items;
+                of_items = of_operation path items (length old.stream.rest) b.op vs bs (known (types_made m.creates.gathered.types.items m.creates.gathered.listed)) h.known h.of_items;
                 state = r.0;
                 going = ap (λ z. run z (map act acts)) h.going ∙ r.1;
                 stands = placed_on block place m.placed kn r.0 made;
                 marks = marks_stay acts h.state r.0 (note_parts p singles single_labels f.parts) r.1 ∙ (h.marks ∙ ap indices_of (sym same_marks));
                 results = λ w a. last_pledge w (pledge_of b (length old.stream.rest)) more a (AreMadeAt path kn)
-                    (λ u c i l. among_left (result (path u.place) i, Result u.op i) h.known.values (made_results p b.op 0 (known (types_made m.gathered.types.items m.gathered.listed))) (h.results u c i l))
-                    (λ i l. among_right (result p i, Result b.op i) h.known.values (made_results p b.op 0 (known (types_made m.gathered.types.items m.gathered.listed)))
-                    (let n : 0 + i ≡ i = omega arith in subst (λ j. Among {U = Spot × Value} (result p j, Result b.op j) (made_results p b.op 0 (known (types_made m.gathered.types.items m.gathered.listed)))) n
-                    (made_result_there p b.op 0 i (known (types_made m.gathered.types.items m.gathered.listed)) (let c = m.counts in let d = count_known (types_made m.gathered.types.items m.gathered.listed) in omega (arith, l, c, d)))));
+                    (λ u c i l. among_left (result (path u.place) i, Result u.op i) h.known.values (made_results p b.op 0 (known (types_made m.creates.gathered.types.items m.creates.gathered.listed))) (h.results u c i l))
+                    (λ i l. among_right (result p i, Result b.op i) h.known.values (made_results p b.op 0 (known (types_made m.creates.gathered.types.items m.creates.gathered.listed)))
+                    (let n : 0 + i ≡ i = omega arith in subst (λ j. Among {U = Spot × Value} (result p j, Result b.op j) (made_results p b.op 0 (known (types_made m.creates.gathered.types.items m.creates.gathered.listed)))) n
+                    (made_result_there p b.op 0 i (known (types_made m.creates.gathered.types.items m.creates.gathered.listed)) (let c = m.creates.counts in let d = count_known (types_made m.creates.gathered.types.items m.creates.gathered.listed) in omega (arith, l, c, d)))));
               }
 
       -- the operation was begun

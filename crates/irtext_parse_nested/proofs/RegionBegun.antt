@@ -1,5 +1,5 @@
 -- A region that is entered and appended to its operation: what stays live, what waits, and the state of the machine.
-use Rattle.std.proofs.Common.{◌≡◌, Bool, true, false, List, [], ◌∷◌, IsSome, arith, refl, ap}
+use Rattle.std.proofs.Common.{◌≡◌, IsSome, arith, ap}
 use Rattle.std.specs.Option.{option_map}
 use Rattle.irtext_context.specs.Context.{ContextView, operation, AddsRegion}
 use Rattle.irtext_graph.specs.declared.arena.Ptr.{Ptr}
@@ -8,8 +8,6 @@ use Rattle.irtext_graph.specs.declared.object.Region.{Region}
 use Rattle.irtext_graph.specs.declared.object.Object.TheVariants.{TheRegion}
 use Rattle.irtext_graph.specs.Content.{ARegion}
 use Rattle.irtext_graph.specs.Graph.{content_of, IsLive}
-use Rattle.irtext_scopes.specs.Scopes.{Scope, is_open}
-use Rattle.irtext_scopes.specs.Tracker.{entered}
 use Rattle.irtext_parse_nested.specs.Items.{KeepsLive}
 use Rattle.irtext_parse_nested.proofs.Lasting.{data_there}
 use Rattle.irtext_parse_nested.proofs.RegionAdded.{operation_same, object_same, region_leaves}
@@ -39,9 +37,3 @@ module _ {T A : Type 0} (old new : ContextView T A) (op : Ptr Operation) (r : Pt
   -- what names refer to is left
   pub added_leaves : IsSome (operation old op) → LeavesNames old.graph new.graph
   added_leaves has = let x = data_there old op has in region_leaves old.graph new.graph op r adds.graph x.0 x.1
-
--- a scope of values is open after a region's beginning that is no error
-pub opens : {V : Type 0} (iso : Bool) (old new : List (Scope V)) → new ≡ entered iso old → ((iso ≡ false) × (is_open old ≡ false) → ⊥) → is_open new ≡ true
-opens true old new e n = ap is_open e
-opens false [] new e n = absurd (n (refl, refl))
-opens false (s ∷ ss) new e n = ap is_open e

@@ -1,32 +1,32 @@
 -- As many scopes stay open, and names still match the graph, from call to call.
-use Rattle.std.proofs.Common.{◌≡◌, ◌<◌, ◌≤◌, ◌+◌, ◌∙◌, ℕ, zero, suc, List, [], ◌∷◌, ◌++◌, length, map, take, get_or, slice_get, Option, Some, None, Result, Ok, Err, IfOk, OnErr, IsSome, inl, inr, refl, sym, ap, subst, arith}
+use Rattle.std.proofs.Common.{◌≡◌, ◌⊎◌, ◌<◌, ◌≤◌, ◌+◌, ◌∙◌, ℕ, zero, suc, List, [], ◌∷◌, ◌++◌, length, map, get_or, slice_get, Option, Some, None, Result, Ok, Err, IfOk, OnErr, IsSome, inl, inr, refl, sym, ap, subst, arith}
 use Rattle.irtext_graph.specs.declared.arena.Ptr.{Ptr}
 use Rattle.irtext_graph.specs.declared.object.BasicBlock.{BasicBlock}
 use Rattle.irtext_graph.specs.declared.object.Value.{Value}
-use Rattle.irtext_graph.specs.declared.object.Defined.TheVariants.{OfValue, OfBlock}
+use Rattle.irtext_graph.specs.declared.object.Defined.TheVariants.{OfValue}
 use Rattle.std.specs.Option.{option_map}
 use Rattle.irtext_graph.specs.declared.object.Operation.{Operation}
-use Rattle.irtext_graph.specs.declared.object.Object.TheVariants.{TheBlock, TheOperation, TheRegion}
+use Rattle.irtext_graph.specs.declared.object.Object.TheVariants.{TheOperation, TheRegion}
 use Rattle.irtext_graph.specs.declared.object.Value.TheVariants.{Result as ValueResult}
 use Rattle.irtext_graph.specs.Content.{Content, Content.{AnOperation, ARegion}, OperationContent, RegionContent}
 use Rattle.irtext_graph.specs.Erasing.{without_uses}
 use Rattle.irtext_graph.specs.Store.{get}
 use Rattle.irtext_graph.proofs.Nests.{told}
 use Rattle.irtext_graph.proofs.Same.{ptr_tells}
-use Rattle.irtext_graph.specs.Graph.{GraphView, IsLive, content, parent_of, content_of}
+use Rattle.irtext_graph.specs.Graph.{GraphView, content, parent_of, content_of}
 use Rattle.irtext_graph.specs.Used.{IsDefined}
-use Rattle.irtext_graph.specs.Parts.{ValueStands}
 use Rattle.irtext_graph.proofs.Closed.{older_on}
 use Rattle.irtext_scopes.specs.declared.scopes.Entry.{Entry}
 use Rattle.irtext_scopes.specs.Scopes.{Scope, find, innermost, in_innermost, is_open}
-use Rattle.irtext_grammar.specs.Names.Script.{User, use_value, use_label}
+use Rattle.irtext_grammar.specs.Names.Script.{User}
 use Rattle.irtext_grammar.specs.Names.TextScopes.{Word}
+use Rattle.irtext_names.specs.Kinds.{NamesOf, NamesOf.{values, labels}, other, defined_as, scopes_of, use_of, BlankOf, Makes}
 use Rattle.irtext_names.specs.Linked.{TakesUse}
 use Rattle.irtext_names.specs.Placeholders.{Uses, MakesValue, MakesLabel, StandsAsBefore}
-use Rattle.irtext_names.specs.Tied.{MatchesGraph}
-use Rattle.irtext_names.specs.Rows.{AreKnown}
+use Rattle.irtext_names.specs.Tied.{MatchesGraph, KeepsTies}
 use Rattle.irtext_names.proofs.Lists.{older_itself}
-use Rattle.irtext_names.proofs.Rows.{use_there, value_there, label_there}
+use Rattle.irtext_names.proofs.ByKind.{made_there}
+use Rattle.irtext_names.proofs.Rows.{use_there}
 use Rattle.irtext_parse_nested.specs.Items.{Names}
 use Rattle.irtext_parse_nested.specs.Definitions.{BlanksHaveResults}
 use Rattle.irtext_parse_nested.specs.Gathered.{BringsNone, KeepsScopes, TakesName}
@@ -94,18 +94,9 @@ module _ {O B T : Type 0} where
     regions = λ r e. subst (λ s. IsSome (seen_region (Option O) B T (content_of (get s r)))) m.regions e;
   }
 
-  -- a label that was used brings nothing but a placeholder
-  pub block_brings : {E : Type 0} (value : B) (old new : List (Scope (Ptr BasicBlock))) (g h : GraphView (Option O) B T) (n : ℕ) (r : Result (Ptr BasicBlock) E) → IfOk r (λ b. Uses (MakesLabel value) old new g h n b) → OnErr r (StandsAsBefore g h) → BringsNone g h
-  block_brings value old new g h n (Err x) u e = as_before g h e
-  block_brings value old new g h n (Ok b) u e = go (find n (innermost old)) refl
-    where
-      go : (o : Option (Entry (Ptr BasicBlock))) → find n (innermost old) ≡ o → BringsNone g h
-      go (Some x) f = subst (BringsNone g) (sym (u.known x f).2) (brings_itself g)
-      go None f = label_brings value g h b (u.unknown f).1
-
 module _ {O B T : Type 0} where
-  value_made : (g h : GraphView (Option O) B (Option T)) (v : Value) → MakesValue g h v → BringsNone g h
-  value_made g h v m = record {
+  value_brings : (g h : GraphView (Option O) B (Option T)) (v : Value) → MakesValue g h v → BringsNone g h
+  value_brings g h v m = record {
     operations = λ p x e. elim (told ptr_tells p m.operation) [
       | inl same ↦ let none = ap (λ z. option_map (λ c. c.data_of) (option_map (λ e. e.content.content) z)) (ap (get h.operations) same ∙ m.makes.operations.updates.changed) in let bad = sym none ∙ e in absurd (cc)
       | inr n ↦ ap (λ z. option_map (λ c. c.data_of) (option_map (λ e. e.content.content) z)) (sym (m.makes.operations.updates.others p n)) ∙ e
@@ -114,14 +105,9 @@ module _ {O B T : Type 0} where
     regions = λ r e. subst (λ s. IsSome (seen_region (Option O) B (Option T) (content_of (get s r)))) m.makes.regions e;
   }
 
-  -- a name of a value that was used brings nothing but a placeholder
-  pub value_brings : {E : Type 0} (old new : List (Scope Value)) (g h : GraphView (Option O) B (Option T)) (n : ℕ) (r : Result Value E) → IfOk r (λ v. Uses MakesValue old new g h n v) → OnErr r (StandsAsBefore g h) → BringsNone g h
-  value_brings old new g h n (Err x) u e = as_before g h e
-  value_brings old new g h n (Ok v) u e = go (find n (innermost old)) refl
-    where
-      go : (o : Option (Entry Value)) → find n (innermost old) ≡ o → BringsNone g h
-      go (Some x) f = subst (BringsNone g) (sym (u.known x f).2) (brings_itself g)
-      go None f = value_made g h v (u.unknown f).1
+  placeholder_brings : {V : Type 0} (kind : NamesOf V) (blank : BlankOf B kind) (g h : GraphView (Option O) B (Option T)) (v : V) → Makes kind blank g h v → BringsNone g h
+  placeholder_brings values blank = value_brings
+  placeholder_brings labels blank = label_brings blank
 
 -- ---- operations without data
 module _ {O B T : Type 0} where
@@ -133,29 +119,14 @@ module _ {O B T : Type 0} where
   same_blanks : (g h : GraphView (Option O) B T) → ((p : Ptr Operation) → get h.operations p ≡ get g.operations p) → (m : ℕ) → BlanksHaveResults m g → BlanksHaveResults m h
   same_blanks g h same = blanks_by g h (λ p. inl (same_place g h p (same p)))
 
-  -- a label that was used
-  pub block_blanks : {E : Type 0} (value : B) (old new : List (Scope (Ptr BasicBlock))) (g h : GraphView (Option O) B T) (n : ℕ) (r : Result (Ptr BasicBlock) E) → IfOk r (λ b. Uses (MakesLabel value) old new g h n b) → OnErr r (StandsAsBefore g h)
-      → (m : ℕ) → BlanksHaveResults m g → BlanksHaveResults m h
-  block_blanks value old new g h n (Err x) u e = same_blanks g h (λ p. e.operations p)
-  block_blanks value old new g h n (Ok b) u e = go (find n (innermost old)) refl
-    where
-      go : (o : Option (Entry (Ptr BasicBlock))) → find n (innermost old) ≡ o → (m : ℕ) → BlanksHaveResults m g → BlanksHaveResults m h
-      go (Some x) f = same_blanks g h (λ p. ap (λ z. get z.operations p) (u.known x f).2)
-      go None f = same_blanks g h (λ p. ap (λ s. get s p) ((u.unknown f).1.operations))
-
 module _ {O B T : Type 0} where
-  -- a name of a value that was used: its placeholder has a result
-  pub value_blanks : {E : Type 0} (old new : List (Scope Value)) (g h : GraphView (Option O) B (Option T)) (n : ℕ) (r : Result Value E) → IfOk r (λ v. Uses MakesValue old new g h n v) → IfOk r (λ v. ValueStands h v) → OnErr r (StandsAsBefore g h)
-      → (m : ℕ) → BlanksHaveResults m g → BlanksHaveResults m h
-  value_blanks old new g h n (Err x) u t e = same_blanks g h (λ p. e.operations p)
-  value_blanks old new g h n (Ok v) u t e = go (find n (innermost old)) refl
-    where
-      go : (o : Option (Entry Value)) → find n (innermost old) ≡ o → (m : ℕ) → BlanksHaveResults m g → BlanksHaveResults m h
-      go (Some x) f = same_blanks g h (λ p. ap (λ z. get z.operations p) (u.known x f).2)
-      go None f = let m = (u.unknown f).1 in blanks_by g h (λ p. elim (told ptr_tells p m.operation) [
-        | inl same ↦ inr (λ b. (0, subst (λ q. IsDefined h (OfValue (ValueResult q 0))) (sym same) (subst (λ w. IsDefined h (OfValue w)) m.value t)))
-        | inr apart ↦ inl (same_place g h p (m.makes.operations.updates.others p apart))
-      ])
+  -- the placeholder of a value has a result, and that of a label adds no operation
+  placeholder_blanks : {V : Type 0} (kind : NamesOf V) (blank : BlankOf B kind) (g h : GraphView (Option O) B (Option T)) (v : V) → Makes kind blank g h v → IsDefined h (defined_as kind v) → (m : ℕ) → BlanksHaveResults m g → BlanksHaveResults m h
+  placeholder_blanks values blank g h v m there = blanks_by g h (λ p. elim (told ptr_tells p m.operation) [
+    | inl same ↦ inr (λ b. (0, subst (λ q. IsDefined h (OfValue (ValueResult q 0))) (sym same) (subst (λ w. IsDefined h (OfValue w)) m.value there)))
+    | inr apart ↦ inl (same_place g h p (m.makes.operations.updates.others p apart))
+  ])
+  placeholder_blanks labels blank g h b m there = same_blanks g h (λ p. ap (λ s. get s p) m.operations)
 
 -- ---- calls one after another
 module _ {O B T : Type 0} where
@@ -175,39 +146,55 @@ module _ {O B T : Type 0} where
   }
 
 -- ---- a name that is used
-module _ {O B T E : Type 0} (old new : Names) (g h : GraphView (Option O) B (Option T)) (n : ℕ) where
-  pub value_named : (r : Result Value E) → IfOk r (λ v. Uses MakesValue old.values new.values g h n v) → IfOk r (λ v. ValueStands h v)
-      → IfOk r (λ v. (w : Word) (u : User) → slice_get old.names n ≡ Some w.name → TakesUse (use_value w u) old new g h u (OfValue v)) → IfOk r (TakesName OfValue use_value n old new g h)
-  value_named (Ok v) u t f = record { still = use_there MakesValue old.values new.values g h n v u (λ d m e. value_there v d m e); there = t; follows = f }
-  value_named (Err x) u t f = tt
+-- as many scopes of a kind stay open
+pub depth_of : {O B T V : Type 0} (kind : NamesOf V) (old new : Names) (g h : GraphView (Option O) B T) → KeepsScopes old new g h → length (scopes_of kind new) ≡ length (scopes_of kind old)
+depth_of values old new g h s = s.values
+depth_of labels old new g h s = s.labels
 
-  pub block_named : (value : B) (r : Result (Ptr BasicBlock) E) → IfOk r (λ b. Uses (MakesLabel value) old.labels new.labels g h n b) → IfOk r (λ b. IsLive h (TheBlock b))
-      → IfOk r (λ b. (w : Word) (u : User) → slice_get old.names n ≡ Some w.name → TakesUse (use_label w u) old new g h u (OfBlock b)) → IfOk r (TakesName OfBlock use_label n old new g h)
-  block_named value (Ok b) u t f = record { still = use_there (MakesLabel value) old.labels new.labels g h n b u (λ d m e. label_there value b d m e); there = t; follows = f }
-  block_named value (Err x) u t f = tt
+module _ {O B T : Type 0} where
+  -- what stays so, where a call is about names of a kind
+  steady_by : {V : Type 0} (kind : NamesOf V) (old new : Names) (g h : GraphView (Option O) B T) → length (scopes_of kind new) ≡ length (scopes_of kind old) → (new.names ≡ old.names) × (scopes_of (other kind) new ≡ scopes_of (other kind) old) → KeepsTies old new g h
+      → BringsNone g h → ((m : ℕ) → BlanksHaveResults m g → BlanksHaveResults m h) → KeepsScopes old new g h
+  steady_by values old new g h depth rest ties brings blanks = record { names = rest.0; values = depth; labels = ap length rest.1; tied = ties.tied; waiting = ties.waiting; kept = ties.kept; brings = brings; blanks = blanks }
+  steady_by labels old new g h depth rest ties brings blanks = record { names = rest.0; values = ap length rest.1; labels = depth; tied = ties.tied; waiting = ties.waiting; kept = ties.kept; brings = brings; blanks = blanks }
+
+module _ {O B T V E : Type 0} (kind : NamesOf V) (blank : BlankOf B kind) (old new : Names) (g h : GraphView (Option O) B (Option T)) (n : ℕ) where
+  -- what a use did: nothing, or it made a placeholder, or it failed
+  use_did : (r : Result V E) → IfOk r (λ v. Uses (Makes kind blank) (scopes_of kind old) (scopes_of kind new) g h n v) → OnErr r (StandsAsBefore g h)
+      → (h ≡ g) ⊎ ((v : V) × (r ≡ Ok v) × Makes kind blank g h v) ⊎ StandsAsBefore g h
+  use_did (Err x) u e = inr (inr e)
+  use_did (Ok v) u e = go (find n (innermost (scopes_of kind old))) refl
+    where
+      go : (o : Option (Entry V)) → find n (innermost (scopes_of kind old)) ≡ o → (h ≡ g) ⊎ ((w : V) × (◌≡◌ {A = Result V E} (Ok v) (Ok w)) × Makes kind blank g h w) ⊎ StandsAsBefore g h
+      go (Some x) f = inl (u.known x f).2
+      go None f = inr (inl (v, refl, (u.unknown f).1))
+
+  -- the name stands for what was returned
+  pub takes_name : (r : Result V E) → IfOk r (λ v. Uses (Makes kind blank) (scopes_of kind old) (scopes_of kind new) g h n v) → IfOk r (λ v. IsDefined h (defined_as kind v))
+      → IfOk r (λ v. (w : Word) (u : User) → slice_get old.names n ≡ Some w.name → TakesUse (use_of kind w u) old new g h u (defined_as kind v)) → IfOk r (TakesName (defined_as kind) (use_of kind) n old new g h)
+  takes_name (Ok v) u t f = record { still = use_there (Makes kind blank) (scopes_of kind old) (scopes_of kind new) g h n v u (λ d m e. made_there g h kind blank v m d e); there = t; follows = f }
+  takes_name (Err x) u t f = tt
+
+  -- it brings nothing but a placeholder, and each operation without data has a result if that was so before
+  pub use_steady : (r : Result V E) → IfOk r (λ v. Uses (Makes kind blank) (scopes_of kind old) (scopes_of kind new) g h n v) → IfOk r (λ v. IsDefined h (defined_as kind v))
+      → OnErr r (scopes_of kind new ≡ scopes_of kind old) → OnErr r (StandsAsBefore g h) → (new.names ≡ old.names) × (scopes_of (other kind) new ≡ scopes_of (other kind) old) → KeepsTies old new g h → KeepsScopes old new g h
+  use_steady r uses there scopes objects rest ties = steady_by kind old new g h (depth_used (Makes kind blank) (scopes_of kind old) (scopes_of kind new) g h n r uses scopes) rest ties brings blanks
+    where
+      brings : BringsNone g h
+      brings = elim (use_did r uses objects) [
+        | inl same ↦ subst (BringsNone g) (sym same) (brings_itself g)
+        | inr (inl (v, is, m)) ↦ placeholder_brings kind blank g h v m
+        | inr (inr as_was) ↦ as_before g h as_was
+      ]
+
+      blanks : (m : ℕ) → BlanksHaveResults m g → BlanksHaveResults m h
+      blanks = elim (use_did r uses objects) [
+        | inl same ↦ same_blanks g h (λ p. ap (λ z. get z.operations p) same)
+        | inr (inl (v, is, m)) ↦ placeholder_blanks kind blank g h v m (subst (λ s. IfOk s (λ v. IsDefined h (defined_as kind v))) is there)
+        | inr (inr as_was) ↦ same_blanks g h (λ p. as_was.operations p)
+      ]
 
 -- ---- names in a row
-take_one : {X : Type 0} (xs : List X) (i : ℕ) (x : X) → slice_get xs i ≡ Some x → take (suc i) xs ≡ take i xs ++ x ∷ []
-take_one [] zero x e = absurd (cc)
-take_one [] (suc i) x e = absurd (cc)
-take_one (y ∷ ys) zero x e = let f : y ≡ x = cc in ap (λ z. z ∷ []) f
-take_one (y ∷ ys) (suc i) x e = ap (λ zs. y ∷ zs) (take_one ys i x e)
-
-pub take_next : {X : Type 0} (xs : List X) (i : ℕ) (x : X) → slice_get xs i ≡ Some x → take (i + 1) xs ≡ take i xs ++ x ∷ []
-take_next xs i x e = let m : i + 1 ≡ suc i = omega arith in ap (λ n. take n xs) m ∙ take_one xs i x e
-
-pub known_here : (count : ℕ) (ns : List ℕ) (i n : ℕ) → slice_get ns i ≡ Some n → AreKnown count ns → n < count
-known_here count [] zero n e k = absurd (cc)
-known_here count [] (suc i) n e k = absurd (cc)
-known_here count (m ∷ ms) zero n e k = let f : m ≡ n = cc in subst (λ z. z < count) f k.0
-known_here count (m ∷ ms) (suc i) n e k = known_here count ms i n e k.1
-
-pub take_whole : {X : Type 0} (xs : List X) (i : ℕ) → length xs ≤ i → take i xs ≡ xs
-take_whole [] zero l = refl
-take_whole [] (suc i) l = refl
-take_whole (x ∷ xs) zero l = absurd (omega (arith, l))
-take_whole (x ∷ xs) (suc i) l = ap (λ zs. x ∷ zs) (take_whole xs i (omega (arith, l)))
-
 pub length_names : {X Y : Type 0} (f : X → Y) (xs : List X) → length (map f xs) ≡ length xs
 length_names f [] = refl
 length_names f (x ∷ xs) = ap suc (length_names f xs)

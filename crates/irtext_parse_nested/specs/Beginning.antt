@@ -109,22 +109,25 @@ module _ {T A : Type 0} where
   PlacedIn None old new op = new ≡ old
   PlacedIn (Some b) old new op = Appends old.graph new.graph (TheBlock b) (TheOperation op) × (new.paths ≡ old.paths) × (new.dialects ≡ old.dialects)
 
-  -- The names of the pieces were used, an operation was created from what the pieces give, and it was appended to the block, if one is
-  -- given.
-  pub record MakesOf (block : Option (Ptr BasicBlock)) (front : ReadFront T A) (at : Place) (loc : Location A) (before : Names) (old : ContextView T A) (names : Names) (new : ContextView T A)
-      (b : BegunOperation) : Type 0 where
+  -- The names of the pieces were used, and an operation with so many results was created from what the pieces give.
+  pub record CreatesOf (id : OpId) (pieces : List (ReadPiece T A)) (loc : Location A) (before : Names) (old : ContextView T A) (names : Names) (new : ContextView T A) (op : Ptr Operation) (results : ℕ) : Type 0 where
     pub none : Gathered T A
     pub is_none : IsNothing none
     pub gathered : Gathered T A
     pub used : ContextView T A
-    pub gathers : Gathers front.pieces before old.graph none names used.graph gathered
+    pub gathers : Gathers pieces before old.graph none names used.graph gathered
     pub steady : KeepsScopes before names old.graph used.graph
     pub used_is : used ≡ with_graph old used.graph
-    pub made : ContextView T A
-    pub makes : MakesOperation used made b.op (record { id = front.id; attributes = gathered.attributes; loc = loc }) (types_made gathered.types.items gathered.listed)
+    pub makes : MakesOperation used new op (record { id = id; attributes = gathered.attributes; loc = loc }) (types_made gathered.types.items gathered.listed)
         (in_order gathered.operands.single.items ++ gathered.operands.list.items) (in_order gathered.successors.single.items ++ gathered.successors.list.items)
+    pub counts : results ≡ length (types_made gathered.types.items gathered.listed)
+
+  -- An operation was created from its front, and it was appended to the block, if one is given.
+  pub record MakesOf (block : Option (Ptr BasicBlock)) (front : ReadFront T A) (at : Place) (loc : Location A) (before : Names) (old : ContextView T A) (names : Names) (new : ContextView T A)
+      (b : BegunOperation) : Type 0 where
+    pub made : ContextView T A
+    pub creates : CreatesOf front.id front.pieces loc before old names made b.op b.results
     pub placed : PlacedIn block made new b.op
-    pub counts : b.results ≡ length (types_made gathered.types.items gathered.listed)
     pub id_is : b.id ≡ front.id
     pub names_are : b.names ≡ front.names
     pub at_is : b.at ≡ at

@@ -7,6 +7,7 @@ use Rattle.irtext_base.specs.Faults as causes
 use Rattle.irtext_base.specs.Faults.{fault_of}
 use Rattle.irtext_base.specs.Stream.{IsAt}
 use Rattle.irtext_base.specs.declared.base.attributes.AttrObj.{AttrObj}
+use Rattle.irtext_base.specs.declared.location.Location.{Location}
 use Rattle.irtext_base.specs.declared.location.Source.{Source}
 use Rattle.irtext_base.specs.declared.parsable.fault.ParseFault.{ParseFault}
 use Rattle.irtext_stream.specs.Places.{AtOffset}
@@ -74,14 +75,11 @@ pub record RefusesKeys {A : Type 0} (text : Text) (entries : List (Key × AttrOb
   pub says : IsKeyFault text key fault
 
 -- ---- the block
--- a block with this label was created and appended to a region: at the label's location, with these attributes, and with arguments of
--- these types
-pub record PlacesLabelled {T A : Type 0} (names : List Text) (source : Source) (text : Text) (label : ReadName) (attributes : List (Text × AttrObj A)) (types : List T) (old new : ContextView T A) (r : Ptr Region) (b : Ptr BasicBlock) : Type 0 where
-  pub held : BlockData A
-  pub named : slice_get names label.name ≡ held.label
-  pub located : IsLocatedAt source text label.at held.loc
-  pub attributes_are : held.attributes ≡ attributes
-  pub places : PlacesBlock old new r b held types
+-- a block with this label was created at this location and appended to a region, with these attributes and with arguments of these types
+pub record PlacesLabelled {T A : Type 0} (names : List Text) (label : ReadName) (loc : Location A) (attributes : List (Text × AttrObj A)) (types : List T) (old new : ContextView T A) (r : Ptr Region) (b : Ptr BasicBlock) : Type 0 where
+  pub name : Text
+  pub named : slice_get names label.name ≡ Some name
+  pub places : PlacesBlock old new r b (record { label = Some name; attributes = attributes; loc = loc }) types
 
 -- a block was created from the header and appended to a region: with its label, its location, its entries and its arguments' names
 pub record MakesHead {T A : Type 0} (names : List Text) (source : Source) (text : Text) (label : ReadName) (arguments : List (ReadName × T)) (entries : List (Key × AttrObj A)) (old new : ContextView T A) (r : Ptr Region) (b : Ptr BasicBlock) : Type 0 where

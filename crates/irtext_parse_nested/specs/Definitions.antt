@@ -1,5 +1,5 @@
 -- Between functions: names that are defined one after another, as the results of an operation or as the arguments of a block.
-use Rattle.std.specs.Prelude.{◌≡◌, ◌<◌, ℕ, true, suc, List, [], ◌∷◌, length, map, Option, Some, None, IsSome, slice_get, ⊤}
+use Rattle.std.specs.Prelude.{◌≡◌, ◌<◌, ℕ, true, List, [], ◌∷◌, length, Option, Some, None, IsSome, slice_get, ⊤}
 use Rattle.std.specs.Option.{option_map}
 use Rattle.irtext_base.specs.Text.{Text}
 use Rattle.irtext_base.specs.Faults as causes
@@ -16,22 +16,12 @@ use Rattle.irtext_graph.specs.declared.object.Object.TheVariants.{TheOperation, 
 use Rattle.irtext_graph.specs.declared.object.Value.{Value}
 use Rattle.irtext_graph.specs.declared.object.Value.TheVariants.{Result, Argument}
 use Rattle.irtext_graph.specs.declared.object.Defined.TheVariants.{OfValue}
-use Rattle.irtext_graph.specs.Chained.{Among}
 use Rattle.irtext_graph.specs.Erasing.{without_uses}
 use Rattle.irtext_graph.specs.Graph.{GraphView, IsLive, IsNew, content, parent, children}
 use Rattle.irtext_graph.specs.Parts.{operation_at, results}
 use Rattle.irtext_graph.specs.Used.{IsDefined}
 use Rattle.irtext_parse_spec.specs.Unchanged.{UsesAsMany}
-use Rattle.irtext_scopes.specs.declared.tracker.NameTracker.{NameTracker}
-use Rattle.irtext_scopes.specs.Scopes.{Scope}
-use Rattle.irtext_grammar.specs.Grammar.Tree.{Name}
-use Rattle.irtext_grammar.specs.Names.Acts.{word_of}
-use Rattle.irtext_grammar.specs.Names.Script.{Place, define_value, MultipleDefinitions}
-use Rattle.irtext_grammar.specs.Names.TextScopes.{Act}
-use Rattle.irtext_grammar.specs.Names.History.{act, State, going, failed, run}
-use Rattle.irtext_names.specs.Linked.{Known, StandsAt}
-use Rattle.irtext_names.specs.Tied.{IsNoPlaceholder}
-use Rattle.irtext_names.specs.Rows.{AreNamed}
+pub use Rattle.irtext_names.specs.Rows.{definitions_from, AreMadeAs, ValuesReady, DefinesRow, FailsRow}
 use Rattle.irtext_parse_pieces.specs.declared.names.ReadName.{ReadName}
 use Rattle.irtext_parse_nested.specs.declared.definitions.Definer.{Definer}
 use Rattle.irtext_parse_nested.specs.declared.definitions.Definer.TheVariants.{Results, Arguments}
@@ -43,31 +33,7 @@ abbrev pub defined_value : Definer → ℕ → Value
 defined_value (Results op) i = Result op i
 defined_value (Arguments b) i = Argument b i
 
--- the definitions of the names as the places from i on
-abbrev pub definitions_from : (ℕ → Place) → ℕ → List (Name ℕ) → List Act
-definitions_from place i [] = []
-definitions_from place i (w ∷ ws) = define_value (word_of w) (place i) ∷ definitions_from place (suc i) ws
-
--- the first places were made into the first values, as many as the list has elements
-abbrev pub AreMadeAs : {X : Type 0} → (ℕ → Place) → (ℕ → Value) → List X → Known → Type 0
-AreMadeAs place value xs known = (i : ℕ) → i < length xs → Among (place i, value i) known.values
-
 module _ {O B T : Type 0} where
-  -- the first values, this many, are live, and no name waits with one of them
-  abbrev pub ValuesReady : (ℕ → Value) → ℕ → List (Scope Value) → GraphView (Option O) B T → Type 0
-  ValuesReady value count scopes g = (i : ℕ) → i < count → IsDefined g (OfValue (value i)) × IsNoPlaceholder scopes (value i)
-
-  -- Whenever the old names and graph agree with a state of the machine, nothing is in hand, and the places were made into these values,
-  -- the definitions of the names with these numbers take the machine to a state that the new ones agree with.
-  pub record DefinesRow (value : ℕ → Value) (numbers : List ℕ) (old new : NameTracker Value (Ptr BasicBlock)) (g k : GraphView (Option O) B T) : Type 0 where
-    pub so : (ws : List (Name ℕ)) → AreNamed old.names numbers ws → (place : ℕ → Place) (known : Known) (st : State) → AreMadeAs place value numbers known → StandsAt old g known [] st
-        → (next : State) × (run (going st) (map act (definitions_from place 0 ws)) ≡ going next) × StandsAt new k known [] next
-
-  -- whenever names and graph agree so, these definitions fail at the name of this index, which its scope already defines
-  pub record FailsRow (value : ℕ → Value) (numbers : List ℕ) (index : ℕ) (names : NameTracker Value (Ptr BasicBlock)) (g : GraphView (Option O) B T) : Type 0 where
-    pub so : (ws : List (Name ℕ)) → AreNamed names.names numbers ws → (place : ℕ → Place) (known : Known) (st : State) → AreMadeAs place value numbers known → StandsAt names g known [] st
-        → (w : Name ℕ) × (slice_get ws index ≡ Some w) × (run (going st) (map act (definitions_from place 0 ws)) ≡ failed (record { cause = MultipleDefinitions w.text; at = Some w.place }))
-
   -- the object is no placeholder: an operation that has data, a block that has a parent, or a region
   abbrev pub IsPlaced : GraphView (Option O) B T → Object → Type 0
   IsPlaced g (TheOperation p) = (x : O) × (option_map (λ c. c.data_of) (operation_at g p) ≡ Some (Some x))

@@ -25,7 +25,7 @@ use Rattle.irtext_graph.specs.Used.{IsDefined}
 use Rattle.irtext_grammar.specs.Contexts.Held.{attribute_of, entries_of}
 use Rattle.irtext_grammar.specs.Grammar.Tree.{Name, Attribute, ident, Part, views}
 use Rattle.irtext_grammar.specs.Graphs.Build.{put_all}
-use Rattle.irtext_grammar.specs.Names.Acts.{Rule, piece_acts, may_hold}
+use Rattle.irtext_grammar.specs.Names.Acts.{Rule, piece_acts, may_hold, block_may_hold}
 use Rattle.irtext_grammar.specs.Names.History.{State, act, going, failed, run}
 use Rattle.irtext_grammar.specs.Names.Script.{Path, User, operand, successor, Cause, ReservedKey, NoActiveScope}
 use Rattle.irtext_grammar.specs.Names.TextScopes.{Act, Word, Failure}
@@ -39,6 +39,8 @@ use Rattle.irtext_parse_pieces.specs.declared.pieces.ReadPiece.TheVariants as re
 use Rattle.irtext_parse_pieces.specs.Entries.{IsKey}
 use Rattle.irtext_parse_pieces.specs.Fronts.{IsPart}
 use Rattle.irtext_parse_pieces.specs.Named.{StandsFor, Each}
+use Rattle.irtext_parse_nested.specs.declared.dictionary.Holder.{Holder}
+use Rattle.irtext_parse_nested.specs.declared.dictionary.Holder.TheVariants as holder
 use Rattle.irtext_parse_nested.specs.declared.operation_parts.Gathered.{Gathered}
 use Rattle.irtext_parse_nested.specs.declared.operation_parts.NotGathered.{NotGathered}
 use Rattle.irtext_parse_nested.specs.declared.operation_parts.NotGathered.TheVariants as refusal
@@ -147,6 +149,11 @@ module _ {T A : Type 0} where
     pub attributes : x.attributes ≡ []
 
 -- ---- entries of a dictionary
+-- which attributes a dictionary may have under which keys
+abbrev pub rule_of : {A : Type 0} → Holder → Rule A
+rule_of holder.Operation = may_hold
+rule_of holder.Block = block_may_hold
+
 -- the error of an entry whose key is at this position
 abbrev pub refused_at : Refusal → Place → NotGathered
 refused_at entry.Memory at = refusal.Memory

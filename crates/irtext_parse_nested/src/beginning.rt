@@ -1,30 +1,28 @@
 //! The beginning of an operation: what precedes its first region is parsed, names are used, and the operation is created and appended to
 //! its block.
-ghost use Rattle.std.specs.Prelude.{◌≡◌, ◌++◌, ◌≤◌, ◌<◌, ◌⊎◌, ℕ, List, [], ◌∷◌, length, cond, true, false, None, IfOk, IfErr, IfSome, OnOk, OnErr, IsSome, is_some, slice_get};
-ghost use Rattle.irtext_base.specs.Answers.{StarvesHere, Demands};
+ghost use Rattle.std.specs.Prelude.{◌≡◌, ◌≤◌, ◌<◌, ◌⊎◌, ℕ, List, [], ◌∷◌, length, cond, true, false, None, IfOk, IfErr, IfSome, OnOk, OnErr, is_some, slice_get};
+ghost use Rattle.irtext_base.specs.Answers.{Demands};
 ghost use Rattle.irtext_base.specs.Format.{sym_name_key};
 ghost use Rattle.irtext_base.specs.Places.{StandsBehind};
 ghost use Rattle.irtext_base.specs.Text.{Text};
-ghost use Rattle.irtext_context.specs.Context as contexts;
-ghost use Rattle.irtext_context.specs.Context.{KeepsOlder, MakesOperation, with_graph};
-ghost use Rattle.irtext_graph.specs.Graph.{IsNew, IsLive, Appends, parent, children};
+ghost use Rattle.irtext_context.specs.Context.{KeepsOlder};
+ghost use Rattle.irtext_graph.specs.Graph.{IsNew, IsLive, parent, children};
 ghost use Rattle.irtext_graph.specs.declared.object.Object.TheVariants.{TheBlock, TheOperation};
 ghost use Rattle.irtext_tokens.specs.AttrTexts.{attr_at};
 ghost use Rattle.irtext_scopes.specs.Names.{AreDistinct, KeepsNames};
 ghost use Rattle.irtext_parse_state.specs.States.{LocatesAt, marks_of};
 ghost use Rattle.irtext_grammar.specs.Contexts.Formats.{format_of, isolated};
 ghost use Rattle.irtext_grammar.specs.Contexts.Held.{whole};
-ghost use Rattle.irtext_grammar.specs.Grammar.Tree.{Part, in_order};
+ghost use Rattle.irtext_grammar.specs.Grammar.Tree.{Part};
 ghost use Rattle.irtext_names.specs.Tied.{MatchesGraph};
 ghost use Rattle.irtext_parse_spec.specs.Readers.Streams.{itself, replaced, KeepsRest};
 ghost use Rattle.irtext_parse_spec.specs.Promises.Root.{UnlessMemory};
-ghost use Rattle.irtext_parse_spec.specs.Promises.Section.{IsStarved};
-ghost use Rattle.irtext_parse_spec.specs.Unchanged.{OwnSoFar};
+ghost use Rattle.irtext_parse_spec.specs.Unchanged.{OwnSoFar, IsThere};
 ghost use Rattle.irtext_parse_pieces.specs.Fronts.{IsPart};
 ghost use Rattle.irtext_parse_pieces.specs.Named.{Each, NamesRead};
-ghost use Rattle.irtext_parse_nested.specs.Beginning.{FrontStands, LacksFront, IsKnownIn, SaysGather, NotGatheredAs, types_made, PlacedIn, MakesOf, HasBegun, ComesInto};
+ghost use Rattle.irtext_parse_nested.specs.Beginning.{FrontStands, LacksFront, IsKnownIn, SaysGather, NotGatheredAs, PlacedIn, CreatesOf, MakesOf, HasBegun, ComesInto};
 ghost use Rattle.irtext_parse_pieces.specs.Coming.{IsStep};
-ghost use Rattle.irtext_parse_nested.specs.Gathered.{AllStand, CanGather, Gathers, IsNothing, KeepsScopes};
+ghost use Rattle.irtext_parse_nested.specs.Gathered.{CanGather};
 ghost use Rattle.irtext_parse_nested.specs.Items.{IsSound, KeepsLive};
 ghost use Rattle.irtext_base.specs.Faults.{id_of};
 ghost use Rattle.irtext_parse_spec.specs.Reached.{steps_in};
@@ -32,7 +30,8 @@ ghost use Rattle.irtext_parse_nested.specs.Located.{IsLocated};
 ghost use Rattle.irtext_parse_nested.specs.Read.{ReadsFront, begun_by, BeginsOperation, RefusesOperation};
 
 use crate::frame::{BegunOperation, Names};
-use crate::making::make_gathered;
+use crate::making::{make_bare, make_gathered};
+use crate::memory::or_memory;
 use crate::name_errors::{NameFault, name_error};
 use crate::operation_parts::{Gathered, NotGathered, gather, nothing};
 use irtext_base::base::{Identifier, OpId};
@@ -93,6 +92,7 @@ pub(crate) fn kept_key(info: &OpInfo) -> Option<Identifier>
 }
 
 /// Parses what precedes an operation's first region. An error is committed, unless no operation comes next and `wanted` is not set.
+#[inline(always)]
 fn front_read<T: IrText<A>, A: AttrText<A>>(
     stream: &mut TextStream,
     ctx: &Context<T, A>,
@@ -151,14 +151,38 @@ pub(crate) fn gather_fault<A>(
     }
 }
 
-/// Uses the names of the pieces of an operation, and gathers what they give it. Every error is committed; what precedes the error was
-/// used then.
-fn pieces_gathered<T: IrText<A>, A: AttrText<A>, U>(
+/// Appends a detached and empty operation to the block, if one is given. If an allocation fails, nothing changes.
+fn placed<T: IrText<A>, A: AttrText<A>>(
+    ctx: &mut Context<T, A>,
+    block: Option<Ptr<BasicBlock>>,
+    op: Ptr<Operation>,
+) -> Result<(), AllocError>
+    requires block { IfSome block (λ b. IsLive ctx.old.graph (TheBlock b)) }
+    requires op { IsLive ctx.old.graph (TheOperation op) }
+    requires free { parent ctx.old.graph (TheOperation op) ≡ None }
+    requires empty { children ctx.old.graph (TheOperation op) ≡ [] }
+    ensures places { OnOk result (PlacedIn block ctx.old ctx.new op) }
+    ensures kept { (m : ℕ) → IfSome block (λ b. IsNew m ctx.old.graph (TheBlock b)) → IsNew m ctx.old.graph (TheOperation op)
+        → KeepsOlder m ctx.old ctx.new }
+{
+    let Some(block) = block else {
+        return Ok(());
+    };
+    ctx.graph().keeps_nesting();
+    op.insert_at_back(block, ctx)
+}
+
+/// Uses the names of an operation's pieces, and creates it, detached, from what they give. Returns it with the number of its results. Every
+/// error is committed; what precedes the error was used then.
+#[inline(never)]
+fn pieces_created<T: IrText<A>, A: AttrText<A>, U>(
     s: &mut StateStream<'_, T, A, U>,
     names: &mut Names,
+    id: &OpId,
     key: &Option<Identifier>,
+    loc: Location<A>,
     pieces: Pieces<T, A>,
-) -> ParseResult<Gathered<T, A>, A>
+) -> ParseResult<(Ptr<Operation>, usize), A>
     requires can { CanGather names.old [] [] pieces }
     requires are { (text : Text) × (parts : List (Part ℕ T A)) × Each (IsPart names.old.names text) pieces parts }
     requires tied { MatchesGraph names.old.values names.old.labels s.old.state.ctx.now.graph }
@@ -167,183 +191,58 @@ fn pieces_gathered<T: IrText<A>, A: AttrText<A>, U>(
     ensures rest { KeepsRest s.old.state s.new.state }
     ensures marks { marks_of s.new.state ≡ marks_of s.old.state }
     ensures stream { OnOk result (s.new.stream ≡ s.old.stream) }
-    ensures gathers { IfOk result (λ gathered. (none : Gathered T A) × IsNothing none
-        × Gathers pieces names.old s.old.state.ctx.now.graph none names.new s.new.state.ctx.now.graph gathered) }
+    ensures creates { IfOk result (λ made. CreatesOf id.now pieces loc names.old s.old.state.ctx.now names.new s.new.state.ctx.now made.0 made.1) }
     ensures refused { IfErr result (NotGatheredAs pieces names.old s.old.state.ctx.now.graph (whole s.old.stream)) }
-    ensures steady { KeepsScopes names.old names.new s.old.state.ctx.now.graph s.new.state.ctx.now.graph }
-    ensures ctx { s.new.state.ctx.now ≡ with_graph s.old.state.ctx.now s.new.state.ctx.now.graph }
+    ensures names { names.new.names ≡ names.old.names }
+    ensures values { length names.new.values ≡ length names.old.values }
+    ensures labels { length names.new.labels ≡ length names.old.labels }
+    ensures kept { (m : ℕ) → m ≤ s.old.state.ctx.now.graph.made → KeepsOlder m s.old.state.ctx.now s.new.state.ctx.now }
 {
     let alloc = s.stream.allocator();
     let mut gathered = nothing(alloc);
     let ctx = &mut *s.state.ctx;
+    ctx.made();
     match gather(alloc, names, ctx.graph_mut(), &mut gathered, key, pieces) {
-        Ok(()) => Ok(gathered),
+        Ok(()) => {
+            let made = make_gathered(ctx, id, loc, gathered);
+            or_memory(&mut s.stream, made)
+        }
         Err(refusal) => Err(gather_fault(&mut s.stream, names, refusal)),
     }
 }
 
-/// Returns a copy of the id that shares its texts.
-fn copied(id: &OpId) -> Result<OpId, AllocError>
-    ensures { IfOk result (λ copy. copy ≡ id.now) }
-{
-    let dialect = id.dialect.clone()?;
-    let name = id.name.clone()?;
-    Ok(OpId { dialect, name })
-}
-
-/// Creates a detached operation with this id from what its pieces gave. Returns it with the number of its results. Every error is
-/// committed.
-fn made_here<T: IrText<A>, A: AttrText<A>, U>(
+/// The same as `pieces_created`; an operation without pieces is created without gathering.
+#[inline(always)]
+fn created<T: IrText<A>, A: AttrText<A>, U>(
     s: &mut StateStream<'_, T, A, U>,
+    names: &mut Names,
     id: &OpId,
+    key: &Option<Identifier>,
     loc: Location<A>,
-    gathered: Gathered<T, A>,
+    pieces: Pieces<T, A>,
 ) -> ParseResult<(Ptr<Operation>, usize), A>
-    requires { AllStand s.old.state.ctx.now.graph gathered }
+    requires can { CanGather names.old [] [] pieces }
+    requires are { (text : Text) × (parts : List (Part ℕ T A)) × Each (IsPart names.old.names text) pieces parts }
+    requires tied { MatchesGraph names.old.values names.old.labels s.old.state.ctx.now.graph }
+    requires key { IfSome key.now (λ key. key ≡ sym_name_key) }
     ensures lent { s.new.state.ctx.ghost_name ≡ s.old.state.ctx.ghost_name }
     ensures rest { KeepsRest s.old.state s.new.state }
     ensures marks { marks_of s.new.state ≡ marks_of s.old.state }
     ensures stream { OnOk result (s.new.stream ≡ s.old.stream) }
-    ensures makes { IfOk result (λ made. MakesOperation s.old.state.ctx.now s.new.state.ctx.now made.0
-        (record { id = id.now; attributes = gathered.attributes; loc = loc }) (types_made gathered.types.items gathered.listed)
-        (in_order gathered.operands.single.items ++ gathered.operands.list.items) (in_order gathered.successors.single.items ++ gathered.successors.list.items)) }
-    ensures counts { IfOk result (λ made. made.1 ≡ length (types_made gathered.types.items gathered.listed)) }
-    ensures starved { IfErr result (λ f. StarvesHere itself replaced s.old.stream f s.new.stream) }
+    ensures creates { IfOk result (λ made. CreatesOf id.now pieces loc names.old s.old.state.ctx.now names.new s.new.state.ctx.now made.0 made.1) }
+    ensures refused { IfErr result (NotGatheredAs pieces names.old s.old.state.ctx.now.graph (whole s.old.stream)) }
+    ensures names { names.new.names ≡ names.old.names }
+    ensures values { length names.new.values ≡ length names.old.values }
+    ensures labels { length names.new.labels ≡ length names.old.labels }
     ensures kept { (m : ℕ) → m ≤ s.old.state.ctx.now.graph.made → KeepsOlder m s.old.state.ctx.now s.new.state.ctx.now }
 {
-    let ctx = &mut *s.state.ctx;
-    let Ok(id) = copied(id) else {
-        return Err(out_of_memory(&mut s.stream));
-    };
-    match make_gathered(ctx, id, loc, gathered) {
-        Ok(made) => Ok(made),
-        Err(AllocError) => Err(out_of_memory(&mut s.stream)),
+    if pieces.len() != 0 {
+        return pieces_created(s, names, id, key, loc, pieces);
     }
-}
-
-/// Creates a detached operation with this id and these attributes, without results, operands and successors. Every error is committed.
-fn bare_made<T: IrText<A>, A: AttrText<A>, U>(
-    s: &mut StateStream<'_, T, A, U>,
-    id: &OpId,
-    loc: Location<A>,
-    attributes: AttributeDict<A>,
-) -> ParseResult<Ptr<Operation>, A>
-    ensures lent { s.new.state.ctx.ghost_name ≡ s.old.state.ctx.ghost_name }
-    ensures rest { KeepsRest s.old.state s.new.state }
-    ensures marks { marks_of s.new.state ≡ marks_of s.old.state }
-    ensures stream { OnOk result (s.new.stream ≡ s.old.stream) }
-    ensures makes { IfOk result (λ op. MakesOperation s.old.state.ctx.now s.new.state.ctx.now op
-        (record { id = id.now; attributes = attributes; loc = loc }) [] [] []) }
-    ensures starved { IfErr result (λ f. StarvesHere itself replaced s.old.stream f s.new.stream) }
-    ensures kept { (m : ℕ) → m ≤ s.old.state.ctx.now.graph.made → KeepsOlder m s.old.state.ctx.now s.new.state.ctx.now }
-{
-    let ctx = &mut *s.state.ctx;
-    let Ok(id) = copied(id) else {
-        return Err(out_of_memory(&mut s.stream));
-    };
-    match ctx.make_operation(id, attributes, loc) {
-        Ok(op) => Ok(op),
-        Err(AllocError) => Err(out_of_memory(&mut s.stream)),
-    }
-}
-
-/// Appends a detached and empty operation to a block. If an allocation fails, nothing changes.
-fn put_last<T: IrText<A>, A: AttrText<A>>(
-    ctx: &mut Context<T, A>,
-    block: Ptr<BasicBlock>,
-    op: Ptr<Operation>,
-) -> Result<(), AllocError>
-    requires block { IsLive ctx.old.graph (TheBlock block) }
-    requires op { IsLive ctx.old.graph (TheOperation op) }
-    requires free { parent ctx.old.graph (TheOperation op) ≡ None }
-    requires empty { children ctx.old.graph (TheOperation op) ≡ [] }
-    ensures appends { OnOk result (Appends ctx.old.graph ctx.new.graph (TheBlock block) (TheOperation op)) }
-    ensures err { OnErr result (ctx.new ≡ ctx.old) }
-    ensures paths { ctx.new.paths ≡ ctx.old.paths }
-    ensures dialects { ctx.new.dialects ≡ ctx.old.dialects }
-    ensures kept { (m : ℕ) → IsNew m ctx.old.graph (TheBlock block) → IsNew m ctx.old.graph (TheOperation op) → KeepsOlder m ctx.old ctx.new }
-{
-    ctx.graph().keeps_nesting();
-    op.insert_at_back(block, ctx)
-}
-
-/// Appends a detached and empty operation to the block, if one is given. Every error is committed.
-fn placed_here<T: IrText<A>, A: AttrText<A>, U>(
-    s: &mut StateStream<'_, T, A, U>,
-    block: Option<Ptr<BasicBlock>>,
-    op: Ptr<Operation>,
-) -> ParseResult<(), A>
-    requires block { IfSome block (λ b. IsLive s.old.state.ctx.now.graph (TheBlock b)) }
-    requires op { IsLive s.old.state.ctx.now.graph (TheOperation op) }
-    requires free { parent s.old.state.ctx.now.graph (TheOperation op) ≡ None }
-    requires empty { children s.old.state.ctx.now.graph (TheOperation op) ≡ [] }
-    ensures lent { s.new.state.ctx.ghost_name ≡ s.old.state.ctx.ghost_name }
-    ensures rest { KeepsRest s.old.state s.new.state }
-    ensures marks { marks_of s.new.state ≡ marks_of s.old.state }
-    ensures stream { OnOk result (s.new.stream ≡ s.old.stream) }
-    ensures places { OnOk result (PlacedIn block s.old.state.ctx.now s.new.state.ctx.now op) }
-    ensures starved { IfErr result (λ f. StarvesHere itself replaced s.old.stream f s.new.stream) }
-    ensures kept { (m : ℕ) → IfSome block (λ b. IsNew m s.old.state.ctx.now.graph (TheBlock b)) → IsNew m s.old.state.ctx.now.graph (TheOperation op)
-        → KeepsOlder m s.old.state.ctx.now s.new.state.ctx.now }
-{
-    let Some(block) = block else {
-        return Ok(());
-    };
-    let ctx = &mut *s.state.ctx;
-    match put_last(ctx, block, op) {
-        Ok(()) => Ok(()),
-        Err(AllocError) => Err(out_of_memory(&mut s.stream)),
-    }
-}
-
-/// Creates the operation of a parsed front without pieces, and appends it to the block, if one is given. Every error is committed.
-fn begin_bare<T: IrText<A>, A: AttrText<A>, U>(
-    s: &mut StateStream<'_, T, A, U>,
-    names: &Names,
-    block: Option<Ptr<BasicBlock>>,
-    at: Place,
-    loc: Location<A>,
-    front: ReadFront<T, A>,
-) -> ParseResult<BegunOperation, A>
-    requires bare { front.pieces ≡ [] }
-    requires tied { MatchesGraph names.now.values names.now.labels s.old.state.ctx.now.graph }
-    requires block { IfSome block (λ b. IsSome (contexts.block s.old.state.ctx.now b)
-        × IsSome (parent s.old.state.ctx.now.graph (TheBlock b))) }
-    ensures lent { s.new.state.ctx.ghost_name ≡ s.old.state.ctx.ghost_name }
-    ensures rest { KeepsRest s.old.state s.new.state }
-    ensures marks { marks_of s.new.state ≡ marks_of s.old.state }
-    ensures stream { OnOk result (s.new.stream ≡ s.old.stream) }
-    ensures makes { IfOk result (MakesOf block front at loc names.now s.old.state.ctx.now names.now s.new.state.ctx.now) }
-    ensures starved { IfErr result IsStarved }
-    ensures kept { (m : ℕ) → m ≤ s.old.state.ctx.now.graph.made → IfSome block (λ b. IsNew m s.old.state.ctx.now.graph (TheBlock b))
-        → KeepsOlder m s.old.state.ctx.now s.new.state.ctx.now }
-{
-    let ReadFront {
-        names: results,
-        id,
-        key: _,
-        steps,
-        isolated,
-        coming,
-        pieces: _,
-    } = front;
     let none: Gathered<T, A> = nothing(s.stream.allocator());
     let ctx = &mut *s.state.ctx;
-    ctx.made();
-    let op = bare_made(s, &id, loc, none.attributes)?;
-    placed_here(s, block, op)?;
-    Ok(BegunOperation {
-        op,
-        id,
-        results: 0,
-        names: results,
-        at,
-        inside: true,
-        isolated,
-        coming: Some(coming),
-        step: 0,
-        steps,
-    })
+    let made = make_bare(ctx, id, loc, none.attributes);
+    or_memory(&mut s.stream, made)
 }
 
 /// Uses the names of the parsed front, creates the operation, and appends it to the block, if one is given. Every error is committed.
@@ -359,8 +258,7 @@ fn begin_read<T: IrText<A>, A: AttrText<A>, U>(
     requires are { (text : Text) × (parts : List (Part ℕ T A)) × Each (IsPart names.old.names text) front.pieces parts }
     requires tied { MatchesGraph names.old.values names.old.labels s.old.state.ctx.now.graph }
     requires key { IfSome front.key (λ key. key ≡ sym_name_key) }
-    requires block { IfSome block (λ b. IsSome (contexts.block s.old.state.ctx.now b)
-        × IsSome (parent s.old.state.ctx.now.graph (TheBlock b))) }
+    requires block { IfSome block (λ b. IsThere s.old.state.ctx.now (TheBlock b)) }
     ensures lent { s.new.state.ctx.ghost_name ≡ s.old.state.ctx.ghost_name }
     ensures rest { KeepsRest s.old.state s.new.state }
     ensures marks { marks_of s.new.state ≡ marks_of s.old.state }
@@ -373,11 +271,8 @@ fn begin_read<T: IrText<A>, A: AttrText<A>, U>(
     ensures kept { (m : ℕ) → m ≤ s.old.state.ctx.now.graph.made → IfSome block (λ b. IsNew m s.old.state.ctx.now.graph (TheBlock b))
         → KeepsOlder m s.old.state.ctx.now s.new.state.ctx.now }
 {
-    if front.pieces.len() == 0 {
-        return begin_bare(s, names, block, at, loc, front);
-    }
     let ReadFront {
-        names: results,
+        names: defined,
         id,
         key,
         steps,
@@ -388,14 +283,16 @@ fn begin_read<T: IrText<A>, A: AttrText<A>, U>(
     let step = pieces.len();
     let ctx = &mut *s.state.ctx;
     ctx.made();
-    let gathered = pieces_gathered(s, names, &key, pieces)?;
-    let (op, count) = made_here(s, &id, loc, gathered)?;
-    placed_here(s, block, op)?;
+    let (op, results) = created(s, names, &id, &key, loc, pieces)?;
+    let ctx = &mut *s.state.ctx;
+    let Ok(()) = placed(ctx, block, op) else {
+        return Err(out_of_memory(&mut s.stream));
+    };
     Ok(BegunOperation {
         op,
         id,
-        results: count,
-        names: results,
+        results,
+        names: defined,
         at,
         inside: true,
         isolated,
@@ -418,8 +315,7 @@ pub fn operation_begin<T: IrText<A>, A: AttrText<A>, U>(
 ) -> ParseResult<BegunOperation, A>
     requires fine { s.old.stream.failed ≡ false }
     requires tied { MatchesGraph names.old.values names.old.labels s.old.state.ctx.now.graph }
-    requires block { IfSome block (λ b. IsSome (contexts.block s.old.state.ctx.now b)
-        × IsSome (parent s.old.state.ctx.now.graph (TheBlock b))) }
+    requires block { IfSome block (λ b. IsThere s.old.state.ctx.now (TheBlock b)) }
     ensures lent { s.new.state.ctx.ghost_name ≡ s.old.state.ctx.ghost_name }
     ensures rest { KeepsRest s.old.state s.new.state }
     ensures marks { marks_of s.new.state ≡ marks_of s.old.state }

@@ -1,10 +1,7 @@
 //! The definition of a block's label.
-ghost use Rattle.std.specs.Prelude.{◌≡◌, ◌<◌, ℕ, List, length, true, Some, OnOk, IfErr, slice_get};
+ghost use Rattle.std.specs.Prelude.{◌≡◌, ◌<◌, length, true, Some, OnOk, IfErr, slice_get};
 ghost use Rattle.irtext_base.specs.Faults as causes;
-ghost use Rattle.irtext_graph.specs.Back.{IsClosedBelow};
-ghost use Rattle.irtext_graph.specs.Graph.{KeepsOlder, IsLive};
-ghost use Rattle.irtext_graph.specs.declared.arena.Ptr.{Ptr};
-ghost use Rattle.irtext_graph.specs.declared.object.BasicBlock.{BasicBlock};
+ghost use Rattle.irtext_graph.specs.Graph.{IsLive};
 ghost use Rattle.irtext_graph.specs.declared.object.Defined.TheVariants.{OfBlock};
 ghost use Rattle.irtext_graph.specs.declared.object.Object.TheVariants.{TheBlock};
 ghost use Rattle.irtext_scopes.specs.Scopes.{is_open};
@@ -13,7 +10,7 @@ ghost use Rattle.irtext_grammar.specs.Names.Script.{Place, define_label};
 ghost use Rattle.irtext_grammar.specs.Names.TextScopes.{Word};
 ghost use Rattle.irtext_parse_spec.specs.Promises.Root.{UnlessMemory};
 ghost use Rattle.irtext_names.specs.Linked.{TakesDefinition};
-ghost use Rattle.irtext_names.specs.Tied.{MatchesGraph, ArePending, IsNoPlaceholder};
+ghost use Rattle.irtext_names.specs.Tied.{MatchesGraph, IsNoPlaceholder, SettlesTies};
 ghost use Rattle.irtext_parse_nested.specs.Definitions.{LosesPlaceholders};
 ghost use Rattle.irtext_parse_nested.specs.Placing.{RefusesLabel};
 
@@ -23,7 +20,7 @@ use irtext_base::parsable::{ParseResult, TextStream};
 use irtext_graph::arena::Ptr;
 use irtext_graph::graph::Graph;
 use irtext_graph::object::BasicBlock;
-use irtext_names::labels::block_def;
+use irtext_names::definitions::define_name;
 use irtext_parse_pieces::names::ReadName;
 use irtext_scopes::scopes::DefineFault;
 use irtext_tokens::irfmt::faults::out_of_memory;
@@ -49,13 +46,9 @@ pub fn label_block<O: Drop, B: Drop, T: Drop, A>(
     ensures loses { LosesPlaceholders graph.old graph.new }
     ensures labels { length names.new.labels ≡ length names.old.labels }
     ensures rest { (names.new.names ≡ names.old.names) × (names.new.values ≡ names.old.values) }
-    ensures tied { MatchesGraph names.new.values names.new.labels graph.new }
-    ensures waiting { (m : ℕ) (own : List (Ptr BasicBlock))
-        → ArePending m own names.old.values names.old.labels graph.old → ArePending m own names.new.values names.new.labels graph.new }
-    ensures kept { (m : ℕ) (own : List (Ptr BasicBlock)) → IsClosedBelow m graph.old
-        → ArePending m own names.old.values names.old.labels graph.old → KeepsOlder m graph.old graph.new }
+    ensures ties { SettlesTies names.old names.new graph.old graph.new }
 {
-    match block_def(names, graph, label.name, block) {
+    match define_name(names, graph, label.name, block) {
         Ok(()) => Ok(()),
         Err(DefineFault::Memory) => Err(out_of_memory(stream)),
         Err(DefineFault::MultipleDefinitions) => Err(name_error(

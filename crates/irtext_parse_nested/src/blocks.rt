@@ -2,7 +2,7 @@
 ghost use Rattle.std.specs.Prelude.{◌≡◌, ◌<◌, ◌≤◌, ◌∷◌, ◌++◌, [], ℕ, List, length, map, true, false, Some, IfOk, IfErr, OnOk, OnErr, IsSome, slice_get};
 ghost use Rattle.irtext_base.specs.Text.{Text};
 ghost use Rattle.irtext_base.specs.Answers.{Read};
-ghost use Rattle.irtext_context.specs.Context.{KeepsOlder};
+ghost use Rattle.irtext_context.specs.Context.{KeepsOlder, with_graph};
 ghost use Rattle.irtext_context.specs.declared.base.item.Item.TheVariants as item;
 ghost use Rattle.irtext_graph.specs.declared.arena.Ptr.{Ptr};
 ghost use Rattle.irtext_graph.specs.declared.object.BasicBlock.{BasicBlock};
@@ -12,7 +12,7 @@ ghost use Rattle.irtext_graph.specs.Back.{IsClosedBelow};
 ghost use Rattle.irtext_graph.specs.Graph.{IsNew, IsLive, parent};
 ghost use Rattle.irtext_graph.specs.declared.object.Defined.TheVariants.{OfBlock};
 ghost use Rattle.irtext_names.specs.Linked.{TakesDefinition};
-ghost use Rattle.irtext_parse_nested.specs.Placing.{RefusesLabel, PlacesBlock};
+ghost use Rattle.irtext_parse_nested.specs.Placing.{RefusesLabel};
 ghost use Rattle.irtext_tokens.specs.AttrTexts.{attr_at};
 ghost use Rattle.irtext_parse_state.specs.States.{marks_of};
 ghost use Rattle.irtext_scopes.specs.Names.{KeepsNames, AreDistinct};
@@ -20,21 +20,22 @@ ghost use Rattle.irtext_scopes.specs.Scopes.{is_open};
 ghost use Rattle.irtext_names.specs.Tied.{MatchesGraph, ArePending, IsNoPlaceholder};
 ghost use Rattle.irtext_grammar.specs.Contexts.Held.{whole};
 ghost use Rattle.irtext_grammar.specs.Grammar.Tree.{Head};
+ghost use Rattle.irtext_grammar.specs.Names.Acts.{block_may_hold};
 ghost use Rattle.irtext_grammar.specs.Names.Script as script;
 ghost use Rattle.irtext_grammar.specs.Names.Script.{define_label};
 ghost use Rattle.irtext_grammar.specs.Names.TextScopes.{Word};
 ghost use Rattle.irtext_parse_spec.specs.Readers.Streams.{itself, replaced, KeepsRest};
 ghost use Rattle.irtext_parse_spec.specs.Promises.Root.{UnlessMemory};
-ghost use Rattle.irtext_parse_spec.specs.Promises.Section.{IsStarved};
 ghost use Rattle.irtext_parse_spec.specs.Heads.{head_at};
 ghost use Rattle.irtext_parse_spec.specs.Grows.{BlockCame, RegionGains};
 ghost use Rattle.irtext_parse_spec.specs.Unchanged.{ModifiesOnly};
 ghost use Rattle.irtext_names.specs.Rows.{AreKnown};
 ghost use Rattle.irtext_parse_pieces.specs.Headers.{MustHead};
 ghost use Rattle.irtext_parse_pieces.specs.Named.{AreWords, NamesRead};
-ghost use Rattle.irtext_parse_nested.specs.Blocks.{entries_in, PlacesLabelled, IsOfEntries, IsRefusalFault, RefusesKeys, MakesHead, RefusesArguments, DefinesArguments, NamesHead, RefusesHead};
+ghost use Rattle.irtext_parse_nested.specs.Blocks.{entries_in, PlacesLabelled, IsOfEntries, IsRefusalFault, MakesHead, RefusesArguments, DefinesArguments, NamesHead, RefusesHead};
 ghost use Rattle.irtext_parse_nested.specs.Definitions.{ValuesReady, LosesPlaceholders};
 ghost use Rattle.irtext_parse_nested.specs.Ends.{numbers_of, noted_as, GainsMarks};
+ghost use Rattle.irtext_parse_nested.specs.Gathered.{Forbids};
 ghost use Rattle.irtext_parse_nested.specs.Items.{IsSound, KeepsLive};
 ghost use Rattle.irtext_parse_nested.specs.Located.{IsLocated, IsLocatedAt};
 ghost use Rattle.irtext_parse_nested.specs.Read.{BeginsBlock, RefusesBlock};
@@ -50,7 +51,7 @@ use irtext_base::location::Location;
 use irtext_base::parsable::{CharStream, ParseFault, ParseResult, Place, TextStream};
 use irtext_base::result::Cause;
 use irtext_base::text::{AttrText, IrText};
-use irtext_context::base::{BasicBlock, Item, Ptr, Region};
+use irtext_context::base::{BasicBlock, Context, Item, Ptr, Region};
 use irtext_dict::base::AttributeDict;
 use irtext_few::Few;
 use irtext_graph::held::HasGraph;
@@ -61,6 +62,7 @@ use irtext_parse_pieces::marks::ReadMark;
 use irtext_parse_pieces::names::ReadName;
 use irtext_parse_state::parsable::StateStream;
 use irtext_tokens::irfmt::faults::{out_of_memory, refuse_at};
+use std::alloc::{AllocError, Global};
 
 /// Parses the header of a block. Its names are stored, and no name has two numbers.
 fn head_parse<T: IrText<A>, A: AttrText<A>>(
@@ -101,37 +103,31 @@ fn refusal_fault<A>(stream: &mut TextStream, refusal: NotGathered) -> ParseFault
     }
 }
 
-/// Creates a block with this label, at the label's location, and appends it to a region. The only error is `Memory`, committed.
-fn block_made<T: IrText<A>, A: AttrText<A>, U>(
-    s: &mut StateStream<'_, T, A, U>,
+/// Creates a block with this label, and appends it to a region.
+fn block_made<T: IrText<A>, A: AttrText<A>>(
+    ctx: &mut Context<T, A>,
+    alloc: Global,
     names: &Names,
     keys: &mut Keys,
     region: Ptr<Region>,
     label: ReadName,
+    loc: Location<A>,
     attributes: AttributeDict<A>,
     types: Few<T>,
-) -> ParseResult<Ptr<BasicBlock>, A>
-    requires region { IsLive s.old.state.ctx.now.graph (TheRegion region) }
+) -> Result<Ptr<BasicBlock>, AllocError>
+    requires region { IsLive ctx.old.graph (TheRegion region) }
     requires known { label.name < length names.now.names }
-    ensures lent { s.new.state.ctx.ghost_name ≡ s.old.state.ctx.ghost_name }
-    ensures rest { KeepsRest s.old.state s.new.state }
-    ensures marks { marks_of s.new.state ≡ marks_of s.old.state }
-    ensures stream { OnOk result (s.new.stream ≡ s.old.stream) }
-    ensures places { IfOk result (PlacesLabelled names.now.names s.old.state.src (whole s.old.stream) label
-        attributes types s.old.state.ctx.now s.new.state.ctx.now region) }
-    ensures starved { IfErr result IsStarved }
-    ensures kept { (m : ℕ) → m ≤ s.old.state.ctx.now.graph.made → IsNew m s.old.state.ctx.now.graph (TheRegion region)
-        → KeepsOlder m s.old.state.ctx.now s.new.state.ctx.now }
+    ensures places { IfOk result (PlacesLabelled names.now.names label loc attributes types ctx.old ctx.new region) }
+    ensures kept { (m : ℕ) → m ≤ ctx.old.graph.made → IsNew m ctx.old.graph (TheRegion region) → KeepsOlder m ctx.old ctx.new }
 {
-    let loc = location_at(s, label.at);
-    let Some(name) = keys.label(s.stream.allocator(), label.name, names.name(label.name)) else {
-        return Err(out_of_memory(&mut s.stream));
+    let Some(name) = keys.label(alloc, label.name, names.name(label.name)) else {
+        return Err(AllocError);
     };
-    place_block(s, region, Some(name), attributes, loc, types)
+    place_block(ctx, region, Some(name), attributes, loc, types)
 }
 
-/// Creates a block from the parts of its header, and appends it to a region. Returns it with the names of its arguments. If a key of its
-/// dictionary is reserved, fails at the key. Every error is committed.
+/// Creates a block from the parts of its header, at the label's location, and appends it to a region. Returns it with the names of its
+/// arguments. Fails at the first key of its dictionary that is reserved, or if an allocation fails.
 fn head_made<T: IrText<A>, A: AttrText<A>, U>(
     s: &mut StateStream<'_, T, A, U>,
     names: &Names,
@@ -140,32 +136,34 @@ fn head_made<T: IrText<A>, A: AttrText<A>, U>(
     label: ReadName,
     arguments: Few<(ReadName, T)>,
     entries: Option<Vec<ReadEntry<A>>>,
-) -> ParseResult<(Ptr<BasicBlock>, Few<ReadName>), A>
+) -> Result<(Ptr<BasicBlock>, Few<ReadName>), NotGathered>
     requires region { IsLive s.old.state.ctx.now.graph (TheRegion region) }
     requires label { label.name < length names.now.names }
     requires known { AreKnown (length names.now.names) (numbers_of (map (λ a. a.0) arguments)) }
     ensures lent { s.new.state.ctx.ghost_name ≡ s.old.state.ctx.ghost_name }
     ensures rest { KeepsRest s.old.state s.new.state }
     ensures marks { marks_of s.new.state ≡ marks_of s.old.state }
-    ensures stream { OnOk result (s.new.stream ≡ s.old.stream) }
+    ensures stream { s.new.stream ≡ s.old.stream }
     ensures makes { IfOk result (λ made. MakesHead names.now.names s.old.state.src (whole s.old.stream) label arguments (entries_in entries)
         s.old.state.ctx.now s.new.state.ctx.now region made.0) }
     ensures names { IfOk result (λ made. made.1 ≡ map (λ a. a.0) arguments) }
-    ensures refused { IfErr result (UnlessMemory (RefusesKeys (whole s.old.stream) (entries_in entries))) }
-    ensures committed { IfErr result (λ f. f.committed ≡ true) }
+    ensures refused { IfErr result (Forbids block_may_hold (entries_in entries)) }
     ensures kept { (m : ℕ) → m ≤ s.old.state.ctx.now.graph.made → IsNew m s.old.state.ctx.now.graph (TheRegion region)
         → KeepsOlder m s.old.state.ctx.now s.new.state.ctx.now }
 {
     let alloc = s.stream.allocator();
     let Ok((arguments, types)) = arguments_split(alloc, arguments) else {
-        return Err(out_of_memory(&mut s.stream));
+        return Err(NotGathered::Memory);
     };
-    let attributes = match block_attributes(alloc, names, entries, &arguments) {
-        Ok(attributes) => attributes,
-        Err(refusal) => return Err(refusal_fault(&mut s.stream, refusal)),
-    };
-    let block = block_made(s, names, keys, region, label, attributes, types)?;
-    Ok((block, arguments))
+    let attributes = block_attributes(alloc, names, entries, &arguments)?;
+    let loc = location_at(s, label.at);
+    let ctx = &mut *s.state.ctx;
+    match block_made(
+        ctx, alloc, names, keys, region, label, loc, attributes, types,
+    ) {
+        Ok(block) => Ok((block, arguments)),
+        Err(AllocError) => Err(NotGathered::Memory),
+    }
 }
 
 /// Defines the names of a block's arguments, in the state's context. Every error is committed; the names before one that fails are
@@ -183,8 +181,7 @@ fn arguments_defined<T: IrText<A>, A: AttrText<A>, U>(
     ensures lent { s.new.state.ctx.ghost_name ≡ s.old.state.ctx.ghost_name }
     ensures rest { KeepsRest s.old.state s.new.state }
     ensures marks { marks_of s.new.state ≡ marks_of s.old.state }
-    ensures paths { s.new.state.ctx.now.paths ≡ s.old.state.ctx.now.paths }
-    ensures dialects { s.new.state.ctx.now.dialects ≡ s.old.state.ctx.now.dialects }
+    ensures ctx { s.new.state.ctx.now ≡ with_graph s.old.state.ctx.now s.new.state.ctx.now.graph }
     ensures stream { OnOk result (s.new.stream ≡ s.old.stream) }
     ensures defines { OnOk result (DefinesArguments block arguments.now names.old s.old.state names.new s.new.state.ctx.now.graph) }
     ensures refused { IfErr result (UnlessMemory (RefusesArguments block arguments.now names.old s.old.state.ctx.now.graph (whole s.old.stream))) }
@@ -219,8 +216,7 @@ fn label_defined<T: IrText<A>, A: AttrText<A>, U>(
     ensures lent { s.new.state.ctx.ghost_name ≡ s.old.state.ctx.ghost_name }
     ensures rest { KeepsRest s.old.state s.new.state }
     ensures marks { marks_of s.new.state ≡ marks_of s.old.state }
-    ensures paths { s.new.state.ctx.now.paths ≡ s.old.state.ctx.now.paths }
-    ensures dialects { s.new.state.ctx.now.dialects ≡ s.old.state.ctx.now.dialects }
+    ensures ctx { s.new.state.ctx.now ≡ with_graph s.old.state.ctx.now s.new.state.ctx.now.graph }
     ensures stream { OnOk result (s.new.stream ≡ s.old.stream) }
     ensures follows { OnOk result ((w : Word) (p : script.Place) → slice_get names.old.names label.name ≡ Some w.name
         → TakesDefinition (define_label w p) names.old names.new s.old.state.ctx.now.graph s.new.state.ctx.now.graph p (OfBlock block)) }
@@ -321,7 +317,10 @@ pub fn block_begin<T: IrText<A>, A: AttrText<A>, U>(
         attributes,
         mark,
     } = head_parse(&mut s.stream, names)?;
-    let (block, arguments) = head_made(s, names, keys, region, label, arguments, attributes)?;
+    let (block, arguments) = match head_made(s, names, keys, region, label, arguments, attributes) {
+        Ok(made) => made,
+        Err(refusal) => return Err(refusal_fault(&mut s.stream, refusal)),
+    };
     head_named(s, names, label, &arguments, mark, block)?;
     Ok(BegunBlock { block, first: true })
 }

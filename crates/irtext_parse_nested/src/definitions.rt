@@ -1,15 +1,11 @@
 //! Names that are defined one after another: the results of an operation, or the arguments of a block.
-ghost use Rattle.std.specs.Prelude.{◌≡◌, ◌<◌, ℕ, List, length, Some, true, OnOk, IfErr, slice_get};
-ghost use Rattle.irtext_graph.specs.Back.{IsClosedBelow};
-ghost use Rattle.irtext_graph.specs.Graph.{KeepsOlder};
-ghost use Rattle.irtext_graph.specs.declared.arena.Ptr.{Ptr};
-ghost use Rattle.irtext_graph.specs.declared.object.BasicBlock.{BasicBlock};
+ghost use Rattle.std.specs.Prelude.{◌≡◌, ◌<◌, length, Some, true, OnOk, IfErr, slice_get};
 ghost use Rattle.irtext_scopes.specs.Scopes.{is_open};
 ghost use Rattle.irtext_scopes.specs.declared.scopes.DefineFault.{DefineFault};
 ghost use Rattle.irtext_base.specs.Faults.{MultipleDefinitions};
 ghost use Rattle.irtext_grammar.specs.Contexts.Held.{whole};
 ghost use Rattle.irtext_parse_spec.specs.Promises.Root.{UnlessMemory};
-ghost use Rattle.irtext_names.specs.Tied.{MatchesGraph, ArePending};
+ghost use Rattle.irtext_names.specs.Tied.{MatchesGraph, SettlesTies};
 ghost use Rattle.irtext_names.specs.Rows.{AreKnown};
 ghost use Rattle.irtext_parse_nested.specs.Definitions.{defined_value, ValuesReady, DefinesRow, FailsRow, LosesPlaceholders};
 ghost use Rattle.irtext_parse_nested.specs.Ends.{numbers_of, RefusesTwice};
@@ -21,8 +17,7 @@ use irtext_few::Few;
 use irtext_graph::arena::Ptr;
 use irtext_graph::graph::Graph;
 use irtext_graph::object::{BasicBlock, Operation, Value};
-use irtext_names::definitions::UndefinedName;
-use irtext_names::values::ssa_def;
+use irtext_names::definitions::{UndefinedName, define_name};
 use irtext_parse_pieces::names::ReadName;
 use irtext_scopes::scopes::DefineFault;
 use irtext_tokens::irfmt::faults::out_of_memory;
@@ -67,22 +62,19 @@ pub(crate) fn define_values<O: Drop, B: Drop, T: Drop>(
     requires known { AreKnown (length names.old.names) (numbers_of defined.now) }
     requires tied { MatchesGraph names.old.values names.old.labels graph.old }
     requires ready { ValuesReady (defined_value row) (length defined.now) names.old.values graph.old }
-    ensures defines { OnOk result (DefinesRow (defined_value row) (numbers_of defined.now) names.old names.new graph.old graph.new) }
+    ensures defines { OnOk result (DefinesRow (defined_value row) (numbers_of defined.now) names.old names.new
+        graph.old graph.new) }
     ensures fails { IfErr result (λ undefined. undefined.fault ≡ DefineFault.MultipleDefinitions
         → FailsRow (defined_value row) (numbers_of defined.now) undefined.index names.old graph.old) }
     ensures within { IfErr result (λ undefined. undefined.index < length defined.now) }
     ensures loses { LosesPlaceholders graph.old graph.new }
     ensures values { length names.new.values ≡ length names.old.values }
     ensures rest { (names.new.names ≡ names.old.names) × (names.new.labels ≡ names.old.labels) }
-    ensures tied { MatchesGraph names.new.values names.new.labels graph.new }
-    ensures waiting { (m : ℕ) (own : List (Ptr BasicBlock))
-        → ArePending m own names.old.values names.old.labels graph.old → ArePending m own names.new.values names.new.labels graph.new }
-    ensures kept { (m : ℕ) (own : List (Ptr BasicBlock)) → IsClosedBelow m graph.old
-        → ArePending m own names.old.values names.old.labels graph.old → KeepsOlder m graph.old graph.new }
+    ensures ties { SettlesTies names.old names.new graph.old graph.new }
 {
     for index in 0..defined.len() {
         let name = number_at(defined, index);
-        if let Err(fault) = ssa_def(names, graph, name, defined_value(row, index)) {
+        if let Err(fault) = define_name(names, graph, name, defined_value(row, index)) {
             return Err(UndefinedName { fault, index });
         }
     }

@@ -1,4 +1,4 @@
-//! The dictionary of a block: the entries of its header, and the names of its arguments.
+//! Dictionaries: the entries of an operation's or a block's, and the names of a block's arguments.
 ghost use Rattle.std.specs.Prelude.{◌≡◌, ◌∷◌, ◌++◌, [], ℕ, List, length, map, IfOk, IfErr, OnOk};
 ghost use Rattle.std.specs.Str.{bytes_eq};
 ghost use Rattle.irtext_base.specs.Format.{block_label_key};
@@ -9,7 +9,7 @@ ghost use Rattle.irtext_grammar.specs.Names.Acts.{block_may_hold};
 ghost use Rattle.irtext_names.specs.Rows.{AreKnown, AreNamed};
 ghost use Rattle.irtext_parse_nested.specs.Blocks.{entries_in};
 ghost use Rattle.irtext_parse_nested.specs.Ends.{numbers_of};
-ghost use Rattle.irtext_parse_nested.specs.Gathered.{entry_read, AreAllowed, Forbids};
+ghost use Rattle.irtext_parse_nested.specs.Gathered.{entry_read, AreAllowed, Forbids, rule_of};
 
 use crate::frame::Names;
 use crate::given::names_stored;
@@ -20,6 +20,13 @@ use irtext_few::{Few, Items};
 use irtext_parse_pieces::entries::ReadEntry;
 use irtext_parse_pieces::names::ReadName;
 use std::alloc::{AllocError, Global};
+
+/// What a dictionary belongs to.
+#[derive(Clone, Copy)]
+pub enum Holder {
+    Operation,
+    Block,
+}
 
 /// The key under which the section has the label of a block.
 const BLOCK_LABEL_KEY: &'static str = "builtin_block_label";
@@ -54,18 +61,35 @@ fn block_entry_stored<A: Drop>(
     entry_stored(attributes, (key, attr))
 }
 
-/// Stores the entries of a block's dictionary, one after another. Fails at the first entry whose attribute is not allowed under its key,
-/// or if an allocation fails; the entries before it are stored then.
-fn block_entries_stored<A: Drop>(
+/// Stores an entry of a dictionary.
+fn held_entry_stored<A: Drop>(
     attributes: &mut AttributeDict<A>,
+    holder: Holder,
+    entry: ReadEntry<A>,
+) -> Result<(), NotGathered>
+    ensures stored { OnOk result (entries_of attributes.new ≡ put_all (entries_of attributes.old) (entry_read entry ∷ [])) }
+    ensures allowed { OnOk result (AreAllowed (rule_of holder) (entry ∷ [])) }
+    ensures refused { IfErr result (Forbids (rule_of holder) (entry ∷ [])) }
+{
+    match holder {
+        Holder::Operation => entry_stored(attributes, entry),
+        Holder::Block => block_entry_stored(attributes, entry),
+    }
+}
+
+/// Stores the entries of a dictionary, one after another. Fails at the first entry whose attribute is not allowed under its key, or if an
+/// allocation fails; the entries before it are stored then.
+pub(crate) fn entries_stored<A: Drop>(
+    attributes: &mut AttributeDict<A>,
+    holder: Holder,
     entries: Vec<ReadEntry<A>>,
 ) -> Result<(), NotGathered>
     ensures stored { OnOk result (entries_of attributes.new ≡ put_all (entries_of attributes.old) (map entry_read entries.items)) }
-    ensures allowed { OnOk result (AreAllowed block_may_hold entries.items) }
-    ensures refused { IfErr result (Forbids block_may_hold entries.items) }
+    ensures allowed { OnOk result (AreAllowed (rule_of holder) entries.items) }
+    ensures refused { IfErr result (Forbids (rule_of holder) entries.items) }
 {
     for entry in entries {
-        block_entry_stored(attributes, entry)?;
+        held_entry_stored(attributes, holder, entry)?;
     }
     Ok(())
 }
@@ -82,7 +106,7 @@ fn dictionary_stored<A: Drop>(
     let Some(entries) = entries else {
         return Ok(());
     };
-    block_entries_stored(attributes, entries)
+    entries_stored(attributes, Holder::Block, entries)
 }
 
 /// Returns the attributes of a block: its dictionary, if there is one, and then the names of its arguments.

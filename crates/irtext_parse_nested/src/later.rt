@@ -33,8 +33,9 @@ ghost use Rattle.irtext_parse_nested.specs.Later.{given_by, IsFlatNext, MayStore
 ghost use Rattle.irtext_parse_nested.specs.Read.{RefusesPiece};
 
 use crate::beginning::gather_fault;
+use crate::dictionary::{Holder, entries_stored};
 use crate::frame::{BegunOperation, Names};
-use crate::operation_parts::{NotGathered, entries_stored, kept, symbol_key};
+use crate::operation_parts::{NotGathered, kept, symbol_key};
 use irtext_base::base::{AttrObj, Identifier};
 use irtext_base::format::OpFormat;
 use irtext_base::parsable::{CharStream, ParseResult, TextStream};
@@ -105,7 +106,7 @@ fn piece_stored<T: Drop, A: Drop>(
 {
     match piece {
         ReadPiece::Attr(key, attr) => attr_stored(attributes, key, attr),
-        ReadPiece::Dictionary(entries) => entries_stored(attributes, entries),
+        ReadPiece::Dictionary(entries) => entries_stored(attributes, Holder::Operation, entries),
         ReadPiece::Header(symbol) => symbol_stored(alloc, attributes, symbol),
         _ => Ok(()),
     }

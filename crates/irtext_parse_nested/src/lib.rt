@@ -12,6 +12,7 @@ pub mod frame;
 mod given;
 pub mod later;
 pub mod making;
+mod memory;
 pub mod name_errors;
 pub mod operation_end;
 pub mod operation_parts;

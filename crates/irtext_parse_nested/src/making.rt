@@ -1,5 +1,5 @@
 //! Creates an operation from what its pieces gave.
-ghost use Rattle.std.specs.Prelude.{◌≡◌, ◌≤◌, ◌++◌, ◌==◌, ℕ, IfOk, OnErr, length, position};
+ghost use Rattle.std.specs.Prelude.{◌≡◌, ◌≤◌, ◌++◌, ◌==◌, ℕ, [], IfOk, OnErr, length, position};
 ghost use Rattle.std.specs.Map.{keys_of};
 ghost use Rattle.irtext_context.specs.Context.{KeepsOlder, MakesOperation};
 ghost use Rattle.irtext_grammar.specs.Grammar.Tree.{at_place, in_order};
@@ -13,6 +13,7 @@ use irtext_base::location::Location;
 use irtext_base::text::{AttrText, IrText};
 use irtext_context::base::context::making::Making;
 use irtext_context::base::{Context, Operation, Ptr};
+use irtext_dict::base::AttributeDict;
 use irtext_few::Few;
 use std::alloc::{AllocError, Global};
 
@@ -76,17 +77,45 @@ fn result_types<T: Drop>(
     Ok(Few::from_vec(all))
 }
 
+/// Returns a copy of the id that shares its texts.
+fn copied(id: &OpId) -> Result<OpId, AllocError>
+    ensures { IfOk result (λ copy. copy ≡ id.now) }
+{
+    let dialect = id.dialect.clone()?;
+    let name = id.name.clone()?;
+    Ok(OpId { dialect, name })
+}
+
+/// Creates a detached operation with this id and these attributes, without regions, results, operands and successors. Returns it with the
+/// number of its results. If an allocation fails, or a counter is full, nothing changes.
+pub(crate) fn make_bare<T: IrText<A>, A: AttrText<A>>(
+    ctx: &mut Context<T, A>,
+    id: &OpId,
+    loc: Location<A>,
+    attributes: AttributeDict<A>,
+) -> Result<(Ptr<Operation>, usize), AllocError>
+    ensures makes { IfOk result (λ made. MakesOperation ctx.old ctx.new made.0
+        (record { id = id.now; attributes = attributes; loc = loc }) [] [] []) }
+    ensures counts { IfOk result (λ made. made.1 ≡ 0) }
+    ensures err { OnErr result (ctx.new ≡ ctx.old) }
+    ensures kept { (m : ℕ) → m ≤ ctx.old.graph.made → KeepsOlder m ctx.old ctx.new }
+{
+    let id = copied(id)?;
+    let op = ctx.make_operation(id, attributes, loc)?;
+    Ok((op, 0))
+}
+
 /// Creates a detached operation without regions from what its pieces gave. Returns it with the number of its results. If an allocation
 /// fails, or a counter is full, nothing changes.
 pub(crate) fn make_gathered<T: IrText<A>, A: AttrText<A>>(
     ctx: &mut Context<T, A>,
-    id: OpId,
+    id: &OpId,
     loc: Location<A>,
     gathered: Gathered<T, A>,
 ) -> Result<(Ptr<Operation>, usize), AllocError>
     requires { AllStand ctx.old.graph gathered }
     ensures makes { IfOk result (λ made. MakesOperation ctx.old ctx.new made.0
-        (record { id = id; attributes = gathered.attributes; loc = loc }) (types_made gathered.types.items gathered.listed)
+        (record { id = id.now; attributes = gathered.attributes; loc = loc }) (types_made gathered.types.items gathered.listed)
         (in_order gathered.operands.single.items ++ gathered.operands.list.items) (in_order gathered.successors.single.items ++ gathered.successors.list.items)) }
     ensures counts { IfOk result (λ made. made.1 ≡ length (types_made gathered.types.items gathered.listed)) }
     ensures err { OnErr result (ctx.new ≡ ctx.old) }
@@ -99,6 +128,7 @@ pub(crate) fn make_gathered<T: IrText<A>, A: AttrText<A>>(
         listed,
         attributes,
     } = gathered;
+    let id = copied(id)?;
     let alloc = ctx.allocator();
     let operands = all_placed(alloc, operands)?;
     let successors = all_placed(alloc, successors)?;

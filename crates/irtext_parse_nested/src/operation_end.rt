@@ -25,7 +25,6 @@ ghost use Rattle.irtext_names.specs.Tied.{MatchesGraph, ArePending};
 ghost use Rattle.irtext_grammar.specs.Contexts.Held.{whole};
 ghost use Rattle.irtext_parse_spec.specs.Readers.Streams.{itself, replaced, KeepsRest};
 ghost use Rattle.irtext_parse_spec.specs.Promises.Root.{UnlessMemory};
-ghost use Rattle.irtext_parse_spec.specs.Promises.Section.{IsStarved};
 ghost use Rattle.irtext_parse_spec.specs.Unchanged.{ModifiesOnly};
 ghost use Rattle.irtext_grammar.specs.Grammar.Tree.{Mark};
 ghost use Rattle.irtext_parse_spec.specs.Heads.{mark_if_at};
@@ -43,6 +42,7 @@ ghost use Rattle.irtext_parse_nested.specs.Read.{EndsOperation, RefusesEnd};
 use crate::definitions::{Definer, define_values, undefined_error};
 use crate::frame::{BegunOperation, Names};
 use crate::given::{names_shared, shared_key};
+use crate::memory::or_memory;
 use crate::name_errors::{NameFault, name_error};
 use irtext_base::parsable::{CharStream, ParseFault, ParseResult, TextStream};
 use irtext_base::result::Cause;
@@ -168,30 +168,6 @@ fn given_kept<T: IrText<A>, A: AttrText<A>>(
     names_shared(alloc, names, &begun.names, key, attributes)
 }
 
-/// Stores the names of an operation's results as given names, in the state's context. The only error is `Memory`, committed.
-fn given_stored<T: IrText<A>, A: AttrText<A>, U>(
-    s: &mut StateStream<'_, T, A, U>,
-    names: &Names,
-    begun: &BegunOperation,
-) -> ParseResult<(), A>
-    requires stands { IsSome (operation s.old.state.ctx.now begun.now.op) }
-    requires known { AreKnown (length names.now.names) (numbers_of begun.now.names) }
-    ensures lent { s.new.state.ctx.ghost_name ≡ s.old.state.ctx.ghost_name }
-    ensures rest { KeepsRest s.old.state s.new.state }
-    ensures marks { marks_of s.new.state ≡ marks_of s.old.state }
-    ensures stream { OnOk result (s.new.stream ≡ s.old.stream) }
-    ensures writes { WritesAttributes s.old.state.ctx.now s.new.state.ctx.now begun.now.op }
-    ensures gives { OnOk result (GivesNames names.now.names begun.now.names s.old.state.ctx.now s.new.state.ctx.now begun.now.op) }
-    ensures starved { IfErr result IsStarved }
-{
-    let alloc = s.stream.allocator();
-    let ctx = &mut *s.state.ctx;
-    match given_kept(ctx, alloc, names, begun) {
-        Ok(()) => Ok(()),
-        Err(AllocError) => Err(out_of_memory(&mut s.stream)),
-    }
-}
-
 /// Defines the names of an operation's results, and stores them as given names, in the state's context.
 fn close<T: IrText<A>, A: AttrText<A>, U>(
     s: &mut StateStream<'_, T, A, U>,
@@ -224,7 +200,10 @@ fn close<T: IrText<A>, A: AttrText<A>, U>(
         → IsNew m s.old.state.ctx.now.graph (TheOperation begun.now.op) → KeepsOlder m s.old.state.ctx.now s.new.state.ctx.now }
 {
     results_defined(s, names, begun)?;
-    given_stored(s, names, begun)
+    let alloc = s.stream.allocator();
+    let ctx = &mut *s.state.ctx;
+    let stored = given_kept(ctx, alloc, names, begun);
+    or_memory(&mut s.stream, stored)
 }
 
 /// Parses white space, and a mark if one comes next. Every error is committed.

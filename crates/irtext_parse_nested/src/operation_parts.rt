@@ -14,8 +14,9 @@ ghost use Rattle.irtext_parse_pieces.specs.declared.pieces.ReadPiece.TheVariants
 ghost use Rattle.irtext_parse_nested.specs.declared.operation_parts.NotGathered.TheVariants.{Memory};
 ghost use Rattle.irtext_parse_nested.specs.Gathered.{entry_read, refused_at, GathersAlone, RefusesAlone, MayAllHold, RefusesEntries, IsNothing, CanGather, KeepsScopes, Gathers, RefusesGathering};
 
+use crate::dictionary::{Holder, entries_stored};
 use crate::frame::Names;
-use crate::uses::{Placed, block_placed, blocks_used, value_placed, values_used};
+use crate::uses::{Placed, name_placed, names_used};
 use irtext_base::base::{AttrObj, Identifier, Refusal};
 use irtext_base::parsable::Place;
 use irtext_context::base::block::BlockData;
@@ -115,22 +116,6 @@ pub(crate) fn entry_stored<A: Drop>(
     }
 }
 
-/// Stores the entries of a dictionary, one after another. Fails at the first entry whose attribute is not allowed under its key, or if an
-/// allocation fails; the entries before it are stored then.
-pub(crate) fn entries_stored<A: Drop>(
-    attributes: &mut AttributeDict<A>,
-    entries: Vec<ReadEntry<A>>,
-) -> Result<(), NotGathered>
-    ensures stored { OnOk result (entries_of attributes.new ≡ put_all (entries_of attributes.old) (map entry_read entries.items)) }
-    ensures holds { OnOk result (MayAllHold entries.items) }
-    ensures refused { IfErr result (RefusesEntries entries.items) }
-{
-    for entry in entries {
-        entry_stored(attributes, entry)?;
-    }
-    Ok(())
-}
-
 /// Uses the name of an operand that has a directive of its own.
 fn operand_gathered<T: Drop, A: Drop>(
     names: &mut Names,
@@ -150,7 +135,7 @@ fn operand_gathered<T: Drop, A: Drop>(
         return Err(NotGathered::NoActiveScope(name));
     }
     let single = &mut gathered.operands.single;
-    let Ok(()) = value_placed(names, graph, single, index, name.name) else {
+    let Ok(()) = name_placed(names, graph, single, index, name.name) else {
         return Err(NotGathered::Memory);
     };
     Ok(())
@@ -175,7 +160,7 @@ fn successor_gathered<T: Drop, A: Drop>(
         return Err(NotGathered::NoActiveScope(name));
     }
     let single = &mut gathered.successors.single;
-    let Ok(()) = block_placed(names, graph, single, index, name.name) else {
+    let Ok(()) = name_placed(names, graph, single, index, name.name) else {
         return Err(NotGathered::Memory);
     };
     Ok(())
@@ -200,7 +185,7 @@ fn operands_gathered<T: Drop, A: Drop>(
     if !names.has_value_scope() {
         return Err(NotGathered::NoActiveScope(used[0]));
     }
-    let Ok(()) = values_used(names, graph, &used, &mut gathered.operands.list) else {
+    let Ok(()) = names_used(names, graph, &used, &mut gathered.operands.list) else {
         return Err(NotGathered::Memory);
     };
     Ok(())
@@ -226,7 +211,7 @@ fn successors_gathered<T: Drop, A: Drop>(
     if !names.has_label_scope() {
         return Err(NotGathered::NoActiveScope(used[0]));
     }
-    let Ok(()) = blocks_used(names, graph, &used, &mut gathered.successors.list) else {
+    let Ok(()) = names_used(names, graph, &used, &mut gathered.successors.list) else {
         return Err(NotGathered::Memory);
     };
     Ok(())
@@ -270,7 +255,7 @@ fn dictionary_gathered<T: Drop, A: Drop>(
     ensures gathers { OnOk result (GathersAlone (read.Dictionary entries ∷ []) gathered.old gathered.new) }
     ensures refused { IfErr result (RefusesAlone {T = T} {A = A} (read.Dictionary entries ∷ [])) }
 {
-    entries_stored(&mut gathered.attributes, entries)
+    entries_stored(&mut gathered.attributes, Holder::Operation, entries)
 }
 
 /// Returns the key of a symbol's name. Shares the text of `key` if it is given.

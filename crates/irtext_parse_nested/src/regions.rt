@@ -2,7 +2,6 @@
 ghost use Rattle.std.specs.Prelude.{◌≡◌, ◌≤◌, ◌⊎◌, ℕ, List, true, false, codes, [], ◌∷◌, None, IfOk, IfErr, OnOk, IsSome};
 ghost use Rattle.irtext_base.specs.Faults as fault;
 ghost use Rattle.irtext_base.specs.Faults.{fault_of};
-ghost use Rattle.irtext_base.specs.Answers.{StarvesHere};
 ghost use Rattle.irtext_base.specs.Stream.{IsAt};
 ghost use Rattle.irtext_context.specs.Context.{operation, AddsRegion, KeepsOlder};
 ghost use Rattle.irtext_graph.specs.Graph.{IsNew};
@@ -73,33 +72,6 @@ fn not_isolated<A>(stream: &mut TextStream) -> ParseFault<A>
     }
 }
 
-/// Opens the scopes of a region. On an error the names are unchanged.
-fn enter<O: Drop, B: Drop, T: Drop, A>(
-    stream: &mut TextStream,
-    names: &mut Names,
-    graph: &Graph<Option<O>, B, Option<T>>,
-    isolated: bool,
-) -> ParseResult<(), A>
-    requires tied { MatchesGraph names.old.values names.old.labels graph.now }
-    ensures stream { OnOk result (stream.new ≡ stream.old) }
-    ensures values { OnOk result (names.new.values ≡ entered isolated names.old.values) }
-    ensures labels { OnOk result (names.new.labels ≡ [] ∷ names.old.labels) }
-    ensures names { names.new.names ≡ names.old.names }
-    ensures tied { MatchesGraph names.new.values names.new.labels graph.now }
-    ensures waiting { (m : ℕ) (own : List (Ptr BasicBlock))
-        → ArePending m own names.old.values names.old.labels graph.now → ArePending m own names.new.values names.new.labels graph.now }
-    ensures takes { OnOk result (Takes (enter isolated) (history.entered isolated) names.old names.new graph.now) }
-    ensures open { OnOk result (is_open names.new.values ≡ true) }
-    ensures refused { IfErr result (λ f. IsStarved f ⊎ ((fault_of f.cause ≡ fault.NotIsolated) × (f.committed ≡ true) × IsAt f.pos.line f.pos.column []
-        × FailsBy (enter isolated) names.old graph.now (record { cause = NotIsolated; at = None }))) }
-{
-    match enter_region(names, graph, isolated) {
-        Ok(()) => Ok(()),
-        Err(EnterFault::Memory) => Err(out_of_memory(stream)),
-        Err(EnterFault::TopLevelOpRegionNotIsolatedFromAbove) => Err(not_isolated(stream)),
-    }
-}
-
 /// Returns the graph of the state's context.
 fn graph_of<'s, T: IrText<A>, A: AttrText<A>, U>(
     state: &'s State<'_, T, A, U>,
@@ -134,29 +106,29 @@ pub fn enter_here<T: IrText<A>, A: AttrText<A>, U>(
         × (f.committed ≡ true) × IsAt f.pos.line f.pos.column []
         × FailsBy (enter isolated) names.old s.old.state.ctx.now.graph (record { cause = NotIsolated; at = None }))) }
 {
-    enter(&mut s.stream, names, graph_of(&s.state), isolated)
+    match enter_region(names, graph_of(&s.state), isolated) {
+        Ok(()) => Ok(()),
+        Err(EnterFault::Memory) => Err(out_of_memory(&mut s.stream)),
+        Err(EnterFault::TopLevelOpRegionNotIsolatedFromAbove) => Err(not_isolated(&mut s.stream)),
+    }
 }
 
 /// Appends a new region to an operation.
 fn add<T: IrText<A>, A: AttrText<A>, U>(
     s: &mut StateStream<'_, T, A, U>,
     op: Ptr<Operation>,
-) -> ParseResult<Ptr<Region>, A>
+) -> Result<Ptr<Region>, AllocError>
     requires stands { IsSome (operation s.old.state.ctx.now op) }
     ensures lent { s.new.state.ctx.ghost_name ≡ s.old.state.ctx.ghost_name }
     ensures rest { KeepsRest s.old.state s.new.state }
     ensures marks { marks_of s.new.state ≡ marks_of s.old.state }
-    ensures stream { OnOk result (s.new.stream ≡ s.old.stream) }
+    ensures stream { s.new.stream ≡ s.old.stream }
     ensures adds { IfOk result (λ r. AddsRegion s.old.state.ctx.now s.new.state.ctx.now op r) }
-    ensures starved { IfErr result (λ f. StarvesHere itself replaced s.old.stream f s.new.stream) }
     ensures kept { (m : ℕ) → m ≤ s.old.state.ctx.now.graph.made → IsNew m s.old.state.ctx.now.graph (TheOperation op)
         → KeepsOlder m s.old.state.ctx.now s.new.state.ctx.now }
 {
     let ctx = &mut *s.state.ctx;
-    match ctx.add_region(op) {
-        Ok(region) => Ok(region),
-        Err(AllocError) => Err(out_of_memory(&mut s.stream)),
-    }
+    ctx.add_region(op)
 }
 
 /// Parses the `{` of a region, and the white space after it. Every error is committed.
@@ -201,7 +173,9 @@ pub fn region_begin<T: IrText<A>, A: AttrText<A>, U>(
 {
     let at = s.stream.position();
     enter_here(s, names, isolated)?;
-    let region = add(s, op)?;
+    let Ok(region) = add(s, op) else {
+        return Err(out_of_memory(&mut s.stream));
+    };
     brace_demanded(&mut s.stream)?;
     Ok(BegunRegion {
         region,

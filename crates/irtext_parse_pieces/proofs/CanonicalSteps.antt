@@ -1,9 +1,9 @@
 -- How far the reader of the canonical form has come: several steps at a time.
-use Rattle.std.proofs.Common.{◌≡◌, ℕ, Bool, true, false, Result, Ok, Err, List, [], ◌∷◌, ◌++◌, append-nil, append_assoc, refl, sym, ◌∙◌, ap, subst}
+use Rattle.std.proofs.Common.{◌≡◌, ℕ, Bool, false, Result, Ok, Err, List, [], ◌∷◌, ◌++◌, append-nil, append_assoc, refl, sym, ◌∙◌, ap, subst}
 use Rattle.std.specs.Char.{is_whitespace}
 use Rattle.std.specs.Prelude.{IfOk}
 use Rattle.irtext_base.specs.Text.{Text, front, after}
-use Rattle.irtext_base.specs.Answers.{Outcome, Read, Missing, Bad, Takes, Answers, mapped, followed, prefixed, demanded, unless_failed}
+use Rattle.irtext_base.specs.Answers.{Outcome, Read, Missing, Bad, Takes, mapped, followed, prefixed, demanded}
 use Rattle.irtext_base.specs.Locations.{AttrView}
 use Rattle.irtext_base.specs.declared.parsable.fault.ParseFault.{ParseFault}
 use Rattle.irtext_scopes.specs.Names.{KeepsNames}
@@ -24,7 +24,7 @@ use Rattle.irtext_parse_pieces.specs.Canonical.{word_step, MustSteps}
 use Rattle.irtext_parse_pieces.specs.Fronts.{IsPart}
 use Rattle.irtext_parse_pieces.specs.Pieces.{IsPiece}
 use Rattle.irtext_parse_pieces.specs.Named.{whole, Each, MustMean}
-use Rattle.irtext_parse_pieces.proofs.FrontSteps.{followed_prefixed, followed_followed, piece_on}
+use Rattle.irtext_parse_pieces.proofs.FrontSteps.{followed_followed, piece_on}
 use Rattle.irtext_parse_pieces.proofs.Listings.{each_on}
 use Rattle.irtext_parse_pieces.proofs.Meanings.{means_on, passed_whole}
 
@@ -196,12 +196,6 @@ module _ {S T A : Type 0} (l : Lens S) (types : Text → Outcome T) (attr : Text
   pub word_refused : {W : Type 0} (sees : W → List (ReadPiece T A)) (w : Text) (rest : List Step) {new : S} {fault : ParseFault A} (more_names : List Text) → Through l types attr inside names all (word_step w ∷ rest) old now found
       → ((l.view now).failed ≡ false → MustRead {Y = Unit {0}} l.view l.at (λ u. u) (space_at ▷ text_at w) now (Err fault) new) → MustSteps l.view l.at more_names types attr inside all sees old (Err fault) new
   word_refused sees w rest more_names p h = steps_refused l types attr inside (λ (_ : Unit {0}). read.Word ∷ []) sees (word_step w ∷ []) rest names more_names p (word_read l types attr inside names w (h (fine_there l p.passed)))
-
-  -- the last steps answer for all
-  pub steps_last : {Y : Type 0} (see sees : Y → List (ReadPiece T A)) (steps : List Step) {new : S} (r : Result Y (ParseFault A)) → ((y : Y) → sees y ≡ found ++ see y) → Through l types attr inside names all (steps ++ []) old now found
-      → MustSteps l.view l.at names types attr inside steps see now r new → MustSteps l.view l.at names types attr inside all sees old r new
-  steps_last see sees steps (Ok y) e p h = steps_end l types attr inside sees y (e y) (steps_more l types attr inside see steps [] names p (λ i text k. k) h)
-  steps_last see sees steps (Err fault) e p h = steps_refused l types attr inside see sees steps [] names names p h
 
 module _ {S T A Y Z : Type 0} (l : Lens S) (types : Text → Outcome T) (attr : Text → Outcome (AttrView A)) (inside : Bool) (names : List Text) (steps : List Step) (see : Y → List (ReadPiece T A)) (sees : Z → List (ReadPiece T A)) {old mid : S} where
   -- an error is the same, whatever value there would be

@@ -16,17 +16,18 @@ use Rattle.irtext_stream.specs.Places.{StandsBehind}
 use Rattle.irtext_stream.specs.Stream.{Comes}
 use Rattle.irtext_tokens.specs.ListOutcomes.{items_after, separated_at}
 use Rattle.irtext_tokens.specs.MustRead.{MustRead}
-use Rattle.irtext_tokens.specs.Tokens.{word_at}
-use Rattle.irtext_tokens.proofs.Steps.{Lens, seen_alone}
+use Rattle.irtext_tokens.specs.Reads.{TakesFront}
+use Rattle.irtext_tokens.specs.Tokens.{space_at, text_at, word_at}
+use Rattle.irtext_tokens.proofs.Steps.{Lens, Passed, first, spaced, more, refuses, refuses_seen, last_seen, seen_alone}
 use Rattle.irtext_grammar.specs.Contexts.Held.{attribute_of}
 use Rattle.irtext_grammar.specs.Grammar.Tree.{Name, Attribute}
 use Rattle.irtext_grammar.specs.Spelling.AttrText.{attr_tree}
-use Rattle.irtext_parse_spec.specs.Heads.{name_of, name_at, dictionary_at}
+use Rattle.irtext_parse_spec.specs.Heads.{name_of, name_at, pair_at, dictionary_at}
 use Rattle.irtext_parse_pieces.specs.declared.entries.Key.{Key}
 use Rattle.irtext_parse_pieces.specs.Entries.{IsKey, IsEntry, AreEntries, MustEntries, EntriesBehind, dictionary_if}
 use Rattle.irtext_parse_pieces.specs.Named.{whole, Optional, MayMean, MustMean}
 use Rattle.irtext_parse_pieces.proofs.Listings.{list_some}
-use Rattle.irtext_parse_pieces.proofs.Meanings.{takes_whole, may_whole}
+use Rattle.irtext_parse_pieces.proofs.Meanings.{takes_whole, may_whole, must_refuse, passed_whole}
 
 -- an attribute that was parsed, as trees hold it
 tree_of_view : {A : Type 0} (a : AttrObj A) → attr_tree (attr_view a) ≡ attribute_of a
@@ -98,3 +99,42 @@ module _ {S A : Type 0} (l : Lens S) where
     pub dictionary_refused : {Means : Vec (Key × AttrObj A) Global → List (Name ℕ × Attribute A) → Type 0} {Other : Option (Vec (Key × AttrObj A) Global) → Option (List (Name ℕ × Attribute A)) → Type 0} {old new : S} {fault : ParseFault A} → begins (the 91) (l.view old).rest ≡ true → MustMean l.view l.at Means (dictionary_at attr) old (Err fault) new → MustMean l.view l.at Other (dictionary_if attr) old (Err fault) new
     dictionary_refused {old = old} {new = new} {fault = fault} b h =
         record { meant = λ _. None; means = tt; read = record { answers = rw b (refuses_mapped_demanded l.view l.at l.view_at l.at_at Some (l.view old).failed (dictionary_at attr (l.view old).rest) old new fault h.read.answers) } }
+
+-- what follows the entries
+abbrev behind_entries : {A : Type 0} → List (Name ℕ × Attribute A) → Text → Outcome (List (Name ℕ × Attribute A))
+behind_entries es t = mapped (λ _. es) (text_at (codes "]") t)
+
+-- what follows the opening bracket
+abbrev behind_bracket : {A : Type 0} → (Text → Outcome (AttrView A)) → Unit {0} → Text → Outcome (List (Name ℕ × Attribute A))
+behind_bracket attr u t = followed (space_at t) (λ _ u. followed (separated_at 44 (pair_at attr) u) behind_entries)
+
+module _ {S A : Type 0} (l : Lens S) (attr : Text → Outcome (AttrView A)) where
+  -- there is no opening bracket
+  pub no_bracket : {old new : S} {fault : ParseFault A} → MustRead {Y = Unit {0}} l.view l.at (λ u. u) (text_at (codes "[")) old (Err fault) new → MustEntries l.view l.at (dictionary_at attr) old (Err fault) new
+  unfolding dictionary_at
+  no_bracket h = must_refuse l (first_refused l {sees = λ _. []} (behind_bracket attr) h)
+
+  module _ {old opened spaced_now : S} (bracket : MustRead {A = A} {Y = Unit {0}} l.view l.at (λ u. u) (text_at (codes "[")) old (Ok tt) opened) (space : TakesFront l.view l.at is_whitespace opened spaced_now) where
+    entries_next : Passed l (dictionary_at attr) (λ u. followed (separated_at 44 (pair_at attr) u) behind_entries) old spaced_now
+    unfolding dictionary_at
+    entries_next = spaced l (λ _ u. followed (separated_at 44 (pair_at attr) u) behind_entries) (first l (behind_bracket attr) bracket) space
+
+    -- an entry is an error
+    pub no_entry_read : {new : S} {fault : ParseFault A} → MustEntries l.view l.at (separated_at 44 (pair_at attr)) spaced_now (Err fault) new → MustEntries l.view l.at (dictionary_at attr) old (Err fault) new
+    no_entry_read h = must_refuse l (refuses l {sees = λ _. []} behind_entries entries_next h.read)
+
+    module _ {listed : S} {entries : Vec (Key × AttrObj A) Global} (list : MustEntries {A = A} l.view l.at (separated_at 44 (pair_at attr)) spaced_now (Ok entries) listed) where
+      end_next : Passed l (dictionary_at attr) (behind_entries (list.meant entries)) old listed
+      end_next = more l behind_entries entries_next list.read
+
+      -- there is no closing bracket
+      pub no_end : {new : S} {fault : ParseFault A} → MustRead {Y = Unit {0}} l.view l.at (λ u. u) (text_at (codes "]")) listed (Err fault) new → MustEntries l.view l.at (dictionary_at attr) old (Err fault) new
+      no_end h = must_refuse l (refuses_seen l {sees = λ _. []} (λ _. list.meant entries) end_next h)
+
+      -- all of it was parsed
+      pub bracketed : {new : S} → MustRead {A = A} {Y = Unit {0}} l.view l.at (λ u. u) (text_at (codes "]")) listed (Ok tt) new → MustEntries {A = A} l.view l.at (dictionary_at attr) old (Ok entries) new
+      bracketed h = record {
+        meant = λ _. list.meant entries;
+        means = subst (λ t. AreEntries t entries (list.meant entries)) (passed_whole l entries_next) list.means;
+        read = last_seen l (λ _. list.meant entries) (λ _. list.meant entries) entries refl end_next h;
+      }

@@ -1,7 +1,8 @@
 -- The id of an operation after a lead, found by its text or parsed and looked up.
-use Rattle.std.proofs.Common.{◌≡◌, ℕ, Bool, true, false, List, Option, None, Some, is_some, IfOk, Result, Ok, Err, [], ◌∷◌, ◌++◌, refl, sym, ◌∙◌, ap, subst, cond, append_assoc, append-nil, ◌⊎◌, inl, inr, option_and_then}
+use Rattle.std.proofs.Common.{◌≡◌, ℕ, Bool, true, false, List, Option, None, Some, is_some, IfOk, Result, Ok, Err, [], ◌∷◌, ◌++◌, length, not, eqb, refl, sym, ◌∙◌, ap, subst, cond, append_assoc, append-nil, ◌⊎◌, inl, inr, option_and_then}
 use Rattle.std.specs.Prelude.{OnOk, IfErr, IfSome}
 use Rattle.std.specs.Map.{lookup}
+use Rattle.std.specs.Str.{encode_utf8_all}
 use denote.Ref.{Bor}
 use Rattle.irtext_base.specs.Text.{Text, begins, front, after, begins_word, in_word}
 use Rattle.irtext_base.specs.Reading.{the}
@@ -22,6 +23,7 @@ use Rattle.irtext_tokens.specs.Tokens.{id_at, id_with, word_at}
 use Rattle.irtext_tokens.proofs.SetBack.{set_within}
 use Rattle.irtext_tokens.proofs.Spelling.{begins_the, takes_next, takes_none_is}
 use Rattle.irtext_tokens.proofs.Steps.{Lens}
+use Rattle.irtext_tokens.proofs.Words.{taken_since}
 use Rattle.irtext_grammar.specs.Contexts.Formats.{op_id}
 use Rattle.irtext_parse_spec.specs.Readers.Parts.{behind, is_led}
 use Rattle.irtext_parse_spec.specs.Readers.Operations.{registered_behind, Registers, RefusesAt}
@@ -29,6 +31,7 @@ use Rattle.std.specs.Char.{is_whitespace}
 use Rattle.irtext_tokens.specs.Tokens.{space_at}
 use Rattle.irtext_grammar.specs.Grammar.Tree.{Name}
 use Rattle.irtext_parse_spec.specs.Heads.{lead_at, led_by, led_at}
+use Rattle.irtext_parse_spec.proofs.Readers.Leads.{is_led-bytes}
 use Rattle.irtext_parse_pieces.specs.declared.names.ReadName.{ReadName}
 use Rattle.irtext_parse_pieces.specs.Named.{whole, MayMean, MustMean, MustNames}
 use Rattle.irtext_parse_pieces.specs.Results.{results_if_at}
@@ -208,6 +211,14 @@ module _ {S A : Type 0} (l : Lens S) where
   -- what was taken for a lead
   pub lead_taken : {names : List Text} {old mid : S} {ns : List ReadName} → (h : MustNames {A = A} l.view l.at names lead_at old (Ok ns) mid) → TookOf l lead_at old (h.meant ns) mid
   lead_taken {old = old} {mid = mid} {ns = ns} h = took_of l lead_at (l.view old).failed (lead_at (l.view old).rest) old mid (h.meant ns) refl refl h.read.answers
+
+  -- whether it is not empty, by the bytes since its beginning
+  pub lead_since : {names : List Text} {old mid : S} {ns : List ReadName} (h : MustNames {A = A} l.view l.at names lead_at old (Ok ns) mid) (start : Place) (bytes : List ℕ) (empty : Bool) → StandsBehind start (l.view old).passed
+      → ((passed taken : Text) → passed ++ taken ≡ (l.view mid).passed → StandsBehind start passed → bytes ≡ encode_utf8_all taken) → empty ≡ eqb (length bytes) 0 → not empty ≡ is_led (lead_taken h).taken
+  lead_since {old = old} {mid = mid} h start bytes empty at since e =
+      let t = lead_taken h in
+      let w = taken_since l.view l.at l.view_at l.at_at old mid start bytes t.taken (l.view mid).rest t.takes at since in
+      ap not e ∙ (ap (λ z. not (eqb (length z) 0)) w ∙ is_led-bytes t.taken)
 
   -- the lead is an error
   pub lead_refused : {Y : Type 0} {Means : Y → List (Name ℕ) × Id → Type 0} {MeansLead : List ReadName → List (Name ℕ) → Type 0} {old new : S} {fault : ParseFault A} (dialects : List (Text × Table)) → MustMean l.view l.at MeansLead lead_at old (Err fault) new → MayMean l.view l.at Means (led_at dialects) old (Err fault) new

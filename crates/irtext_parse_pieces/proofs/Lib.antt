@@ -5,7 +5,9 @@ pub mod EntrySteps
 pub mod FormatSteps
 pub mod Founds
 pub mod FrontSteps
+pub mod HeaderSteps
 pub mod Interned
+pub mod KindSteps
 pub mod Leads
 pub mod Lenses
 pub mod Listings
@@ -14,5 +16,7 @@ pub mod Looks
 pub mod MarkSteps
 pub mod Meanings
 pub mod NameSteps
+pub mod PairSteps
 pub mod PieceSteps
+pub mod SignatureParts
 pub mod WordSteps

@@ -1,5 +1,5 @@
 -- How far the parser of a list has come, whose items represent those of the text.
-use Rattle.std.proofs.Common.{◌≡◌, ℕ, suc, Bool, true, false, Result, Ok, Err, List, [], ◌∷◌, ◌++◌, length, refl, sym, ◌∙◌, subst, ◌⊎◌, inl, inr, true≢false, arith, ◌<◌}
+use Rattle.std.proofs.Common.{◌≡◌, ℕ, suc, Bool, true, false, cond, Result, Ok, Err, List, [], ◌∷◌, ◌++◌, length, refl, sym, ◌∙◌, subst, ◌⊎◌, inl, inr, true≢false, arith, ◌<◌}
 use Rattle.std.specs.Char.{is_whitespace}
 use Rattle.irtext_base.specs.Text.{Text, begins, front, after}
 use Rattle.irtext_base.specs.Reading.{the}
@@ -9,12 +9,14 @@ use Rattle.irtext_base.specs.declared.parsable.fault.ParseFault.{ParseFault}
 use Rattle.irtext_base.proofs.Compose.{refuses_first_demanded}
 use Rattle.irtext_tokens.specs.ListOutcomes.{item_after, items_after, or_empty, separated_at}
 use Rattle.irtext_tokens.specs.MustRead.{MayRead, MustRead}
+use Rattle.irtext_tokens.specs.Reads.{TakesFront}
 use Rattle.irtext_tokens.specs.Tokens.{space_at}
 use Rattle.irtext_tokens.proofs.ListOutcomes.{Found, found_first, found_all, goes_on, falls_behind, behind_separator, behind_space, list_begun, list_empty, separated_stands}
 use Rattle.irtext_tokens.proofs.Steps.{Lens, Passed, first, more, took, spaced, refuses, starved, last_spaced, begins_with, begins_refused, begun_by, fine_there, never_missing}
 use Rattle.irtext_grammar.specs.Grammar.Tree.{Name}
 use Rattle.irtext_parse_pieces.specs.declared.names.ReadName.{ReadName}
 use Rattle.irtext_parse_pieces.specs.Arguments.{IsArgument, MustArguments, ArgumentsBehind}
+use Rattle.irtext_parse_pieces.specs.Lists.{IsBehindComma, Appends}
 use Rattle.irtext_parse_pieces.specs.Named.{whole, StandsFor, Each, MayMean, MustMean, MayName, MustNames, NamesBehind}
 use Rattle.irtext_parse_pieces.proofs.Meanings.{passed_whole, takes_whole, may_whole, must_refuse}
 
@@ -148,28 +150,56 @@ module _ {S X Y : Type 0} (l : Lens S) (item : Text → Outcome X) where
         let m = rest (fine_there l (begins_with l (behind_first item) i)) in
         record { meant = m.meant; means = m.means; read = never_missing l (separated_at 44 item) (separated_stands 44 item) (list_begun l (behind_first item) i (λ _. m.read)) }
 
--- one turn of a loop over items: a separator, white space, an item and the white space after it
-module _ {S X Y A : Type 0} (l : Lens S) (item : Text → Outcome X) {begun : List X} {old now mid later : S} {found : List Y}
-    (b : begins (the 44) (l.view now).rest ≡ true) (t : mid ≡ l.at now (advanced (l.view now))) (k : Takes l.view l.at (front is_whitespace (l.view mid).rest) (after is_whitespace (l.view mid).rest) mid later) where
+  -- without a separator behind it the first item is all
+  pub only_first : {A : Type 0} {Means : Y → X → Type 0} (x : X) (y : Y) {old : S} {ys : List Y} → ys ≡ y ∷ [] → begins (the 44) (l.view old).rest ≡ false → (l.view old).failed ≡ false → Means y x
+      → MustMean {A = A} l.view l.at (Each Means) (λ t. items_after 44 item (length t) (x ∷ []) t) old (Ok ys) old
+  only_first {Means = Means} x y {old = old} {ys = ys} e stop fine h = let p = listing_starts x y old e fine h in listing_all (Each Means) ys stop p p.each
+
+  -- an uncommitted error of the first item is no error of the list, which then has no items
+  pub list_unread : {A W : Type 0} {Means : Y → X → Type 0} {MeansAll : W → List X → Type 0} {old new : S} {fault : ParseFault A} (w : W) (r : Result W (ParseFault A)) → MeansAll w [] → MayMean l.view l.at Means item old (Err fault) new → cond fault.committed (r ≡ Err fault) (r ≡ Ok w)
+      → MustMean l.view l.at MeansAll (separated_at 44 item) old r new
+  list_unread {A = A} {MeansAll = MeansAll} {old = old} {new = new} {fault = fault} w r none m h = go fault.committed refl h
+    where
+      go : (b : Bool) → fault.committed ≡ b → cond b (r ≡ Err fault) (r ≡ Ok w) → MustMean l.view l.at MeansAll (separated_at 44 item) old r new
+      go true c e = rw e (must_refuse l (list_bad (λ _. []) c m.read))
+      go false c e = rw e (record { meant = λ _. []; means = none; read = list_none (λ _. []) w refl c m.read })
+
+-- a turn of a loop over items consumes at least one character
+pub turn_falls : {S X Y A : Type 0} (l : Lens S) (item : Text → Outcome X) {now later next new : S} {found more : List Y} {y : Y} {Means : Y → X → Type 0} → IsBehindComma l.view l.at now later → MustMean {A = A} l.view l.at Means item later (Ok y) next → Appends {A = A} l.view l.at found y next (Ok more) new
+    → length (l.view new).rest < length (l.view now).rest
+turn_falls {A = A} l item {now = now} comma m a = subst (λ s. length (l.view s).rest < length (l.view now).rest) (sym a.appended.1) (item_falls l item {A = A} comma.comes comma.taken comma.spaced m.read a.spaced)
+
+-- one turn of a loop over items: `,` and white space, an item and the white space behind it
+module _ {S X Y A : Type 0} (l : Lens S) (item : Text → Outcome X) {begun : List X} {old now later : S} {found : List Y} (comma : IsBehindComma l.view l.at now later) where
   -- the item is an error
   pub turn_refused : {M N : Y → X → Type 0} {W : Type 0} {MeansAll : W → List X → Type 0} {fault : ParseFault A} {new : S} → Listing l item M begun old now found → MustMean l.view l.at N item later (Err fault) new
       → MustMean l.view l.at MeansAll (λ t. items_after 44 item (length t) begun t) old (Err fault) new
-  turn_refused p m = must_refuse l (listing_refused l item b t k p (λ _. []) m.read)
+  turn_refused p m = must_refuse l (listing_refused l item comma.comes comma.taken comma.spaced p (λ _. []) m.read)
 
-  module _ (Means Other : Text → Y → X → Type 0) {next new : S} {y : Y} (on : (y : Y) (x : X) → Means (whole (l.view old)) y x → Other (whole (l.view old)) y x)
-      (m : MustMean {A = A} l.view l.at (Other (whole (l.view later))) item later (Ok y) next) (behind : Takes l.view l.at (front is_whitespace (l.view next).rest) (after is_whitespace (l.view next).rest) next new)
-      (p : Listing l item (Means (whole (l.view old))) begun old now found) where
+  module _ {next : S} {y : Y} (Means Other : Text → Y → X → Type 0) (on : (y : Y) (x : X) → Means (whole (l.view old)) y x → Other (whole (l.view old)) y x)
+      (m : MustMean {A = A} l.view l.at (Other (whole (l.view later))) item later (Ok y) next) (p : Listing l item (Means (whole (l.view old))) begun old now found) where
     -- the item is one more
-    pub turn_more : Listing l item (Other (whole (l.view old))) begun old new (found ++ (y ∷ []))
-    turn_more = listing_more l item b t k p on (subst (λ t. MustMean {A = A} l.view l.at (Other t) item later (Ok y) next) (listing_whole l item b t k p) m) behind
+    pub turn_more : {new : S} → TakesFront l.view l.at is_whitespace next new → Listing l item (Other (whole (l.view old))) begun old new (found ++ (y ∷ []))
+    turn_more behind =
+        let e = listing_whole l item comma.comes comma.taken comma.spaced p in
+        listing_more l item comma.comes comma.taken comma.spaced p on (subst (λ t. MustMean {A = A} l.view l.at (Other t) item later (Ok y) next) e m) behind
 
-    -- it was added to those that were found
-    pub turn_keeps : {more : List Y} → more ≡ found ++ (y ∷ []) → Listing l item (Other (whole (l.view old))) begun old new more
-    turn_keeps e = subst (λ z. Listing l item (Other (whole (l.view old))) begun old new z) (sym e) turn_more
+    -- it was appended to those that were found
+    pub turn_keeps : {more : List Y} {new : S} → Appends {A = A} l.view l.at found y next (Ok more) new → Listing l item (Other (whole (l.view old))) begun old new more
+    turn_keeps {new = new} a =
+        subst (λ z. Listing l item (Other (whole (l.view old))) begun old new z) (sym a.appended.0)
+        (subst (λ s. Listing l item (Other (whole (l.view old))) begun old s (found ++ (y ∷ []))) (sym a.appended.1) (turn_more a.spaced))
 
-    -- there was no memory to add it
-    pub turn_starved : {W : Type 0} {MeansAll : W → List X → Type 0} {fault : ParseFault A} {last : S} → StarvesHere l.view l.at new fault last → MustMean l.view l.at MeansAll (λ t. items_after 44 item (length t) begun t) old (Err fault) last
-    turn_starved h = must_refuse l (listing_starved l item (λ _. []) turn_more h)
+    -- there was no memory to append it
+    pub turn_starved : {W : Type 0} {MeansAll : W → List X → Type 0} {fault : ParseFault A} {new : S} → Appends l.view l.at found y next (Err fault) new → MustMean l.view l.at MeansAll (λ t. items_after 44 item (length t) begun t) old (Err fault) new
+    turn_starved a = must_refuse l (listing_starved l item (λ _. []) (turn_more a.spaced) a.appended)
+
+module _ {S X Y A : Type 0} (l : Lens S) (item : Text → Outcome X) {Means : Y → X → Type 0} {begun : List X} {old now new : S} {found : List Y} where
+  -- no `,` comes next, so these are all
+  pub turn_ends : {W : Type 0} (MeansAll : W → List X → Type 0) (w : W) → (begins (the 44) (l.view now).rest ≡ false) × (new ≡ now) → (p : Listing l item Means begun old now found) → MeansAll w p.items
+      → MustMean {A = A} l.view l.at MeansAll (λ t. items_after 44 item (length t) begun t) old (Ok w) new
+  turn_ends MeansAll w stop p h =
+      subst (λ s. MustMean {A = A} l.view l.at MeansAll (λ t. items_after 44 item (length t) begun t) old (Ok w) s) (sym stop.1) (listing_all l item MeansAll w stop.0 p h)
 
 -- there is a first name, and what follows it
 pub list_names : {S A : Type 0} (l : Lens S) (item : Text → Outcome (Name ℕ)) (before names : List Text) {old mid new last : S} {first : ReadName} {r : Result (List ReadName) (ParseFault A)} → MayName {A = A} l.view l.at before item old (Ok first) mid → Takes l.view l.at (front is_whitespace (l.view mid).rest) (after is_whitespace (l.view mid).rest) mid new

@@ -1,5 +1,5 @@
 -- What a search for names implies about a text from which nothing is parsed.
-use Rattle.std.proofs.Common.{◌≡◌, ℕ, Bool, true, false, Result, Ok, Err, Option, Some, None, List, [], ◌∷◌, ◌++◌, refl, sym, ◌∙◌, ap, subst, ◌⊎◌, inl, inr, true≢false}
+use Rattle.std.proofs.Common.{◌≡◌, ℕ, suc, Bool, true, false, cond, Result, Ok, Err, Option, Some, None, List, [], ◌∷◌, ◌++◌, length, refl, sym, ◌∙◌, ap, subst, ◌⊎◌, inl, inr, true≢false}
 use Rattle.std.specs.Char.{is_whitespace}
 use Rattle.irtext_base.specs.Text.{Text, begins, front, after, begins_word, in_word}
 use Rattle.irtext_base.specs.Reading.{the}
@@ -16,10 +16,11 @@ use Rattle.irtext_tokens.proofs.Steps.{Lens, Passed, begins_with, fine_there}
 use Rattle.irtext_grammar.specs.Grammar.Tree.{Name}
 use Rattle.irtext_parse_spec.specs.Heads.{name_at, results_at, named}
 use Rattle.irtext_parse_pieces.specs.declared.names.ReadName.{ReadName}
-use Rattle.irtext_parse_pieces.specs.Named.{whole, StandsFor, MayName, MustNames}
+use Rattle.irtext_parse_pieces.specs.Lists.{IsBehindComma}
+use Rattle.irtext_parse_pieces.specs.Named.{whole, StandsFor, MayMean, MayName, MustNames}
 use Rattle.irtext_parse_pieces.specs.Results.{is_read, results_if_at, Looks, LooksBehind}
 use Rattle.irtext_parse_pieces.proofs.Meanings.{takes_whole, may_whole}
-use Rattle.irtext_parse_pieces.proofs.Listings.{behind_first, first_read, list_names}
+use Rattle.irtext_parse_pieces.proofs.Listings.{Listing, behind_first, first_read, list_names, list_none, listing_next}
 
 read_demanded : {X : Type 0} (o : Outcome X) → is_read (demanded o) ≡ is_read o
 read_demanded (Read x t r) = refl
@@ -148,3 +149,26 @@ module _ {S A : Type 0} (l : Lens S) where
             stands_after l.view l.at l.view_at l.at_at false old new last p.taken (l.view new).rest p.takes x.1,
           )
       go (Err fault) rest = passed_starves p (rest (h.meant n) (subst (λ t. StandsFor before t n (h.meant n)) (sym e) h.means) (fine_there l p))
+
+  -- an uncommitted error in place of a name, behind these: no names are found
+  pub next_unlooked : (names : List Text) {Means Other : ReadName → Name ℕ → Type 0} {begun : List (Name ℕ)} {old now later new : S} {found : List ReadName} {fault : ParseFault A} (r : Result (Option (List ReadName)) (ParseFault A)) → IsBehindComma l.view l.at now later → Listing l name_at Means begun old now found
+      → MayMean l.view l.at Other name_at later (Err fault) new → cond fault.committed (r ≡ Err fault) (r ≡ Ok None) → Looks l.view l.at names (λ t. items_after 44 name_at (length t) begun t) old r new
+  next_unlooked names {begun = begun} {old = old} {later = later} {new = new} {fault = fault} r comma p m h = go fault.committed refl h
+    where
+      q : (n : ℕ) × (p.so_far.room ≡ suc n) × Passed l (λ t. items_after 44 name_at (length t) begun t) (behind_space 44 name_at n p.items tt) old later
+      q = listing_next l name_at comma.comes comma.taken comma.spaced p
+
+      go : (b : Bool) → fault.committed ≡ b → cond b (r ≡ Err fault) (r ≡ Ok None) → Looks l.view l.at names (λ t. items_after 44 name_at (length t) begun t) old r new
+      go true c e = rw e (passed_starves q.2 (name_starves (fine_there l q.2) m.read c))
+      go false c e =
+          let n = missing_unread m.read c in
+          rw e (passed_unread l q.2 (next_unread q.0 p.items (l.view later).rest n.0), subst (λ s. SameStream l.view l.at false old s) (sym n.1) (passed_stands l q.2))
+
+  -- the same of the first name: then there are none
+  pub first_unlooked : (names : List Text) {Means : ReadName → Name ℕ → Type 0} {old new : S} {fault : ParseFault A} (none : List ReadName) (r : Result (Option (List ReadName)) (ParseFault A)) → none ≡ [] → (l.view old).failed ≡ false → MayMean l.view l.at Means name_at old (Err fault) new
+      → cond fault.committed (r ≡ Err fault) (r ≡ Ok (Some none)) → Looks l.view l.at names (separated_at 44 name_at) old r new
+  first_unlooked names {old = old} {new = new} {fault = fault} none r empty fine m h = go fault.committed refl h
+    where
+      go : (b : Bool) → fault.committed ≡ b → cond b (r ≡ Err fault) (r ≡ Ok (Some none)) → Looks l.view l.at names (separated_at 44 name_at) old r new
+      go true c e = rw e (name_starves fine m.read c)
+      go false c e = rw e (record { meant = λ _. []; means = rw empty tt; read = list_none l name_at (λ _. []) none refl c m.read })

@@ -32,6 +32,10 @@ module _ {V B : Type 0} where
   pub names_more : (old mid new : NameTracker V B) → NamesRead old mid → NamesRead mid new → NamesRead old new
   names_more old mid new h k = record { kept = λ i text e. k.kept i text (h.kept i text e); words = λ w. k.words (h.words w); values = k.values ∙ h.values; labels = k.labels ∙ h.labels }
 
+  -- and a name represents the same
+  pub stand_on : {names more : NameTracker V B} → NamesRead names more → {text : Text} (n : ReadName) (x : Name ℕ) → StandsFor names.names text n x → StandsFor more.names text n x
+  stand_on {names = names} {more = more} h n x s = stands_on names.names more.names n x h.kept refl s
+
 module _ {S : Type 0} (l : Lens S) where
   pub takes_whole : (old mid : S) (t r : Text) → Takes l.view l.at t r old mid → whole (l.view mid) ≡ whole (l.view old)
   takes_whole old mid t r k = ap whole (seen_after l.view l.at l.view_at l.at_at old mid t r k) ∙ (append_assoc (l.view old).passed t r ∙ ap (λ z. (l.view old).passed ++ z) k.same)

@@ -1,5 +1,5 @@
 -- Between functions: what was parsed of the canonical form.
-use Rattle.std.specs.Prelude.{ℕ, Bool, List, [], ◌∷◌, ◌++◌, codes, Result, Vec}
+use Rattle.std.specs.Prelude.{Bool, List, [], ◌∷◌, ◌++◌, codes, Result, Vec}
 use Rattle.irtext_base.specs.Format as format
 use Rattle.irtext_base.specs.Text.{Text}
 use Rattle.irtext_base.specs.Stream.{StreamView}
@@ -15,6 +15,9 @@ use Rattle.std.specs.Global.{Global}
 use Rattle.irtext_base.specs.declared.base.attributes.AttrObj.{AttrObj}
 use Rattle.irtext_parse_pieces.specs.declared.entries.Key.{Key}
 use Rattle.irtext_parse_pieces.specs.declared.pieces.ReadPiece.TheVariants as read
+use Rattle.irtext_parse_pieces.specs.declared.lists.NameKind.{NameKind}
+use Rattle.irtext_parse_pieces.specs.declared.lists.NameKind.TheVariants as kind
+use Rattle.irtext_parse_pieces.specs.Kinds.{names_directive, read_names}
 use Rattle.irtext_parse_pieces.specs.Fronts.{IsPart}
 use Rattle.irtext_parse_pieces.specs.Named.{whole, Each, MustMean}
 
@@ -22,13 +25,9 @@ use Rattle.irtext_parse_pieces.specs.Named.{whole, Each, MustMean}
 abbrev pub word_step : Text → Step
 word_step w = flat (format.word w)
 
--- the steps of the operands
-abbrev pub operand_steps : List Step
-operand_steps = word_step (codes "(") ∷ flat format.operands ∷ word_step (codes ")") ∷ []
-
--- the steps of the successors
-abbrev pub successor_steps : List Step
-successor_steps = word_step (codes "[") ∷ flat format.successors ∷ word_step (codes "]") ∷ []
+-- the steps of the names of this kind between two fixed texts
+abbrev pub name_steps : Text → NameKind → Text → List Step
+name_steps opening kind closing = word_step opening ∷ flat (names_directive kind) ∷ word_step closing ∷ []
 
 -- the step of the dictionary
 abbrev pub dictionary_steps : List Step
@@ -38,26 +37,18 @@ dictionary_steps = flat format.dictionary ∷ []
 abbrev pub type_steps : List Step
 type_steps = word_step (codes "(") ∷ types ∷ word_step (codes ")") ∷ []
 
--- the steps up to the types of the operands
-abbrev pub input_steps : List Step
-input_steps = word_step (codes ":") ∷ word_step (codes "<") ∷ type_steps
-
--- the steps of the types of the results
-abbrev pub result_steps : List Step
-result_steps = word_step (codes "->") ∷ word_step (codes "(") ∷ types ∷ word_step (codes ")") ∷ word_step (codes ">") ∷ []
+-- the steps of the types of the operands and of the results
+abbrev pub signature_steps : List Step
+signature_steps = word_step (codes ":") ∷ word_step (codes "<") ∷ type_steps ++ word_step (codes "->") ∷ type_steps ++ word_step (codes ">") ∷ []
 
 -- the steps of the canonical form before its regions
 abbrev pub canonical_front : List Step
 canonical_front = front_steps canonical_steps
 
 module _ {T A : Type 0} where
-  -- the pieces of the operands
-  abbrev pub operand_pieces : List ReadName → List (ReadPiece T A)
-  operand_pieces ns = read.Word ∷ read.Operands ns ∷ read.Word ∷ []
-
-  -- the pieces of the successors
-  abbrev pub successor_pieces : List ReadName → List (ReadPiece T A)
-  successor_pieces ns = read.Word ∷ read.Successors ns ∷ read.Word ∷ []
+  -- the pieces of the names of this kind between two fixed texts
+  abbrev pub name_pieces : NameKind → List ReadName → List (ReadPiece T A)
+  name_pieces kind ns = read.Word ∷ read_names kind ns ∷ read.Word ∷ []
 
   -- the piece of the dictionary
   abbrev pub dictionary_pieces : Vec (Key × AttrObj A) Global → List (ReadPiece T A)
@@ -67,17 +58,13 @@ module _ {T A : Type 0} where
   abbrev pub type_pieces : List T → List (ReadPiece T A)
   type_pieces ts = read.Word ∷ read.Types ts ∷ read.Word ∷ []
 
-  -- the pieces up to the types of the operands
-  abbrev pub input_pieces : List T → List (ReadPiece T A)
-  input_pieces ts = read.Word ∷ read.Word ∷ type_pieces ts
-
-  -- the pieces of the types of the results
-  abbrev pub result_pieces : List T → List (ReadPiece T A)
-  result_pieces ts = read.Word ∷ read.Word ∷ read.Types ts ∷ read.Word ∷ read.Word ∷ []
+  -- the pieces of the types of the operands and of the results
+  abbrev pub signature_pieces : List T × List T → List (ReadPiece T A)
+  signature_pieces ts = read.Word ∷ read.Word ∷ type_pieces ts.0 ++ read.Word ∷ type_pieces ts.1 ++ read.Word ∷ []
 
 -- the pieces of the canonical form
 abbrev pub pieces_of : {T A : Type 0} → CanonicalPieces T A → List (ReadPiece T A)
-pieces_of p = operand_pieces p.operands ++ successor_pieces p.successors ++ dictionary_pieces p.entries ++ input_pieces p.inputs ++ result_pieces p.results
+pieces_of p = name_pieces kind.Value p.operands ++ name_pieces kind.Block p.successors ++ dictionary_pieces p.entries ++ signature_pieces (p.inputs, p.results)
 
 module _ {S T A Y : Type 0} (view : S → StreamView) (at : S → StreamView → S) where
   -- the result is what the steps parse, or their fault; `see` gives the pieces of a value

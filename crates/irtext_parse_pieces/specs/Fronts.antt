@@ -1,6 +1,5 @@
 -- Between functions: what was parsed before an operation's first region.
-use Rattle.std.specs.Prelude.{◌≡◌, ℕ, Bool, List, [], ◌∷◌, ◌++◌, length, map, MatchBool, Result}
-use Rattle.irtext_base.specs.Format.{word}
+use Rattle.std.specs.Prelude.{◌≡◌, ℕ, Bool, false, List, [], ◌∷◌, ◌++◌, length, MatchBool, Result}
 use Rattle.irtext_base.specs.Text.{Text}
 use Rattle.irtext_base.specs.Stream.{StreamView}
 use Rattle.irtext_base.specs.Answers.{Outcome}
@@ -11,10 +10,9 @@ use Rattle.irtext_stream.specs.Stream.{Comes}
 use Rattle.irtext_tokens.specs.Infix.{Reader}
 use Rattle.irtext_grammar.specs.Grammar.Tree as tree
 use Rattle.irtext_grammar.specs.Grammar.Tree.{Piece, Part}
-use Rattle.irtext_parse_spec.specs.Heads.{Step, flat, front_steps}
+use Rattle.irtext_parse_spec.specs.Heads.{Step, front_steps}
 use Rattle.irtext_parse_spec.specs.Resume.{front_at}
 use Rattle.irtext_parse_pieces.specs.declared.pieces.ReadPiece.{ReadPiece}
-use Rattle.irtext_parse_pieces.specs.declared.pieces.ReadPiece.TheVariants as read
 use Rattle.irtext_parse_pieces.specs.Found.{only_words}
 use Rattle.irtext_parse_pieces.specs.Pieces.{IsPiece}
 use Rattle.irtext_parse_pieces.specs.Named.{whole, Each, MustMean}
@@ -35,6 +33,15 @@ IsBehind {T = T} {A = A} names text found more p = (read : ReadPiece T A) × (mo
 abbrev pub ComeSpaced : List Text → StreamView → StreamView → Type 0
 ComeSpaced [] v w = w ≡ v
 ComeSpaced (t ∷ ts) v w = Comes t (behind_space v) (λ u. ComeSpaced ts u w)
+
+-- there is one piece for each step before the first region
+abbrev pub HasFront : {T A : Type 0} → List Step → List (ReadPiece T A) → Type 0
+HasFront steps found = length found ≡ length (front_steps steps)
+
+module _ {S : Type 0} (view : S → StreamView) (at : S → StreamView → S) where
+  -- the stream had not failed, and the text was consumed; otherwise the stream is unchanged
+  abbrev pub TakesText : Text → S → Bool → S → Type 0
+  TakesText text old result new = MatchBool result (((view old).failed ≡ false) × Comes text (view old) (λ v. new ≡ at old v)) (new ≡ old)
 
 module _ {S T A : Type 0} (view : S → StreamView) (at : S → StreamView → S) where
   -- the first of these texts, as many as these, were consumed, with white space before each, and appended to the pieces

@@ -1,12 +1,18 @@
 -- Between functions: the names of values and of blocks, as operations use them.
-use Rattle.std.specs.Prelude.{ℕ, Bool}
+use Rattle.std.specs.Prelude.{ℕ, Bool, List}
+use Rattle.irtext_base.specs.Format as format
+use Rattle.irtext_base.specs.Format.{Directive}
 use Rattle.irtext_base.specs.Text.{begins_word}
 use Rattle.irtext_base.specs.Reading.{the}
 use Rattle.irtext_tokens.specs.Infix.{Reader}
-use Rattle.irtext_grammar.specs.Grammar.Tree.{Name}
+use Rattle.irtext_grammar.specs.Grammar.Tree as tree
+use Rattle.irtext_grammar.specs.Grammar.Tree.{Name, Piece}
 use Rattle.irtext_parse_spec.specs.Heads.{used_at, target_at}
 use Rattle.irtext_parse_pieces.specs.declared.lists.NameKind.{NameKind}
 use Rattle.irtext_parse_pieces.specs.declared.lists.NameKind.TheVariants as kind
+use Rattle.irtext_parse_pieces.specs.declared.names.ReadName.{ReadName}
+use Rattle.irtext_parse_pieces.specs.declared.pieces.ReadPiece.{ReadPiece}
+use Rattle.irtext_parse_pieces.specs.declared.pieces.ReadPiece.TheVariants as read
 
 -- the characters with which a name of this kind begins
 abbrev pub beginning : NameKind → ℕ → Bool
@@ -17,3 +23,24 @@ beginning kind.Block = the 94
 abbrev pub named_at : NameKind → Bool → Reader (Name ℕ)
 named_at kind.Value = used_at
 named_at kind.Block = target_at
+
+-- the directive of all names of this kind that no other directive names
+abbrev pub names_directive : NameKind → Directive
+names_directive kind.Value = format.operands
+names_directive kind.Block = format.successors
+
+module _ {T A : Type 0} where
+  -- the piece of a tree that is the name of this kind at this place
+  abbrev pub name_tree : NameKind → ℕ → Name ℕ → Piece ℕ T A
+  name_tree kind.Value = tree.operand
+  name_tree kind.Block = tree.successor
+
+  -- the piece of a tree that is several names of this kind
+  abbrev pub names_tree : NameKind → List (Name ℕ) → Piece ℕ T A
+  names_tree kind.Value = tree.operands
+  names_tree kind.Block = tree.successors
+
+  -- the piece that was parsed, of several names of this kind
+  abbrev pub read_names : NameKind → List ReadName → ReadPiece T A
+  read_names kind.Value = read.Operands
+  read_names kind.Block = read.Successors

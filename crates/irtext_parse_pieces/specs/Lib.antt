@@ -9,6 +9,7 @@ pub mod Fronts
 pub mod Headers
 pub mod Ids
 pub mod Kinds
+pub mod Lists
 pub mod Marks
 pub mod Named
 pub mod Pieces

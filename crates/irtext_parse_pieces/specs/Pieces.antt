@@ -52,3 +52,7 @@ module _ {S T A : Type 0} (view : S → StreamView) (at : S → StreamView → S
   -- the result is the piece that comes next, or its fault
   abbrev pub MustPiece : List Text → Reader (Piece ℕ T A) → S → Result (ReadPiece T A) (ParseFault A) → S → Type 0
   MustPiece names outcome old result new = MustMean view at (IsPiece names (whole (view old))) outcome old result new
+
+  -- the same, whatever the names are
+  abbrev pub AnyPiece : Reader (Piece ℕ T A) → S → Result (ReadPiece T A) (ParseFault A) → S → Type 0
+  AnyPiece outcome old result new = (names : List Text) → MustPiece names outcome old result new

@@ -5,17 +5,16 @@ ghost use Rattle.irtext_parse_spec.specs.Heads.{argument_at};
 ghost use Rattle.irtext_parse_pieces.specs.Arguments.{IsArgument, MustArguments, ArgumentsBehind};
 ghost use Rattle.irtext_parse_pieces.specs.Named.{MayMean, NamesRead, whole};
 
-use crate::lists::{NameKind, none_named, with_item};
+use crate::lists::{NameKind, comma_taken, none_named, unless_committed, with_spaced};
 use crate::names::{ReadName, name_parse};
 use irtext_base::parsable::{CharStream, ParseResult};
 use irtext_base::text::{AttrText, IrText};
 use irtext_few::Few;
 use irtext_scopes::tracker::NameTracker;
 use irtext_tokens::irfmt::demanded::spaced_text_demanded;
-use irtext_tokens::irfmt::faults::{committed, next_is, out_of_memory};
+use irtext_tokens::irfmt::faults::committed;
 use irtext_tokens::irfmt::parsers::skip_white_space;
 use irtext_tokens::parsable::OwnStream;
-use std::alloc::AllocError;
 
 /// Parses an argument of a block: a name, `:` and a type. If no name comes next, the error is uncommitted and the stream is unchanged;
 /// other errors are committed.
@@ -46,16 +45,10 @@ fn more_arguments<S: OwnStream, V: Copy, B: Copy, T: IrText<A>, A: AttrText<A>>(
     ensures names { NamesRead names.old names.new }
 {
     let mut found = Few::one(first);
-    while next_is(stream, ',') {
-        let _ = stream.take();
-        skip_white_space(stream);
+    while comma_taken(stream) {
         let answer = argument_parse(stream, names);
         let next = committed(stream, answer)?;
-        skip_white_space(stream);
-        found = match with_item(stream.allocator(), found, next) {
-            Ok(more) => more,
-            Err(AllocError) => return Err(out_of_memory(stream)),
-        };
+        found = with_spaced(stream, found, next)?;
     }
     Ok(found)
 }
@@ -78,11 +71,6 @@ pub fn arguments_parse<S: OwnStream, V: Copy, B: Copy, T: IrText<A>, A: AttrText
             skip_white_space(stream);
             more_arguments(stream, names, first)
         }
-        Err(fault) => {
-            if fault.committed {
-                return Err(fault);
-            }
-            Ok(Few::none())
-        }
+        Err(fault) => unless_committed(fault, Few::none()),
     }
 }

@@ -6,7 +6,7 @@ ghost use Rattle.irtext_tokens.specs.AttrTexts.{attr_at};
 ghost use Rattle.irtext_tokens.specs.Infix.{◌▷◌};
 ghost use Rattle.irtext_tokens.specs.MustRead.{MustRead};
 ghost use Rattle.irtext_tokens.specs.Tokens.{space_at, text_at};
-ghost use Rattle.irtext_parse_pieces.specs.Canonical.{canonical_front, operand_steps, successor_steps, dictionary_steps, type_steps, input_steps, result_steps, operand_pieces, successor_pieces, dictionary_pieces, type_pieces, input_pieces, result_pieces, pieces_of, MustSteps};
+ghost use Rattle.irtext_parse_pieces.specs.Canonical.{canonical_front, name_steps, dictionary_steps, type_steps, signature_steps, name_pieces, dictionary_pieces, type_pieces, signature_pieces, pieces_of, MustSteps};
 ghost use Rattle.irtext_parse_pieces.specs.Named.{NamesRead};
 
 use crate::entries::{ReadEntry, dictionary_parse};
@@ -60,44 +60,28 @@ fn word_parse<S: CharStream, A>(stream: &mut S, text: &str) -> ParseResult<(), A
     word_missed(stream, text)
 }
 
-/// Parses the names of the operands, in parentheses.
+/// Parses the names of the operands or the labels of the successors, between these fixed texts.
 #[inline(always)]
-fn operands_parse<S: OwnStream, V: Copy, B: Copy, T: IrText<A>, A: AttrText<A>>(
+fn names_between<S: OwnStream, V: Copy, B: Copy, T: IrText<A>, A: AttrText<A>>(
     stream: &mut S,
     names: &mut NameTracker<V, B>,
+    kind: NameKind,
     inside: bool,
+    opening: &str,
+    closing: &str,
 ) -> ParseResult<Few<ReadName>, A>
     ensures read { (S.CharStream.view stream.old).failed ≡ false →
         MustSteps S.CharStream.view S.CharStream.at names.new.names T.IrText.reading
         (attr_at A.IrText.reading) inside
-        operand_steps operand_pieces stream.old result stream.new }
+        (name_steps (characters opening.now) kind (characters closing.now)) (name_pieces kind)
+        stream.old result stream.new }
     ensures names { NamesRead names.old names.new }
 {
-    word_parse(stream, "(")?;
+    word_parse(stream, opening)?;
     skip_white_space(stream);
-    let operands = names_parse(stream, names, NameKind::Value, inside)?;
-    word_parse(stream, ")")?;
-    Ok(operands)
-}
-
-/// Parses the labels of the successors, in brackets.
-#[inline(always)]
-fn successors_parse<S: OwnStream, V: Copy, B: Copy, T: IrText<A>, A: AttrText<A>>(
-    stream: &mut S,
-    names: &mut NameTracker<V, B>,
-    inside: bool,
-) -> ParseResult<Few<ReadName>, A>
-    ensures read { (S.CharStream.view stream.old).failed ≡ false →
-        MustSteps S.CharStream.view S.CharStream.at names.new.names T.IrText.reading
-        (attr_at A.IrText.reading) inside
-        successor_steps successor_pieces stream.old result stream.new }
-    ensures names { NamesRead names.old names.new }
-{
-    word_parse(stream, "[")?;
-    skip_white_space(stream);
-    let successors = names_parse(stream, names, NameKind::Block, inside)?;
-    word_parse(stream, "]")?;
-    Ok(successors)
+    let found = names_parse(stream, names, kind, inside)?;
+    word_parse(stream, closing)?;
+    Ok(found)
 }
 
 /// Parses the dictionary.
@@ -132,35 +116,23 @@ fn parenthesized_parse<S: OwnStream, T: IrText<A>, A: AttrText<A>>(
     Ok(types)
 }
 
-/// Parses `:`, `<` and the types of the operands.
+/// Parses the types of the operands and of the results, as `: <(builtin.integer si64) -> ()>`.
 #[inline(always)]
-fn inputs_parse<S: OwnStream, T: IrText<A>, A: AttrText<A>>(
+fn signature_parse<S: OwnStream, T: IrText<A>, A: AttrText<A>>(
     stream: &mut S,
     inside: bool,
-) -> ParseResult<Few<T>, A>
+) -> ParseResult<(Few<T>, Few<T>), A>
     ensures { (names : List Text) → (S.CharStream.view stream.old).failed ≡ false →
         MustSteps S.CharStream.view S.CharStream.at names T.IrText.reading (attr_at A.IrText.reading) inside
-        input_steps input_pieces stream.old result stream.new }
+        signature_steps signature_pieces stream.old result stream.new }
 {
     word_parse(stream, ":")?;
     word_parse(stream, "<")?;
-    parenthesized_parse(stream, inside)
-}
-
-/// Parses `->`, the types of the results and `>`.
-#[inline(always)]
-fn results_parse<S: OwnStream, T: IrText<A>, A: AttrText<A>>(
-    stream: &mut S,
-    inside: bool,
-) -> ParseResult<Few<T>, A>
-    ensures { (names : List Text) → (S.CharStream.view stream.old).failed ≡ false →
-        MustSteps S.CharStream.view S.CharStream.at names T.IrText.reading (attr_at A.IrText.reading) inside
-        result_steps result_pieces stream.old result stream.new }
-{
+    let inputs = parenthesized_parse(stream, inside)?;
     word_parse(stream, "->")?;
-    let types = parenthesized_parse(stream, inside)?;
+    let results = parenthesized_parse(stream, inside)?;
     word_parse(stream, ">")?;
-    Ok(types)
+    Ok((inputs, results))
 }
 
 /// Parses the canonical form up to its regions, on a stream that has not failed. `inside` says whether it is inside of a region; outside of
@@ -179,11 +151,24 @@ pub(crate) fn canonical_parse<S: OwnStream, V: Copy, B: Copy, T: IrText<A>, A: A
         canonical_front pieces_of stream.old result stream.new }
     ensures names { NamesRead names.old names.new }
 {
-    let operands = operands_parse::<S, V, B, T, A>(stream, names, inside)?;
-    let successors = successors_parse::<S, V, B, T, A>(stream, names, inside)?;
+    let operands = names_between::<S, V, B, T, A>(
+        stream,
+        names,
+        NameKind::Value,
+        inside,
+        "(",
+        ")",
+    )?;
+    let successors = names_between::<S, V, B, T, A>(
+        stream,
+        names,
+        NameKind::Block,
+        inside,
+        "[",
+        "]",
+    )?;
     let entries = entries_parse::<S, T, A>(stream, keys, inside)?;
-    let inputs = inputs_parse(stream, inside)?;
-    let results = results_parse(stream, inside)?;
+    let (inputs, results) = signature_parse(stream, inside)?;
     Ok(CanonicalPieces {
         operands,
         successors,

@@ -29,15 +29,7 @@ pub fn kind_of(step: FormatStep<'_>) -> Coming
         FormatStep::Directive(directive) => match directive {
             Directive::Region(_) => Coming::Region,
             Directive::Regions => Coming::Regions,
-            Directive::Literal(_)
-            | Directive::Operand(_)
-            | Directive::Operands
-            | Directive::Successor(_)
-            | Directive::Successors
-            | Directive::Attr(_)
-            | Directive::AttrDict
-            | Directive::ResultType(_)
-            | Directive::SymbolHeader => Coming::Piece,
+            _ => Coming::Piece,
         },
         FormatStep::Regions => Coming::Regions,
         FormatStep::Word(_)

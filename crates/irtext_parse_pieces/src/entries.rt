@@ -9,7 +9,7 @@ ghost use Rattle.irtext_parse_pieces.specs.Entries.{IsKey, IsEntry, TakesWord, M
 ghost use Rattle.irtext_parse_pieces.specs.Named.{MayMean, whole};
 
 use crate::keys::Keys;
-use crate::lists::{NameKind, none_named};
+use crate::lists::{NameKind, comma_taken, none_named, unless_committed};
 use irtext_base::base::{AttrObj, Identifier};
 use irtext_base::parsable::{CharStream, ParseResult, Place};
 use irtext_base::result::{Cause, Expected};
@@ -121,9 +121,7 @@ fn more_entries<S: OwnStream, A: AttrText<A>>(
     let Ok(()) = found.push(first) else {
         return Err(out_of_memory(stream));
     };
-    while next_is(stream, ',') {
-        let _ = stream.take();
-        skip_white_space(stream);
+    while comma_taken(stream) {
         let answer = entry_parse(stream, keys, found.len());
         let next = committed(stream, answer)?;
         skip_white_space(stream);
@@ -151,12 +149,7 @@ fn entries_parse<S: OwnStream, A: AttrText<A>>(
             skip_white_space(stream);
             more_entries(stream, keys, first)
         }
-        Err(fault) => {
-            if fault.committed {
-                return Err(fault);
-            }
-            Ok(Vec::new(stream.allocator()))
-        }
+        Err(fault) => unless_committed(fault, Vec::new(stream.allocator())),
     }
 }
 

@@ -3,20 +3,18 @@ ghost use Rattle.std.specs.Prelude.{◌≡◌, ◌+◌, ◌<◌, ◌^◌, Bool, 
 ghost use Rattle.irtext_base.specs.Faults.{characters};
 ghost use Rattle.irtext_base.specs.Text.{Text};
 ghost use Rattle.irtext_format_check.specs.Directives.{format_of};
-ghost use Rattle.irtext_stream.specs.Stream.{Comes};
 ghost use Rattle.irtext_tokens.specs.AttrTexts.{attr_at};
-ghost use Rattle.irtext_parse_spec.specs.Heads.{canonical_steps, steps_of, front_steps, piece_at};
-ghost use Rattle.irtext_parse_pieces.specs.Canonical.{canonical_front};
-ghost use Rattle.irtext_parse_pieces.specs.Fronts.{MustFront, MustFind};
+ghost use Rattle.irtext_parse_spec.specs.Heads.{canonical_steps, steps_of, piece_at};
+ghost use Rattle.irtext_parse_pieces.specs.Fronts.{HasFront, TakesText, MustFront, MustFind};
 ghost use Rattle.irtext_parse_pieces.specs.Named.{NamesRead};
-ghost use Rattle.irtext_parse_pieces.specs.Steps.{seen_step};
+ghost use Rattle.irtext_parse_pieces.specs.Steps.{custom_steps, seen_step};
 
 use crate::canonical::canonical_parse;
 use crate::found::{CustomPieces, Pieces};
 use crate::keys::Keys;
-use crate::pieces::step_parse;
-use crate::steps::{FormatStep, reads_piece, step_there, word_of};
-use irtext_base::format::OpFormat;
+use crate::pieces::{accepts, step_parse};
+use crate::steps::{FormatStep, custom_step, reads_piece, word_of};
+use irtext_base::format::{Directive, OpFormat};
 use irtext_base::parsable::{CharStream, ParseResult};
 use irtext_base::result::Cause;
 use irtext_base::text::{AttrText, IrText};
@@ -31,17 +29,12 @@ use std::alloc::AllocError;
 /// changes.
 #[inline(always)]
 fn text_taken<S: CharStream>(stream: &mut S, text: &str) -> bool
-    ensures { MatchBool result
-        (((S.view stream.old).failed ≡ false) × Comes (characters text.now) (S.view stream.old) (λ v. stream.new ≡ S.at stream.old v))
-        (stream.new ≡ stream.old) }
+    ensures { TakesText S.view S.at (characters text.now) stream.old result stream.new }
 {
     if stream.has_failed() {
         return false;
     }
-    if !stream.accept(text) {
-        return false;
-    }
-    true
+    accepts(stream, text)
 }
 
 /// Consumes the fixed text that a step is, if it is one and the whole of it comes next, and appends it to the pieces. Returns whether it
@@ -96,23 +89,22 @@ fn step_found<S: OwnStream, V: Copy, B: Copy, T: IrText<A>, A: AttrText<A>>(
     }
 }
 
-/// Parses what the steps of a format describe, up to the first step that parses regions, with white space before each.
+/// Parses what the directives of a format describe, up to the first one that parses regions, with white space before each.
 fn pieces_parse<S: OwnStream, V: Copy, B: Copy, T: IrText<A>, A: AttrText<A>>(
     stream: &mut S,
     names: &mut NameTracker<V, B>,
-    format: &OpFormat,
+    directives: &[Directive],
     inside: bool,
     keys: &mut Keys,
 ) -> ParseResult<CustomPieces<T, A>, A>
     ensures read { (S.CharStream.view stream.old).failed ≡ false → MustFront S.CharStream.view S.CharStream.at
         names.new.names
-        T.IrText.reading (attr_at A.IrText.reading) inside (steps_of (format_of format.now)) stream.old result stream.new }
-    ensures count { IfOk result (λ found. length found ≡ length
-        (front_steps (steps_of (format_of format.now)))) }
+        T.IrText.reading (attr_at A.IrText.reading) inside (custom_steps directives.now) stream.old result stream.new }
+    ensures count { IfOk result (HasFront (custom_steps directives.now)) }
     ensures names { NamesRead names.old names.new }
 {
     let mut found = CustomPieces::none(stream.allocator());
-    while let Some(step) = step_there(format, found.len()) {
+    while let Some(step) = custom_step(directives, found.len()) {
         if !reads_piece(step) {
             return Ok(found);
         }
@@ -136,7 +128,7 @@ fn canonical_pieces<S: OwnStream, V: Copy, B: Copy, T: IrText<A>, A: AttrText<A>
     ensures read { (S.CharStream.view stream.old).failed ≡ false → MustFront S.CharStream.view S.CharStream.at
         names.new.names
         T.IrText.reading (attr_at A.IrText.reading) inside canonical_steps stream.old result stream.new }
-    ensures count { IfOk result (λ found. length found ≡ length canonical_front) }
+    ensures count { IfOk result (HasFront canonical_steps) }
     ensures names { NamesRead names.old names.new }
 {
     let pieces = canonical_parse(stream, names, inside, keys)?;
@@ -156,8 +148,7 @@ pub fn front_parse<S: OwnStream, V: Copy, B: Copy, T: IrText<A>, A: AttrText<A>>
 ) -> ParseResult<Pieces<T, A>, A>
     ensures read { MustFront S.CharStream.view S.CharStream.at names.new.names
         T.IrText.reading (attr_at A.IrText.reading) inside (steps_of (format_of format.now)) stream.old result stream.new }
-    ensures count { IfOk result (λ found. length found ≡ length
-        (front_steps (steps_of (format_of format.now)))) }
+    ensures count { IfOk result (HasFront (steps_of (format_of format.now))) }
     ensures names { NamesRead names.old names.new }
 {
     if stream.has_failed() {
@@ -165,8 +156,8 @@ pub fn front_parse<S: OwnStream, V: Copy, B: Copy, T: IrText<A>, A: AttrText<A>>
     }
     match format {
         OpFormat::Canonical => canonical_pieces(stream, names, inside, keys),
-        OpFormat::Custom(_) => {
-            let pieces = pieces_parse(stream, names, format, inside, keys)?;
+        OpFormat::Custom(directives) => {
+            let pieces = pieces_parse(stream, names, directives, inside, keys)?;
             Ok(Pieces::custom(pieces))
         }
     }

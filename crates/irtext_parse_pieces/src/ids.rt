@@ -1,5 +1,5 @@
 //! The ids of registered operations, looked up by their texts, and what precedes them.
-ghost use Rattle.std.specs.Prelude.{◌≡◌, List, cond, IfOk, IfErr, OnOk, IfSome, IfNone};
+ghost use Rattle.std.specs.Prelude.{◌≡◌, false, cond, IfOk, IfErr, OnOk, IfSome};
 ghost use Rattle.irtext_base.specs.Answers.{SameStream, StarvesHere, DemandsOf};
 ghost use Rattle.irtext_parse_spec.specs.Heads.{lead_at, led_at};
 ghost use Rattle.irtext_parse_spec.specs.Readers.Operations.{Registers};
@@ -22,7 +22,7 @@ use std::alloc::AllocError;
 use std::convert::AsStr;
 
 /// Consumes what may be an id, and looks it up: returns the id of a registered operation, as its dialect has it, with its registered
-/// information. If there is none, how much was consumed is unspecified.
+/// information. If there is none, how much was consumed is unspecified. Allocates nothing.
 fn look_up<'c, S: CharStream, T: IrText<A>, A: AttrText<A>>(
     stream: &mut S,
     ctx: &'c Context<T, A>,
@@ -45,26 +45,6 @@ fn look_up<'c, S: CharStream, T: IrText<A>, A: AttrText<A>>(
         return None;
     }
     ops.op_named(dialect.as_str(), stream.text_since(place))
-}
-
-/// Consumes the id of a registered operation if one comes next, and returns it with its registered information. Otherwise nothing is
-/// consumed. Allocates nothing.
-fn known_op<'c, S: CharStream, T: IrText<A>, A: AttrText<A>>(
-    stream: &mut S,
-    ctx: &'c Context<T, A>,
-) -> Option<(&'c OpId, &'c OpInfo)>
-    ensures read { IfSome result (λ op. TakesId S.view S.at stream.old op.0.now stream.new) }
-    ensures known { IfSome result (λ op. IsKnown ctx.now.dialects op.0.now op.1.now) }
-    ensures none { IfNone result (stream.new ≡ stream.old) }
-{
-    let place = stream.position();
-    match look_up(stream, ctx) {
-        Some(op) => Some(op),
-        None => {
-            stream.reset(place);
-            None
-        }
-    }
 }
 
 /// Returns a copy of the id that shares its texts.
@@ -145,10 +125,11 @@ fn id_behind<'c, S: CharStream, T: IrText<A>, A: AttrText<A>>(
     ensures read { AnswersLed S.view S.at ctx.now.dialects start led stream.old (id_in result) stream.new }
     ensures known { IfOk result (λ op. IsKnown ctx.now.dialects op.0 op.1.now) }
 {
-    match known_op(stream, ctx) {
+    let at = stream.position();
+    match look_up(stream, ctx) {
         Some((id, info)) => shared(stream, id, info),
         None => {
-            let at = stream.position();
+            stream.reset(at);
             let answer = id_parse(stream);
             let id = demand_if(stream, led, answer)?;
             registered(stream, ctx, start, at, id)
@@ -156,17 +137,16 @@ fn id_behind<'c, S: CharStream, T: IrText<A>, A: AttrText<A>>(
     }
 }
 
-/// Parses what precedes an operation's id: white space and, if they come next, the names of its results and white space after them.
+/// Parses what precedes an operation's id: white space and, if they come next, the names of its results and white space after them. The
+/// stream has not failed.
 fn lead_parse<S: CharStream, V: Copy, B: Copy, A: Drop>(
     stream: &mut S,
     names: &mut NameTracker<V, B>,
 ) -> ParseResult<Few<ReadName>, A>
-    ensures read { MustNames S.view S.at names.new.names lead_at stream.old result stream.new }
+    ensures read { (S.view stream.old).failed ≡ false → MustNames S.view S.at names.new.names lead_at
+        stream.old result stream.new }
     ensures names { NamesRead names.old names.new }
 {
-    if stream.has_failed() {
-        return Err(refuse(stream, Cause::StreamFailed));
-    }
     skip_white_space(stream);
     let results = results_parse(stream, names)?;
     skip_white_space(stream);
@@ -188,6 +168,9 @@ pub fn results_and_id_parse<'c, S: CharStream, V: Copy, B: Copy, T: IrText<A>, A
     ensures known { IfOk result (λ op. IsKnown ctx.now.dialects op.1 op.2.now) }
     ensures names { NamesRead names.old names.new }
 {
+    if stream.has_failed() {
+        return Err(refuse(stream, Cause::StreamFailed));
+    }
     let start = stream.position();
     let results = lead_parse(stream, names)?;
     let led = !stream.text_since(start).is_empty();

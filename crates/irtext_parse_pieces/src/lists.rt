@@ -1,16 +1,17 @@
 //! Lists of names, separated by `,`. Up to two names are stored without an allocation.
-ghost use Rattle.std.specs.Prelude.{◌≡◌, ◌++◌, ◌∷◌, [], ◌&&◌, not, IfOk};
+ghost use Rattle.std.specs.Prelude.{◌≡◌, ◌++◌, ◌∷◌, [], ◌&&◌, not, cond, IfOk, Ok, Err};
 ghost use Rattle.irtext_base.specs.Text.{begins};
 ghost use Rattle.irtext_tokens.specs.ListOutcomes.{separated_at};
+ghost use Rattle.irtext_parse_pieces.specs.Lists.{TakesComma, Appends};
 ghost use Rattle.irtext_parse_pieces.specs.Named.{MayName, MustNames, NamesBehind, NamesRead};
 ghost use Rattle.irtext_parse_pieces.specs.Kinds.{beginning, named_at};
 
-use crate::names::{ReadName, target_parse, used_parse};
-use irtext_base::parsable::{CharStream, ParseResult};
+use crate::names::{ReadName, used_parse};
+use irtext_base::parsable::{CharStream, ParseFault, ParseResult};
 use irtext_few::{Few, Items};
 use irtext_scopes::tracker::NameTracker;
 use irtext_tokens::irfmt::faults::{begins, committed, next_is, out_of_memory};
-use irtext_tokens::irfmt::parsers::{Class, skip_white_space};
+use irtext_tokens::irfmt::parsers::{Class, skip_white_space, text_parse};
 use std::alloc::{AllocError, Global};
 
 /// What a name refers to.
@@ -32,11 +33,7 @@ fn many<X: Drop>(alloc: Global, first: X, second: X, third: X) -> Result<Few<X>,
 }
 
 /// Returns the items with one more appended. Allocates only if it is the third or a later one.
-pub(crate) fn with_item<X: Drop>(
-    alloc: Global,
-    items: Few<X>,
-    item: X,
-) -> Result<Few<X>, AllocError>
+fn with_item<X: Drop>(alloc: Global, items: Few<X>, item: X) -> Result<Few<X>, AllocError>
     ensures { IfOk result (λ more. more ≡ items ++ item ∷ []) }
 {
     match items.into_items() {
@@ -50,9 +47,55 @@ pub(crate) fn with_item<X: Drop>(
     }
 }
 
-/// Parses a name that is used, of a value or of a block. If none comes next, the error is uncommitted and the stream is unchanged.
+/// Consumes the white space behind an item, and returns the items with this one appended. Allocates only if it is the third or a later
+/// one. Fails only when out of memory.
 #[inline(always)]
-fn named_parse<S: CharStream, V: Copy, B: Copy, A>(
+pub(crate) fn with_spaced<S: CharStream, X: Drop, A>(
+    stream: &mut S,
+    items: Few<X>,
+    item: X,
+) -> ParseResult<Few<X>, A>
+    ensures { Appends S.view S.at items item stream.old result stream.new }
+{
+    skip_white_space(stream);
+    match with_item(stream.allocator(), items, item) {
+        Ok(more) => Ok(more),
+        Err(AllocError) => Err(out_of_memory(stream)),
+    }
+}
+
+/// Consumes `,` and the white space behind it if `,` comes next, and returns whether it does. Otherwise nothing changes.
+#[inline(always)]
+pub(crate) fn comma_taken<S: CharStream>(stream: &mut S) -> bool
+    ensures { TakesComma S.view S.at stream.old result stream.new }
+{
+    if !next_is(stream, ',') {
+        return false;
+    }
+    let _ = stream.take();
+    skip_white_space(stream);
+    true
+}
+
+/// Returns the value in place of an error that is not committed, and a committed error unchanged.
+#[inline(always)]
+pub(crate) fn unless_committed<X: Drop, A: Drop>(
+    fault: ParseFault<A>,
+    value: X,
+) -> ParseResult<X, A>
+    ensures { cond fault.committed (result ≡ Err fault) (result ≡ Ok value) }
+{
+    if fault.committed {
+        return Err(fault);
+    }
+    Ok(value)
+}
+
+/// Parses a name that is used: a value's name, or `^` and a block's label, as `^b`. The position of a label is that after its `^`. Outside
+/// of every region it fails with `NoActiveScope` at the name. If none comes next, the error is uncommitted and the stream is unchanged;
+/// other errors are committed.
+#[inline(always)]
+pub(crate) fn named_parse<S: CharStream, V: Copy, B: Copy, A>(
     stream: &mut S,
     names: &mut NameTracker<V, B>,
     kind: NameKind,
@@ -63,7 +106,11 @@ fn named_parse<S: CharStream, V: Copy, B: Copy, A>(
 {
     match kind {
         NameKind::Value => used_parse(stream, names, inside),
-        NameKind::Block => target_parse(stream, names, inside),
+        NameKind::Block => {
+            text_parse(stream, "^")?;
+            let answer = used_parse(stream, names, inside);
+            committed(stream, answer)
+        }
     }
 }
 
@@ -81,37 +128,12 @@ fn more_names<S: CharStream, V: Copy, B: Copy, A: Drop>(
     ensures names { NamesRead names.old names.new }
 {
     let mut found = Few::one(first);
-    while next_is(stream, ',') {
-        let _ = stream.take();
-        skip_white_space(stream);
+    while comma_taken(stream) {
         let answer = named_parse(stream, names, kind, inside);
         let next = committed(stream, answer)?;
-        skip_white_space(stream);
-        found = match with_item(stream.allocator(), found, next) {
-            Ok(more) => more,
-            Err(AllocError) => return Err(out_of_memory(stream)),
-        };
+        found = with_spaced(stream, found, next)?;
     }
     Ok(found)
-}
-
-/// Parses the names after the first one, if `,` comes next. A list of one name costs no more than that.
-#[inline(always)]
-fn names_after<S: CharStream, V: Copy, B: Copy, A: Drop>(
-    stream: &mut S,
-    names: &mut NameTracker<V, B>,
-    kind: NameKind,
-    inside: bool,
-    first: ReadName,
-) -> ParseResult<Few<ReadName>, A>
-    ensures read { NamesBehind S.view S.at names.old.names names.new.names (named_at kind inside) first
-        stream.old result stream.new }
-    ensures names { NamesRead names.old names.new }
-{
-    if !next_is(stream, ',') {
-        return Ok(Few::one(first));
-    }
-    more_names(stream, names, kind, inside, first)
 }
 
 /// Whether no name of this kind comes next, judged by the next character alone. Returns false on a stream that has failed.
@@ -131,7 +153,7 @@ pub(crate) fn none_named<S: CharStream>(stream: &S, kind: NameKind) -> bool
 
 /// Parses names that are used, of values or of blocks, separated by `,` and with white space after each. `inside` says whether they are
 /// inside of a region; outside of every region the first name is an error. If no name comes next, returns an empty list. Every error is
-/// committed.
+/// committed. A list of one name costs no more than its name.
 #[inline(always)]
 pub fn names_parse<S: CharStream, V: Copy, B: Copy, A: Drop>(
     stream: &mut S,
@@ -149,13 +171,11 @@ pub fn names_parse<S: CharStream, V: Copy, B: Copy, A: Drop>(
     match named_parse(stream, names, kind, inside) {
         Ok(first) => {
             skip_white_space(stream);
-            names_after(stream, names, kind, inside, first)
-        }
-        Err(fault) => {
-            if fault.committed {
-                return Err(fault);
+            if !next_is(stream, ',') {
+                return Ok(Few::one(first));
             }
-            Ok(Few::none())
+            more_names(stream, names, kind, inside, first)
         }
+        Err(fault) => unless_committed(fault, Few::none()),
     }
 }

@@ -2,7 +2,7 @@
 ghost use Rattle.std.specs.Prelude.{◌≡◌, List, false, IsErrAnd};
 ghost use Rattle.irtext_base.specs.Answers.{StarvesHere};
 ghost use Rattle.irtext_base.specs.Text.{Text, begins, begins_word};
-ghost use Rattle.irtext_parse_spec.specs.Heads.{name_at, label_at, symbol_at, used_at, target_at};
+ghost use Rattle.irtext_parse_spec.specs.Heads.{name_at, label_at, symbol_at, used_at};
 ghost use Rattle.irtext_parse_pieces.specs.Named.{whole, IsSymbol, MustMean, MayName, MustName, NamesRead, Misses};
 
 use irtext_base::base::Identifier;
@@ -14,7 +14,7 @@ use irtext_tokens::irfmt::demanded::text_demanded;
 use irtext_tokens::irfmt::faults::{
     begins, committed, out_of_memory, refuse, refuse_at, unexpected,
 };
-use irtext_tokens::irfmt::parsers::{Class, identifier_parse, skip_class, text_parse};
+use irtext_tokens::irfmt::parsers::{Class, identifier_parse, skip_class};
 
 /// A parsed name: its number among the names of the parse, and its position.
 #[derive(Clone, Copy)]
@@ -63,7 +63,7 @@ fn name_unstored<S: CharStream, A>(stream: &mut S) -> ParseResult<ReadName, A>
 }
 
 /// Parses a name, and stores it. If none comes next, the error is uncommitted and the stream is unchanged; other errors are committed.
-pub fn name_parse<S: CharStream, V: Copy, B: Copy, A>(
+pub(crate) fn name_parse<S: CharStream, V: Copy, B: Copy, A>(
     stream: &mut S,
     names: &mut NameTracker<V, B>,
 ) -> ParseResult<ReadName, A>
@@ -84,18 +84,6 @@ pub fn name_parse<S: CharStream, V: Copy, B: Copy, A>(
     }
 }
 
-/// Parses a name as `name_parse` does, but every error is committed.
-pub fn name_demanded<S: CharStream, V: Copy, B: Copy, A>(
-    stream: &mut S,
-    names: &mut NameTracker<V, B>,
-) -> ParseResult<ReadName, A>
-    ensures read { MustName S.view S.at names.new.names name_at stream.old result stream.new }
-    ensures names { NamesRead names.old names.new }
-{
-    let answer = name_parse(stream, names);
-    committed(stream, answer)
-}
-
 /// Parses `^` and a label, as `^b`. The position of the label is that of its `^`. Every error is committed.
 pub fn label_demanded<S: CharStream, V: Copy, B: Copy, A>(
     stream: &mut S,
@@ -106,7 +94,8 @@ pub fn label_demanded<S: CharStream, V: Copy, B: Copy, A>(
 {
     let at = stream.position();
     text_demanded(stream, "^")?;
-    let label = name_demanded(stream, names)?;
+    let answer = name_parse(stream, names);
+    let label = committed(stream, answer)?;
     Ok(ReadName {
         name: label.name,
         at,
@@ -115,7 +104,7 @@ pub fn label_demanded<S: CharStream, V: Copy, B: Copy, A>(
 
 /// Returns the error for a name that is used where no scope is open, at the name. If no name comes next, the error is uncommitted and the
 /// stream is unchanged.
-fn used_outside<S: CharStream, A>(stream: &mut S) -> ParseFault<A>
+pub fn used_outside<S: CharStream, A>(stream: &mut S) -> ParseFault<A>
     ensures { Misses S.view S.at (used_at false) stream.old result stream.new }
 {
     let at = stream.position();
@@ -127,7 +116,7 @@ fn used_outside<S: CharStream, A>(stream: &mut S) -> ParseFault<A>
 
 /// Parses a name that is used. `inside` says whether it is inside of a region; outside of every region it fails with `NoActiveScope` at
 /// the name. If no name comes next, the error is uncommitted and the stream is unchanged; other errors are committed.
-pub fn used_parse<S: CharStream, V: Copy, B: Copy, A>(
+pub(crate) fn used_parse<S: CharStream, V: Copy, B: Copy, A>(
     stream: &mut S,
     names: &mut NameTracker<V, B>,
     inside: bool,
@@ -139,44 +128,4 @@ pub fn used_parse<S: CharStream, V: Copy, B: Copy, A>(
         return name_parse(stream, names);
     }
     Err(used_outside(stream))
-}
-
-/// Parses a name as `used_parse` does, but every error is committed.
-pub fn used_demanded<S: CharStream, V: Copy, B: Copy, A>(
-    stream: &mut S,
-    names: &mut NameTracker<V, B>,
-    inside: bool,
-) -> ParseResult<ReadName, A>
-    ensures read { MustName S.view S.at names.new.names (used_at inside) stream.old result stream.new }
-    ensures names { NamesRead names.old names.new }
-{
-    let answer = used_parse(stream, names, inside);
-    committed(stream, answer)
-}
-
-/// Parses `^` and a label that is used, as `^b`. The position of the label is that after its `^`. If `^` does not come next, the error is
-/// uncommitted and the stream is unchanged; other errors are committed.
-pub fn target_parse<S: CharStream, V: Copy, B: Copy, A>(
-    stream: &mut S,
-    names: &mut NameTracker<V, B>,
-    inside: bool,
-) -> ParseResult<ReadName, A>
-    ensures read { MayName S.view S.at names.new.names (target_at inside) stream.old result stream.new }
-    ensures names { NamesRead names.old names.new }
-{
-    text_parse(stream, "^")?;
-    used_demanded(stream, names, inside)
-}
-
-/// Parses a label as `target_parse` does, but every error is committed.
-pub fn target_demanded<S: CharStream, V: Copy, B: Copy, A>(
-    stream: &mut S,
-    names: &mut NameTracker<V, B>,
-    inside: bool,
-) -> ParseResult<ReadName, A>
-    ensures read { MustName S.view S.at names.new.names (target_at inside) stream.old result stream.new }
-    ensures names { NamesRead names.old names.new }
-{
-    let answer = target_parse(stream, names, inside);
-    committed(stream, answer)
 }

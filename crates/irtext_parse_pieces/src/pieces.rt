@@ -1,25 +1,24 @@
 //! Parsing of one step of a format that is not a region.
-ghost use Rattle.std.specs.Prelude.{List};
 ghost use Rattle.irtext_base.specs.Answers.{Missing};
 ghost use Rattle.irtext_base.specs.Faults.{characters, Unexpected, AnOperation};
 ghost use Rattle.irtext_base.specs.Stream.{first_of};
-ghost use Rattle.irtext_base.specs.Text.{Text};
 ghost use Rattle.irtext_tokens.specs.AttrTexts.{attr_at};
 ghost use Rattle.irtext_tokens.specs.Infix.{◌⇒◌};
 ghost use Rattle.irtext_tokens.specs.ListOutcomes.{separated_at};
 ghost use Rattle.irtext_tokens.specs.MustRead.{MustRead};
 ghost use Rattle.irtext_tokens.specs.Tokens.{text_at};
-ghost use Rattle.irtext_grammar.specs.Grammar.Tree.{word, operand, operands, successor, successors, attribute, dictionary, result_type, header, types};
+ghost use Rattle.irtext_grammar.specs.Grammar.Tree.{word, attribute, dictionary, result_type, header, types};
 ghost use Rattle.irtext_format_check.specs.Directives.{directive_of};
-ghost use Rattle.irtext_parse_spec.specs.Heads.{outlined_or_at, used_at, target_at, symbol_at, dictionary_at, directive_at, piece_at};
-ghost use Rattle.irtext_parse_pieces.specs.Pieces.{seen_attribute, Accepts, MustPiece};
+ghost use Rattle.irtext_parse_spec.specs.Heads.{outlined_or_at, symbol_at, dictionary_at, directive_at, piece_at};
+ghost use Rattle.irtext_parse_pieces.specs.Kinds.{named_at, name_tree, names_tree};
+ghost use Rattle.irtext_parse_pieces.specs.Pieces.{seen_attribute, Accepts, AnyPiece, MustPiece};
 ghost use Rattle.irtext_parse_pieces.specs.Named.{NamesRead};
 ghost use Rattle.irtext_parse_pieces.specs.Steps.{seen_step};
 
 use crate::entries::{ReadEntry, attr_demanded, dictionary_parse};
 use crate::keys::Keys;
-use crate::lists::{NameKind, names_parse};
-use crate::names::{ReadName, Symbol, symbol_demanded, target_demanded, used_demanded};
+use crate::lists::{NameKind, named_parse, names_parse};
+use crate::names::{ReadName, Symbol, symbol_demanded};
 use crate::steps::FormatStep;
 use crate::types::types_parse;
 use irtext_base::base::{AttrObj, Identifier};
@@ -58,8 +57,11 @@ pub enum ReadPiece<T, A> {
     Types(Few<T>),
 }
 
+/// The result of parsing a piece.
+pub type PieceResult<T, A> = ParseResult<ReadPiece<T, A>, A>;
+
 /// Consumes a fixed text if the whole of it comes next, and returns whether it does.
-fn accepts<S: CharStream>(stream: &mut S, text: &str) -> bool
+pub(crate) fn accepts<S: CharStream>(stream: &mut S, text: &str) -> bool
     ensures { Accepts S.view S.at (characters text.now) stream.old result stream.new }
 {
     stream.accept(text)
@@ -86,78 +88,58 @@ fn outlined_or_demanded<S: OwnStream, A: AttrText<A>>(
 fn word_piece<S: OwnStream, T: IrText<A>, A: AttrText<A>>(
     stream: &mut S,
     text: &str,
-) -> ParseResult<ReadPiece<T, A>, A>
-    ensures { (names : List Text) → MustPiece S.CharStream.view S.CharStream.at names
+) -> PieceResult<T, A>
+    ensures { AnyPiece S.CharStream.view S.CharStream.at
         (text_at (characters text.now) ⇒ λ _. word (characters text.now)) stream.old result stream.new }
 {
     text_demanded(stream, text)?;
     Ok(ReadPiece::Word)
 }
 
-/// Parses the name of an operand.
-fn operand_piece<S: OwnStream, V: Copy, B: Copy, T: IrText<A>, A: AttrText<A>>(
+/// Parses the name of an operand or the label of a successor, the one at this place.
+fn name_piece<S: OwnStream, V: Copy, B: Copy, T: IrText<A>, A: AttrText<A>>(
     stream: &mut S,
     names: &mut NameTracker<V, B>,
+    kind: NameKind,
     index: usize,
     inside: bool,
-) -> ParseResult<ReadPiece<T, A>, A>
-    ensures read { MustPiece S.CharStream.view S.CharStream.at names.new.names (used_at inside ⇒ operand
-        index) stream.old result stream.new }
-    ensures names { NamesRead names.old names.new }
-{
-    let name = used_demanded(stream, names, inside)?;
-    Ok(ReadPiece::Operand(index, name))
-}
-
-/// Parses the names of operands.
-fn operands_piece<S: OwnStream, V: Copy, B: Copy, T: IrText<A>, A: AttrText<A>>(
-    stream: &mut S,
-    names: &mut NameTracker<V, B>,
-    inside: bool,
-) -> ParseResult<ReadPiece<T, A>, A>
+) -> PieceResult<T, A>
     ensures read { MustPiece S.CharStream.view S.CharStream.at names.new.names
-        (separated_at 44 (used_at inside) ⇒ operands) stream.old result stream.new }
+        (named_at kind inside ⇒ name_tree kind index) stream.old result stream.new }
     ensures names { NamesRead names.old names.new }
 {
-    let found = names_parse(stream, names, NameKind::Value, inside)?;
-    Ok(ReadPiece::Operands(found))
+    let answer = named_parse(stream, names, kind, inside);
+    let name = committed(stream, answer)?;
+    match kind {
+        NameKind::Value => Ok(ReadPiece::Operand(index, name)),
+        NameKind::Block => Ok(ReadPiece::Successor(index, name)),
+    }
 }
 
-/// Parses the label of a successor.
-fn successor_piece<S: OwnStream, V: Copy, B: Copy, T: IrText<A>, A: AttrText<A>>(
+/// Parses the names of operands or the labels of successors.
+fn names_piece<S: OwnStream, V: Copy, B: Copy, T: IrText<A>, A: AttrText<A>>(
     stream: &mut S,
     names: &mut NameTracker<V, B>,
-    index: usize,
+    kind: NameKind,
     inside: bool,
-) -> ParseResult<ReadPiece<T, A>, A>
-    ensures read { MustPiece S.CharStream.view S.CharStream.at names.new.names (target_at inside ⇒ successor
-        index) stream.old result stream.new }
-    ensures names { NamesRead names.old names.new }
-{
-    let label = target_demanded(stream, names, inside)?;
-    Ok(ReadPiece::Successor(index, label))
-}
-
-/// Parses the labels of successors.
-fn successors_piece<S: OwnStream, V: Copy, B: Copy, T: IrText<A>, A: AttrText<A>>(
-    stream: &mut S,
-    names: &mut NameTracker<V, B>,
-    inside: bool,
-) -> ParseResult<ReadPiece<T, A>, A>
+) -> PieceResult<T, A>
     ensures read { MustPiece S.CharStream.view S.CharStream.at names.new.names
-        (separated_at 44 (target_at inside) ⇒ successors) stream.old result stream.new }
+        (separated_at 44 (named_at kind inside) ⇒ names_tree kind) stream.old result stream.new }
     ensures names { NamesRead names.old names.new }
 {
-    let found = names_parse(stream, names, NameKind::Block, inside)?;
-    Ok(ReadPiece::Successors(found))
+    let found = names_parse(stream, names, kind, inside)?;
+    match kind {
+        NameKind::Value => Ok(ReadPiece::Operands(found)),
+        NameKind::Block => Ok(ReadPiece::Successors(found)),
+    }
 }
 
 /// Parses the marker or the attribute of a directive with this key.
 fn attr_piece<S: OwnStream, T: IrText<A>, A: AttrText<A>>(
     stream: &mut S,
     key: &Identifier,
-) -> ParseResult<ReadPiece<T, A>, A>
-    ensures { (names : List Text) → MustPiece S.CharStream.view S.CharStream.at names
+) -> PieceResult<T, A>
+    ensures { AnyPiece S.CharStream.view S.CharStream.at
         (outlined_or_at (attr_at A.IrText.reading) ⇒ attribute key.now) stream.old result stream.new }
 {
     let attr = outlined_or_demanded(stream)?;
@@ -171,8 +153,8 @@ fn attr_piece<S: OwnStream, T: IrText<A>, A: AttrText<A>>(
 fn dictionary_piece<S: OwnStream, T: IrText<A>, A: AttrText<A>>(
     stream: &mut S,
     keys: &mut Keys,
-) -> ParseResult<ReadPiece<T, A>, A>
-    ensures { (names : List Text) → MustPiece S.CharStream.view S.CharStream.at names
+) -> PieceResult<T, A>
+    ensures { AnyPiece S.CharStream.view S.CharStream.at
         (dictionary_at (attr_at A.IrText.reading) ⇒ dictionary) stream.old result stream.new }
 {
     let entries = dictionary_parse(stream, keys)?;
@@ -183,8 +165,8 @@ fn dictionary_piece<S: OwnStream, T: IrText<A>, A: AttrText<A>>(
 fn type_piece<S: OwnStream, T: IrText<A>, A: AttrText<A>>(
     stream: &mut S,
     index: usize,
-) -> ParseResult<ReadPiece<T, A>, A>
-    ensures { (names : List Text) → MustPiece S.CharStream.view S.CharStream.at names
+) -> PieceResult<T, A>
+    ensures { AnyPiece S.CharStream.view S.CharStream.at
         (T.IrText.reading ⇒ result_type index) stream.old result stream.new }
 {
     let answer = stream.read_own();
@@ -193,10 +175,8 @@ fn type_piece<S: OwnStream, T: IrText<A>, A: AttrText<A>>(
 }
 
 /// Parses a symbol's name.
-fn header_piece<S: OwnStream, T: IrText<A>, A: AttrText<A>>(
-    stream: &mut S,
-) -> ParseResult<ReadPiece<T, A>, A>
-    ensures { (names : List Text) → MustPiece S.CharStream.view S.CharStream.at names (symbol_at ⇒ header)
+fn header_piece<S: OwnStream, T: IrText<A>, A: AttrText<A>>(stream: &mut S) -> PieceResult<T, A>
+    ensures { AnyPiece S.CharStream.view S.CharStream.at (symbol_at ⇒ header)
         stream.old result stream.new }
 {
     let symbol = symbol_demanded(stream)?;
@@ -204,10 +184,8 @@ fn header_piece<S: OwnStream, T: IrText<A>, A: AttrText<A>>(
 }
 
 /// Parses a list of types, in the canonical form.
-fn types_piece<S: OwnStream, T: IrText<A>, A: AttrText<A>>(
-    stream: &mut S,
-) -> ParseResult<ReadPiece<T, A>, A>
-    ensures { (names : List Text) → MustPiece S.CharStream.view S.CharStream.at names
+fn types_piece<S: OwnStream, T: IrText<A>, A: AttrText<A>>(stream: &mut S) -> PieceResult<T, A>
+    ensures { AnyPiece S.CharStream.view S.CharStream.at
         (separated_at 44 T.IrText.reading ⇒ types) stream.old result stream.new }
 {
     let found = types_parse(stream)?;
@@ -215,10 +193,8 @@ fn types_piece<S: OwnStream, T: IrText<A>, A: AttrText<A>>(
 }
 
 /// Returns the error for a step that parses a region, which is no piece: an operation was expected.
-fn no_piece<S: OwnStream, T: IrText<A>, A: AttrText<A>>(
-    stream: &mut S,
-) -> ParseResult<ReadPiece<T, A>, A>
-    ensures { (names : List Text) → MustPiece S.CharStream.view S.CharStream.at names
+fn no_piece<S: OwnStream, T: IrText<A>, A: AttrText<A>>(stream: &mut S) -> PieceResult<T, A>
+    ensures { AnyPiece S.CharStream.view S.CharStream.at
         (λ text. Missing (Unexpected (first_of text) AnOperation)) stream.old result stream.new }
 {
     if stream.has_failed() {
@@ -235,17 +211,17 @@ fn piece_parse<S: OwnStream, V: Copy, B: Copy, T: IrText<A>, A: AttrText<A>>(
     directive: &Directive,
     inside: bool,
     keys: &mut Keys,
-) -> ParseResult<ReadPiece<T, A>, A>
+) -> PieceResult<T, A>
     ensures read { MustPiece S.CharStream.view S.CharStream.at names.new.names
         (directive_at T.IrText.reading (attr_at A.IrText.reading) inside (directive_of directive.now)) stream.old result stream.new }
     ensures names { NamesRead names.old names.new }
 {
     match directive {
         Directive::Literal(text) => word_piece(stream, text.as_str()),
-        Directive::Operand(index) => operand_piece(stream, names, *index, inside),
-        Directive::Operands => operands_piece(stream, names, inside),
-        Directive::Successor(index) => successor_piece(stream, names, *index, inside),
-        Directive::Successors => successors_piece(stream, names, inside),
+        Directive::Operand(index) => name_piece(stream, names, NameKind::Value, *index, inside),
+        Directive::Operands => names_piece(stream, names, NameKind::Value, inside),
+        Directive::Successor(index) => name_piece(stream, names, NameKind::Block, *index, inside),
+        Directive::Successors => names_piece(stream, names, NameKind::Block, inside),
         Directive::Attr(key) => attr_piece(stream, key),
         Directive::AttrDict => dictionary_piece(stream, keys),
         Directive::ResultType(index) => type_piece(stream, *index),
@@ -266,7 +242,7 @@ pub fn step_parse<S: OwnStream, V: Copy, B: Copy, T: IrText<A>, A: AttrText<A>>(
     step: FormatStep<'_>,
     inside: bool,
     keys: &mut Keys,
-) -> ParseResult<ReadPiece<T, A>, A>
+) -> PieceResult<T, A>
     ensures read { MustPiece S.CharStream.view S.CharStream.at names.new.names
         (piece_at T.IrText.reading (attr_at A.IrText.reading) inside (seen_step step.entry)) stream.old result stream.new }
     ensures names { NamesRead names.old names.new }
@@ -274,8 +250,8 @@ pub fn step_parse<S: OwnStream, V: Copy, B: Copy, T: IrText<A>, A: AttrText<A>>(
     match step {
         FormatStep::Directive(directive) => piece_parse(stream, names, directive, inside, keys),
         FormatStep::Word(text) => word_piece(stream, text),
-        FormatStep::Operands => operands_piece(stream, names, inside),
-        FormatStep::Successors => successors_piece(stream, names, inside),
+        FormatStep::Operands => names_piece(stream, names, NameKind::Value, inside),
+        FormatStep::Successors => names_piece(stream, names, NameKind::Block, inside),
         FormatStep::Dictionary => dictionary_piece(stream, keys),
         FormatStep::Types => types_piece(stream),
         FormatStep::Regions => no_piece(stream),

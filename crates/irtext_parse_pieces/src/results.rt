@@ -5,15 +5,14 @@ ghost use Rattle.irtext_parse_spec.specs.Heads.{name_at, results_at};
 ghost use Rattle.irtext_parse_pieces.specs.Named.{MustNames, NamesRead};
 ghost use Rattle.irtext_parse_pieces.specs.Results.{is_read, results_if_at, Looks, LooksBehind};
 
-use crate::lists::with_item;
+use crate::lists::{comma_taken, unless_committed, with_spaced};
 use crate::names::{ReadName, name_parse};
 use irtext_base::parsable::{CharStream, ParseResult};
 use irtext_base::result::Cause;
 use irtext_few::Few;
 use irtext_scopes::tracker::NameTracker;
-use irtext_tokens::irfmt::faults::{next_is, out_of_memory, refuse};
+use irtext_tokens::irfmt::faults::{next_is, refuse};
 use irtext_tokens::irfmt::parsers::{skip_identifier, skip_white_space};
-use std::alloc::AllocError;
 
 /// Whether a word followed by `.` comes next, with which an operation's id begins. Nothing is consumed.
 fn begins_id<S: CharStream>(stream: &mut S) -> bool
@@ -41,45 +40,17 @@ fn more_results<S: CharStream, V: Copy, B: Copy, A: Drop>(
     ensures names { NamesRead names.old names.new }
 {
     let mut found = Few::one(first);
-    while next_is(stream, ',') {
-        let _ = stream.take();
-        skip_white_space(stream);
+    while comma_taken(stream) {
         let next = match name_parse(stream, names) {
             Ok(next) => next,
-            Err(fault) => {
-                if fault.committed {
-                    return Err(fault);
-                }
-                return Ok(None);
-            }
+            Err(fault) => return unless_committed(fault, None),
         };
-        skip_white_space(stream);
-        found = match with_item(stream.allocator(), found, next) {
-            Ok(more) => more,
-            Err(AllocError) => return Err(out_of_memory(stream)),
-        };
+        found = with_spaced(stream, found, next)?;
     }
     Ok(Some(found))
 }
 
-/// Looks for the names after the first one, if `,` comes next. A list of one name costs no more than that.
-#[inline(always)]
-fn results_after<S: CharStream, V: Copy, B: Copy, A: Drop>(
-    stream: &mut S,
-    names: &mut NameTracker<V, B>,
-    first: ReadName,
-) -> ParseResult<Option<Few<ReadName>>, A>
-    ensures looks { LooksBehind S.view S.at names.old.names names.new.names first stream.old result
-        stream.new }
-    ensures names { NamesRead names.old names.new }
-{
-    if !next_is(stream, ',') {
-        return Ok(Some(Few::one(first)));
-    }
-    more_results(stream, names, first)
-}
-
-/// Looks for names that are separated by `,`.
+/// Looks for names that are separated by `,`. A list of one name costs no more than its name.
 fn names_there<S: CharStream, V: Copy, B: Copy, A: Drop>(
     stream: &mut S,
     names: &mut NameTracker<V, B>,
@@ -91,14 +62,12 @@ fn names_there<S: CharStream, V: Copy, B: Copy, A: Drop>(
     match name_parse(stream, names) {
         Ok(first) => {
             skip_white_space(stream);
-            results_after(stream, names, first)
-        }
-        Err(fault) => {
-            if fault.committed {
-                return Err(fault);
+            if !next_is(stream, ',') {
+                return Ok(Some(Few::one(first)));
             }
-            Ok(Some(Few::none()))
+            more_results(stream, names, first)
         }
+        Err(fault) => unless_committed(fault, Some(Few::none())),
     }
 }
 

@@ -5,7 +5,7 @@ ghost use Rattle.irtext_base.specs.Format.{is_any_region, word};
 ghost use Rattle.irtext_format_check.specs.Directives.{directive_of, format_of};
 ghost use Rattle.irtext_parse_spec.specs.Heads.{canonical_steps, steps_of, flat};
 ghost use Rattle.irtext_parse_spec.specs.Resume.{is_flat};
-ghost use Rattle.irtext_parse_pieces.specs.Steps.{seen_step};
+ghost use Rattle.irtext_parse_pieces.specs.Steps.{custom_steps, seen_step};
 
 use irtext_base::format::{Directive, OpFormat};
 
@@ -55,18 +55,15 @@ fn canonical_step<'f>(index: usize) -> Option<FormatStep<'f>>
     }
 }
 
-/// Returns the step of a format at this index, as `step_at` does. If there is one, the index after it does not overflow.
+/// Returns the step of the directive at this index. If there is one, the index after it does not overflow.
 #[inline]
-pub(crate) fn step_there(format: &OpFormat, index: usize) -> Option<FormatStep<'_>>
-    ensures step { option_map seen_step result ≡ slice_get (steps_of (format_of format.now)) index }
+pub(crate) fn custom_step(directives: &[Directive], index: usize) -> Option<FormatStep<'_>>
+    ensures step { option_map seen_step result ≡ slice_get (custom_steps directives.now) index }
     ensures fits { IfSome result (λ _. index + 1 < 2 ^ 64) }
 {
-    match format {
-        OpFormat::Canonical => canonical_step(index),
-        OpFormat::Custom(directives) => match directives.get(index) {
-            Some(directive) => Some(FormatStep::Directive(directive)),
-            None => None,
-        },
+    match directives.get(index) {
+        Some(directive) => Some(FormatStep::Directive(directive)),
+        None => None,
     }
 }
 
@@ -74,7 +71,10 @@ pub(crate) fn step_there(format: &OpFormat, index: usize) -> Option<FormatStep<'
 pub fn step_at(format: &OpFormat, index: usize) -> Option<FormatStep<'_>>
     ensures { option_map seen_step result ≡ slice_get (steps_of (format_of format.now)) index }
 {
-    step_there(format, index)
+    match format {
+        OpFormat::Canonical => canonical_step(index),
+        OpFormat::Custom(directives) => custom_step(directives, index),
+    }
 }
 
 /// Whether a directive parses regions.
@@ -108,21 +108,8 @@ pub(crate) fn word_of<'f>(step: FormatStep<'f>) -> Option<&'f str>
         FormatStep::Word(text) => Some(text),
         FormatStep::Directive(directive) => match directive {
             Directive::Literal(text) => Some(text.as_str()),
-            Directive::Operand(_)
-            | Directive::Operands
-            | Directive::Successor(_)
-            | Directive::Successors
-            | Directive::Attr(_)
-            | Directive::AttrDict
-            | Directive::ResultType(_)
-            | Directive::Region(_)
-            | Directive::Regions
-            | Directive::SymbolHeader => None,
+            _ => None,
         },
-        FormatStep::Operands
-        | FormatStep::Successors
-        | FormatStep::Dictionary
-        | FormatStep::Types
-        | FormatStep::Regions => None,
+        _ => None,
     }
 }

@@ -4,14 +4,13 @@ ghost use Rattle.irtext_tokens.specs.ListOutcomes.{separated_at};
 ghost use Rattle.irtext_parse_pieces.specs.Pieces.{MustTypes, TypesBehind};
 ghost use Rattle.irtext_parse_pieces.specs.Named.{MayMean};
 
-use crate::lists::with_item;
+use crate::lists::{comma_taken, unless_committed, with_spaced};
 use irtext_base::parsable::{CharStream, ParseResult};
 use irtext_base::text::IrText;
 use irtext_few::Few;
-use irtext_tokens::irfmt::faults::{committed, next_is, out_of_memory};
+use irtext_tokens::irfmt::faults::{committed, next_is};
 use irtext_tokens::irfmt::parsers::skip_white_space;
 use irtext_tokens::parsable::OwnStream;
-use std::alloc::AllocError;
 
 /// Parses a type with the type's own parser, and returns its errors unchanged.
 fn type_parse<S: OwnStream, T: IrText<A>, A>(stream: &mut S) -> ParseResult<T, A>
@@ -30,37 +29,16 @@ fn more_types<S: OwnStream, T: IrText<A>, A: Drop>(
         stream.new }
 {
     let mut found = Few::one(first);
-    while next_is(stream, ',') {
-        let _ = stream.take();
-        skip_white_space(stream);
+    while comma_taken(stream) {
         let answer = type_parse(stream);
         let next = committed(stream, answer)?;
-        skip_white_space(stream);
-        found = match with_item(stream.allocator(), found, next) {
-            Ok(more) => more,
-            Err(AllocError) => return Err(out_of_memory(stream)),
-        };
+        found = with_spaced(stream, found, next)?;
     }
     Ok(found)
 }
 
-/// Parses the types after the first one, if `,` comes next. A list of one type costs no more than that.
-#[inline(always)]
-fn types_after<S: OwnStream, T: IrText<A>, A: Drop>(
-    stream: &mut S,
-    first: T,
-) -> ParseResult<Few<T>, A>
-    ensures { TypesBehind S.CharStream.view S.CharStream.at T.IrText.reading first stream.old result
-        stream.new }
-{
-    if !next_is(stream, ',') {
-        return Ok(Few::one(first));
-    }
-    more_types(stream, first)
-}
-
 /// Parses types that are separated by `,`, with white space after each. If no type comes next, returns an empty list. Every error is
-/// committed.
+/// committed. A list of one type costs no more than its type.
 pub fn types_parse<S: OwnStream, T: IrText<A>, A: Drop>(stream: &mut S) -> ParseResult<Few<T>, A>
     ensures { MustTypes S.CharStream.view S.CharStream.at (separated_at 44 T.IrText.reading) stream.old result
         stream.new }
@@ -68,13 +46,11 @@ pub fn types_parse<S: OwnStream, T: IrText<A>, A: Drop>(stream: &mut S) -> Parse
     match type_parse(stream) {
         Ok(first) => {
             skip_white_space(stream);
-            types_after(stream, first)
-        }
-        Err(fault) => {
-            if fault.committed {
-                return Err(fault);
+            if !next_is(stream, ',') {
+                return Ok(Few::one(first));
             }
-            Ok(Few::none())
+            more_types(stream, first)
         }
+        Err(fault) => unless_committed(fault, Few::none()),
     }
 }

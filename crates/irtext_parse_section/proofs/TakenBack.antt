@@ -20,7 +20,7 @@ use Rattle.irtext_graph.specs.declared.object.Operation.{Operation}
 use Rattle.irtext_graph.proofs.Nests.{some_eq}
 use Rattle.irtext_grammar.specs.Grammar.Tree.{Attribute}
 use Rattle.irtext_parse_section.specs.Applied.{no_label, label_in, LocatesOperation, StoresOperation, LocatesBlock, StoresBlock, LabelsBlock, Gives, IsNewer}
-use Rattle.irtext_parse_section.specs.Together.{Takes, TakesOperation, TakesBlock, PutsBack}
+use Rattle.irtext_parse_section.specs.Together.{IsLive, Puts, Takes, TakesOperation, TakesBlock, PutsBack}
 use Rattle.irtext_parse_section.proofs.Edits.{operation_rest, block_rest, operation_unedited, block_unedited, kept_around}
 use Rattle.irtext_parse_section.proofs.Swaps.{taken_back}
 
@@ -91,6 +91,11 @@ module _ {T A : Type 0} (a : ContextView T A) where
 pub not_there : {X : Type 0} (t : Bool) (o : Option X) → (t ≡ true ↔ is_some o ≡ true) → t ≡ false → is_some o ≡ false
 not_there t None h e = refl
 not_there t (Some x) h e = absurd (true≢false (sym (h.1 refl) ∙ e))
+
+-- an item that is not live has no attributes to change
+pub none_put : {T A : Type 0} (x : Item) (t : Bool) (now : ContextView T A) (next : List (Text × AttrObj A)) → (t ≡ true ↔ IsLive x now) → t ≡ false → Puts x next now now
+none_put (item.Operation p) t now next h e = no_operation now p (with_attributes next) (not_there t (operation now p) h e)
+none_put (item.Block p) t now next h e = no_block now p (with_block_attributes next) (not_there t (block now p) h e)
 
 -- what a test found
 pub is_there : {X : Type 0} (t : Bool) (o : Option X) → (t ≡ true ↔ is_some o ≡ true) → t ≡ true → is_some o ≡ true

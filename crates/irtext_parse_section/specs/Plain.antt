@@ -38,6 +38,10 @@ Sees Found old None new = new ≡ old
 abbrev pub Gets : {X : Type 0} → Reader X → StreamView → StreamView → X → Type 0
 Gets outcome old new x = Gives itself replaced (outcome old.rest) old x new
 
+-- the stream had not failed, and this was parsed
+abbrev pub Finds : {X : Type 0} → Reader X → StreamView → StreamView → X → Type 0
+Finds outcome old new x = (old.failed ≡ false) × Gets outcome old new x
+
 module _ (before : Text) (old new : StreamView) where
   -- a text was consumed, and the digits right after it
   pub record DigitsBehind (n : ℕ) : Type 0 where

@@ -1,6 +1,6 @@
 -- Between functions: entries that are applied all or none. The attributes are stored first, and those that an item had are kept; the
 -- locations and the labels, which need no allocation, come last.
-use Rattle.std.specs.Prelude.{◌≡◌, ℕ, cond, is_some, List, [], ◌∷◌, ◌++◌, Option, Some, None}
+use Rattle.std.specs.Prelude.{◌≡◌, ℕ, cond, is_some, IsSome, List, [], ◌∷◌, ◌++◌, Option, Some, None}
 use Rattle.std.specs.Option.{option_map}
 use Rattle.irtext_base.specs.Text.{Text}
 use Rattle.irtext_base.specs.declared.base.attributes.AttrObj.{AttrObj}
@@ -46,11 +46,25 @@ module _ {T A : Type 0} where
   Takes (item.Operation p) (Some had) old new = TakesOperation p had old new
   Takes (item.Block b) (Some had) old new = TakesBlock b had old new
 
+  -- an item is live
+  abbrev pub IsLive : Item → ContextView T A → Type 0
+  IsLive (item.Operation p) now = IsSome (operation now p)
+  IsLive (item.Block b) now = IsSome (block now b)
+
+  -- the attributes that an item has, if it is live
+  abbrev pub attributes_in : Item → ContextView T A → Option (List (Text × AttrObj A))
+  attributes_in (item.Operation p) now = option_map (λ op. op.attributes) (operation now p)
+  attributes_in (item.Block b) now = option_map (λ b. b.attributes) (block now b)
+
+  -- an item got these attributes
+  abbrev pub Puts : Item → List (Text × AttrObj A) → ContextView T A → ContextView T A → Type 0
+  Puts (item.Operation p) next old new = EditsOperation old new p (with_attributes next)
+  Puts (item.Block b) next old new = EditsBlock old new b (with_block_attributes next)
+
   -- an item got these attributes; or nothing changed
   abbrev pub PutsBack : Item → Option (List (Text × AttrObj A)) → ContextView T A → ContextView T A → Type 0
   PutsBack x None old new = new ≡ old
-  PutsBack (item.Operation p) (Some had) old new = EditsOperation old new p (with_attributes had)
-  PutsBack (item.Block b) (Some had) old new = EditsBlock old new b (with_block_attributes had)
+  PutsBack x (Some had) old new = Puts x had old new
 
   -- an item, if it is live, got the location and the label, if they are given
   abbrev pub Finishes : Item → Option (Location A) → Option Text → ContextView T A → ContextView T A → Type 0

@@ -11,7 +11,7 @@ ghost use Rattle.irtext_parse_spec.specs.Readers.NewPaths.{AddsOnlyPaths};
 ghost use Rattle.irtext_parse_spec.specs.Readers.Streams.{itself, replaced};
 ghost use Rattle.irtext_parse_pieces.specs.Marks.{IsMark};
 ghost use Rattle.irtext_parse_pieces.specs.Named.{MustMean, whole};
-ghost use Rattle.irtext_parse_section.specs.Plain.{Sees, Gets};
+ghost use Rattle.irtext_parse_section.specs.Plain.{Sees, Finds};
 ghost use Rattle.irtext_parse_spec.specs.Entries.{begins_given, tested, entry_head_at, entry_at};
 ghost use Rattle.irtext_parse_section.specs.Said.{rules_of};
 ghost use Rattle.irtext_parse_section.specs.Entries.{IsHead, GoesOn, IsEntry, entry_kept, next_item, earlier_indices};
@@ -50,11 +50,14 @@ fn begins_given(stream: &TextStream) -> bool
     }
 }
 
-/// Parses `!` and an index right after it. If they do not come next, the stream is unchanged.
+/// Parses `!` and an index right after it. If they do not come next, or the stream has failed, returns `None` and nothing changes.
 #[inline(always)]
 fn index_there(stream: &mut TextStream) -> Option<usize>
-    ensures { Sees (Gets index_at stream.old stream.new) stream.old result stream.new }
+    ensures { Sees (Finds index_at stream.old stream.new) stream.old result stream.new }
 {
+    if stream.has_failed() {
+        return None;
+    }
     let place = stream.position();
     match digits_behind(stream, "!") {
         Some(index) => Some(index as usize),
@@ -79,9 +82,6 @@ fn index_missed<A>(stream: &mut TextStream) -> ParseResult<usize, A>
 fn index_read<A>(stream: &mut TextStream) -> ParseResult<usize, A>
     ensures { MustRead itself replaced (λ n. n) index_at stream.old result stream.new }
 {
-    if stream.has_failed() {
-        return index_missed(stream);
-    }
     match index_there(stream) {
         Some(index) => Ok(index),
         None => index_missed(stream),

@@ -10,7 +10,7 @@ mod entry;
 mod given;
 pub mod location;
 mod pairs;
-mod rules;
+pub mod rules;
 pub mod said;
 pub mod section;
 mod together;

@@ -19,7 +19,8 @@ pub(crate) fn is_block(item: Item) -> bool
     }
 }
 
-fn is_given<A>(attr: &AttrObj<A>) -> bool
+/// Whether an attribute gives names.
+pub fn is_given<A>(attr: &AttrObj<A>) -> bool
     ensures { result ≡ is_given (attribute_of attr.now) }
 {
     match attr {
@@ -37,14 +38,15 @@ fn is_label<A>(attr: &AttrObj<A>) -> bool
     }
 }
 
-fn is_names_key(key: &Identifier) -> bool
+/// Whether a key is that of given names.
+pub fn is_names_key(key: &Identifier) -> bool
     ensures { result ≡ same_text key.now given_names_key }
 {
     key.as_str() == "builtin_given_names"
 }
 
 /// Whether a key is that of a block's label.
-pub(crate) fn is_label_key(key: &Identifier) -> bool
+pub fn is_label_key(key: &Identifier) -> bool
     ensures { result ≡ same_text key.now block_label_key }
 {
     key.as_str() == "builtin_block_label"

@@ -1,13 +1,13 @@
 //! Applies what entries give, all of it; if an allocation fails, nothing. An item is an operation or a block that carries a mark.
-ghost use Rattle.std.specs.Prelude.{◌≡◌, ◌<◌, ◌++◌, ◌∷◌, ℕ, [], None, Some, IsSome, IfOk, OnOk, OnErr, option_map};
+ghost use Rattle.std.specs.Prelude.{◌≡◌, ◌<◌, ◌++◌, ◌∷◌, ◌↔◌, ℕ, [], None, Some, IsSome, IsTrue, IfOk, OnOk, OnErr, option_map};
 ghost use Rattle.std.specs.Vec.{vec_len, vec_capacity};
-ghost use Rattle.irtext_context.specs.Context.{ContextView, KeepsOlder, EditsOperation, EditsBlock, operation, block, with_attributes, with_block_attributes};
+ghost use Rattle.irtext_context.specs.Context.{ContextView, KeepsOlder, operation, block};
 ghost use Rattle.irtext_context.specs.declared.base.item.Item.TheVariants as item;
 ghost use Rattle.irtext_graph.specs.Back.{IsClosedBelow};
 ghost use Rattle.irtext_grammar.specs.Contexts.Held.{attribute_of, entries_of};
 ghost use Rattle.irtext_grammar.specs.Graphs.Build.{put_all};
 ghost use Rattle.irtext_parse_section.specs.Applied.{all_stored, no_label, label_in, GivesAll, ItemsAreNewer};
-ghost use Rattle.irtext_parse_section.specs.Together.{HasStored, Stores, StoresAll, Takes, TakesAll, PutsBack, Finishes, FinishesAll, StepsOn, IsStepOf};
+ghost use Rattle.irtext_parse_section.specs.Together.{HasStored, IsLive, attributes_in, Puts, Stores, StoresAll, Takes, TakesAll, PutsBack, Finishes, FinishesAll, StepsOn, IsStepOf};
 
 use crate::applied::{
     attr_stored, block_labelled, block_located, block_pairs_stored, operation_located, pairs_stored,
@@ -79,17 +79,30 @@ fn operation_next<T: IrText<A>, A: AttrText<A>>(
     Ok(next)
 }
 
-/// Replaces the attributes of an operation, and returns those that it had.
-fn operation_swapped<T: IrText<A>, A: AttrText<A>>(
+/// Whether an item is live.
+fn is_live<T: IrText<A>, A: AttrText<A>>(ctx: &Context<T, A>, item: Item) -> bool
+    ensures { IsTrue result ↔ IsLive item ctx.now }
+{
+    match item {
+        Item::Operation(op) => ctx.contains_operation(op),
+        Item::Block(at) => ctx.contains_block(at),
+    }
+}
+
+/// Replaces the attributes of an item, and returns those that it had.
+fn item_swapped<T: IrText<A>, A: AttrText<A>>(
     ctx: &mut Context<T, A>,
-    op: Ptr<Operation>,
+    item: Item,
     attributes: AttributeDict<A>,
 ) -> AttributeDict<A>
-    requires { IsSome (operation ctx.old op) }
-    ensures had { option_map (λ op. op.attributes) (operation ctx.old op) ≡ Some result }
-    ensures edits { EditsOperation ctx.old ctx.new op (with_attributes attributes) }
+    requires { IsLive item ctx.old }
+    ensures had { attributes_in item ctx.old ≡ Some result }
+    ensures puts { Puts item attributes ctx.old ctx.new }
 {
-    std::mem::replace(ctx.operation_attributes_mut(op), attributes)
+    match item {
+        Item::Operation(op) => std::mem::replace(ctx.operation_attributes_mut(op), attributes),
+        Item::Block(at) => std::mem::replace(ctx.block_attributes_mut(at), attributes),
+    }
 }
 
 /// Stores what the pairs give in the attributes of an operation, if it is live, and returns the attributes that it had. If an allocation
@@ -109,7 +122,7 @@ fn operation_stepped<T: IrText<A>, A: AttrText<A>>(
         return Ok(None);
     }
     let next = operation_next(ctx, once, op, pairs)?;
-    Ok(Some(operation_swapped(ctx, op, next)))
+    Ok(Some(item_swapped(ctx, Item::Operation(op), next)))
 }
 
 /// Returns a copy of the attributes of a block, with what the pairs give stored in it, and the label that they give.
@@ -130,19 +143,6 @@ fn block_next<T: IrText<A>, A: AttrText<A>>(
     Ok((next, label))
 }
 
-/// Replaces the attributes of a block, and returns those that it had.
-fn block_swapped<T: IrText<A>, A: AttrText<A>>(
-    ctx: &mut Context<T, A>,
-    at: Ptr<BasicBlock>,
-    attributes: AttributeDict<A>,
-) -> AttributeDict<A>
-    requires { IsSome (block ctx.old at) }
-    ensures had { option_map (λ b. b.attributes) (block ctx.old at) ≡ Some result }
-    ensures edits { EditsBlock ctx.old ctx.new at (with_block_attributes attributes) }
-{
-    std::mem::replace(ctx.block_attributes_mut(at), attributes)
-}
-
 /// Stores what the pairs give in the attributes of a block, if it is live. Returns the attributes that it had, and the label that the
 /// pairs give. If an allocation fails, nothing changes.
 fn block_stepped<T: IrText<A>, A: AttrText<A>>(
@@ -160,7 +160,7 @@ fn block_stepped<T: IrText<A>, A: AttrText<A>>(
         return Ok((None, None));
     }
     let (next, label) = block_next(ctx, once, at, pairs)?;
-    Ok((Some(block_swapped(ctx, at, next)), label))
+    Ok((Some(item_swapped(ctx, Item::Block(at), next)), label))
 }
 
 /// Stores what the pairs of an entry give in its item's attributes. If an allocation fails, nothing changes.
@@ -215,35 +215,7 @@ fn step_taken<T: IrText<A>, A: AttrText<A>>(
     Ok(())
 }
 
-/// Sets the attributes of an operation back to these, if it is live.
-fn operation_undone<T: IrText<A>, A: AttrText<A>>(
-    ctx: &mut Context<T, A>,
-    op: Ptr<Operation>,
-    before: AttributeDict<A>,
-)
-    ensures { EditsOperation ctx.old ctx.new op (with_attributes before) }
-{
-    if !ctx.contains_operation(op) {
-        return;
-    }
-    let _ = operation_swapped(ctx, op, before);
-}
-
-/// Sets the attributes of a block back to these, if it is live.
-fn block_undone<T: IrText<A>, A: AttrText<A>>(
-    ctx: &mut Context<T, A>,
-    at: Ptr<BasicBlock>,
-    before: AttributeDict<A>,
-)
-    ensures { EditsBlock ctx.old ctx.new at (with_block_attributes before) }
-{
-    if !ctx.contains_block(at) {
-        return;
-    }
-    let _ = block_swapped(ctx, at, before);
-}
-
-/// Sets the attributes of an item back to those before a step.
+/// Sets the attributes of an item back to those before a step, if it is live.
 fn step_undone<T: IrText<A>, A: AttrText<A>>(ctx: &mut Context<T, A>, step: Step<A>)
     ensures { PutsBack step.item step.before ctx.old ctx.new }
 {
@@ -256,10 +228,10 @@ fn step_undone<T: IrText<A>, A: AttrText<A>>(ctx: &mut Context<T, A>, step: Step
     let Some(before) = before else {
         return;
     };
-    match item {
-        Item::Operation(op) => operation_undone(ctx, op, before),
-        Item::Block(at) => block_undone(ctx, at, before),
+    if !is_live(ctx, item) {
+        return;
     }
+    let _ = item_swapped(ctx, item, before);
 }
 
 /// Undoes the steps, the last one first.

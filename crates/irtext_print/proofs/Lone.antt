@@ -3,7 +3,6 @@ use Rattle.std.proofs.Common.{◌≡◌, ◌++◌, ◌∷◌, ◌∙◌, [], Lis
 use Rattle.std.specs.Prelude.{⊤, decimal}
 use Rattle.std.proofs.lemmas.Fmt.{decimal_digit}
 use Rattle.std.proofs.lemmas.Str.{encodes-append}
-use Rattle.std.specs.Fmt.{signed_decimal}
 use Rattle.std.specs.Str.{encode_utf8_all}
 use Rattle.irtext_base.proofs.LocationViews.{seen-src_pos}
 use Rattle.irtext_base.specs.Own.{Language}
@@ -19,6 +18,7 @@ use Rattle.irtext_stream.specs.declared.position.SourcePosition.{SourcePosition}
 use Rattle.irtext_print.specs.Errors.Located.{between, framed}
 use Rattle.irtext_print.proofs.Printers.Locations.{enclosed, framed_bytes, word, worded}
 use Rattle.irtext_print.specs.Given.{marks_given, is_marked_by}
+use Rattle.irtext_print.specs.Printers.LocationParts.{numbers_text}
 use Rattle.irtext_print.specs.Items.{alone_of, section_of}
 
 -- the first index
@@ -38,10 +38,10 @@ memory_is (File key) e = absurd (true≢false (sym e))
 -- a place in memory alone, of which the words up to the line are written at once
 pub place_alone : {A : Type 0} (written : A → Text) (paths : List (List ℕ)) (pos : SourcePosition) (f0 f1 f2 f3 : List ℕ)
     → f1 ≡ f0 ++ codes " !0\n\noutlined_attributes:\n!0 = @[<in-memory>: line: "
-    → f2 ≡ f1 ++ encode_utf8_all (signed_decimal pos.line ++ (codes ", column: " ++ signed_decimal pos.column)) → f3 ≡ f2 ++ codes "], []\n"
+    → f2 ≡ f1 ++ encode_utf8_all (numbers_text pos) → f3 ≡ f2 ++ codes "], []\n"
     → f3 ≡ f0 ++ framed (codes " !0\n\noutlined_attributes:\n!0 = @[") (codes "], []\n") (known_text written paths (SrcPos InMemory pos))
 place_alone {A = A} written paths pos f0 f1 f2 f3 p q r =
-    let numbers = signed_decimal pos.line ++ (codes ", column: " ++ signed_decimal pos.column) in
+    let numbers = numbers_text pos in
     enclosed (codes " !0\n\noutlined_attributes:\n!0 = @[<in-memory>: line: ") numbers (codes "], []\n") f0 f1 f2 f3 refl refl p q r
     ∙ ap (λ z. f0 ++ z) (sym (framed_bytes (codes " !0\n\noutlined_attributes:\n!0 = @[") (codes "], []\n") refl refl (Some (codes "<in-memory>: line: " ++ numbers))))
     ∙ ap (λ v. f0 ++ framed (codes " !0\n\noutlined_attributes:\n!0 = @[") (codes "], []\n") (Some (written_text written (written_with paths v)))) (sym (seen-src_pos {A = A} InMemory pos))
@@ -49,10 +49,10 @@ place_alone {A = A} written paths pos f0 f1 f2 f3 p q r =
 -- the same between an entry's index and its attributes
 pub place_between : {A : Type 0} (written : A → Text) (paths : List (List ℕ)) (pos : SourcePosition) (f0 f1 f2 f3 : List ℕ)
     → f1 ≡ f0 ++ codes " = @[<in-memory>: line: "
-    → f2 ≡ f1 ++ encode_utf8_all (signed_decimal pos.line ++ (codes ", column: " ++ signed_decimal pos.column)) → f3 ≡ f2 ++ codes "], ["
+    → f2 ≡ f1 ++ encode_utf8_all (numbers_text pos) → f3 ≡ f2 ++ codes "], ["
     → f3 ≡ f0 ++ (codes " = " ++ (framed (codes "@[") (codes "], ") (known_text written paths (SrcPos InMemory pos)) ++ codes "["))
 place_between {A = A} written paths pos f0 f1 f2 f3 p q r =
-    let numbers = signed_decimal pos.line ++ (codes ", column: " ++ signed_decimal pos.column) in
+    let numbers = numbers_text pos in
     let bytes = encode_utf8_all numbers in
     r ∙ ap (λ z. z ++ codes "], [") (q ∙ ap (λ z. z ++ bytes) p)
     ∙ regroup f0 (codes " = ") (codes "@[") (codes "<in-memory>: line: ") bytes (codes "], ") (codes "[")

@@ -10,9 +10,6 @@ use Rattle.irtext_base.specs.declared.text.IrText as ir_text
 use Rattle.irtext_context.specs.Context.{ContextView}
 use Rattle.irtext_dict.specs.Entries.{entries_left}
 use Rattle.irtext_dict.specs.declared.base.attributes.Iter.{Iter}
-use Rattle.irtext_graph.specs.declared.arena.Ptr.{Ptr}
-use Rattle.irtext_graph.specs.declared.object.BasicBlock.{BasicBlock}
-use Rattle.irtext_graph.specs.declared.object.Operation.{Operation}
 use Rattle.irtext_grammar.specs.Contexts.Held.{attribute_of, entries_of}
 use Rattle.irtext_grammar.specs.Contexts.Nested.{printing_over, seen_own, seen_head}
 use Rattle.irtext_grammar.specs.Grammar.Tree.{Attribute, ident}
@@ -92,14 +89,6 @@ module _ {T A : Type 0} (types : ir_text.Ghosts T A) (owns : ir_text.Ghosts A A)
   abbrev pub is_marked_at : Item → Bool
   is_marked_at i = is_marked_by printing_of (given_at i)
 
-  -- the code returns for an operation what the section contains for it
-  abbrev pub GivesOperation : Ptr Operation → Option (Given A) → Type 0
-  GivesOperation p g = option_map (entry_of printing_of owns.written ctx attributes.outlined) g ≡ option_map (operation_entry printing_of) (seen_own owns.written ctx p)
-
-  -- the same for a block
-  abbrev pub GivesBlock : Ptr BasicBlock → Option (Given A) → Type 0
-  GivesBlock b g = option_map (entry_of printing_of owns.written ctx attributes.outlined) g ≡ option_map (block_entry printing_of) (seen_head owns.written ctx b)
-
-  -- the same for an item
+  -- the code returns for an item what the section contains for it
   abbrev pub Gives : Item → Option (Given A) → Type 0
   Gives i g = option_map (entry_of printing_of owns.written ctx attributes.outlined) g ≡ given_at i

@@ -1,4 +1,6 @@
 -- For callers: the section's text for items of which some may have been erased, and its entries.
+use Rattle.std.specs.declared.alloc.Global.{Global}
+use Rattle.std.specs.declared.string.String.{String}
 use Rattle.std.specs.Prelude.{ℕ, Bool, cond, suc, ◌+◌, List, [], ◌∷◌, ◌++◌, map, length, filter_map, Option, Some, None, codes, decimal, ⊤}
 use Rattle.irtext_base.specs.Own.{Language}
 use Rattle.irtext_base.specs.Text.{Text}
@@ -11,8 +13,10 @@ use Rattle.irtext_grammar.specs.Spelling.Section.{located, entry_text, once_text
 use Rattle.irtext_grammar.specs.Spelling.Spell.{attribute, joined, comma}
 use Rattle.irtext_grammar.specs.Spelling.SectionEntries.{mark_of, written_pair, written_once}
 use Rattle.irtext_print.specs.Printers.PrintedOperation.{language_in}
+use Rattle.irtext_print.specs.Entries.{Mentioned}
 use Rattle.irtext_print.specs.Given.{printing_of, given_at, is_marked_by}
 use Rattle.irtext_print.specs.Mentions.{one_noted, items_noted}
+use Rattle.irtext_print.specs.declared.mentions.Mentions.{Mentions}
 use Rattle.irtext_context.specs.declared.base.item.Item.{Item}
 
 module _ {T A : Type 0} (C : Printing T A) where
@@ -97,6 +101,14 @@ module _ {T A : Type 0} (types : ir_text.Ghosts T A) (owns : ir_text.Ghosts A A)
   -- the same after several items
   abbrev pub all_known : List A → List Item → List A
   all_known known items = items_noted (printing_of types owns attributes same ctx) known (all_given items)
+
+  -- the entry of an item with this index was appended, if the item is live
+  abbrev pub WritesItemEntry : Mentions A → Mentions A → String Global → String Global → ℕ → Item → Type 0
+  WritesItemEntry old new before after n i = Mentioned old new before after (λ known. item_known known i) (λ once. item_entry old.items once n i)
+
+  -- the entries of items were appended, numbered from 0 on
+  abbrev pub WritesEntries : Mentions A → Mentions A → String Global → String Global → List Item → Type 0
+  WritesEntries old new before after items = Mentioned old new before after (λ known. all_known known items) (λ once. all_entries old.items once 0 items)
 
   -- the mark of an item and the section with its entry alone; nothing if it has no mark
   abbrev pub alone_at : Item → Text

@@ -1,23 +1,19 @@
 //! The entries of a section, piece by piece. An item is an operation or a block that carries a mark. Each of these calls fails only if
 //! out of memory; what was appended up to the error remains.
-ghost use Rattle.std.specs.Prelude.{◌≡◌, ◌++◌, ◌<◌, ◌^◌, List, [], OnOk, codes, cond, decimal, string_bytes, true, false};
+ghost use Rattle.std.specs.Prelude.{◌≡◌, ◌++◌, ◌<◌, ◌^◌, [], OnOk, codes, cond, decimal, string_bytes, true, false};
 ghost use Rattle.std.specs.Str.{encode_utf8_all};
 ghost use Rattle.irtext_base.specs.declared.location.Source.TheVariants as source;
 ghost use Rattle.irtext_grammar.specs.Contexts.Held.{attribute_of};
-ghost use Rattle.irtext_grammar.specs.Grammar.Tree as tree;
+ghost use Rattle.irtext_grammar.specs.Grammar.Tree.{own};
 ghost use Rattle.irtext_grammar.specs.Spelling.Locations.{known_text};
-ghost use Rattle.irtext_grammar.specs.Spelling.Section.{item};
 ghost use Rattle.irtext_grammar.specs.Spelling.Spell.{comma};
-ghost use Rattle.irtext_print.specs.Errors.Located.{framed};
-ghost use Rattle.irtext_print.specs.Printers.Appended.{AppendsText};
-ghost use Rattle.irtext_print.specs.Printers.PieceText.{words};
 ghost use Rattle.irtext_print.specs.Entries as texts;
 ghost use Rattle.irtext_print.specs.Given.{given_pair, attributes_of};
-ghost use Rattle.irtext_print.specs.Mentions as mentions;
+ghost use Rattle.irtext_print.specs.Printers.Appended.{AppendsText};
 
 use crate::given::{Given, GivenAttribute};
-use crate::location::print::{fmt_known, fmt_numbers, fmt_place};
-use crate::mentions::{Mentions, note};
+use crate::location::print::{fmt_known, fmt_numbers};
+use crate::mentions::Mentions;
 use crate::printable::attributes::fmt_attr;
 use crate::printable::numbers::{InPlace, fmt_led_number, in_place, put_number};
 use arrayvec::ArrayString;
@@ -36,67 +32,6 @@ fn fmt_index(index: usize, f: &mut String) -> fmt::Result
     fmt_led_number("!", index as u64, f)
 }
 
-/// Appends the reference to a print-once attribute: `!` and its index, which comes after those of all items. The attribute is known
-/// from then on.
-fn fmt_reference<'c, A: AttrText<A>>(
-    attr: &'c A,
-    items: usize,
-    known: &mut Mentions<'c, A>,
-    f: &mut String,
-) -> fmt::Result
-    requires { items < 2 ^ 63 }
-    ensures known { OnOk result (mentions.known_in known.new ≡
-        mentions.with_mention (mentions.asking A.print_once A.eq) (mentions.known_in known.old) attr.now) }
-    ensures text { OnOk result ((more : List A) →
-        AppendsText f.old (texts.reference_text (mentions.asking A.print_once A.eq) items (mentions.known_in known.new ++ more) attr.now)
-        f.new) }
-{
-    let place = note(known, attr)?;
-    let index = items + place;
-    fmt_index(index, f)
-}
-
-/// Appends an attribute of the caller, or the reference to a print-once one.
-fn fmt_own<'c, A: AttrText<A>>(
-    attr: &'c A,
-    items: usize,
-    known: &mut Mentions<'c, A>,
-    f: &mut String,
-) -> fmt::Result
-    requires { items < 2 ^ 63 }
-    ensures known { OnOk result (mentions.known_in known.new ≡
-        mentions.noted (mentions.asking A.print_once A.eq) (mentions.known_in known.old) (tree.own attr.now)) }
-    ensures text { OnOk result ((more : List A) →
-        AppendsText f.old (item (words A.IrText.written) (mentions.asking A.print_once A.eq) items (mentions.known_in known.new ++ more)
-        (tree.own attr.now)) f.new) }
-{
-    if attr.is_print_once() {
-        return fmt_reference(attr, items, known, f);
-    }
-    attr.write_text(f)
-}
-
-/// Appends an attribute, or the reference to a print-once one.
-#[inline(always)]
-fn fmt_attribute<'c, A: AttrText<A>>(
-    attr: &'c AttrObj<A>,
-    items: usize,
-    known: &mut Mentions<'c, A>,
-    f: &mut String,
-) -> fmt::Result
-    requires { items < 2 ^ 63 }
-    ensures known { OnOk result (mentions.known_in known.new ≡
-        mentions.noted (mentions.asking A.print_once A.eq) (mentions.known_in known.old) (attribute_of attr.now)) }
-    ensures text { OnOk result ((more : List A) →
-        AppendsText f.old (item (words A.IrText.written) (mentions.asking A.print_once A.eq) items (mentions.known_in known.new ++ more)
-        (attribute_of attr.now)) f.new) }
-{
-    match attr {
-        AttrObj::Own(own) => fmt_own(own, items, known, f),
-        _ => fmt_attr(attr, f),
-    }
-}
-
 /// Appends a label under the key of labels.
 fn fmt_label(label: &Identifier, f: &mut String) -> fmt::Result
     ensures { OnOk result (AppendsText f.old (texts.label_text label.now) f.new) }
@@ -104,31 +39,6 @@ fn fmt_label(label: &Identifier, f: &mut String) -> fmt::Result
     f.push_str("builtin_block_label = builtin.identifier ")?;
     f.push_str(label.as_str())?;
     Ok(())
-}
-
-/// Appends what the section contains for an item under one key.
-#[inline(always)]
-fn fmt_pair<'c, A: AttrText<A>>(
-    pair: GivenAttribute<'c, A>,
-    items: usize,
-    known: &mut Mentions<'c, A>,
-    f: &mut String,
-) -> fmt::Result
-    requires { items < 2 ^ 63 }
-    ensures known { OnOk result (mentions.known_in known.new ≡
-        mentions.noted (mentions.asking A.print_once A.eq) (mentions.known_in known.old) (given_pair pair.entry).1) }
-    ensures text { OnOk result ((more : List A) →
-        AppendsText f.old (texts.pair_text (mentions.asking A.print_once A.eq) items (mentions.known_in known.new ++ more)
-        (words A.IrText.written) (given_pair pair.entry)) f.new) }
-{
-    match pair {
-        GivenAttribute::Label(label) => fmt_label(label, f),
-        GivenAttribute::Outlined(key, attr) => {
-            f.push_str(key.as_str())?;
-            f.push_str(" = ")?;
-            fmt_attribute(attr, items, known, f)
-        }
-    }
 }
 
 /// Appends `, `, except before the first attribute.
@@ -141,50 +51,11 @@ fn fmt_comma(first: bool, f: &mut String) -> fmt::Result
     Ok(())
 }
 
-/// Appends what the section contains for an item besides its location, with `, ` between.
-#[inline(always)]
-fn fmt_pairs<'c, A: AttrText<A>>(
-    given: &Given<'c, A>,
-    items: usize,
-    known: &mut Mentions<'c, A>,
-    f: &mut String,
-) -> fmt::Result
-    requires { items < 2 ^ 63 }
-    ensures known { OnOk result (mentions.known_in known.new ≡
-        mentions.all_noted (mentions.asking A.print_once A.eq) (mentions.known_in known.old) (attributes_of A.outlined given.now)) }
-    ensures text { OnOk result ((more : List A) →
-        AppendsText f.old (texts.pairs_text (mentions.asking A.print_once A.eq) items (mentions.known_in known.new ++ more)
-        (words A.IrText.written) (attributes_of A.outlined given.now)) f.new) }
-{
-    let mut first = true;
-    for pair in given.attributes() {
-        fmt_comma(first, f)?;
-        fmt_pair(pair, items, known, f)?;
-        first = false;
-    }
-    Ok(())
-}
-
 /// Whether a source is in memory, and so has no path.
 pub(crate) fn is_in_memory(src: Source) -> bool
     ensures { result ≡ elim src [ source.InMemory ↦ true | _ ↦ false ] }
 {
     matches!(src, Source::InMemory)
-}
-
-/// Appends ` = `, a location if it is known, and `[`.
-fn fmt_any_location<T: IrText<A>, A: AttrText<A>>(
-    location: &Location<A>,
-    ctx: &Context<T, A>,
-    f: &mut String,
-) -> fmt::Result
-    ensures { OnOk result (string_bytes f.new ≡ string_bytes f.old
-        ++ (codes " = " ++ (framed (codes "@[") (codes "], ") (known_text A.written ctx.now.paths location.now) ++ codes "["))) }
-{
-    f.push_str(" = ")?;
-    fmt_known(location, "@[", "], ", ctx, f)?;
-    f.push_str("[")?;
-    Ok(())
 }
 
 /// Appends what is before an entry's attributes for a position in memory, in one piece. The numbers have at most six digits.
@@ -244,16 +115,14 @@ fn fmt_entry_location<T: IrText<A>, A: AttrText<A>>(
     ctx: &Context<T, A>,
     f: &mut String,
 ) -> fmt::Result
-    ensures { OnOk result (string_bytes f.new ≡ string_bytes f.old
-        ++ (codes " = " ++ (framed (codes "@[") (codes "], ") (known_text A.written ctx.now.paths location.now) ++ codes "["))) }
+    ensures { OnOk result (string_bytes f.new ≡ texts.location_front A.written ctx.now.paths location.now
+        (string_bytes f.old)) }
 {
-    if let Location::SrcPos { src, pos } = location {
-        f.push_str(" = @[")?;
-        fmt_place(*src, pos, ctx, f)?;
-        f.push_str("], [")?;
+    if let Location::Unknown = location {
+        f.push_str(" = [")?;
         return Ok(());
     }
-    fmt_any_location(location, ctx, f)
+    fmt_known(location, " = @[", "], [", ctx, f)
 }
 
 /// Appends what is before an entry's attributes: `!` and its index, ` = `, the location if it is known, and `[`. For a position in
@@ -265,9 +134,8 @@ fn fmt_front<T: IrText<A>, A: AttrText<A>>(
     ctx: &Context<T, A>,
     f: &mut String,
 ) -> fmt::Result
-    ensures { OnOk result (string_bytes f.new ≡
-        (string_bytes f.old ++ encode_utf8_all (codes "!" ++ decimal index)) ++ (codes " = "
-        ++ (framed (codes "@[") (codes "], ") (known_text A.written ctx.now.paths location.now) ++ codes "["))) }
+    ensures { OnOk result (string_bytes f.new ≡ texts.location_front A.written ctx.now.paths location.now
+        (string_bytes f.old ++ encode_utf8_all (codes "!" ++ decimal index))) }
 {
     if let Location::SrcPos { src, pos } = location {
         if is_in_memory(*src) {
@@ -278,25 +146,95 @@ fn fmt_front<T: IrText<A>, A: AttrText<A>>(
     fmt_entry_location(location, ctx, f)
 }
 
-/// Appends the entry of an item, from what the section contains for it: `!0 = @[<in-memory>: line: 1, column: 1], []`.
-pub(crate) fn fmt_entry<'c, T: IrText<A>, A: AttrText<A>>(
-    ctx: &Context<T, A>,
-    index: usize,
-    given: &Given<'c, A>,
-    items: usize,
-    known: &mut Mentions<'c, A>,
-    f: &mut String,
-) -> fmt::Result
-    requires { items < 2 ^ 63 }
-    ensures known { OnOk result (mentions.known_in known.new ≡
-        mentions.all_noted (mentions.asking A.print_once A.eq) (mentions.known_in known.old) (attributes_of A.outlined given.now)) }
-    ensures text { OnOk result ((more : List A) →
-        AppendsText f.old (texts.entry_with (mentions.asking A.print_once A.eq) items (mentions.known_in known.new ++ more)
-        (words A.IrText.written) index
-        (known_text A.written ctx.now.paths given.now.location.now) (attributes_of A.outlined given.now)) f.new) }
-{
-    fmt_front(index, given.location, ctx, f)?;
-    fmt_pairs(given, items, known, f)?;
-    f.push_str("]\n")?;
-    Ok(())
+impl<'c, A: AttrText<A>> Mentions<'c, A> {
+    /// Appends the reference to a print-once attribute: `!` and its index, which comes after those of all items. The attribute is known
+    /// from then on.
+    fn fmt_reference(&mut self, attr: &'c A, f: &mut String) -> fmt::Result
+        requires { self.old.items < 2 ^ 63 }
+        ensures { OnOk result (texts.WritesReference A.IrText.own A.AttrText.own A.eq self.old self.new
+            f.old f.new attr.now) }
+    {
+        let place = self.note(attr)?;
+        let index = self.items + place;
+        fmt_index(index, f)
+    }
+
+    /// Appends an attribute of the caller, or the reference to a print-once one.
+    fn fmt_own(&mut self, attr: &'c A, f: &mut String) -> fmt::Result
+        requires { self.old.items < 2 ^ 63 }
+        ensures { OnOk result (texts.WritesItem A.IrText.own A.AttrText.own A.eq self.old self.new f.old
+            f.new (own attr.now)) }
+    {
+        if attr.is_print_once() {
+            return self.fmt_reference(attr, f);
+        }
+        attr.write_text(f)
+    }
+
+    /// Appends an attribute, or the reference to a print-once one.
+    #[inline(always)]
+    fn fmt_attribute(&mut self, attr: &'c AttrObj<A>, f: &mut String) -> fmt::Result
+        requires { self.old.items < 2 ^ 63 }
+        ensures { OnOk result (texts.WritesItem A.IrText.own A.AttrText.own A.eq self.old self.new f.old
+            f.new (attribute_of attr.now)) }
+    {
+        match attr {
+            AttrObj::Own(own) => self.fmt_own(own, f),
+            _ => fmt_attr(attr, f),
+        }
+    }
+
+    /// Appends what the section contains for an item under one key.
+    #[inline(always)]
+    fn fmt_pair(&mut self, pair: GivenAttribute<'c, A>, f: &mut String) -> fmt::Result
+        requires { self.old.items < 2 ^ 63 }
+        ensures { OnOk result (texts.WritesPair A.IrText.own A.AttrText.own A.eq self.old self.new f.old
+            f.new (given_pair pair.entry)) }
+    {
+        match pair {
+            GivenAttribute::Label(label) => fmt_label(label, f),
+            GivenAttribute::Outlined(key, attr) => {
+                f.push_str(key.as_str())?;
+                f.push_str(" = ")?;
+                self.fmt_attribute(attr, f)
+            }
+        }
+    }
+
+    /// Appends what the section contains for an item besides its location, with `, ` between.
+    #[inline(always)]
+    fn fmt_pairs(&mut self, given: &Given<'c, A>, f: &mut String) -> fmt::Result
+        requires { self.old.items < 2 ^ 63 }
+        ensures { OnOk result (texts.WritesPairs A.IrText.own A.AttrText.own A.eq self.old self.new f.old
+            f.new
+            (attributes_of A.outlined given.now)) }
+    {
+        let mut first = true;
+        for pair in given.attributes() {
+            fmt_comma(first, f)?;
+            self.fmt_pair(pair, f)?;
+            first = false;
+        }
+        Ok(())
+    }
+
+    /// Appends the entry of an item, from what the section contains for it: `!0 = @[<in-memory>: line: 1, column: 1], []`.
+    pub(crate) fn fmt_entry<T: IrText<A>>(
+        &mut self,
+        ctx: &Context<T, A>,
+        index: usize,
+        given: &Given<'c, A>,
+        f: &mut String,
+    ) -> fmt::Result
+        requires { self.old.items < 2 ^ 63 }
+        ensures { OnOk result (texts.WritesEntry A.IrText.own A.AttrText.own A.eq self.old self.new f.old
+            f.new index
+            (known_text A.written ctx.now.paths given.now.location.now) (attributes_of A.outlined
+            given.now)) }
+    {
+        fmt_front(index, given.location, ctx, f)?;
+        self.fmt_pairs(given, f)?;
+        f.push_str("]\n")?;
+        Ok(())
+    }
 }

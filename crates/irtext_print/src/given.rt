@@ -9,9 +9,7 @@ use crate::ir::print::pieces::is_outlined;
 use irtext_base::base::{AttrObj, Identifier};
 use irtext_base::location::Location;
 use irtext_base::text::{AttrText, IrText};
-use irtext_context::base::{
-    BasicBlock, BlockAccess, Context, Item, Operation, OperationAccess, Ptr,
-};
+use irtext_context::base::{BlockAccess, Context, Item, OperationAccess};
 use irtext_dict::base::AttributeDict;
 use irtext_dict::base::attributes::Iter;
 
@@ -106,40 +104,6 @@ impl<'c, A: AttrText<A>> Given<'c, A> {
     }
 }
 
-/// Returns what the section contains for an operation; `None` if it is not live.
-fn operation_given<'c, T: IrText<A>, A: AttrText<A>>(
-    ctx: &'c Context<T, A>,
-    op: Ptr<Operation>,
-) -> Option<Given<'c, A>>
-    ensures { gives.GivesOperation T.IrText.own A.IrText.own A.AttrText.own A.eq ctx.now op result }
-{
-    if !ctx.contains_operation(op) {
-        return None;
-    }
-    Some(Given {
-        location: op.loc(ctx),
-        label: None,
-        attributes: op.attributes(ctx),
-    })
-}
-
-/// Returns what the section contains for a block; `None` if it is not live.
-fn block_given<'c, T: IrText<A>, A: AttrText<A>>(
-    ctx: &'c Context<T, A>,
-    block: Ptr<BasicBlock>,
-) -> Option<Given<'c, A>>
-    ensures { gives.GivesBlock T.IrText.own A.IrText.own A.AttrText.own A.eq ctx.now block result }
-{
-    if !ctx.contains_block(block) {
-        return None;
-    }
-    Some(Given {
-        location: block.loc(ctx),
-        label: block.label(ctx),
-        attributes: block.attributes(ctx),
-    })
-}
-
 /// Returns what the section contains for an item; `None` if it was erased. Allocates nothing.
 pub fn given_of<'c, T: IrText<A>, A: AttrText<A>>(
     ctx: &'c Context<T, A>,
@@ -148,8 +112,26 @@ pub fn given_of<'c, T: IrText<A>, A: AttrText<A>>(
     ensures { gives.Gives T.IrText.own A.IrText.own A.AttrText.own A.eq ctx.now item result }
 {
     match item {
-        Item::Operation(op) => operation_given(ctx, op),
-        Item::Block(block) => block_given(ctx, block),
+        Item::Operation(op) => {
+            if !ctx.contains_operation(op) {
+                return None;
+            }
+            Some(Given {
+                location: op.loc(ctx),
+                label: None,
+                attributes: op.attributes(ctx),
+            })
+        }
+        Item::Block(block) => {
+            if !ctx.contains_block(block) {
+                return None;
+            }
+            Some(Given {
+                location: block.loc(ctx),
+                label: block.label(ctx),
+                attributes: block.attributes(ctx),
+            })
+        }
     }
 }
 

@@ -7,26 +7,32 @@ use indexmap::IndexSet;
 use irtext_base::text::AttrText;
 use std::fmt;
 
-/// The print-once attributes, in the order of their first mention.
-pub(crate) type Mentions<'c, A> = IndexSet<&'c A>;
+/// The print-once attributes that are known so far. They are numbered on after the section's items.
+#[derive(Drop)]
+pub(crate) struct Mentions<'c, A: AttrText<A>> {
+    /// The number of items.
+    pub(crate) items: usize,
+    /// The attributes, in the order of their first mention.
+    pub(crate) known: IndexSet<&'c A>,
+}
 
-/// Records a print-once attribute, and returns its place among those that are known. The place does not change as more are recorded.
-/// Allocates if the attribute is new; fails only if out of memory.
-pub(crate) fn note<'c, A: AttrText<A>>(
-    known: &mut Mentions<'c, A>,
-    attr: &'c A,
-) -> Result<usize, fmt::Error>
-    ensures known { OnOk result (mentions.known_in known.new ≡
-        mentions.with_mention (mentions.asking A.print_once A.eq) (mentions.known_in known.old) attr.now) }
-    ensures place { IfOk result (λ place. (more : List A) → place ≡
-        place_in (mentions.asking A.print_once A.eq) (mentions.known_in known.new ++ more) attr.now) }
-    ensures small { IfOk result (λ place. place < 2 ^ 63) }
-{
-    match known.insert_full(attr) {
-        Ok((place, _)) => {
-            let _count = known.len();
-            Ok(place)
+impl<'c, A: AttrText<A>> Mentions<'c, A> {
+    /// Records a print-once attribute, and returns its place among those that are known. The place does not change as more are recorded.
+    /// Allocates if the attribute is new; fails only if out of memory.
+    pub(crate) fn note(&mut self, attr: &'c A) -> Result<usize, fmt::Error>
+        ensures items { OnOk result (self.new.items ≡ self.old.items) }
+        ensures known { OnOk result (mentions.known_in self.new.known ≡
+            mentions.with_mention (mentions.asking A.print_once A.eq) (mentions.known_in self.old.known) attr.now) }
+        ensures place { IfOk result (λ place. (more : List A) → place ≡
+            place_in (mentions.asking A.print_once A.eq) (mentions.known_in self.new.known ++ more) attr.now) }
+        ensures small { IfOk result (λ place. place < 2 ^ 63) }
+    {
+        match self.known.insert_full(attr) {
+            Ok((place, _)) => {
+                let _count = self.known.len();
+                Ok(place)
+            }
+            Err(_) => Err(fmt::Error),
         }
-        Err(_) => Err(fmt::Error),
     }
 }

@@ -1,16 +1,16 @@
 //! The section after a root. An item is an operation or a block that carries a mark.
-ghost use Rattle.std.specs.Prelude.{◌≡◌, ◌++◌, ◌<◌, ◌^◌, List, [], OnOk, IfErr, codes, length, string_bytes};
+ghost use Rattle.std.specs.Prelude.{◌≡◌, ◌++◌, ◌<◌, ◌^◌, OnOk, IfErr, codes, string_bytes};
 ghost use Rattle.irtext_grammar.specs.Spelling.Locations.{known_text};
 ghost use Rattle.irtext_grammar.specs.Spelling.Section.{once_texts};
+ghost use Rattle.irtext_print.specs.Entries as texts;
 ghost use Rattle.irtext_print.specs.Errors.Located.{framed};
+ghost use Rattle.irtext_print.specs.Items as section;
+ghost use Rattle.irtext_print.specs.Mentions as mentions;
 ghost use Rattle.irtext_print.specs.Printers.Appended.{AppendsText};
 ghost use Rattle.irtext_print.specs.Printers.PieceText.{words};
 ghost use Rattle.irtext_print.specs.declared.printable.refusal.Refusal.TheVariants as refusal;
-ghost use Rattle.irtext_print.specs.Entries as texts;
-ghost use Rattle.irtext_print.specs.Items as section;
-ghost use Rattle.irtext_print.specs.Mentions as mentions;
 
-use crate::entries::{fmt_entry, is_in_memory};
+use crate::entries::is_in_memory;
 use crate::given::given_of;
 use crate::location::print::{fmt_known, fmt_numbers};
 use crate::mentions::Mentions;
@@ -22,47 +22,6 @@ use irtext_base::location::Location;
 use irtext_base::text::{AttrText, IrText};
 use irtext_context::base::{Context, Item};
 use std::fmt;
-
-/// Appends the entry of an item; an erased one has none.
-fn fmt_item<'c, T: IrText<A>, A: AttrText<A>>(
-    ctx: &'c Context<T, A>,
-    index: usize,
-    item: Item,
-    count: usize,
-    known: &mut Mentions<'c, A>,
-    f: &mut String,
-) -> fmt::Result
-    requires { count < 2 ^ 63 }
-    ensures known { OnOk result (mentions.known_in known.new ≡
-        section.item_known T.IrText.own A.IrText.own A.AttrText.own A.eq ctx.now (mentions.known_in known.old) item) }
-    ensures text { OnOk result ((more : List A) →
-        AppendsText f.old (section.item_entry T.IrText.own A.IrText.own A.AttrText.own A.eq ctx.now count
-        (mentions.known_in known.new ++ more) index item) f.new) }
-{
-    match given_of(ctx, item) {
-        Some(given) => fmt_entry(ctx, index, &given, count, known, f),
-        None => Ok(()),
-    }
-}
-
-/// Appends the entries of items.
-fn fmt_items<'c, T: IrText<A>, A: AttrText<A>>(
-    ctx: &'c Context<T, A>,
-    items: &[Item],
-    known: &mut Mentions<'c, A>,
-    f: &mut String,
-) -> fmt::Result
-    ensures known { OnOk result (mentions.known_in known.new ≡
-        section.all_known T.IrText.own A.IrText.own A.AttrText.own A.eq ctx.now (mentions.known_in known.old) items.now) }
-    ensures text { OnOk result ((more : List A) →
-        AppendsText f.old (section.all_entries T.IrText.own A.IrText.own A.AttrText.own A.eq ctx.now (length items.now)
-        (mentions.known_in known.new ++ more) 0 items.now) f.new) }
-{
-    for (index, item) in items.iter().enumerate() {
-        fmt_item(ctx, index, *item, items.len(), known, f)?;
-    }
-    Ok(())
-}
 
 /// Appends a print-once attribute, after its index.
 fn fmt_once<A: AttrText<A>>(index: usize, attr: &A, f: &mut String) -> fmt::Result
@@ -76,22 +35,55 @@ fn fmt_once<A: AttrText<A>>(index: usize, attr: &A, f: &mut String) -> fmt::Resu
     Ok(())
 }
 
-/// Appends the print-once attributes, numbered on after all items.
-fn fmt_all_once<A: AttrText<A>>(
-    count: usize,
-    known: &Mentions<'_, A>,
-    f: &mut String,
-) -> fmt::Result
-    requires { count < 2 ^ 63 }
-    ensures { OnOk result (AppendsText f.old (once_texts (words A.IrText.written)
-        (mentions.asking A.print_once A.eq) count
-        (mentions.known_in known.now)) f.new) }
-{
-    let attrs = known.as_slice();
-    for (place, attr) in attrs.iter().enumerate() {
-        fmt_once(count + place, *attr, f)?;
+impl<'c, A: AttrText<A>> Mentions<'c, A> {
+    /// Appends the entry of an item; an erased one has none.
+    fn fmt_item<T: IrText<A>>(
+        &mut self,
+        ctx: &'c Context<T, A>,
+        index: usize,
+        item: Item,
+        f: &mut String,
+    ) -> fmt::Result
+        requires { self.old.items < 2 ^ 63 }
+        ensures { OnOk result (section.WritesItemEntry T.IrText.own A.IrText.own A.AttrText.own A.eq ctx.now
+            self.old self.new f.old f.new index item) }
+    {
+        match given_of(ctx, item) {
+            Some(given) => self.fmt_entry(ctx, index, &given, f),
+            None => Ok(()),
+        }
     }
-    Ok(())
+
+    /// Appends the entries of items.
+    fn fmt_items<T: IrText<A>>(
+        &mut self,
+        ctx: &'c Context<T, A>,
+        items: &[Item],
+        f: &mut String,
+    ) -> fmt::Result
+        requires { self.old.items < 2 ^ 63 }
+        ensures { OnOk result (section.WritesEntries T.IrText.own A.IrText.own A.AttrText.own A.eq ctx.now
+            self.old self.new f.old f.new items.now) }
+    {
+        for (index, item) in items.iter().enumerate() {
+            self.fmt_item(ctx, index, *item, f)?;
+        }
+        Ok(())
+    }
+
+    /// Appends the print-once attributes, numbered on after all items.
+    fn fmt_all_once(&self, f: &mut String) -> fmt::Result
+        requires { self.now.items < 2 ^ 63 }
+        ensures { OnOk result (AppendsText f.old (once_texts (words A.IrText.written) (mentions.asking
+            A.print_once A.eq)
+            self.now.items (mentions.known_in self.now.known)) f.new) }
+    {
+        let attrs = self.known.as_slice();
+        for (place, attr) in attrs.iter().enumerate() {
+            fmt_once(self.items + place, *attr, f)?;
+        }
+        Ok(())
+    }
 }
 
 /// Appends the section of items, if there are any.
@@ -107,9 +99,12 @@ fn fmt_section<T: IrText<A>, A: AttrText<A>>(
         return Ok(());
     }
     f.push_str("\n\noutlined_attributes:\n")?;
-    let mut known = IndexSet::new(ctx.allocator());
-    fmt_items(ctx, items, &mut known, f)?;
-    fmt_all_once(items.len(), &known, f)
+    let mut mentions = Mentions {
+        items: items.len(),
+        known: IndexSet::new(ctx.allocator()),
+    };
+    mentions.fmt_items(ctx, items, f)?;
+    mentions.fmt_all_once(f)
 }
 
 /// Appends the section of items. The index of each is its place among them; an erased one has no entry, and keeps its index. After them

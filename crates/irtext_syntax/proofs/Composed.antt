@@ -1,5 +1,5 @@
 -- Examples of composed parts, each with its law.
-use Rattle.std.proofs.Common.{◌^◌, codes, nat_lt, refl, true}
+use Rattle.std.proofs.Common.{codes, refl}
 use Rattle.std.specs.Prelude.{◌≡◌, ◌↔◌, Bool, IsTrue, ⊤}
 use Rattle.irtext_base.specs.Own.{texts_of, Lawful, Sincere}
 use Rattle.irtext_base.specs.Text.{Text}
@@ -23,8 +23,8 @@ words : Proved (within {B = ⊤} round (then_of {W = ⊤} (flag (codes "mut")) c
 words = within_proved round_encloses (then_proved (flag_proved (codes "mut") refl) comma_joins (maybe_proved (keyword_proved (codes "to") refl) (keyword_missing (codes "to") refl)))
 
 -- `[1, 2]`, of numbers of a range
-numbers : {R : Type 0} (g : range.Ghosts R) → nat_lt g.high (2 ^ 64) ≡ true → Proved (list_of square (ranged g))
-numbers g fits = list_proved square_encloses (ranged_proved g fits) (ranged_missing g)
+numbers : {R : Type 0} (g : range.Ghosts R) → Proved (list_of square (ranged g))
+numbers g = list_proved square_encloses (ranged_proved g) (ranged_missing g)
 
 module _ {T : Type 0} {reading : Reader T} {written : T → Text} {test : T → T → Bool}
     (lawful : Lawful T (texts_of reading written)) (sincere : Sincere reading) (decides : (x y : T) → IsTrue (test x y) ↔ (x ≡ y)) where

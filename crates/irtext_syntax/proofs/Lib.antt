@@ -5,6 +5,7 @@ pub mod Seen
 pub mod ItemsRead
 pub mod ListWritten
 pub mod WordRead
+pub mod DottedRead
 pub mod MaybeRead
 pub mod Rows
 pub mod Composed

@@ -1,13 +1,17 @@
 -- Fixed words, as parts of a text.
-use Rattle.std.specs.Prelude.{Bool, true, false, cond, not, ◌&&◌, [], ⊤, refl}
+use Rattle.std.specs.Prelude.{◌≡◌, Bool, true, false, cond, not, ◌&&◌, [], ⊤, refl}
 use Rattle.std.specs.Cmp.{IsEquivalence}
 use Rattle.std.specs.Str.{bytes_eq}
-use Rattle.irtext_base.specs.Text.{Text, front, after, after_space, in_word}
+use Rattle.irtext_base.specs.Text.{Text, front, after, after_space, in_word, is_identifier}
 use Rattle.irtext_base.specs.Stream.{first_of}
 use Rattle.irtext_base.specs.Faults.{Word, Unexpected, characters}
 use Rattle.irtext_base.specs.Answers.{Read, Missing}
 use Rattle.irtext_tokens.specs.Infix.{Reader}
-use Rattle.irtext_syntax.specs.NameTexts.{ends_word}
+use Rattle.irtext_syntax.specs.NameTexts.{WordText, ends_word}
+
+-- the word with these characters
+abbrev pub fixed_word : (characters : Text) → is_identifier characters ≡ true → WordText
+fixed_word characters is_word = record { characters = characters; passes = is_word }
 
 -- whether the word that comes next, as long as possible, is this one
 abbrev pub is_next : Text → Text → Bool

@@ -37,39 +37,38 @@ at_most : (low high n : ℕ) → is_between low high n ≡ true → nat_lt high 
 at_most low high n e f = grind (arith, nat_tests)
 
 module _ {R : Type 0} (g : range.Ghosts R) where
-  module _ (fits : nat_lt g.high (2 ^ 64) ≡ true) where
-    small : (n : Ranged R g) → n.value < 2 ^ 64
-    small n = at_most g.low g.high n.value n.in_range fits
+  small : (n : Ranged R g) → n.value < 2 ^ 64
+  small n = at_most g.bounds.low g.bounds.high n.value n.in_range g.bounds.fits
 
-    -- the digits of a number are parsed if no digit comes after them
-    digits-here : (ds rest : Text) (n : Ranged R g) → 0 < length ds → list_all is_ascii_digit ds ≡ true → digits_value 10 ds ≡ n.value → begins is_ascii_digit rest ≡ false → ranged_at g (ds ++ rest) ≡ Read n ds rest
-    digits-here [] rest n some all v stop = absurd (omega (arith, some))
-    digits-here (c ∷ s) rest n some all v stop =
-        let t = (c ∷ s) ++ rest in
-        ap (λ b. cond b (ranged (front is_ascii_digit t) (after is_ascii_digit t) (ranged_if g (value_of (front is_ascii_digit t)))) (Missing (Unexpected (first_of t) ADigit))) (and_left (is_ascii_digit c) (list_all is_ascii_digit s) all)
-        ∙ (ap₂ (λ f a. ranged f a (ranged_if g (value_of f))) (front_all is_ascii_digit (c ∷ s) rest all stop) (after_all is_ascii_digit (c ∷ s) rest all stop)
-        ∙ (ap (λ o. ranged (c ∷ s) rest (ranged_if g o)) (ap fitting v ∙ fitting-small n.value (small n))
-        ∙ ap (ranged (c ∷ s) rest) (ranged_found g n)))
+  -- the digits of a number are parsed if no digit comes after them
+  digits-here : (ds rest : Text) (n : Ranged R g) → 0 < length ds → list_all is_ascii_digit ds ≡ true → digits_value 10 ds ≡ n.value → begins is_ascii_digit rest ≡ false → ranged_at g (ds ++ rest) ≡ Read n ds rest
+  digits-here [] rest n some all v stop = absurd (omega (arith, some))
+  digits-here (c ∷ s) rest n some all v stop =
+      let t = (c ∷ s) ++ rest in
+      ap (λ b. cond b (ranged (front is_ascii_digit t) (after is_ascii_digit t) (ranged_if g (value_of (front is_ascii_digit t)))) (Missing (Unexpected (first_of t) ADigit))) (and_left (is_ascii_digit c) (list_all is_ascii_digit s) all)
+      ∙ (ap₂ (λ f a. ranged f a (ranged_if g (value_of f))) (front_all is_ascii_digit (c ∷ s) rest all stop) (after_all is_ascii_digit (c ∷ s) rest all stop)
+      ∙ (ap (λ o. ranged (c ∷ s) rest (ranged_if g o)) (ap fitting v ∙ fitting-small n.value (small n))
+      ∙ ap (ranged (c ∷ s) rest) (ranged_found g n)))
 
-    ranged-here : (n : Ranged R g) (rest : Text) → begins is_ascii_digit rest ≡ false → ranged_at g (decimal n.value ++ rest) ≡ Read n (decimal n.value) rest
-    ranged-here n rest stop =
-        let k = decimal_is_IsNumeral n.value (small n) in
-        digits-here (decimal n.value) rest n k.0.0 (digits_every (decimal n.value) k.0.1) k.1 stop
+  ranged-here : (n : Ranged R g) (rest : Text) → begins is_ascii_digit rest ≡ false → ranged_at g (decimal n.value ++ rest) ≡ Read n (decimal n.value) rest
+  ranged-here n rest stop =
+      let k = decimal_is_IsNumeral n.value (small n) in
+      digits-here (decimal n.value) rest n k.0.0 (digits_every (decimal n.value) k.0.1) k.1 stop
 
-    ranged_no_space : (n : Ranged R g) (rest : Text) → begins is_whitespace (decimal n.value ++ rest) ≡ false
-    ranged_no_space n rest = let k = decimal_is_IsNumeral n.value (small n) in (plain (decimal n.value) rest k.0.0 (digits_every (decimal n.value) k.0.1)).space
+  ranged_no_space : (n : Ranged R g) (rest : Text) → begins is_whitespace (decimal n.value ++ rest) ≡ false
+  ranged_no_space n rest = let k = decimal_is_IsNumeral n.value (small n) in (plain (decimal n.value) rest k.0.0 (digits_every (decimal n.value) k.0.1)).space
 
-    pub ranged_law : PartLaw (ranged_at g) (λ n. decimal n.value) ends_digits
-    ranged_law = record {
-      back = λ n rest e. read_here (ranged_at g) n (decimal n.value ++ rest) (decimal n.value) rest (ranged_no_space n rest) (ranged-here n rest (not_true (begins is_ascii_digit rest) e));
-      closed = λ rest e. ap not (follows_digits rest (and_left (begins can_follow rest) _ e));
-      scalars = λ n. scalars_ascii (decimal n.value) (IsAscii-decimal n.value (small n));
-      sincere = sincere_of (ranged_at g) (λ text. of_either text (begins is_ascii_digit text) _ _ (of_ranged text (front is_ascii_digit text) (after is_ascii_digit text) (ranged_if g (value_of (front is_ascii_digit text))) (front_after is_ascii_digit text)) (of_missing text _ refl));
-    }
+  pub ranged_law : PartLaw (ranged_at g) (λ n. decimal n.value) ends_digits
+  ranged_law = record {
+    back = λ n rest e. read_here (ranged_at g) n (decimal n.value ++ rest) (decimal n.value) rest (ranged_no_space n rest) (ranged-here n rest (not_true (begins is_ascii_digit rest) e));
+    closed = λ rest e. ap not (follows_digits rest (and_left (begins can_follow rest) _ e));
+    scalars = λ n. scalars_ascii (decimal n.value) (IsAscii-decimal n.value (small n));
+    sincere = sincere_of (ranged_at g) (λ text. of_either text (begins is_ascii_digit text) _ _ (of_ranged text (front is_ascii_digit text) (after is_ascii_digit text) (ranged_if g (value_of (front is_ascii_digit text))) (front_after is_ascii_digit text)) (of_missing text _ refl));
+  }
 
-    -- the bytes of a number's text are its characters
-    pub encodes-ranged : (n : Ranged R g) → encode_utf8_all (decimal n.value) ≡ decimal n.value
-    encodes-ranged n = encodes-IsAscii (decimal n.value) (IsAscii-decimal n.value (small n))
+  -- the bytes of a number's text are its characters
+  pub encodes-ranged : (n : Ranged R g) → encode_utf8_all (decimal n.value) ≡ decimal n.value
+  encodes-ranged n = encodes-IsAscii (decimal n.value) (IsAscii-decimal n.value (small n))
 
   pub ranged_misses : MissesClosers (ranged_at g)
   ranged_misses = record {

@@ -1,5 +1,5 @@
 -- For callers: the laws of parts, composed as the parts are.
-use Rattle.std.proofs.Common.{◌≡◌, ◌^◌, Bool, true, ◌++◌, codes, refl, nat_lt}
+use Rattle.std.proofs.Common.{◌≡◌, Bool, true, ◌++◌, codes, refl}
 use Rattle.std.specs.Cmp.{booleans_Decides}
 use Rattle.std.specs.Cmp.Lexicographic.{pointwise_decides}
 use Rattle.std.specs.Prelude.{◌↔◌, IsTrue}
@@ -83,8 +83,8 @@ keyword_proved word is_word = record { law = keyword_law word is_word; decides =
 pub flag_proved : (word : Text) → is_identifier word ≡ true → Proved (flag word)
 flag_proved word is_word = record { law = flag_law word is_word; decides = booleans_Decides }
 
-pub ranged_proved : {R : Type 0} (g : range.Ghosts R) → nat_lt g.high (2 ^ 64) ≡ true → Proved (ranged g)
-ranged_proved g fits = record { law = ranged_law g fits; decides = ranged_decides g }
+pub ranged_proved : {R : Type 0} (g : range.Ghosts R) → Proved (ranged g)
+ranged_proved g = record { law = ranged_law g; decides = ranged_decides g }
 
 pub own_proved : {T : Type 0} {reading : Reader T} {written : T → Text} {test : T → T → Bool} → Lawful T (texts_of reading written) → Sincere reading → ((x y : T) → IsTrue (test x y) ↔ (x ≡ y)) → Proved (own reading written test)
 own_proved {reading = reading} {written = written} {test = test} lawful sincere decides = record { law = own_law reading written lawful sincere; decides = own_decides test _ (λ x y. refl) decides }

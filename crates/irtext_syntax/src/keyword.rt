@@ -1,14 +1,15 @@
 //! Words that are fixed: required ones, and ones that are there or not.
-ghost use Rattle.std.specs.Prelude.{◌≡◌, ◌++◌, ℕ, List, [], true, false, refl, OnOk, string_bytes};
+ghost use Rattle.std.specs.Prelude.{◌≡◌, ◌++◌, [], true, false, refl, OnOk, string_bytes};
 ghost use Rattle.std.specs.Bool.{beq, MatchBool};
 ghost use Rattle.std.specs.Cmp.{on_equiv, on_per, partial_equiv_from_equiv, bool_eq_equiv, booleans_Decides};
 ghost use Rattle.std.specs.Hash as fed;
 ghost use Rattle.std.specs.Str.{bytes_eq, encode_utf8_all};
 ghost use Rattle.std.proofs.Common.{ap};
-ghost use Rattle.irtext_base.specs.Text.{front, in_word, is_identifier};
+ghost use Rattle.irtext_base.specs.Text.{front, in_word};
 ghost use Rattle.irtext_tokens.specs.MustRead.{MayRead};
 ghost use Rattle.irtext_tokens.specs.Reads.{TakesFront};
 ghost use Rattle.irtext_syntax.specs.KeywordTexts.{unit_equiv, keyword_at, flag_at};
+ghost use Rattle.irtext_syntax.specs.NameTexts.{WordText, ends_word};
 
 use crate::part::{Item, Last, Part, TryClone};
 use irtext_base::parsable::{CharStream, ParseResult, TextStream};
@@ -20,16 +21,14 @@ use std::fmt;
 use std::hash::{Hash, Hasher};
 use std::marker::{Model, PhantomData};
 
-/// A fixed word: a letter or `_`, then letters, digits and `_`. The law is computed: `ghost is_word = { refl }`.
+/// A fixed word: a letter or `_`, then letters, digits and `_`. That it is one is computed: `ghost word = { fixed_word (codes "to") refl }`.
 pub trait Word {
     // the word
-    ghost word: { List ℕ };
+    ghost word: { WordText };
 
     /// Returns the word.
     fn word() -> &'static str
-        ensures { result.now ≡ word };
-
-    ghost is_word: { is_identifier word ≡ true };
+        ensures { result.now ≡ word.characters };
 }
 
 /// A word that is always there, as a part without a value, such as `to`. If the longest word that comes next is another one, parsing fails
@@ -174,7 +173,7 @@ fn take_word(stream: &mut TextStream, word: &str) -> bool
 
 /// Parses the word. If it does not come next, fails with `Unexpected`, uncommitted, and the stream is unchanged.
 fn word_parse<W: Word, A>(stream: &mut TextStream) -> ParseResult<(), A>
-    ensures { MayRead (λ s. s) (λ s v. v) (λ u. u) (keyword_at W.word) stream.old result stream.new }
+    ensures { MayRead (λ s. s) (λ s v. v) (λ u. u) (keyword_at W.word.characters) stream.old result stream.new }
 {
     if stream.has_failed() {
         return Err(refuse(stream, Cause::StreamFailed));
@@ -190,7 +189,7 @@ fn word_parse<W: Word, A>(stream: &mut TextStream) -> ParseResult<(), A>
 
 /// Parses the word, if it comes next, and returns whether it does.
 fn flag_parse<W: Word, A>(stream: &mut TextStream) -> ParseResult<bool, A>
-    ensures { MayRead (λ s. s) (λ s v. v) (λ b. b) (flag_at W.word) stream.old result stream.new }
+    ensures { MayRead (λ s. s) (λ s v. v) (λ b. b) (flag_at W.word.characters) stream.old result stream.new }
 {
     if stream.has_failed() {
         return Err(refuse(stream, Cause::StreamFailed));
@@ -200,19 +199,18 @@ fn flag_parse<W: Word, A>(stream: &mut TextStream) -> ParseResult<bool, A>
 
 /// Appends the word.
 fn write_word<W: Word>(f: &mut String) -> fmt::Result
-    ensures { OnOk result (string_bytes f.new ≡ string_bytes f.old ++ encode_utf8_all W.word) }
+    ensures { OnOk result (string_bytes f.new ≡ string_bytes f.old ++ encode_utf8_all W.word.characters) }
 {
     f.push_str(W::word())?;
     Ok(())
 }
 
 impl<A, W: Word> Part<A> for Keyword<W> {
-    ghost use Rattle.irtext_syntax.specs.NameTexts.{ends_word};
     ghost use Rattle.irtext_syntax.specs.KeywordLaws.{keyword_law, keyword_decides};
 
-    ghost text = { record { reading = keyword_at W.word; written = λ k. W.word; ends = ends_word } };
+    ghost text = { record { reading = keyword_at W.word.characters; written = λ k. W.word.characters; ends = ends_word } };
 
-    ghost sound = { record { law = keyword_law W.word W.is_word; decides = keyword_decides } };
+    ghost sound = { record { law = keyword_law W.word.characters W.word.passes; decides = keyword_decides } };
 
     fn read(stream: &mut TextStream) -> ParseResult<Keyword<W>, A> {
         match word_parse::<W, A>(stream) {
@@ -229,7 +227,7 @@ impl<A, W: Word> Part<A> for Keyword<W> {
 impl<A, W: Word> Item<A> for Keyword<W> {
     ghost use Rattle.irtext_syntax.specs.KeywordLaws.{keyword_misses};
 
-    ghost misses = { keyword_misses W.word W.is_word };
+    ghost misses = { keyword_misses W.word.characters W.word.passes };
 }
 
 impl<A, W: Word> Last<A> for Keyword<W> {
@@ -242,9 +240,9 @@ impl<A, W: Word> Part<A> for Flag<W> {
     ghost use Rattle.irtext_syntax.specs.KeywordTexts.{flag_text, ends_flag};
     ghost use Rattle.irtext_syntax.specs.KeywordLaws.{flag_law};
 
-    ghost text = { record { reading = flag_at W.word; written = flag_text W.word; ends = ends_flag W.word } };
+    ghost text = { record { reading = flag_at W.word.characters; written = flag_text W.word.characters; ends = ends_flag W.word.characters } };
 
-    ghost sound = { record { law = flag_law W.word W.is_word; decides = booleans_Decides } };
+    ghost sound = { record { law = flag_law W.word.characters W.word.passes; decides = booleans_Decides } };
 
     fn read(stream: &mut TextStream) -> ParseResult<Flag<W>, A> {
         match flag_parse::<W, A>(stream) {

@@ -9,7 +9,8 @@
 //! - `keyword`: a fixed word that is always there, or that is there or not (`Keyword`, `Flag`).
 //! - `list`: lists of parts in brackets, with a separator between the items (`ListOf`).
 //! - `own`: the caller's types and attributes as parts.
-//! - `words`, `table`: families whose texts begin with dotted words, as `builtin.integer`, each with a part after it.
+//! - `words`, `table`: families whose texts begin with dotted words, as `builtin.integer`, each with a part after it; and values that are
+//!   one of several words (`Choice`).
 //!
 //! `Within<Angle, Then<Number<i64>, Colon, IntegerType>>` is the part whose text is `<5: si32>`. An enum of attributes has one line for each
 //! variant in its laws:

@@ -103,10 +103,8 @@ impl<A> Part<A> for Name {
     ghost sound = { record { law = name_law; decides = name_decides } };
 
     fn read(stream: &mut TextStream) -> ParseResult<Name, A> {
-        match identifier_parse(stream) {
-            Ok(identifier) => Ok(Name::new(identifier)),
-            Err(fault) => Err(fault),
-        }
+        let identifier = identifier_parse(stream)?;
+        Ok(Name::new(identifier))
     }
 
     fn write_text(&self, f: &mut String) -> fmt::Result {

@@ -19,10 +19,8 @@ impl<A> Part<A> for Characters {
     ghost sound = { record { law = characters_law; decides = characters_decides } };
 
     fn read(stream: &mut TextStream) -> ParseResult<Characters, A> {
-        match quoted_string_parse(stream) {
-            Ok(text) => Ok(Characters::new(text)),
-            Err(fault) => Err(fault),
-        }
+        let text = quoted_string_parse(stream)?;
+        Ok(Characters::new(text))
     }
 
     fn write_text(&self, f: &mut String) -> fmt::Result {

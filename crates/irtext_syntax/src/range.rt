@@ -1,11 +1,7 @@
 //! Numbers in decimal digits without a sign: those of a range, and values of any type that are made of such numbers.
-ghost use Rattle.std.specs.Prelude.{◌≡◌, ◌^◌, ℕ, true, nat_lt, nat_eq, Option, OnOk, ◌++◌, string_bytes, decimal};
-ghost use Rattle.std.specs.Cmp.{on_equiv, on_per, partial_equiv_from_equiv, nat_eq_equiv};
-ghost use Rattle.std.specs.Hash as fed;
-ghost use Rattle.std.proofs.Common.{rules};
-ghost use Rattle.std.specs.Cmp.Rules.{hashing};
+ghost use Rattle.std.specs.Prelude.{◌≡◌, ℕ, true, Option, OnOk, ◌++◌, string_bytes, decimal};
 ghost use Rattle.irtext_tokens.specs.MustRead.{MayRead};
-ghost use Rattle.irtext_syntax.specs.Ranges.{is_between, digits_at};
+ghost use Rattle.irtext_syntax.specs.Ranges.{Bounds, is_between, digits_at};
 
 use crate::part::{Item, Last, Part, TryClone};
 use irtext_base::parsable::{CharStream, ParseResult, TextStream};
@@ -15,25 +11,17 @@ use irtext_tokens::irfmt::parsers::Class;
 use irtext_tokens::irfmt::parsers::digits::{Radix, out_of_range, take_digits};
 use std::alloc::AllocError;
 use std::fmt;
-use std::hash::{Hash, Hasher};
 use std::marker::PhantomData;
 
-/// A range of numbers, both ends included. The law is computed: `ghost fits = { refl }`.
+/// A range of numbers, both ends included. That they are numbers of 64 bits is computed: `ghost bounds = { from_to 1 100 refl }`.
 pub trait Range {
-    // the least number
-    ghost low: { ℕ };
-    // the greatest number
-    ghost high: { ℕ };
+    // the least and the greatest number
+    ghost bounds: { Bounds };
 
-    /// Returns the least number.
-    fn low() -> u64
-        ensures { result ≡ low };
-
-    /// Returns the greatest number.
-    fn high() -> u64
-        ensures { result ≡ high };
-
-    ghost fits: { nat_lt high (2 ^ 64) ≡ true };
+    /// Returns the least and the greatest number.
+    fn bounds() -> (u64, u64)
+        ensures low { result.0 ≡ bounds.low }
+        ensures high { result.1 ≡ bounds.high };
 }
 
 /// A type whose values are made of numbers in decimal digits without a sign.
@@ -68,10 +56,12 @@ pub fn digits_parse<N: FromDigits, A>(stream: &mut TextStream) -> ParseResult<N,
 /// A number of a range, as a part of a text such as `12`: as many decimal digits as come next, without a sign. It is printed in decimal. If
 /// no digit comes next, parsing fails with `Unexpected`, uncommitted. A number that is not in the range is `NumberRange` at its beginning,
 /// committed.
+#[derive_where(PartialEq, Eq, Hash, Debug)]
 pub struct Ranged<R: Range> {
     value: u64,
+    #[derive_where(skip)]
     range: PhantomData<R>,
-    ghost in_range: { is_between R.low R.high value ≡ true },
+    ghost in_range: { is_between R.bounds.low R.bounds.high value ≡ true },
 }
 
 impl<R: Range> Copy for Ranged<R> {}
@@ -97,7 +87,8 @@ impl<R: Range> Ranged<R> {
     pub fn new(value: u64) -> Option<Ranged<R>>
         ensures { result ≡ ranged_of R.Range.own value }
     {
-        if value < R::low() || R::high() < value {
+        let (low, high) = R::bounds();
+        if value < low || high < value {
             return None;
         }
         Some(Ranged {
@@ -124,36 +115,6 @@ impl<R: Range> FromDigits for Ranged<R> {
     }
 }
 
-impl<R: Range> fmt::Debug for Ranged<R> {
-    fn fmt<W: fmt::Write>(&self, f: &mut fmt::Formatter<W>) -> fmt::Result {
-        fmt::Debug::fmt(&self.value, f)
-    }
-}
-
-impl<R: Range> PartialEq for Ranged<R> {
-    ghost eq = { λ x y. nat_eq x.value y.value };
-
-    ghost laws = { on_per (λ n. n.value) (partial_equiv_from_equiv nat_eq_equiv) };
-
-    fn eq(&self, other: &Self) -> bool {
-        self.value == other.value
-    }
-}
-
-impl<R: Range> Eq for Ranged<R> {
-    ghost laws = { on_equiv (λ n. n.value) nat_eq_equiv };
-}
-
-impl<R: Range> Hash for Ranged<R> {
-    ghost hash_input = { λ n. ⟦<u64 as Hash>⟧.hash_input n.value };
-
-    ghost respects_eq = { Prim.search (hashing, rules) };
-
-    fn hash<H: Hasher>(&self, state: &mut H) {
-        self.value.hash(state);
-    }
-}
-
 /// Appends a number in decimal.
 fn write_decimal(value: u64, f: &mut String) -> fmt::Result
     ensures { OnOk result (string_bytes f.new ≡ string_bytes f.old ++ decimal value) }
@@ -173,7 +134,7 @@ impl<A, R: Range> Part<A> for Ranged<R> {
       ends = ends_digits;
     } };
 
-    ghost sound = { record { law = ranged_law R.Range.own R.fits; decides = ranged_decides R.Range.own } };
+    ghost sound = { record { law = ranged_law R.Range.own; decides = ranged_decides R.Range.own } };
 
     fn read(stream: &mut TextStream) -> ParseResult<Ranged<R>, A> {
         digits_parse(stream)

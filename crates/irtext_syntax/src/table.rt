@@ -1,5 +1,5 @@
 //! Families of types or attributes whose texts begin with dotted words: what comes after each word.
-ghost use Rattle.std.specs.Prelude.{◌≡◌, ◌++◌, ◌∷◌, OnOk, List, ℕ, string_bytes, MatchOption, IfSome, Ok};
+ghost use Rattle.std.specs.Prelude.{◌≡◌, ◌++◌, ◌∷◌, OnOk, List, ℕ, Option, string_bytes, MatchOption, IfSome, Ok};
 ghost use Rattle.std.specs.Str.{encode_utf8_all};
 ghost use Rattle.irtext_base.specs.Answers.{Outcome, Gives, unless_failed};
 ghost use Rattle.irtext_base.specs.Faults.{characters, demand_of};
@@ -10,17 +10,23 @@ ghost use Rattle.irtext_syntax.specs.Tables.{ReadsTable};
 
 use crate::part::Part;
 use crate::sequence::demanded;
-use crate::words::{DottedWord, dotted_parse, dotted_there};
+use crate::words::{dotted_parse, dotted_there};
 use irtext_base::parsable::{CharStream, ParseResult, TextStream};
 use irtext_base::result::{Cause, Expected};
 use irtext_tokens::irfmt::faults::refuse;
 use irtext_tokens::irfmt::parsers::skip_white_space;
 use std::fmt;
 
-/// The words of a family `E` of types or attributes, each with what comes after it.
-pub trait Table<E, A>: DottedWord {
+/// The words of a family `E` of types or attributes, each with what comes after it. Most impls are on an enum with a variant for each word.
+pub trait Table<E, A>: Copy {
+    // the word that a text is, if it is one
+    ghost word: { List ℕ → Option Self };
     // what is parsed after a word
     ghost behind: { Self → List ℕ → Outcome E };
+
+    /// Returns the word that the text is, or `None` if it is not one. `match_text!` says it in a row for each word.
+    fn of(text: &str) -> Option<Self>
+        ensures { result ≡ word text.now };
 
     /// Parses the rest of a value, after its word. Every error is committed.
     fn parse(self, stream: &mut TextStream) -> ParseResult<E, A>
@@ -37,6 +43,49 @@ pub trait Table<E, A>: DottedWord {
     }
 }
 
+/// A value that is a word of a table, with nothing after it: an enum with a variant for each word.
+pub trait Choice: Copy + Drop {
+    // the value whose word a text is, if it is one
+    ghost chosen: { List ℕ → Option Self };
+
+    /// Returns the value whose word the text is, or `None` if it is no word.
+    fn choice(text: &str) -> Option<Self>
+        ensures { result ≡ chosen text.now };
+}
+
+impl<A, W: Choice> Table<W, A> for W {
+    ghost word = { W.chosen };
+
+    ghost behind = { nothing };
+
+    fn of(text: &str) -> Option<W> {
+        W::choice(text)
+    }
+
+    fn parse(self, stream: &mut TextStream) -> ParseResult<W, A> {
+        word_alone(stream, self)
+    }
+}
+
+/// Returns the value of the row whose text this is, or `None` if it is none of them, as `match` does for numbers:
+/// `match_text!(text; "eq" => Predicate::Equal, "ne" => Predicate::Different)`.
+#[macro_export]
+macro_rules! match_text {
+    ($text:expr; $($row:literal => $value:expr),+ $(,)?) => {{
+        let text = $text;
+        $(if text == $row { Some($value) } else)+ { None }
+    }};
+}
+
+/// Whether a text is one of these, as `matches!` does for numbers: `matches_text!(word, "eq" | "ne")`.
+#[macro_export]
+macro_rules! matches_text {
+    ($text:expr, $($row:literal)|+) => {{
+        let text = $text;
+        $(text == $row)||+
+    }};
+}
+
 /// Parses a word of the table, and what comes after it, as `table_parse` does: for texts that begin with no word of the table.
 #[cold]
 #[inline(never)]
@@ -47,7 +96,7 @@ fn table_slowly<W: Table<E, A>, E: Drop, A>(
 ) -> ParseResult<E, A>
     ensures { ReadsTable W.word W.behind refusal.now (demand_of expected) stream.old result stream.new }
 {
-    match dotted_parse::<W, A>(stream, refusal, expected) {
+    match dotted_parse::<W, E, A>(stream, refusal, expected) {
         Ok(word) => word.parse(stream),
         Err(fault) => Err(fault),
     }
@@ -62,7 +111,7 @@ pub fn table_parse<W: Table<E, A>, E: Drop, A>(
 ) -> ParseResult<E, A>
     ensures { ReadsTable W.word W.behind refusal.now (demand_of expected) stream.old result stream.new }
 {
-    let Some(word) = dotted_there::<W>(stream) else {
+    let Some(word) = dotted_there::<W, E, A>(stream) else {
         return table_slowly::<W, E, A>(stream, refusal, expected);
     };
     if let Some(value) = word.parse_known(stream) {

@@ -1,25 +1,18 @@
 //! The dotted words that types and attributes begin with, such as `builtin.integer`.
-ghost use Rattle.std.specs.Prelude.{◌≡◌, ◌⊎◌, ◌++◌, ℕ, List, Option, MatchOption};
+ghost use Rattle.std.specs.Prelude.{◌≡◌, ◌⊎◌, ◌++◌, ℕ, List, MatchOption};
 ghost use Rattle.std.specs.Str.{encode_utf8_all};
 ghost use Rattle.irtext_base.specs.Answers.{Answers, Gives, StarvesHere, FailsBehind, unless_failed};
 ghost use Rattle.irtext_base.specs.Faults.{Demand, demand_of, OwnText};
 ghost use Rattle.irtext_base.specs.Places.{StandsBehind};
+ghost use Rattle.irtext_base.specs.Text.{front, in_dotted};
+ghost use Rattle.irtext_tokens.specs.Reads.{TakesFront};
 ghost use Rattle.irtext_syntax.specs.Words.{dotted_at};
 
+use crate::table::Table;
 use irtext_base::parsable::{CharStream, ParseFault, ParseResult, Place, TextStream};
 use irtext_base::result::{Cause, Expected};
 use irtext_tokens::irfmt::faults::{begins, out_of_memory, refuse, refuse_at, unexpected};
 use irtext_tokens::irfmt::parsers::{Class, skip_class};
-
-/// The words that values of one kind begin with.
-pub trait DottedWord: Copy {
-    // the word that a text is, if it is one
-    ghost word: { List ℕ → Option Self };
-
-    /// Returns the word that the text is, or `None` if it is not one.
-    fn of(text: &str) -> Option<Self>
-        ensures { result ≡ word text.now };
-}
 
 /// Returns the error `OwnText` for an unknown word that begins at an earlier position. The error is at that position, and its text is
 /// `refusal` and then the word. If the text cannot be allocated, returns `Memory` at the current position. The error is committed, and
@@ -40,10 +33,21 @@ fn unregistered<A>(stream: &mut TextStream, place: Place, refusal: &str) -> Pars
     }
 }
 
-/// Consumes the longest dotted word that comes next, if `W` has it, and returns what it is. Otherwise, and on a stream that has failed,
+/// Consumes the longest dotted word that comes next, and returns the word of the table that it is, if it is one.
+#[inline(always)]
+fn take_dotted<W: Table<E, A>, E, A>(stream: &mut TextStream) -> Option<W>
+    ensures word { result ≡ W.word (front in_dotted stream.old.rest) }
+    ensures taken { TakesFront (λ s. s) (λ s v. v) in_dotted stream.old stream.new }
+{
+    let place = stream.position();
+    skip_class(stream, Class::Dotted);
+    W::of(stream.text_since(place))
+}
+
+/// Consumes the longest dotted word that comes next, if the table has it, and returns it. Otherwise, and on a stream that has failed,
 /// returns `None` and the stream is unchanged.
 #[inline(always)]
-pub(crate) fn dotted_there<W: DottedWord>(stream: &mut TextStream) -> Option<W>
+pub(crate) fn dotted_there<W: Table<E, A>, E, A>(stream: &mut TextStream) -> Option<W>
     ensures { MatchOption result (stream.new ≡ stream.old)
         (λ w. (refusal : List ℕ) (demand : Demand) → Gives (λ s. s) (λ s v. v)
         (unless_failed stream.old.failed (dotted_at W.word refusal demand stream.old.rest)) stream.old w stream.new) }
@@ -55,8 +59,7 @@ pub(crate) fn dotted_there<W: DottedWord>(stream: &mut TextStream) -> Option<W>
         return None;
     }
     let place = stream.position();
-    skip_class(stream, Class::Dotted);
-    if let Some(word) = W::of(stream.text_since(place)) {
+    if let Some(word) = take_dotted::<W, E, A>(stream) {
         return Some(word);
     }
     stream.reset(place);
@@ -64,8 +67,8 @@ pub(crate) fn dotted_there<W: DottedWord>(stream: &mut TextStream) -> Option<W>
 }
 
 /// Parses the longest dotted word that comes next. Fails with `Unexpected`, uncommitted, if there is none, and with `OwnText`, committed,
-/// at the beginning of the word if it is unknown.
-pub fn dotted_parse<W: DottedWord, A>(
+/// at the beginning of the word if the table does not have it.
+pub fn dotted_parse<W: Table<E, A>, E, A>(
     stream: &mut TextStream,
     refusal: &str,
     expected: Expected,
@@ -81,10 +84,8 @@ pub fn dotted_parse<W: DottedWord, A>(
         return Err(unexpected(stream, expected));
     }
     let place = stream.position();
-    skip_class(stream, Class::Dotted);
-    let found = stream.text_since(place);
-    if let Some(word) = W::of(found) {
-        return Ok(word);
+    match take_dotted::<W, E, A>(stream) {
+        Some(word) => Ok(word),
+        None => Err(unregistered(stream, place, refusal)),
     }
-    Err(unregistered(stream, place, refusal))
 }

@@ -5,9 +5,8 @@ use crate::steps::{Names, Tested, defines, labels};
 use irtext_graph::arena::Ptr;
 use irtext_graph::graph::Graph;
 use irtext_graph::object::{BasicBlock, Value};
-use irtext_names::labels::block_opd;
 use irtext_names::regions::{enter_region, exit_region, no_names};
-use irtext_names::values::ssa_opd;
+use irtext_names::uses::use_name;
 use std::alloc::Global;
 use std::test::Fail;
 
@@ -34,8 +33,8 @@ fn is_used(names: &mut Names, graph: &mut Tested, name: usize, sort: Sort) -> bo
         return false;
     }
     match sort {
-        Sort::Value => names.has_value_scope() && ssa_opd(names, graph, name).is_ok(),
-        Sort::Label => names.has_label_scope() && block_opd(names, graph, name, 0).is_ok(),
+        Sort::Value => names.has_value_scope() && use_name::<Value, _, _, _>(names, graph, name, ()).is_ok(),
+        Sort::Label => names.has_label_scope() && use_name::<Ptr<BasicBlock>, _, _, _>(names, graph, name, 0).is_ok(),
     }
 }
 

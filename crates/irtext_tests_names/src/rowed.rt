@@ -10,7 +10,7 @@ use irtext_graph::object::{BasicBlock, Operation, Value};
 use irtext_names::definitions::process_parsed_ssa_defs;
 use irtext_names::named::Named;
 use irtext_names::regions::{enter_region, no_names};
-use irtext_names::uses::ssa_opds;
+use irtext_names::uses::use_names;
 use std::alloc::{AllocError, Global};
 use std::test::Fail;
 
@@ -44,7 +44,7 @@ fn used(
         return Ok(values);
     }
     let row = [ByNumber { name: first }, ByNumber { name: second }];
-    ssa_opds(names, graph, &row, &mut values)?;
+    use_names(names, graph, &row, &mut values)?;
     Ok(values)
 }
 

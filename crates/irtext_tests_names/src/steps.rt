@@ -5,9 +5,9 @@ use irtext_few::Few;
 use irtext_graph::arena::Ptr;
 use irtext_graph::graph::Graph;
 use irtext_graph::object::{BasicBlock, Defined, Object, Operation, Value};
-use irtext_names::labels::{block_def, block_opd};
+use irtext_names::definitions::define_name;
 use irtext_names::regions::{enter_region, exit_region};
-use irtext_names::values::{ssa_def, ssa_opd};
+use irtext_names::uses::use_name;
 use irtext_scopes::scopes::DefineFault;
 use irtext_scopes::tracker::{EnterFault, NameTracker};
 use irtext_tests_common::calls::Call;
@@ -93,7 +93,7 @@ fn uses(names: &mut Names, graph: &mut Tested, name: usize) -> Option<Ptr<Operat
     if !names.has_value_scope() || name >= names.num_names() {
         return None;
     }
-    let value = ssa_opd(names, graph, name).ok()?;
+    let value: Value = use_name(names, graph, name, ()).ok()?;
     graph
         .make_operation(Some(1), Few::none(), &[value], &[])
         .ok()
@@ -107,7 +107,7 @@ fn branches(names: &mut Names, graph: &mut Tested, name: usize) -> Option<Ptr<Op
     if !names.has_label_scope() || name >= names.num_names() {
         return None;
     }
-    let block = block_opd(names, graph, name, 0).ok()?;
+    let block: Ptr<BasicBlock> = use_name(names, graph, name, 0).ok()?;
     graph
         .make_operation(Some(1), Few::none(), &[], &[block])
         .ok()
@@ -128,7 +128,7 @@ pub(crate) fn defines(names: &mut Names, graph: &mut Tested, name: usize) -> Def
     if !graph.contains_value(def) {
         return Err(DefineFault::Memory);
     }
-    match ssa_def(names, graph, name, def) {
+    match define_name(names, graph, name, def) {
         Ok(()) => Ok(Defined::OfValue(def)),
         Err(fault) => Err(fault),
     }
@@ -148,7 +148,7 @@ pub(crate) fn labels(names: &mut Names, graph: &mut Tested, name: usize) -> Defi
     if !graph.contains(Object::TheBlock(made)) {
         return Err(DefineFault::Memory);
     }
-    match block_def(names, graph, name, made) {
+    match define_name(names, graph, name, made) {
         Ok(()) => Ok(Defined::OfBlock(made)),
         Err(fault) => Err(fault),
     }

@@ -6,9 +6,9 @@ use irtext_few::Few;
 use irtext_graph::arena::Ptr;
 use irtext_graph::graph::Graph;
 use irtext_graph::object::{BasicBlock, Object, Value};
-use irtext_names::labels::{block_def, block_opd};
+use irtext_names::definitions::define_name;
 use irtext_names::regions::{enter_region, exit_region, no_names};
-use irtext_names::values::{ssa_def, ssa_opd};
+use irtext_names::uses;
 use irtext_scopes::tracker::NameTracker;
 use std::alloc::{AllocError, Global};
 
@@ -85,7 +85,7 @@ fn define_number(names: &mut Names, graph: &mut Measured, name: usize) -> bool
     if !graph.contains_value(def) {
         return false;
     }
-    ssa_def(names, graph, name, def).is_ok()
+    define_name(names, graph, name, def).is_ok()
 }
 
 /// Creates an operation with one result, and defines a name as that result.
@@ -107,7 +107,7 @@ fn use_name(names: &mut Names, graph: &mut Measured, text: &str) -> bool
     let Ok(name) = names.intern(text) else {
         return false;
     };
-    names.has_value_scope() && ssa_opd(names, graph, name).is_ok()
+    names.has_value_scope() && uses::use_name::<Value, _, _, _>(names, graph, name, ()).is_ok()
 }
 
 /// Creates an operation that uses the name with this number.
@@ -118,7 +118,7 @@ fn use_number(names: &mut Names, graph: &mut Measured, name: usize) -> bool
     if !names.has_value_scope() || name >= names.num_names() {
         return false;
     }
-    let Ok(value) = ssa_opd(names, graph, name) else {
+    let Ok(value) = uses::use_name::<Value, _, _, _>(names, graph, name, ()) else {
         return false;
     };
     graph
@@ -163,7 +163,7 @@ fn define_label_number(names: &mut Names, graph: &mut Measured, name: usize) -> 
     if !graph.contains(Object::TheBlock(made)) {
         return false;
     }
-    block_def(names, graph, name, made).is_ok()
+    define_name(names, graph, name, made).is_ok()
 }
 
 /// Creates a block, and defines a label as that block.
@@ -185,7 +185,7 @@ fn use_label(names: &mut Names, graph: &mut Measured, text: &str) -> bool
     let Ok(name) = names.intern(text) else {
         return false;
     };
-    names.has_label_scope() && block_opd(names, graph, name, 0).is_ok()
+    names.has_label_scope() && uses::use_name::<Ptr<BasicBlock>, _, _, _>(names, graph, name, 0).is_ok()
 }
 
 /// Makes this call for one name.

@@ -2,7 +2,7 @@
 ghost use Rattle.std.specs.Prelude.{◌≡◌};
 ghost use Rattle.std.specs.Bool.{MatchBool};
 ghost use Rattle.std.specs.Str.{chars};
-ghost use Rattle.irtext_parse_section.specs.Plain.{TakesDigits, DigitsBehind, NumberBehind, SpaceBehind, Looks, Sees, Gets, behind_source_at};
+ghost use Rattle.irtext_parse_section.specs.Plain.{TakesDigits, DigitsBehind, NumberBehind, SpaceBehind, Looks, Sees, Gets, Finds, behind_source_at};
 
 use irtext_base::parsable::{CharStream, SourcePosition, TextStream};
 use irtext_tokens::irfmt::faults::begins;
@@ -70,11 +70,14 @@ fn both_there(stream: &mut TextStream) -> Option<SourcePosition>
     Some(SourcePosition { line, column })
 }
 
-/// Parses `:`, a line and a column in this form. Otherwise returns `None`, and the stream is unchanged.
+/// Parses `:`, a line and a column in this form. If they do not come next, or the stream has failed, returns `None` and nothing changes.
 #[inline(always)]
 pub(crate) fn position_there(stream: &mut TextStream) -> Option<SourcePosition>
-    ensures { Sees (Gets behind_source_at stream.old stream.new) stream.old result stream.new }
+    ensures { Sees (Finds behind_source_at stream.old stream.new) stream.old result stream.new }
 {
+    if stream.has_failed() {
+        return None;
+    }
     let place = stream.position();
     match both_there(stream) {
         Some(position) => Some(position),

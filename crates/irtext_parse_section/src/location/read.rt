@@ -43,9 +43,6 @@ fn position_read<A>(stream: &mut TextStream) -> ParseResult<SourcePosition, A>
 pub(crate) fn position_behind<A>(stream: &mut TextStream) -> ParseResult<SourcePosition, A>
     ensures { MustRead itself replaced (λ at. at) behind_source_at stream.old result stream.new }
 {
-    if stream.has_failed() {
-        return position_read(stream);
-    }
     match position_there(stream) {
         Some(position) => Ok(position),
         None => position_read(stream),

@@ -1,5 +1,6 @@
 -- What is still to be printed of a location's text, and how much that is.
 use Rattle.std.specs.Prelude.{◌≡◌, ◌<◌, ◌+◌, ◌*◌, ℕ, Bool, true, false, Option, Some, None, List, [], ◌∷◌, ◌++◌, map, codes, string_bytes, Vec}
+use Rattle.std.specs.Fmt.{signed_decimal}
 use Rattle.std.specs.Str.{encode_utf8_all}
 use Rattle.std.specs.declared.alloc.Global.{Global}
 use Rattle.std.specs.declared.string.String.{String}
@@ -12,6 +13,11 @@ use Rattle.irtext_grammar.specs.Spelling.Locations.{location_text, row_texts}
 use Rattle.irtext_grammar.specs.Spelling.Spell.{joined, joined_from, comma}
 use Rattle.irtext_print.specs.declared.location.parts.Part.{Part}
 use Rattle.irtext_print.specs.declared.location.parts.Part.TheVariants.{Whole, Row, Caller, Closing}
+use Rattle.irtext_stream.specs.declared.position.SourcePosition.{SourcePosition}
+
+-- the numbers of a position's line and column, with the word between
+abbrev pub numbers_text : SourcePosition → Text
+numbers_text pos = signed_decimal pos.line ++ (codes ", column: " ++ signed_decimal pos.column)
 
 -- how much a location has to print: at least one for each of its parts
 abbrev pub text_weight : {A : Type 0} → Location A → ℕ

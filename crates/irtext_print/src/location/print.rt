@@ -1,13 +1,13 @@
 //! Printing of locations: files are printed as the paths that the context keeps for them.
 ghost use Rattle.std.specs.Prelude.{◌≡◌, ◌++◌, FitsSigned, OnOk, codes, option_copied, string_bytes};
-ghost use Rattle.std.specs.Fmt.{signed_decimal};
 ghost use Rattle.std.specs.Int.{w32};
-ghost use Rattle.irtext_print.specs.Printers.Appended.{AppendsText};
 ghost use Rattle.irtext_base.specs.Causes.{position_text};
 ghost use Rattle.irtext_base.specs.Locations.{attr_view_in};
 ghost use Rattle.irtext_base.specs.Paths.{path_of};
 ghost use Rattle.irtext_grammar.specs.Spelling.Locations.{source_text, metadata_text, location_text, known_text};
 ghost use Rattle.irtext_print.specs.Errors.Located.{framed};
+ghost use Rattle.irtext_print.specs.Printers.Appended.{AppendsText};
+ghost use Rattle.irtext_print.specs.Printers.LocationParts.{numbers_text};
 
 use crate::location::parts::{Part, fmt_part};
 use crate::printable::attributes::fmt_attr;
@@ -78,7 +78,7 @@ fn fmt_front<T: IrText<A>, A: AttrText<A>>(
 /// Appends the numbers of line and column, in characters from 1: `1, column: 21`. Fails only if out of memory.
 #[inline(always)]
 pub fn fmt_numbers(pos: &SourcePosition, f: &mut String) -> fmt::Result
-    ensures { OnOk result (AppendsText f.old (signed_decimal pos.now.line ++ (codes ", column: " ++ signed_decimal pos.now.column)) f.new) }
+    ensures { OnOk result (AppendsText f.old (numbers_text pos.now) f.new) }
 {
     number_fits(&pos.line);
     number_fits(&pos.column);
@@ -117,7 +117,7 @@ pub(crate) fn fmt_place<T: IrText<A>, A: AttrText<A>>(
 }
 
 /// Appends the text of a location. Fails only if out of memory; what was appended up to the error remains. Does not recurse: what
-/// follows after inner locations waits on a stack in memory of the context's allocator.
+/// follows after inner locations waits on a stack in memory of the context's allocator. A position has none, and needs no stack.
 pub fn fmt_location<T: IrText<A>, A: AttrText<A>>(
     location: &Location<A>,
     ctx: &Context<T, A>,
@@ -125,6 +125,9 @@ pub fn fmt_location<T: IrText<A>, A: AttrText<A>>(
 ) -> fmt::Result
     ensures { OnOk result (AppendsText f.old (location_text A.written ctx.now.paths location.now) f.new) }
 {
+    if let Location::SrcPos { src, pos } = location {
+        return fmt_place(*src, pos, ctx, f);
+    }
     let mut waiting = Vec::new(ctx.allocator());
     let mut next = Some(Part::Whole(location));
     while let Some(part) = next {

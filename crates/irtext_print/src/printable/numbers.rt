@@ -5,7 +5,7 @@ ghost use Rattle.std.specs.Str.{IsAscii};
 ghost use Rattle.irtext_print.specs.Printers.Appended.{AppendsText};
 
 use arrayvec::ArrayString;
-use itoa::Buffer;
+use itoa::{Buffer, Integer};
 use std::fmt;
 
 /// The numbers below 100, two digits each.
@@ -67,22 +67,6 @@ fn put_short(number: usize, text: &mut InPlace)
     text.push_str(digit(number));
 }
 
-/// Puts a number below 10,000 at the end of a text.
-#[inline(always)]
-fn put_small(number: usize, text: &mut InPlace)
-    requires few { number < 10000 }
-    requires room { length text.old.bytes ≤ 60 }
-    ensures bytes { text.new.bytes ≡ text.old.bytes ++ decimal number }
-    ensures len { length text.new.bytes ≤ length text.old.bytes + 4 }
-{
-    if number < 100 {
-        put_short(number, text);
-        return;
-    }
-    put_short(number / 100, text);
-    text.push_str(pair(number % 100));
-}
-
 /// Puts a number below 1,000,000 at the end of a text.
 #[inline(always)]
 pub(crate) fn put_number(number: usize, text: &mut InPlace)
@@ -91,11 +75,18 @@ pub(crate) fn put_number(number: usize, text: &mut InPlace)
     ensures bytes { text.new.bytes ≡ text.old.bytes ++ decimal number }
     ensures len { length text.new.bytes ≤ length text.old.bytes + 6 }
 {
-    if number < 10_000 {
-        put_small(number, text);
+    if number < 100 {
+        put_short(number, text);
         return;
     }
-    put_small(number / 100, text);
+    if number < 10_000 {
+        put_short(number / 100, text);
+        text.push_str(pair(number % 100));
+        return;
+    }
+    let high = number / 100;
+    put_short(high / 100, text);
+    text.push_str(pair(high % 100));
     text.push_str(pair(number % 100));
 }
 
@@ -161,10 +152,10 @@ fn fmt_small(number: usize, f: &mut String) -> fmt::Result
     fmt_led("", number, f)
 }
 
-/// Appends a number of any size.
+/// Appends a number of any size, with its sign if it is negative.
 #[inline(never)]
-fn fmt_any(number: u64, f: &mut String) -> fmt::Result
-    ensures { OnOk result (AppendsText f.old (decimal number) f.new) }
+fn fmt_any<I: Integer>(number: I, f: &mut String) -> fmt::Result
+    ensures { OnOk result (AppendsText f.old (I.text number) f.new) }
 {
     let mut digits = Buffer::new();
     f.push_str(digits.format(number))?;
@@ -229,16 +220,6 @@ pub fn fmt_led_number(front: &str, number: u64, f: &mut String) -> fmt::Result
     fmt_number(number, f)
 }
 
-/// Appends a negative number, with its sign.
-#[inline(never)]
-fn fmt_negative(number: i32, f: &mut String) -> fmt::Result
-    ensures { OnOk result (AppendsText f.old (signed_decimal number) f.new) }
-{
-    let mut digits = Buffer::new();
-    f.push_str(digits.format(number))?;
-    Ok(())
-}
-
 /// Appends a number that may be negative, with its sign.
 #[inline(always)]
 pub fn fmt_signed(number: i32, f: &mut String) -> fmt::Result
@@ -247,5 +228,5 @@ pub fn fmt_signed(number: i32, f: &mut String) -> fmt::Result
     if number >= 0 {
         return fmt_number(number as u64, f);
     }
-    fmt_negative(number, f)
+    fmt_any(number, f)
 }

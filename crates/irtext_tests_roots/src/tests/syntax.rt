@@ -1,5 +1,7 @@
 //! Ready parts of texts (`irtext_syntax`), each parsed and printed again.
 ghost use Rattle.std.specs.Prelude.{codes, refl};
+ghost use Rattle.irtext_syntax.specs.KeywordTexts.{fixed_word};
+ghost use Rattle.irtext_syntax.specs.Ranges.{from_to};
 
 use irtext_demo::{DemoAttr, DemoType};
 use irtext_syntax::characters::Characters;
@@ -21,9 +23,7 @@ use std::test::Fail;
 struct To;
 
 impl Word for To {
-    ghost word = { codes "to" };
-
-    ghost is_word = { refl };
+    ghost word = { fixed_word (codes "to") refl };
 
     fn word() -> &'static str {
         "to"
@@ -34,18 +34,10 @@ impl Word for To {
 struct Percent;
 
 impl Range for Percent {
-    ghost low = { 1 };
+    ghost bounds = { from_to 1 100 refl };
 
-    ghost high = { 100 };
-
-    ghost fits = { refl };
-
-    fn low() -> u64 {
-        1
-    }
-
-    fn high() -> u64 {
-        100
+    fn bounds() -> (u64, u64) {
+        (1, 100)
     }
 }
 

@@ -1,19 +1,18 @@
 use Rattle.std.proofs.Common.{◌<◌, ◌++◌, ◌∷◌, ◌∙◌, [], length, map, take, drop, suc, sym, ap, subst, arith, Err}
 use Rattle.irtext_graph.specs.declared.object.Value.TheVariants.{Result}
-use Rattle.irtext_graph.proofs.Closed.{older_on, closed_kept}
-use Rattle.irtext_names.specs.Rows.{DefinesResults, FailsResults}
-use Rattle.irtext_names.proofs.Lists.{known_at, number_more, number_here, numbers_before}
-use Rattle.irtext_names.proofs.Results.{still_ready, define_open, result_more, result_fails}
+use Rattle.irtext_names.specs.Rows.{DefinesRow, FailsRow}
+use Rattle.irtext_names.proofs.Lists.{known_at, number_more, number_here, numbers_before, take_whole}
+use Rattle.irtext_names.proofs.Results.{settles_both, still_ready, define_open, define_more, define_fails}
 use Rattle.irtext_names.proofs.definitions.process_parsed_ssa_defs.Goals as goal
 
-pub ssa_def-requires-clause-known : goal.ssa_def-requires-clause-known
-ssa_def-requires-clause-known g c =
+pub define_name-requires-clause-known : goal.define_name-requires-clause-known
+define_name-requires-clause-known g c =
     let f = g.N.Named.numbered in
     let k = known_at f (length c.args.names.now.names) c.args.defined.now c.loop-index.index c.index-defined-index.result (omega arith) c.requires.known in
     rw (c.number.ensures, c.loop-index.invariant.rest.0) (subst (λ x. f x < length c.args.names.now.names) (sym c.index-defined-index.is) k)
 
-pub ssa_def-requires-clause-no_placeholder : goal.ssa_def-requires-clause-no_placeholder
-ssa_def-requires-clause-no_placeholder g c = (c.loop-index.invariant.ready c.loop-index.index (omega arith)).1
+pub define_name-requires-clause-no_placeholder : goal.define_name-requires-clause-no_placeholder
+define_name-requires-clause-no_placeholder g c = (c.loop-index.invariant.ready c.loop-index.index (omega arith)).1
 
 pub returns-in-Err-clause-fails : goal.returns-in-Err-clause-fails
 returns-in-Err-clause-fails g c = λ e.
@@ -23,10 +22,10 @@ returns-in-Err-clause-fails g c = λ e.
     let names = map f (take n xs) in
     let i = c.loop-index.invariant in
     let same = c.number.ensures ∙ ap f c.index-defined-index.is in
-    let fails = result_fails c.args.op names c.number.result (map f (drop (suc n) xs)) c.args.names.now c.loop-index.names c.args.graph.now c.loop-index.graph i.rest.0 i.defines (c.ssa_def.ensures.fails (c.in-Err.is ∙ ap (λ x. Err x) e)) in
+    let fails = define_fails (Result c.args.op) names c.number.result (map f (drop (suc n) xs)) c.args.names.now c.loop-index.names c.args.graph.now c.loop-index.graph i.rest.0 i.defines (c.define_name.ensures.fails (c.in-Err.is ∙ ap (λ x. Err x) e)) in
     let count = numbers_before f xs n (omega arith) in
-    subst (λ j. FailsResults c.args.op (map f xs) j c.args.names.now c.args.graph.now) count
-    (subst (λ ns. FailsResults c.args.op ns (length names) c.args.names.now c.args.graph.now) (ap (λ m. names ++ m ∷ map f (drop (suc n) xs)) same ∙ number_here f xs n c.index-defined-index.result (omega arith)) fails)
+    subst (λ j. FailsRow (Result c.args.op) (map f xs) j c.args.names.now c.args.graph.now) count
+    (subst (λ ns. FailsRow (Result c.args.op) ns (length names) c.args.names.now c.args.graph.now) (ap (λ m. names ++ m ∷ map f (drop (suc n) xs)) same ∙ number_here f xs n c.index-defined-index.result (omega arith)) fails)
 
 pub loop-index-preserved : goal.loop-index-preserved
 loop-index-preserved g c =
@@ -37,14 +36,24 @@ loop-index-preserved g c =
     let i = c.loop-index.invariant in
     let s = c.in_default.ensures in
     let same = c.number.ensures ∙ ap f c.index-defined-index.is in
-    let more = result_more c.args.op names c.number.result c.args.names.now c.loop-index.names c.ssa_def.new.names c.args.graph.now c.loop-index.graph c.ssa_def.new.graph i.rest.0 i.defines
+    let more = define_more (Result c.args.op) names c.number.result c.args.names.now c.loop-index.names c.define_name.new.names c.args.graph.now c.loop-index.graph c.define_name.new.graph i.rest.0 i.defines
     (rw (numbers_before f xs n (omega arith)) s.follows) in
     record {
-      defines = subst (λ ns. DefinesResults c.args.op ns c.args.names.now c.ssa_def.new.names c.args.graph.now c.ssa_def.new.graph) (ap (λ m. names ++ m ∷ []) same ∙ sym (number_more f xs n c.index-defined-index.result (omega arith))) more;
-      ready = λ j l. still_ready c.number.result (Result c.args.op n) (Result c.args.op j) c.loop-index.names.values c.ssa_def.new.names.values c.loop-index.names.labels c.loop-index.graph c.ssa_def.new.graph i.tied s.defines (i.ready j l);
-      scope = define_open c.number.result (Result c.args.op n) c.loop-index.names.values c.ssa_def.new.names.values c.loop-index.graph c.ssa_def.new.graph s.defines i.scope;
+      defines = subst (λ ns. DefinesRow (Result c.args.op) ns c.args.names.now c.define_name.new.names c.args.graph.now c.define_name.new.graph) (ap (λ m. names ++ m ∷ []) same ∙ sym (number_more f xs n c.index-defined-index.result (omega arith))) more;
+      ready = λ j l. still_ready c.number.result (Result c.args.op n) (Result c.args.op j) c.loop-index.names.values c.define_name.new.names.values c.loop-index.names.labels c.loop-index.graph c.define_name.new.graph i.ties.tied s.defines (i.ready j l);
+      scope = define_open c.number.result (Result c.args.op n) c.loop-index.names.values c.define_name.new.names.values c.loop-index.graph c.define_name.new.graph s.defines i.scope;
       rest = (s.rest.0 ∙ i.rest.0, s.rest.1 ∙ i.rest.1);
-      tied = s.tied;
-      waiting = λ m own w. s.waiting m own (i.waiting m own w);
-      kept = λ m own closed w. let k = i.kept m own closed w in older_on m c.args.graph.now c.loop-index.graph c.ssa_def.new.graph k (s.kept m own (closed_kept m c.args.graph.now c.loop-index.graph k closed) (i.waiting m own w));
+      ties = settles_both i.ties s.ties;
     }
+
+pub returns-clause-defines : goal.returns-clause-defines
+returns-clause-defines g c =
+    let f = g.N.Named.numbered in
+    let all = take_whole c.args.defined.now c.loop-index.index (omega (arith, c.loop-index-test.false, c.loop-index.auto.index-end)) in
+    subst (λ xs. DefinesRow (Result c.args.op) (map f xs) c.args.names.now c.loop-index.names c.args.graph.now c.loop-index.graph) all c.loop-index.invariant.defines
+
+pub define_name-requires-clause-tied : goal.define_name-requires-clause-tied
+define_name-requires-clause-tied g c = c.loop-index.invariant.ties.tied
+
+pub returns-in-Err-clause-ties : goal.returns-in-Err-clause-ties
+returns-in-Err-clause-ties g c = settles_both c.loop-index.invariant.ties c.define_name.ensures.ties

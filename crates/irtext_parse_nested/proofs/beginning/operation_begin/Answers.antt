@@ -68,7 +68,7 @@ returns-clause-came g c =
 pub returns-clause-lasts : goal.returns-clause-lasts
 returns-clause-lasts g c =
     let old = c.args.s.now.state.ctx.now in
-    on_ok_by c.begin_read.result (λ b m. begun_lasts c.args.block c.in_ok-front.front c.position-at.result c.loc-loc.result c.front_read.new.names old c.begin_read.new.names c.begin_read.new.s.state.ctx.now b m
+    on_ok_by c.begin_read.result (λ b m. begun_lasts m
     (subst (λ n. AllOlder n old.graph) c.made.ensures.made c.made.ensures.older)) c.begin_read.ensures.makes
 
 pub returns-clause-names : goal.returns-clause-names
@@ -82,13 +82,13 @@ returns-clause-sound g c =
     on_ok_by c.begin_read.result (λ b m n le sound.
     let waits = subst (λ ls. ArePending n [] c.front_read.new.names.values ls old.graph) (sym read.labels) (subst (λ vs. ArePending n [] vs c.args.names.now.labels old.graph) (sym read.values) sound.waiting) in
     record {
-      tied = begun_ties c.args.block c.in_ok-front.front c.position-at.result c.loc-loc.result c.front_read.new.names old c.begin_read.new.names c.begin_read.new.s.state.ctx.now b m older c.requires.block;
-      waiting = begun_waits c.args.block c.in_ok-front.front c.position-at.result c.loc-loc.result c.front_read.new.names old c.begin_read.new.names c.begin_read.new.s.state.ctx.now b m older c.requires.block n le waits;
-      blanks = begun_blanks c.args.block c.in_ok-front.front c.position-at.result c.loc-loc.result c.front_read.new.names old c.begin_read.new.names c.begin_read.new.s.state.ctx.now b m older n sound.blanks;
+      tied = begun_ties m older c.requires.block;
+      waiting = begun_waits m older c.requires.block n le waits;
+      blanks = begun_blanks m older n sound.blanks;
     }) c.begin_read.ensures.makes
 
 pub returns-clause-new : goal.returns-clause-new
 returns-clause-new g c =
     let old = c.args.s.now.state.ctx.now in
     let older = subst (λ n. AllOlder n old.graph) c.made.ensures.made c.made.ensures.older in
-    if_ok_both c.begin_read.result (λ b m s n le. begun_new c.args.block c.in_ok-front.front c.position-at.result c.loc-loc.result c.front_read.new.names old c.begin_read.new.names c.begin_read.new.s.state.ctx.now b m older n le) c.begin_read.ensures.makes c.begin_read.ensures.stream
+    if_ok_both c.begin_read.result (λ b m s n le. begun_new m older n le) c.begin_read.ensures.makes c.begin_read.ensures.stream

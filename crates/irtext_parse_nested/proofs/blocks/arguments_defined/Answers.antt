@@ -14,14 +14,14 @@ define_values-requires-clause-ready g c = subst (λ g. ValuesReady (λ i. Argume
 pub returns-in-Ok-clause-sound : goal.returns-in-Ok-clause-sound
 returns-in-Ok-clause-sound g c = λ m h.
     let d = c.define_values in
-    loses_sound c.args.names.now d.new.names c.args.s.now.state _ (subst (λ g. LosesPlaceholders g d.new.graph) c.graph_mut.ensures.value d.ensures.loses) d.ensures.tied m
-    (λ w. d.ensures.waiting m [] (subst (λ g. ArePending m [] c.args.names.now.values c.args.names.now.labels g) (sym c.graph_mut.ensures.value) w)) h
+    loses_sound c.args.names.now d.new.names c.args.s.now.state _ (subst (λ g. LosesPlaceholders g d.new.graph) c.graph_mut.ensures.value d.ensures.loses) d.ensures.ties.tied m
+    (λ w. d.ensures.ties.waiting m [] (subst (λ g. ArePending m [] c.args.names.now.values c.args.names.now.labels g) (sym c.graph_mut.ensures.value) w)) h
 
 pub returns-in-Err-clause-sound : goal.returns-in-Err-clause-sound
 returns-in-Err-clause-sound g c = λ m h.
     let d = c.define_values in
-    loses_sound c.args.names.now d.new.names c.args.s.now.state _ (subst (λ g. LosesPlaceholders g d.new.graph) c.graph_mut.ensures.value d.ensures.loses) d.ensures.tied m
-    (λ w. d.ensures.waiting m [] (subst (λ g. ArePending m [] c.args.names.now.values c.args.names.now.labels g) (sym c.graph_mut.ensures.value) w)) h
+    loses_sound c.args.names.now d.new.names c.args.s.now.state _ (subst (λ g. LosesPlaceholders g d.new.graph) c.graph_mut.ensures.value d.ensures.loses) d.ensures.ties.tied m
+    (λ w. d.ensures.ties.waiting m [] (subst (λ g. ArePending m [] c.args.names.now.values c.args.names.now.labels g) (sym c.graph_mut.ensures.value) w)) h
 
 pub returns-in-Ok-clause-defines : goal.returns-in-Ok-clause-defines
 returns-in-Ok-clause-defines g c = record {

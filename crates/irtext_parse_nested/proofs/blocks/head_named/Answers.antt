@@ -21,6 +21,9 @@ returns-in_err-arguments_defined-clause-refused g c = rw (handed_on c.from_resid
 pub returns-in_err-arguments_defined-clause-labels : goal.returns-in_err-arguments_defined-clause-labels
 returns-in_err-arguments_defined-clause-labels g c = ap length c.in_err-arguments_defined.ensures.names.1
 
+pub returns-in_err-arguments_defined-clause-dialects : goal.returns-in_err-arguments_defined-clause-dialects
+returns-in_err-arguments_defined-clause-dialects g c = ap (λ x. x.dialects) c.in_err-arguments_defined.ensures.ctx
+
 -- ---- the mark is an error
 pub returns-in_err-note_mark-clause-refused : goal.returns-in_err-note_mark-clause-refused
 returns-in_err-note_mark-clause-refused g c =
@@ -33,7 +36,7 @@ pub returns-in_err-note_mark-clause-loses : goal.returns-in_err-note_mark-clause
 returns-in_err-note_mark-clause-loses g c = subst (λ x. LosesPlaceholders c.args.s.now.state.ctx.now.graph x.graph) (sym c.in_err-note_mark.ensures.ctx) c.in_ok-arguments_defined.ensures.loses
 
 pub returns-in_err-note_mark-clause-dialects : goal.returns-in_err-note_mark-clause-dialects
-returns-in_err-note_mark-clause-dialects g c = ap (λ x. x.dialects) c.in_err-note_mark.ensures.ctx ∙ c.in_ok-arguments_defined.ensures.dialects
+returns-in_err-note_mark-clause-dialects g c = ap (λ x. x.dialects) c.in_err-note_mark.ensures.ctx ∙ ap (λ x. x.dialects) c.in_ok-arguments_defined.ensures.ctx
 
 pub returns-in_err-note_mark-clause-labels : goal.returns-in_err-note_mark-clause-labels
 returns-in_err-note_mark-clause-labels g c = ap length c.in_ok-arguments_defined.ensures.names.1
@@ -85,7 +88,7 @@ pub returns-clause-loses : goal.returns-clause-loses
 returns-clause-loses g c = loses_more c.in_ok-arguments_defined.ensures.loses (subst (λ x. LosesPlaceholders x.graph c.label_defined.new.s.state.ctx.now.graph) c.in_ok-note_mark.ensures.ctx c.label_defined.ensures.loses)
 
 pub returns-clause-dialects : goal.returns-clause-dialects
-returns-clause-dialects g c = c.label_defined.ensures.dialects ∙ (ap (λ x. x.dialects) c.in_ok-note_mark.ensures.ctx ∙ c.in_ok-arguments_defined.ensures.dialects)
+returns-clause-dialects g c = ap (λ x. x.dialects) c.label_defined.ensures.ctx ∙ (ap (λ x. x.dialects) c.in_ok-note_mark.ensures.ctx ∙ ap (λ x. x.dialects) c.in_ok-arguments_defined.ensures.ctx)
 
 pub returns-clause-same : goal.returns-clause-same
 returns-clause-same g c = c.label_defined.ensures.names.0 ∙ c.in_ok-arguments_defined.ensures.names.0

@@ -1,10 +1,6 @@
-use Rattle.std.proofs.Common.{◌≡◌, ℕ, List, length, take, true}
-use Rattle.irtext_graph.specs.declared.arena.Ptr.{Ptr}
-use Rattle.irtext_graph.specs.declared.object.BasicBlock.{BasicBlock}
-use Rattle.irtext_graph.specs.Back.{IsClosedBelow}
-use Rattle.irtext_graph.specs.Graph.{KeepsOlder}
+use Rattle.std.proofs.Common.{◌≡◌, length, take, true}
 use Rattle.irtext_scopes.specs.Scopes.{is_open}
-use Rattle.irtext_names.specs.Tied.{MatchesGraph, ArePending}
+use Rattle.irtext_names.specs.Tied.{SettlesTies}
 use Rattle.irtext_parse_nested.specs.Definitions.{defined_value, ValuesReady, DefinesRow, LosesPlaceholders}
 use Rattle.irtext_parse_nested.specs.Ends.{numbers_of}
 use Rattle.irtext_parse_nested.proofs.definitions.define_values.Given as goal
@@ -17,7 +13,5 @@ invariant-loop-index g l = record {
   loses : LosesPlaceholders l.fn.graph l.graph;
   values : length l.names.values ≡ length l.fn.names.values;
   rest : (l.names.names ≡ l.fn.names.names) × (l.names.labels ≡ l.fn.names.labels);
-  tied : MatchesGraph l.names.values l.names.labels l.graph;
-  waiting : (m : ℕ) (own : List (Ptr BasicBlock)) → ArePending m own l.fn.names.values l.fn.names.labels l.fn.graph → ArePending m own l.names.values l.names.labels l.graph;
-  kept : (m : ℕ) (own : List (Ptr BasicBlock)) → IsClosedBelow m l.fn.graph → ArePending m own l.fn.names.values l.fn.names.labels l.fn.graph → KeepsOlder m l.fn.graph l.graph;
+  ties : SettlesTies l.fn.names l.names l.fn.graph l.graph;
 }

@@ -5,29 +5,15 @@ use Rattle.irtext_parse_nested.proofs.LaterPieces.{given_is}
 use Rattle.irtext_parse_nested.proofs.Marking.{on_ok, always_ok}
 use Rattle.irtext_parse_nested.proofs.later.piece_stored.Goals as goal
 
-pub returns-in-Attr-clause-stored : goal.returns-in-Attr-clause-stored
-returns-in-Attr-clause-stored g c = rw c.in-Attr.is (on_ok c.attr_stored.result (λ e. e ∙ ap (put_all (entries_of c.args.attributes.now)) (given_is g.row.T.Denot c.in-Attr.key c.in-Attr.attr)) c.attr_stored.ensures.stored)
+pub returns-in-Attr : goal.returns-in-Attr
+returns-in-Attr g c = let e = c.attr_stored.ensures in record {
+  stored = rw c.in-Attr.is (on_ok c.attr_stored.result (λ e. e ∙ ap (put_all (entries_of c.args.attributes.now)) (given_is g.row.T.Denot c.in-Attr.key c.in-Attr.attr)) e.stored);
+  may = rw c.in-Attr.is (always_ok c.attr_stored.result tt);
+  refused = rw c.in-Attr.is e.refused;
+}
 
-pub returns-in-Attr-clause-may : goal.returns-in-Attr-clause-may
-returns-in-Attr-clause-may g c = rw c.in-Attr.is (always_ok c.attr_stored.result tt)
+pub returns-in-Dictionary : goal.returns-in-Dictionary
+returns-in-Dictionary g c = let e = c.entries_stored.ensures in record { stored = rw c.in-Dictionary.is e.stored; may = rw c.in-Dictionary.is e.allowed; refused = rw c.in-Dictionary.is e.refused }
 
-pub returns-in-Attr-clause-refused : goal.returns-in-Attr-clause-refused
-returns-in-Attr-clause-refused g c = rw c.in-Attr.is c.attr_stored.ensures.refused
-
-pub returns-in-Dictionary-clause-stored : goal.returns-in-Dictionary-clause-stored
-returns-in-Dictionary-clause-stored g c = rw c.in-Dictionary.is c.entries_stored.ensures.stored
-
-pub returns-in-Dictionary-clause-may : goal.returns-in-Dictionary-clause-may
-returns-in-Dictionary-clause-may g c = rw c.in-Dictionary.is c.entries_stored.ensures.holds
-
-pub returns-in-Dictionary-clause-refused : goal.returns-in-Dictionary-clause-refused
-returns-in-Dictionary-clause-refused g c = rw c.in-Dictionary.is c.entries_stored.ensures.refused
-
-pub returns-in-Header-clause-stored : goal.returns-in-Header-clause-stored
-returns-in-Header-clause-stored g c = rw c.in-Header.is c.symbol_stored.ensures.stored
-
-pub returns-in-Header-clause-may : goal.returns-in-Header-clause-may
-returns-in-Header-clause-may g c = rw c.in-Header.is (always_ok c.symbol_stored.result tt)
-
-pub returns-in-Header-clause-refused : goal.returns-in-Header-clause-refused
-returns-in-Header-clause-refused g c = rw c.in-Header.is c.symbol_stored.ensures.refused
+pub returns-in-Header : goal.returns-in-Header
+returns-in-Header g c = let e = c.symbol_stored.ensures in record { stored = rw c.in-Header.is e.stored; may = rw c.in-Header.is (always_ok c.symbol_stored.result tt); refused = rw c.in-Header.is e.refused }

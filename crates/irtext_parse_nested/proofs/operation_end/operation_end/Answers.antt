@@ -15,77 +15,52 @@ use Rattle.irtext_parse_nested.proofs.Marking.{on_both, on_err, always_ok, if_er
 use Rattle.irtext_parse_nested.proofs.operation_end.operation_end.Goals as goal
 
 -- ---- the results are an error
-pub returns-in_err-close-clause-refused : goal.returns-in_err-close-clause-refused
-returns-in_err-close-clause-refused g c = rw (handed_on c.from_residual.result c.from_residual.ensures.1) (λ o is. elim c.in_err-close.ensures.refused [ inl starved ↦ inl starved | inr f ↦ inr (no_results (f o is)) ])
-
-pub returns-in_err-close-clause-committed : goal.returns-in_err-close-clause-committed
-returns-in_err-close-clause-committed g c = rw (handed_on c.from_residual.result c.from_residual.ensures.1) c.in_err-close.ensures.committed
-
-pub returns-in_err-close-clause-ends : goal.returns-in_err-close-clause-ends
-returns-in_err-close-clause-ends g c = rw (handed_on c.from_residual.result c.from_residual.ensures.1) tt
-
-pub returns-in_err-close-clause-lasts : goal.returns-in_err-close-clause-lasts
-returns-in_err-close-clause-lasts g c = rw (handed_on c.from_residual.result c.from_residual.ensures.1) tt
-
-pub returns-in_err-close-clause-sound : goal.returns-in_err-close-clause-sound
-returns-in_err-close-clause-sound g c = rw (handed_on c.from_residual.result c.from_residual.ensures.1) tt
-
-pub returns-in_err-close-clause-names : goal.returns-in_err-close-clause-names
-returns-in_err-close-clause-names g c = rw c.in_err-close.ensures.names (λ i t e. e)
-
-pub returns-in_err-close-clause-labels : goal.returns-in_err-close-clause-labels
-returns-in_err-close-clause-labels g c = ap length c.in_err-close.ensures.labels
-
-pub returns-in_err-close-clause-kept : goal.returns-in_err-close-clause-kept
-returns-in_err-close-clause-kept g c = λ m le closed sound new. c.in_err-close.ensures.kept m closed sound new
-
-pub returns-in_err-close-clause-own : goal.returns-in_err-close-clause-own
-returns-in_err-close-clause-own g c = rw (handed_on c.from_residual.result c.from_residual.ensures.1) tt
-
-pub returns-in_err-close-clause-spares : goal.returns-in_err-close-clause-spares
-returns-in_err-close-clause-spares g c = rw (handed_on c.from_residual.result c.from_residual.ensures.1) tt
-
-pub returns-in_err-close-clause-noted : goal.returns-in_err-close-clause-noted
-returns-in_err-close-clause-noted g c = rw (handed_on c.from_residual.result c.from_residual.ensures.1) tt
+pub returns-in_err-close : goal.returns-in_err-close
+returns-in_err-close g c =
+    let e = c.in_err-close.ensures in
+    let same = handed_on c.from_residual.result c.from_residual.ensures.1 in
+    record {
+      lent = e.lent;
+      rest = e.rest;
+      refused = rw same (λ o is. elim e.refused [ inl starved ↦ inl starved | inr f ↦ inr (no_results (f o is)) ]);
+      committed = rw same e.committed;
+      ends = rw same tt;
+      own = rw same tt;
+      spares = rw same tt;
+      noted = rw same tt;
+      lasts = rw same tt;
+      sound = rw same tt;
+      unnoted = rw same (gains_nothing e.marks);
+      names = rw e.names (λ i t e. e);
+      values = e.values;
+      labels = ap length e.labels;
+      kept = λ m le closed sound new. e.kept m closed sound new;
+    }
 
 -- ---- no mark can be parsed
-pub returns-in_err-mark-clause-refused : goal.returns-in_err-mark-clause-refused
-returns-in_err-mark-clause-refused g c =
-    let same = c.in_ok-close.ensures.stream in
-    rw (handed_on c.from_residual-in_err-mark.result c.from_residual-in_err-mark.ensures.1)
-    (λ o is. end_unread g.T.IrText.reading (attr_at g.A.IrText.reading) o c.args.begun.now c.args.names.now c.close.new.names c.args.s.now c.close.new.s.state (item.Operation c.args.begun.now.op) (marks_of c.close.new.s.state) (c.in_ok-close.ensures.closes o is) refl
-    c.close.new.s.stream _ same _ c.close.new.s refl (ap (λ v. v.failed) same ∙ c.requires.fine) c.in_err-mark.ensures)
-
-pub returns-in_err-mark-clause-committed : goal.returns-in_err-mark-clause-committed
-returns-in_err-mark-clause-committed g c =
-    rw (handed_on c.from_residual-in_err-mark.result c.from_residual-in_err-mark.ensures.1) (must_commit (ap (λ v. v.failed) c.in_ok-close.ensures.stream ∙ c.requires.fine) c.in_err-mark.ensures.read)
-
-pub returns-in_err-mark-clause-ends : goal.returns-in_err-mark-clause-ends
-returns-in_err-mark-clause-ends g c = rw (handed_on c.from_residual-in_err-mark.result c.from_residual-in_err-mark.ensures.1) tt
-
-pub returns-in_err-mark-clause-lasts : goal.returns-in_err-mark-clause-lasts
-returns-in_err-mark-clause-lasts g c = rw (handed_on c.from_residual-in_err-mark.result c.from_residual-in_err-mark.ensures.1) tt
-
-pub returns-in_err-mark-clause-sound : goal.returns-in_err-mark-clause-sound
-returns-in_err-mark-clause-sound g c = rw (handed_on c.from_residual-in_err-mark.result c.from_residual-in_err-mark.ensures.1) tt
-
-pub returns-in_err-mark-clause-names : goal.returns-in_err-mark-clause-names
-returns-in_err-mark-clause-names g c = rw c.in_ok-close.ensures.names (λ i t e. e)
-
-pub returns-in_err-mark-clause-labels : goal.returns-in_err-mark-clause-labels
-returns-in_err-mark-clause-labels g c = ap length c.in_ok-close.ensures.labels
-
-pub returns-in_err-mark-clause-kept : goal.returns-in_err-mark-clause-kept
-returns-in_err-mark-clause-kept g c = λ m le closed sound new. c.in_ok-close.ensures.kept m closed sound new
-
-pub returns-in_err-mark-clause-own : goal.returns-in_err-mark-clause-own
-returns-in_err-mark-clause-own g c = rw (handed_on c.from_residual-in_err-mark.result c.from_residual-in_err-mark.ensures.1) tt
-
-pub returns-in_err-mark-clause-spares : goal.returns-in_err-mark-clause-spares
-returns-in_err-mark-clause-spares g c = rw (handed_on c.from_residual-in_err-mark.result c.from_residual-in_err-mark.ensures.1) tt
-
-pub returns-in_err-mark-clause-noted : goal.returns-in_err-mark-clause-noted
-returns-in_err-mark-clause-noted g c = rw (handed_on c.from_residual-in_err-mark.result c.from_residual-in_err-mark.ensures.1) tt
+pub returns-in_err-mark : goal.returns-in_err-mark
+returns-in_err-mark g c =
+    let e = c.in_ok-close.ensures in
+    let same = handed_on c.from_residual-in_err-mark.result c.from_residual-in_err-mark.ensures.1 in
+    let fine = ap (λ v. v.failed) e.stream ∙ c.requires.fine in
+    record {
+      lent = e.lent;
+      rest = e.rest;
+      refused = rw same (λ o is. end_unread g.T.IrText.reading (attr_at g.A.IrText.reading) o c.args.begun.now c.args.names.now c.close.new.names c.args.s.now c.close.new.s.state (item.Operation c.args.begun.now.op) (marks_of c.close.new.s.state) (e.closes o is) refl
+          c.close.new.s.stream _ e.stream _ c.close.new.s refl fine c.in_err-mark.ensures);
+      committed = rw same (must_commit fine c.in_err-mark.ensures.read);
+      ends = rw same tt;
+      own = rw same tt;
+      spares = rw same tt;
+      noted = rw same tt;
+      lasts = rw same tt;
+      sound = rw same tt;
+      unnoted = rw same (gains_nothing e.marks);
+      names = rw e.names (λ i t e. e);
+      values = e.values;
+      labels = ap length e.labels;
+      kept = λ m le closed sound new. e.kept m closed sound new;
+    }
 
 -- ---- the mark is recorded, or was before
 pub returns-clause-ends : goal.returns-clause-ends
@@ -125,13 +100,6 @@ pub returns-clause-noted : goal.returns-clause-noted
 returns-clause-noted g c =
     on_both c.note_mark.result (λ n e mark taken is. end_noted c.args.s.now c.close.new.s.state (item.Operation c.args.begun.now.op) c.close.new.s.stream _ c.in_ok-close.ensures.stream c.in_ok-close.ensures.marks c.note_mark.new.s c.in_ok-mark.mark e c.in_ok-mark.ensures n mark taken is)
     c.note_mark.ensures.notes c.note_mark.ensures.stream
-
--- ---- after an error, no mark is recorded
-pub returns-in_err-close-clause-unnoted : goal.returns-in_err-close-clause-unnoted
-returns-in_err-close-clause-unnoted g c = rw (handed_on c.from_residual.result c.from_residual.ensures.1) (gains_nothing c.in_err-close.ensures.marks)
-
-pub returns-in_err-mark-clause-unnoted : goal.returns-in_err-mark-clause-unnoted
-returns-in_err-mark-clause-unnoted g c = rw (handed_on c.from_residual-in_err-mark.result c.from_residual-in_err-mark.ensures.1) (gains_nothing c.in_ok-close.ensures.marks)
 
 pub returns-clause-unnoted : goal.returns-clause-unnoted
 returns-clause-unnoted g c = on_err c.note_mark.result (λ e. gains_nothing (e ∙ c.in_ok-close.ensures.marks)) c.note_mark.ensures.unnoted

@@ -9,8 +9,8 @@ returns-then-not-has_value_scope-clause-refused g c = operand_outside c.args.nam
 pub returns-then-not-has_value_scope-clause-steady : goal.returns-then-not-has_value_scope-clause-steady
 returns-then-not-has_value_scope-clause-steady g c = steady_itself c.args.names.now c.args.graph.now c.requires.tied
 
-pub value_placed-requires-clause-known : goal.value_placed-requires-clause-known
-value_placed-requires-clause-known g c = c.requires.can.names_are.0
+pub name_placed-requires-clause-known : goal.name_placed-requires-clause-known
+name_placed-requires-clause-known g c = c.requires.can.names_are.0
 
 pub returns-clause-gathers : goal.returns-clause-gathers
 returns-clause-gathers g c = let r = c.in-Ok.ensures.placed in operand_one c.args.index c.args.name r.0 r.2 r.1 refl refl refl refl refl

@@ -12,8 +12,8 @@ returns-then-not-has_value_scope-clause-refused g c =
 pub returns-then-not-has_value_scope-clause-steady : goal.returns-then-not-has_value_scope-clause-steady
 returns-then-not-has_value_scope-clause-steady g c = steady_itself c.args.names.now c.args.graph.now c.requires.tied
 
-pub values_used-requires-clause-known : goal.values_used-requires-clause-known
-values_used-requires-clause-known g c = c.requires.can.names_are.0
+pub names_used-requires-clause-known : goal.names_used-requires-clause-known
+names_used-requires-clause-known g c = c.requires.can.names_are.0
 
 pub returns-then-len-eq0-clause-gathers : goal.returns-then-len-eq0-clause-gathers
 returns-then-len-eq0-clause-gathers g c = no_operands_one c.args.names.now c.args.graph.now c.args.used (none_of_length c.args.used (sym c.len.ensures ∙ c.if-len-eq0.true)) refl

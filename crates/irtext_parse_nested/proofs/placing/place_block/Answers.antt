@@ -1,10 +1,21 @@
+use Rattle.std.proofs.Common.{rules, subst}
+use Rattle.irtext_graph.specs.declared.object.Object.TheVariants.{TheBlock, TheRegion}
+use Rattle.irtext_graph.specs.Graph.{children, parent}
+use Rattle.irtext_graph.specs.Nested.{Nested}
+use Rattle.irtext_parse_nested.proofs.Apart.{apart_of}
 use Rattle.irtext_parse_nested.proofs.BlockKept.{kept_placed}
 use Rattle.irtext_parse_nested.proofs.placing.place_block.Goals as goal
 
-pub returns-in-Ok-put_last-clause-kept : goal.returns-in-Ok-put_last-clause-kept
-returns-in-Ok-put_last-clause-kept g c = λ m le n.
-    kept_placed c.args.s.now.state.ctx.now c.make_block.new.self c.put_last.new.ctx c.args.region c.in-Ok.block _ _ c.in-Ok.ensures.made m le n (c.make_block.ensures.kept m le) (c.put_last.ensures.kept m)
+pub insert_at_back-requires-clause-can : goal.insert_at_back-requires-clause-can
+insert_at_back-requires-clause-can g c = record {
+  free = search rules;
+  apart = apart_of (subst (λ k. Nested (children k) (parent k)) c.graph.ensures c.keeps_nesting.ensures.forest) (TheBlock c.in_ok-block.block) (TheRegion c.args.region) (search rules) (λ e. cc);
+}
 
-pub returns-in-Err-clause-kept : goal.returns-in-Err-clause-kept
-returns-in-Err-clause-kept g c = λ m le n.
-    kept_placed c.args.s.now.state.ctx.now c.make_block.new.self c.put_last.new.ctx c.args.region c.in-Ok.block _ _ c.in-Ok.ensures.made m le n (c.make_block.ensures.kept m le) (c.put_last.ensures.kept m)
+pub returns-in_err-insert_at_back-clause-kept : goal.returns-in_err-insert_at_back-clause-kept
+returns-in_err-insert_at_back-clause-kept g c = λ m le n.
+    kept_placed c.args.ctx.now c.make_block.new.self c.insert_at_back.new.ctx c.args.region c.in_ok-block.block _ _ c.in_ok-block.ensures.made m le n (c.make_block.ensures.kept m le) (λ n o. search rules)
+
+pub returns-clause-kept : goal.returns-clause-kept
+returns-clause-kept g c = λ m le n.
+    kept_placed c.args.ctx.now c.make_block.new.self c.insert_at_back.new.ctx c.args.region c.in_ok-block.block _ _ c.in_ok-block.ensures.made m le n (c.make_block.ensures.kept m le) (λ n o. search rules)

@@ -1,10 +1,9 @@
-use Rattle.std.proofs.Common.{[], refl}
 use Rattle.irtext_tokens.specs.AttrTexts.{attr_at}
 use Rattle.irtext_parse_spec.specs.Heads.{argument_at}
-use Rattle.irtext_parse_pieces.proofs.Meanings.{names_more, must_refuse}
+use Rattle.irtext_parse_pieces.proofs.Meanings.{names_more}
 use Rattle.irtext_parse_pieces.specs.declared.lists.NameKind.TheVariants as kind
 use Rattle.irtext_parse_pieces.proofs.Absences.{missing_followed, no_name_begins, list_unbegun}
-use Rattle.irtext_parse_pieces.proofs.Listings.{list_bad, list_none, list_arguments}
+use Rattle.irtext_parse_pieces.proofs.Listings.{list_unread, list_arguments}
 use Rattle.irtext_parse_pieces.proofs.Lenses.{lens_of}
 use Rattle.irtext_parse_pieces.proofs.arguments.arguments_parse.Goals as goal
 
@@ -18,12 +17,6 @@ returns-in-Ok-clause-read g c = list_arguments (lens_of g.world g.met.S.CharStre
 pub returns-in-Ok-clause-names : goal.returns-in-Ok-clause-names
 returns-in-Ok-clause-names g c = names_more _ _ _ c.in-Ok.ensures.names c.more_arguments.ensures.names
 
-pub returns-then-fault-clause-read : goal.returns-then-fault-clause-read
-returns-then-fault-clause-read g c = must_refuse (lens_of g.world g.met.S.CharStream) (list_bad (lens_of g.world g.met.S.CharStream) (argument_at g.T.IrText.reading (attr_at g.A.IrText.reading)) (λ _. []) c.if-fault.true c.in-Err.ensures.read.read)
-
-pub returns-else-fault-clause-read : goal.returns-else-fault-clause-read
-returns-else-fault-clause-read g c = record {
-  meant = λ _. [];
-  means = rw c.none-in-Err.ensures tt;
-  read = list_none (lens_of g.world g.met.S.CharStream) (argument_at g.T.IrText.reading (attr_at g.A.IrText.reading)) (λ _. []) c.none-in-Err.result refl c.if-fault.false c.in-Err.ensures.read.read;
-}
+pub returns-in-Err-clause-read : goal.returns-in-Err-clause-read
+returns-in-Err-clause-read g c =
+    list_unread (lens_of g.world g.met.S.CharStream) (argument_at g.T.IrText.reading (attr_at g.A.IrText.reading)) c.none-in-Err.result c.unless_committed.result (rw c.none-in-Err.ensures tt) c.in-Err.ensures.read c.unless_committed.ensures

@@ -1,10 +1,8 @@
-use Rattle.std.proofs.Common.{[], refl}
 use Rattle.irtext_tokens.specs.AttrTexts.{attr_at}
 use Rattle.irtext_parse_spec.specs.Heads.{pair_at}
-use Rattle.irtext_parse_pieces.proofs.Meanings.{must_refuse}
 use Rattle.irtext_parse_pieces.specs.declared.lists.NameKind.TheVariants as kind
 use Rattle.irtext_parse_pieces.proofs.Absences.{missing_followed, no_name_begins, list_unbegun}
-use Rattle.irtext_parse_pieces.proofs.Listings.{list_bad, list_none}
+use Rattle.irtext_parse_pieces.proofs.Listings.{list_unread}
 use Rattle.irtext_parse_pieces.proofs.EntrySteps.{list_entries}
 use Rattle.irtext_parse_pieces.proofs.Lenses.{lens_of}
 use Rattle.irtext_parse_pieces.proofs.entries.entries_parse.Goals as goal
@@ -16,12 +14,6 @@ returns-then-none_named g c =
 pub returns-in-Ok : goal.returns-in-Ok
 returns-in-Ok g c = list_entries (lens_of g.world g.met.S.CharStream) (pair_at (attr_at g.A.IrText.reading)) c.in-Ok.ensures c.skip_white_space.ensures c.more_entries.ensures
 
-pub returns-then-fault : goal.returns-then-fault
-returns-then-fault g c = must_refuse (lens_of g.world g.met.S.CharStream) (list_bad (lens_of g.world g.met.S.CharStream) (pair_at (attr_at g.A.IrText.reading)) (λ _. []) c.if-fault.true c.in-Err.ensures.read)
-
-pub returns-else-fault : goal.returns-else-fault
-returns-else-fault g c = record {
-  meant = λ _. [];
-  means = rw c.new-in-Err.ensures.items tt;
-  read = list_none (lens_of g.world g.met.S.CharStream) (pair_at (attr_at g.A.IrText.reading)) (λ _. []) c.new-in-Err.result refl c.if-fault.false c.in-Err.ensures.read;
-}
+pub returns-in-Err : goal.returns-in-Err
+returns-in-Err g c =
+    list_unread (lens_of g.world g.met.S.CharStream) (pair_at (attr_at g.A.IrText.reading)) c.new-in-Err.result c.unless_committed.result (rw c.new-in-Err.ensures.items tt) c.in-Err.ensures c.unless_committed.ensures

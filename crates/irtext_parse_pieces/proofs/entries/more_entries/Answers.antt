@@ -1,11 +1,11 @@
-use Rattle.std.proofs.Common.{[], ◌∷◌, ◌++◌, ap, sym, ◌∙◌, Ok, Err}
+use Rattle.std.proofs.Common.{[], ◌∷◌, ◌++◌, ap, refl, ◌∙◌, Ok, Err}
 use Rattle.irtext_tokens.proofs.Exits.{handed_on}
 use Rattle.irtext_tokens.specs.AttrTexts.{attr_at}
 use Rattle.irtext_parse_spec.specs.Heads.{pair_at}
 use Rattle.irtext_parse_pieces.specs.Entries.{IsEntry, AreEntries}
 use Rattle.irtext_parse_pieces.specs.Named.{whole}
 use Rattle.irtext_parse_pieces.proofs.Meanings.{insisted_mean, must_refuse}
-use Rattle.irtext_parse_pieces.proofs.Listings.{Listing, listing_first, listing_starts, listing_all, item_falls, listing_starved, turn_refused, turn_keeps, turn_starved}
+use Rattle.irtext_parse_pieces.proofs.Listings.{Listing, listing_first, listing_starts, item_falls, listing_starved, turn_refused, turn_keeps, turn_starved, turn_ends}
 use Rattle.irtext_parse_pieces.proofs.Lenses.{lens_of}
 use Rattle.irtext_parse_pieces.proofs.entries.more_entries.Goals as goal
 
@@ -17,21 +17,22 @@ pub returns-in_err-next : goal.returns-in_err-next
 returns-in_err-next g c = λ entry means fine.
     let l = lens_of g.world g.met.S.CharStream in
     rw (handed_on c.from_residual.result c.from_residual.ensures.1)
-    (turn_refused l (pair_at (attr_at g.A.IrText.reading)) (sym c.next_is.ensures ∙ c.loop-stream-test.true) c.take.ensures.after c.skip_white_space.ensures (c.loop-stream.invariant entry means fine)
+    (turn_refused l (pair_at (attr_at g.A.IrText.reading)) c.loop-stream-test.ensures (c.loop-stream.invariant entry means fine)
     (insisted_mean l c.entry_parse-answer.result (Err _) c.entry_parse-answer.ensures c.in_err-next.ensures))
 
 pub loop-stream-preserved : goal.loop-stream-preserved
 loop-stream-preserved g c = λ entry means fine.
     let l = lens_of g.world g.met.S.CharStream in
-    turn_keeps l (pair_at (attr_at g.A.IrText.reading)) (sym c.next_is.ensures ∙ c.loop-stream-test.true) c.take.ensures.after c.skip_white_space.ensures IsEntry IsEntry (λ y x k. k)
-    (insisted_mean l c.entry_parse-answer.result (Ok c.in_ok-next.next) c.entry_parse-answer.ensures c.in_ok-next.ensures)
-    c.skip_white_space-in-loop-stream.ensures (c.loop-stream.invariant entry means fine) c.in-Ok-push.ensures.items
+    let m = insisted_mean l c.entry_parse-answer.result (Ok c.in_ok-next.next) c.entry_parse-answer.ensures c.in_ok-next.ensures in
+    turn_keeps {A = g.row.A.Denot} l (pair_at (attr_at g.A.IrText.reading)) c.loop-stream-test.ensures IsEntry IsEntry (λ y x k. k) m (c.loop-stream.invariant entry means fine)
+    (record { mid = _; spaced = c.skip_white_space.ensures; appended = (c.in-Ok-push.ensures.items, refl) })
 
 pub loop-stream-smaller : goal.loop-stream-smaller
 loop-stream-smaller g c =
     let l = lens_of g.world g.met.S.CharStream in
     let m = insisted_mean l c.entry_parse-answer.result (Ok c.in_ok-next.next) c.entry_parse-answer.ensures c.in_ok-next.ensures in
-    item_falls l (pair_at (attr_at g.A.IrText.reading)) {A = g.row.A.Denot} (sym c.next_is.ensures ∙ c.loop-stream-test.true) c.take.ensures.after c.skip_white_space.ensures m.read c.skip_white_space-in-loop-stream.ensures
+    let test = c.loop-stream-test.ensures in
+    item_falls l (pair_at (attr_at g.A.IrText.reading)) {A = g.row.A.Denot} test.comes test.taken test.spaced m.read c.skip_white_space.ensures
 
 pub returns-in_default : goal.returns-in_default
 returns-in_default g c = λ entry means fine.
@@ -44,12 +45,12 @@ returns-in_default g c = λ entry means fine.
 pub returns-in_default-push : goal.returns-in_default-push
 returns-in_default-push g c = λ entry means fine.
     let l = lens_of g.world g.met.S.CharStream in
-    turn_starved l (pair_at (attr_at g.A.IrText.reading)) (sym c.next_is.ensures ∙ c.loop-stream-test.true) c.take.ensures.after c.skip_white_space.ensures IsEntry IsEntry (λ y x k. k)
-    (insisted_mean l c.entry_parse-answer.result (Ok c.in_ok-next.next) c.entry_parse-answer.ensures c.in_ok-next.ensures)
-    c.skip_white_space-in-loop-stream.ensures (c.loop-stream.invariant entry means fine) c.out_of_memory-in_default-push.ensures
+    let m = insisted_mean l c.entry_parse-answer.result (Ok c.in_ok-next.next) c.entry_parse-answer.ensures c.in_ok-next.ensures in
+    turn_starved l (pair_at (attr_at g.A.IrText.reading)) c.loop-stream-test.ensures IsEntry IsEntry (λ y x k. k) m (c.loop-stream.invariant entry means fine)
+    (record { mid = _; spaced = c.skip_white_space.ensures; appended = c.out_of_memory-in_default-push.ensures })
 
 pub returns : goal.returns
 returns g c = λ entry means fine.
     let l = lens_of g.world g.met.S.CharStream in
     let p = c.loop-stream.invariant entry means fine in
-    listing_all l (pair_at (attr_at g.A.IrText.reading)) (AreEntries (whole (l.view c.args.stream.now))) c.loop-stream.found (sym c.next_is.ensures ∙ c.loop-stream-test.false) p p.each
+    turn_ends l (pair_at (attr_at g.A.IrText.reading)) (AreEntries (whole (l.view c.args.stream.now))) c.loop-stream.found c.loop-stream-test.ensures p p.each

@@ -1,12 +1,10 @@
 use Rattle.std.proofs.Common.{◌≡◌, ◌∙◌, ◌+◌, ◌<◌, ◌^◌, Some, None, slice_get, drop, length, suc, ap, sym, subst, arith}
-use Rattle.irtext_format_check.specs.Directives.{format_of}
 use Rattle.irtext_tokens.specs.AttrTexts.{attr_at}
 use Rattle.irtext_tokens.proofs.Exits.{handed_on}
-use Rattle.irtext_parse_spec.specs.Heads.{steps_of}
 use Rattle.irtext_parse_pieces.proofs.Meanings.{names_none, names_more}
 use Rattle.irtext_parse_pieces.proofs.FormatSteps.{Counts, next_left, none_left, count_none, count_all, count_more, fewer_left, left_more, front_over, front_ended}
 use Rattle.irtext_parse_pieces.proofs.FrontSteps.{Fronting, front_begins, front_more, front_refused, front_ends}
-use Rattle.irtext_parse_pieces.specs.Steps.{seen_step}
+use Rattle.irtext_parse_pieces.specs.Steps.{custom_steps, seen_step}
 use Rattle.irtext_parse_pieces.proofs.Lenses.{lens_of}
 use Rattle.irtext_parse_pieces.proofs.fronts.pieces_parse.Goals as goal
 
@@ -15,7 +13,7 @@ loop-step-init g c =
     let l = lens_of g.world g.met.S.CharStream in
     let old = c.args.stream.now in
     let names = c.args.names.now.names in
-    let steps = steps_of (format_of c.args.format.now) in (
+    let steps = custom_steps c.args.directives.now in (
       names_none c.args.names.now,
       subst (λ z. Counts (length z) steps (drop (length z) steps)) (sym c.none-found.ensures) (count_none steps),
       λ fine. subst (λ z. Fronting l g.T.IrText.reading (attr_at g.A.IrText.reading) c.args.inside names steps (drop (length z) steps) old old z) (sym c.none-found.ensures) (front_begins l g.T.IrText.reading (attr_at g.A.IrText.reading) c.args.inside names steps old fine),
@@ -23,7 +21,7 @@ loop-step-init g c =
 
 pub returns-then-not-reads_piece-clause-read : goal.returns-then-not-reads_piece-clause-read
 returns-then-not-reads_piece-clause-read g c = λ fine.
-    let steps = steps_of (format_of c.args.format.now) in
+    let steps = custom_steps c.args.directives.now in
     let step = seen_step c.in-Some.step in
     let n = length c.loop-step.found in
     let there : slice_get steps n ≡ Some step = rw c.len.ensures at (sym c.in-Some.ensures.step) in
@@ -32,7 +30,7 @@ returns-then-not-reads_piece-clause-read g c = λ fine.
 
 pub returns-then-not-reads_piece-clause-count : goal.returns-then-not-reads_piece-clause-count
 returns-then-not-reads_piece-clause-count g c =
-    let steps = steps_of (format_of c.args.format.now) in
+    let steps = custom_steps c.args.directives.now in
     let step = seen_step c.in-Some.step in
     let n = length c.loop-step.found in
     let there : slice_get steps n ≡ Some step = rw c.len.ensures at (sym c.in-Some.ensures.step) in
@@ -45,7 +43,7 @@ word_found-requires g c = rw c.len.ensures at c.in-Some.ensures.fits
 pub loop-step-preserved-then-word_found : goal.loop-step-preserved-then-word_found
 loop-step-preserved-then-word_found g c =
     let l = lens_of g.world g.met.S.CharStream in
-    let steps = steps_of (format_of c.args.format.now) in
+    let steps = custom_steps c.args.directives.now in
     let step = seen_step c.in-Some.step in
     let found = c.loop-step.found in
     let new = c.word_found.new in
@@ -64,7 +62,7 @@ loop-step-preserved-then-word_found g c =
 
 pub loop-step-smaller-then-word_found : goal.loop-step-smaller-then-word_found
 loop-step-smaller-then-word_found g c =
-    let steps = steps_of (format_of c.args.format.now) in
+    let steps = custom_steps c.args.directives.now in
     let step = seen_step c.in-Some.step in
     let there : slice_get steps (length c.loop-step.found) ≡ Some step = rw c.len.ensures at (sym c.in-Some.ensures.step) in
     let read = c.if-word_found.ensures c.loop-step.names.names c.args.inside in
@@ -76,7 +74,7 @@ step_found-requires g c = subst (λ z. length z + 1 < 2 ^ 64) (sym c.if-word_fou
 
 pub returns-in_err-step_found-clause-read : goal.returns-in_err-step_found-clause-read
 returns-in_err-step_found-clause-read g c = λ fine.
-    let steps = steps_of (format_of c.args.format.now) in
+    let steps = custom_steps c.args.directives.now in
     let step = seen_step c.in-Some.step in
     let n = length c.loop-step.found in
     let there : slice_get steps n ≡ Some step = rw c.len.ensures at (sym c.in-Some.ensures.step) in
@@ -91,7 +89,7 @@ returns-in_err-step_found-clause-names g c = names_more _ _ _ c.loop-step.invari
 pub loop-step-preserved : goal.loop-step-preserved
 loop-step-preserved g c =
     let l = lens_of g.world g.met.S.CharStream in
-    let steps = steps_of (format_of c.args.format.now) in
+    let steps = custom_steps c.args.directives.now in
     let step = seen_step c.in-Some.step in
     let found = c.loop-step.found in
     let new = c.step_found.new in
@@ -111,7 +109,7 @@ loop-step-preserved g c =
 
 pub loop-step-smaller : goal.loop-step-smaller
 loop-step-smaller g c =
-    let steps = steps_of (format_of c.args.format.now) in
+    let steps = custom_steps c.args.directives.now in
     let step = seen_step c.in-Some.step in
     let there : slice_get steps (length c.loop-step.found) ≡ Some step = rw c.len.ensures at (sym c.in-Some.ensures.step) in
     let read = rw c.if-word_found.ensures.1 at c.in_ok-step_found.ensures.read in
@@ -120,14 +118,14 @@ loop-step-smaller g c =
 
 pub returns-clause-read : goal.returns-clause-read
 returns-clause-read g c = λ fine.
-    let steps = steps_of (format_of c.args.format.now) in
+    let steps = custom_steps c.args.directives.now in
     let n = length c.loop-step.found in
     let none : slice_get steps n ≡ None = rw c.len.ensures at (sym c.in_default.ensures.step) in
     front_ends (lens_of g.world g.met.S.CharStream) g.T.IrText.reading (attr_at g.A.IrText.reading) c.args.inside (front_over (drop n steps) (none_left steps n none)) (c.loop-step.invariant.2 fine)
 
 pub returns-clause-count : goal.returns-clause-count
 returns-clause-count g c =
-    let steps = steps_of (format_of c.args.format.now) in
+    let steps = custom_steps c.args.directives.now in
     let n = length c.loop-step.found in
     let none : slice_get steps n ≡ None = rw c.len.ensures at (sym c.in_default.ensures.step) in
     count_all steps (drop n steps) n (front_over (drop n steps) (none_left steps n none)) c.loop-step.invariant.1

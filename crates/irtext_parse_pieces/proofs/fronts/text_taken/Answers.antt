@@ -1,14 +1,11 @@
-use Rattle.std.proofs.Common.{sym, ◌∙◌}
-use Rattle.std.proofs.lemmas.Str.{chars_from_encodes}
-use Rattle.irtext_base.specs.Faults.{characters}
-use Rattle.irtext_tokens.proofs.Characters.{encodes-characters}
+use Rattle.std.proofs.Common.{Bool, true, false, sym, ◌∙◌}
+use Rattle.std.specs.Prelude.{MatchBool}
 use Rattle.irtext_parse_pieces.proofs.fronts.text_taken.Goals as goal
 
-pub returns-then-not-accept : goal.returns-then-not-accept
-returns-then-not-accept g c = c.if-not-accept.ensures.1
+-- what holds besides, whichever it is, may be stated with the one and left out with the other
+stated : (F P B N : Type 0) (b : Bool) → F → MatchBool b P (B × N) → MatchBool b (F × P) N
+stated F P B N true f h = (f, h)
+stated F P B N false f h = h.1
 
 pub returns : goal.returns
-returns g c =
-    let bytes = c.args.text.now in
-    let h = rw (← chars_from_encodes (characters bytes) bytes c.utf8.text (encodes-characters bytes c.utf8.text)) at c.if-not-accept.ensures in
-    (sym c.has_failed.ensures ∙ c.if-has_failed.false, h)
+returns g c = stated _ _ _ _ c.accepts.result (sym c.has_failed.ensures ∙ c.if-has_failed.false) c.accepts.ensures

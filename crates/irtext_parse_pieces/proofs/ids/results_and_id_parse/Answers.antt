@@ -1,38 +1,36 @@
-use Rattle.std.proofs.Common.{sym, ◌∙◌, ap, not, eqb, length}
+use Rattle.std.proofs.Common.{[], sym, ◌∙◌, ap}
 use Rattle.irtext_base.proofs.Compose.{seen_after}
 use Rattle.irtext_tokens.proofs.Exits.{handed_on}
-use Rattle.irtext_tokens.proofs.Words.{taken_since}
-use Rattle.irtext_parse_spec.proofs.Readers.Leads.{is_led-bytes}
-use Rattle.irtext_parse_pieces.proofs.Leads.{lead_taken, lead_refused, led_read, led_missed}
+use Rattle.irtext_parse_pieces.proofs.Leads.{lead_taken, lead_since, lead_refused, led_read, led_missed}
 use Rattle.irtext_parse_pieces.proofs.Lenses.{lens_of}
+use Rattle.irtext_parse_pieces.proofs.Meanings.{may_fail}
 use Rattle.irtext_parse_pieces.proofs.ids.results_and_id_parse.Goals as goal
 
+pub returns-then-has_failed-clause-read : goal.returns-then-has_failed-clause-read
+returns-then-has_failed-clause-read g c = may_fail (lens_of g.world g.met.S.CharStream) ([], record { dialect = []; name = [] }) (sym c.has_failed.ensures ∙ c.if-has_failed.true) c.refuse.ensures
+
 pub returns-in_err-results-clause-read : goal.returns-in_err-results-clause-read
-returns-in_err-results-clause-read g c = rw (handed_on c.from_residual.result c.from_residual.ensures.1) (lead_refused (lens_of g.world g.met.S.CharStream) c.args.ctx.now.dialects c.in_err-results.ensures.read)
+returns-in_err-results-clause-read g c =
+    rw (handed_on c.from_residual.result c.from_residual.ensures.1)
+    (lead_refused (lens_of g.world g.met.S.CharStream) c.args.ctx.now.dialects (c.in_err-results.ensures.read (sym c.has_failed.ensures ∙ c.if-has_failed.false)))
 
 pub text_since-requires : goal.text_since-requires
 text_since-requires g c =
     let l = lens_of g.world g.met.S.CharStream in
     let old = c.args.stream.now in
-    let t = lead_taken l c.in_ok-results.ensures.read in
+    let t = lead_taken l (c.in_ok-results.ensures.read (sym c.has_failed.ensures ∙ c.if-has_failed.false)) in
     ((l.view old).passed, t.taken, sym (ap (λ v. v.passed) (seen_after l.view l.at l.view_at l.at_at old c.lead_parse.new.stream t.taken (l.view c.lead_parse.new.stream).rest t.takes)), c.position-start.ensures)
 
 pub returns-in_err-id-clause-read : goal.returns-in_err-id-clause-read
 returns-in_err-id-clause-read g c =
     let l = lens_of g.world g.met.S.CharStream in
-    let old = c.args.stream.now in
-    let h = c.in_ok-results.ensures.read in
-    let t = lead_taken l h in
-    let w = taken_since l.view l.at l.view_at l.at_at old c.lead_parse.new.stream c.position-start.result c.text_since.result.now t.taken (l.view c.lead_parse.new.stream).rest t.takes c.position-start.ensures c.text_since.ensures in
-    let e = ap not c.is_empty-led.ensures ∙ (ap (λ z. not (eqb (length z) 0)) w ∙ is_led-bytes t.taken) in
+    let h = c.in_ok-results.ensures.read (sym c.has_failed.ensures ∙ c.if-has_failed.false) in
+    let e = lead_since l h c.position-start.result c.text_since.result.now c.is_empty-led.result c.position-start.ensures c.text_since.ensures c.is_empty-led.ensures in
     rw (handed_on c.from_residual-in_err-id.result c.from_residual-in_err-id.ensures.1) (led_missed l c.args.ctx.now.dialects c.position-start.result _ h e c.position-start.ensures c.in_err-id.ensures.read)
 
 pub returns-clause-read : goal.returns-clause-read
 returns-clause-read g c =
     let l = lens_of g.world g.met.S.CharStream in
-    let old = c.args.stream.now in
-    let h = c.in_ok-results.ensures.read in
-    let t = lead_taken l h in
-    let w = taken_since l.view l.at l.view_at l.at_at old c.lead_parse.new.stream c.position-start.result c.text_since.result.now t.taken (l.view c.lead_parse.new.stream).rest t.takes c.position-start.ensures c.text_since.ensures in
-    let e = ap not c.is_empty-led.ensures ∙ (ap (λ z. not (eqb (length z) 0)) w ∙ is_led-bytes t.taken) in
+    let h = c.in_ok-results.ensures.read (sym c.has_failed.ensures ∙ c.if-has_failed.false) in
+    let e = lead_since l h c.position-start.result c.text_since.result.now c.is_empty-led.result c.position-start.ensures c.text_since.ensures c.is_empty-led.ensures in
     led_read l _ c.args.ctx.now.dialects c.position-start.result _ h e c.position-start.ensures c.in_ok-id.ensures.read

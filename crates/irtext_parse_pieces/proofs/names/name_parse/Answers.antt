@@ -7,27 +7,22 @@ use Rattle.irtext_parse_pieces.proofs.NameSteps.{unstored, name_there}
 use Rattle.irtext_parse_pieces.proofs.Lenses.{lens_of}
 use Rattle.irtext_parse_pieces.proofs.names.name_parse.Goals as goal
 
-pub returns-in-Ok-clause-read : goal.returns-in-Ok-clause-read
-returns-in-Ok-clause-read g c =
+pub returns-in-Ok : goal.returns-in-Ok
+returns-in-Ok g c =
     let l = lens_of g.world g.met.S.CharStream in
     let old = c.args.stream.now in
     let text = (l.view old).rest in
+    let begun = sym c.begins.ensures ∙ c.if-not-begins.false in
     let w = taken_since l.view l.at l.view_at l.at_at old c.skip_class.new.stream c.position-at.result c.text_since.result.now (front in_word text) (after in_word text) c.skip_class.ensures c.position-at.ensures c.text_since.ensures ∙ encodes-front_word text in
-    name_there l c.intern.new.self.names (record { name = c.in-Ok.name; at = c.position-at.result }) (sym c.has_failed.ensures ∙ c.if-has_failed.false) (sym c.begins.ensures ∙ c.if-not-begins.false) c.skip_class.ensures c.position-at.ensures (c.in-Ok.ensures.named ∙ ap Some w)
+    record {
+      read = name_there l c.intern.new.self.names (record { name = c.in-Ok.name; at = c.position-at.result }) (sym c.has_failed.ensures ∙ c.if-has_failed.false) begun c.skip_class.ensures c.position-at.ensures (c.in-Ok.ensures.named ∙ ap Some w);
+      names = record {
+        kept = c.intern.ensures.stays;
+        words = λ h. subst AreWords (sym c.in-Ok.ensures.kept) (words_with c.args.names.now.names c.text_since.result.now (ap is_identifier w ∙ is_identifier-front text begun) h);
+        values = c.intern.ensures.rest.0;
+        labels = c.intern.ensures.rest.1;
+      };
+    }
 
 pub returns-in-Err-clause-read : goal.returns-in-Err-clause-read
 returns-in-Err-clause-read g c = unstored (lens_of g.world g.met.S.CharStream) c.name_unstored.result (sym c.has_failed.ensures ∙ c.if-has_failed.false) c.skip_class.ensures c.name_unstored.ensures
-
-pub returns-in-Ok-clause-names : goal.returns-in-Ok-clause-names
-returns-in-Ok-clause-names g c =
-    let l = lens_of g.world g.met.S.CharStream in
-    let old = c.args.stream.now in
-    let text = (l.view old).rest in
-    let w = taken_since l.view l.at l.view_at l.at_at old c.skip_class.new.stream c.position-at.result c.text_since.result.now (front in_word text) (after in_word text) c.skip_class.ensures c.position-at.ensures c.text_since.ensures ∙ encodes-front_word text in
-    let k = ap is_identifier w ∙ is_identifier-front text (sym c.begins.ensures ∙ c.if-not-begins.false) in
-    record {
-      kept = c.intern.ensures.stays;
-      words = λ h. subst AreWords (sym c.in-Ok.ensures.kept) (words_with c.args.names.now.names c.text_since.result.now k h);
-      values = c.intern.ensures.rest.0;
-      labels = c.intern.ensures.rest.1;
-    }

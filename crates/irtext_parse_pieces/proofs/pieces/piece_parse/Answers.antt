@@ -18,16 +18,16 @@ returns-in-Literal-clause-read g c =
     rw c.in-Literal.is h
 
 pub returns-in-Operand-clause-read : goal.returns-in-Operand-clause-read
-returns-in-Operand-clause-read g c = rw c.in-Operand.is c.operand_piece.ensures.read
+returns-in-Operand-clause-read g c = rw c.in-Operand.is c.name_piece.ensures.read
 
 pub returns-in-Operands-clause-read : goal.returns-in-Operands-clause-read
-returns-in-Operands-clause-read g c = rw c.in-Operands.is c.operands_piece.ensures.read
+returns-in-Operands-clause-read g c = rw c.in-Operands.is c.names_piece.ensures.read
 
 pub returns-in-Successor-clause-read : goal.returns-in-Successor-clause-read
-returns-in-Successor-clause-read g c = rw c.in-Successor.is c.successor_piece.ensures.read
+returns-in-Successor-clause-read g c = rw c.in-Successor.is c.name_piece-in-Successor.ensures.read
 
 pub returns-in-Successors-clause-read : goal.returns-in-Successors-clause-read
-returns-in-Successors-clause-read g c = rw c.in-Successors.is c.successors_piece.ensures.read
+returns-in-Successors-clause-read g c = rw c.in-Successors.is c.names_piece-in-Successors.ensures.read
 
 pub returns-in-Attr-clause-read : goal.returns-in-Attr-clause-read
 returns-in-Attr-clause-read g c = rw c.in-Attr.is (c.attr_piece.ensures c.args.names.now.names)

@@ -15,10 +15,10 @@ pub returns-in-Word-clause-read : goal.returns-in-Word-clause-read
 returns-in-Word-clause-read g c = rw c.in-Word.is (c.word_piece.ensures c.args.names.now.names)
 
 pub returns-in-Operands-clause-read : goal.returns-in-Operands-clause-read
-returns-in-Operands-clause-read g c = rw c.in-Operands.is c.operands_piece.ensures.read
+returns-in-Operands-clause-read g c = rw c.in-Operands.is c.names_piece.ensures.read
 
 pub returns-in-Successors-clause-read : goal.returns-in-Successors-clause-read
-returns-in-Successors-clause-read g c = rw c.in-Successors.is c.successors_piece.ensures.read
+returns-in-Successors-clause-read g c = rw c.in-Successors.is c.names_piece-in-Successors.ensures.read
 
 pub returns-in-Dictionary-clause-read : goal.returns-in-Dictionary-clause-read
 returns-in-Dictionary-clause-read g c = rw c.in-Dictionary.is (c.dictionary_piece.ensures c.args.names.now.names)

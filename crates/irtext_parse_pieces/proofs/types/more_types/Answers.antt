@@ -1,8 +1,8 @@
-use Rattle.std.proofs.Common.{◌≡◌, refl, sym, ◌∙◌, Ok, Err}
+use Rattle.std.proofs.Common.{◌≡◌, Ok, Err, refl}
 use Rattle.irtext_tokens.proofs.Exits.{handed_on}
 use Rattle.irtext_parse_pieces.specs.Named.{Each}
 use Rattle.irtext_parse_pieces.proofs.Meanings.{insisted_mean}
-use Rattle.irtext_parse_pieces.proofs.Listings.{listing_starts, listing_all, item_falls, turn_refused, turn_keeps, turn_starved}
+use Rattle.irtext_parse_pieces.proofs.Listings.{listing_starts, turn_refused, turn_falls, turn_keeps, turn_starved, turn_ends}
 use Rattle.irtext_parse_pieces.proofs.Lenses.{lens_of}
 use Rattle.irtext_parse_pieces.proofs.types.more_types.Goals as goal
 
@@ -13,31 +13,27 @@ pub returns-in_err-next : goal.returns-in_err-next
 returns-in_err-next g c = λ fine.
     let l = lens_of g.world g.met.S.CharStream in
     rw (handed_on c.from_residual.result c.from_residual.ensures.1)
-    (turn_refused l g.T.IrText.reading (sym c.next_is.ensures ∙ c.loop-stream-test.true) c.take.ensures.after c.skip_white_space.ensures (c.loop-stream.invariant fine)
-    (insisted_mean l c.type_parse-answer.result (Err _) c.type_parse-answer.ensures c.in_err-next.ensures))
+    (turn_refused l g.T.IrText.reading c.loop-stream-test.ensures (c.loop-stream.invariant fine) (insisted_mean l c.type_parse-answer.result (Err _) c.type_parse-answer.ensures c.in_err-next.ensures))
+
+pub returns-in_err-found : goal.returns-in_err-found
+returns-in_err-found g c = λ fine.
+    let l = lens_of g.world g.met.S.CharStream in
+    let m = insisted_mean l c.type_parse-answer.result (Ok c.in_ok-next.next) c.type_parse-answer.ensures c.in_ok-next.ensures in
+    rw (handed_on c.from_residual-in_err-found.result c.from_residual-in_err-found.ensures.1)
+    (turn_starved l g.T.IrText.reading c.loop-stream-test.ensures (λ text. ◌≡◌) (λ text. ◌≡◌) (λ y x k. k) m (c.loop-stream.invariant fine) c.in_err-found.ensures)
 
 pub loop-stream-preserved : goal.loop-stream-preserved
 loop-stream-preserved g c = λ fine.
     let l = lens_of g.world g.met.S.CharStream in
-    turn_keeps l g.T.IrText.reading (sym c.next_is.ensures ∙ c.loop-stream-test.true) c.take.ensures.after c.skip_white_space.ensures (λ text. ◌≡◌) (λ text. ◌≡◌) (λ y x k. k)
-    (insisted_mean l c.type_parse-answer.result (Ok c.in_ok-next.next) c.type_parse-answer.ensures c.in_ok-next.ensures)
-    c.skip_white_space-in-loop-stream.ensures (c.loop-stream.invariant fine) c.in-Ok.ensures
+    let m = insisted_mean l c.type_parse-answer.result (Ok c.in_ok-next.next) c.type_parse-answer.ensures c.in_ok-next.ensures in
+    turn_keeps l g.T.IrText.reading c.loop-stream-test.ensures (λ text. ◌≡◌) (λ text. ◌≡◌) (λ y x k. k) m (c.loop-stream.invariant fine) c.in_ok-found.ensures
 
 pub loop-stream-smaller : goal.loop-stream-smaller
 loop-stream-smaller g c =
     let l = lens_of g.world g.met.S.CharStream in
-    let m = insisted_mean l c.type_parse-answer.result (Ok c.in_ok-next.next) c.type_parse-answer.ensures c.in_ok-next.ensures in
-    item_falls l g.T.IrText.reading {A = g.row.A.Denot} (sym c.next_is.ensures ∙ c.loop-stream-test.true) c.take.ensures.after c.skip_white_space.ensures m.read c.skip_white_space-in-loop-stream.ensures
-
-pub returns-in-Err : goal.returns-in-Err
-returns-in-Err g c = λ fine.
-    let l = lens_of g.world g.met.S.CharStream in
-    turn_starved l g.T.IrText.reading (sym c.next_is.ensures ∙ c.loop-stream-test.true) c.take.ensures.after c.skip_white_space.ensures (λ text. ◌≡◌) (λ text. ◌≡◌) (λ y x k. k)
-    (insisted_mean l c.type_parse-answer.result (Ok c.in_ok-next.next) c.type_parse-answer.ensures c.in_ok-next.ensures)
-    c.skip_white_space-in-loop-stream.ensures (c.loop-stream.invariant fine) c.out_of_memory.ensures
+    turn_falls l g.T.IrText.reading c.loop-stream-test.ensures (insisted_mean l c.type_parse-answer.result (Ok c.in_ok-next.next) c.type_parse-answer.ensures c.in_ok-next.ensures) c.in_ok-found.ensures
 
 pub returns : goal.returns
 returns g c = λ fine.
-    let l = lens_of g.world g.met.S.CharStream in
     let p = c.loop-stream.invariant fine in
-    listing_all l g.T.IrText.reading (Each ◌≡◌) c.loop-stream.found (sym c.next_is.ensures ∙ c.loop-stream-test.false) p p.each
+    turn_ends (lens_of g.world g.met.S.CharStream) g.T.IrText.reading (Each ◌≡◌) c.loop-stream.found c.loop-stream-test.ensures p p.each

@@ -3,8 +3,7 @@ use Rattle.std.specs.Fmt.{decimal, signed_decimal}
 use Rattle.std.specs.Str.{encode_utf8_all}
 use Rattle.irtext_base.specs.declared.location.Location.TheVariants.{SrcPos}
 use Rattle.irtext_base.specs.declared.location.Source.TheVariants.{InMemory}
-use Rattle.irtext_grammar.specs.Spelling.Locations.{known_text}
-use Rattle.irtext_print.specs.Errors.Located.{framed}
+use Rattle.irtext_print.specs.Entries.{location_front}
 use Rattle.irtext_print.proofs.Lone.{memory_is, place_between}
 use Rattle.irtext_print.proofs.Printers.Appended.{then}
 use Rattle.irtext_print.proofs.entries.fmt_front.Goals as goal
@@ -18,8 +17,8 @@ returns-then-is_in_memory g c =
     let memory : c.in-SrcPos.src ≡ InMemory = memory_is c.in-SrcPos.src (sym c.is_in_memory.ensures ∙ c.if-is_in_memory.true) in
     let is : SrcPos InMemory c.in-SrcPos.pos ≡ c.args.location.now = ap (λ s. SrcPos s c.in-SrcPos.pos) (sym memory) ∙ sym c.in-SrcPos.is in
     then c.fmt_memory_front.result (λ w. place_between g.A.IrText.written c.args.ctx.now.paths c.in-SrcPos.pos front begun numbers (string_bytes c.fmt_memory_front.new.f) refl refl w
-    ∙ ap (λ l. front ++ (codes " = " ++ (framed (codes "@[") (codes "], ") (known_text g.A.IrText.written c.args.ctx.now.paths l) ++ codes "["))) is) c.fmt_memory_front.ensures
+    ∙ ap (λ l. location_front g.A.IrText.written c.args.ctx.now.paths l front) is) c.fmt_memory_front.ensures
 
 pub returns : goal.returns
 returns g c =
-    then c.fmt_entry_location.result (λ w. w ∙ ap (λ z. z ++ (codes " = " ++ (framed (codes "@[") (codes "], ") (known_text g.A.IrText.written c.args.ctx.now.paths c.args.location.now) ++ codes "["))) c.in_ok-fmt_index.ensures) c.fmt_entry_location.ensures
+    then c.fmt_entry_location.result (λ w. w ∙ ap (location_front g.A.IrText.written c.args.ctx.now.paths c.args.location.now) c.in_ok-fmt_index.ensures) c.fmt_entry_location.ensures

@@ -1,4 +1,7 @@
-use Rattle.std.proofs.Common.{◌<◌, ◌∙◌, ap, length, map, string_bytes}
+use Rattle.std.proofs.Common.{◌<◌, ◌++◌, ◌∙◌, ap, length, map, string_bytes}
+use Rattle.std.specs.Str.{encode_utf8_all}
+use Rattle.irtext_grammar.specs.Spelling.Section.{once_texts}
+use Rattle.irtext_print.specs.Printers.PieceText.{words}
 use Rattle.irtext_print.proofs.Printers.Appended.{then}
 use Rattle.irtext_print.specs.Given.{printing_of, given_at}
 use Rattle.irtext_print.specs.Items.{language_of}
@@ -13,8 +16,8 @@ returns g c =
     let gives = given_at g.T.IrText g.A.IrText g.A.AttrText g.A.PartialEq.eq c.args.ctx.now in
     let some : 0 < length c.args.items.now = not_empty (length c.args.items.now) c.if-is_empty.ensures in
     then c.fmt_all_once.result
-    (λ r. section_written L C gives c.args.items.now (mentions.known_in c.fmt_items.new.known) (string_bytes c.args.f.now) (string_bytes c.push_str.new.self) (string_bytes c.fmt_items.new.f) (string_bytes c.fmt_all_once.new.f)
+    (λ r. section_written L C gives c.args.items.now (mentions.known_in c.fmt_items.new.self.known) (string_bytes c.args.f.now) (string_bytes c.push_str.new.self) (string_bytes c.fmt_items.new.f) (string_bytes c.fmt_all_once.new.f)
     some c.in_ok-push_str.ensures.bytes
-    (c.in_ok-fmt_items.ensures.known ∙ ap (λ ks. mentions.items_noted C (map (λ r. r.now) ks) (map gives c.args.items.now)) c.new-known.ensures.empty)
-    c.in_ok-fmt_items.ensures.text r)
+    (c.in_ok-fmt_items.ensures.known ∙ ap (λ ks. mentions.items_noted C (map (λ r. r.now) ks) (map gives c.args.items.now)) c.new.ensures.empty)
+    c.in_ok-fmt_items.ensures.text (r ∙ ap (λ n. string_bytes c.fmt_items.new.f ++ encode_utf8_all (once_texts (words g.A.IrText.written) (mentions.asking g.A.AttrText.print_once g.A.PartialEq.eq) n (mentions.known_in c.fmt_items.new.self.known))) c.in_ok-fmt_items.ensures.items))
     c.fmt_all_once.ensures

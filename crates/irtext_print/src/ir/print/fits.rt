@@ -18,21 +18,12 @@ fn lacking_key<'d, A: AttrText<A>>(
     ensures { option_copied result ≡ faults.lacking_key (entries_of attributes.now)
         (directive_of directive.now) }
 {
-    match directive {
-        Directive::Attr(key) => match attribute_under(attributes, key.as_str()) {
-            Some(_) => None,
-            None => Some(key),
-        },
-        Directive::Literal(_)
-        | Directive::Operand(_)
-        | Directive::Operands
-        | Directive::Successor(_)
-        | Directive::Successors
-        | Directive::AttrDict
-        | Directive::ResultType(_)
-        | Directive::Region(_)
-        | Directive::Regions
-        | Directive::SymbolHeader => None,
+    let Directive::Attr(key) = directive else {
+        return None;
+    };
+    match attribute_under(attributes, key.as_str()) {
+        Some(_) => None,
+        None => Some(key),
     }
 }
 

@@ -141,15 +141,7 @@ fn names_key(directive: &Directive, key: &str) -> bool
     match directive {
         Directive::Attr(named) => key == named.as_str(),
         Directive::SymbolHeader => key == "builtin_sym_name",
-        Directive::Literal(_)
-        | Directive::Operand(_)
-        | Directive::Operands
-        | Directive::Successor(_)
-        | Directive::Successors
-        | Directive::AttrDict
-        | Directive::ResultType(_)
-        | Directive::Region(_)
-        | Directive::Regions => false,
+        _ => false,
     }
 }
 

@@ -1,5 +1,9 @@
+use Rattle.std.proofs.Common.{sym, ◌∙◌}
 use Rattle.irtext_parse_section.proofs.SetBack.{earlier, restored}
 use Rattle.irtext_parse_section.proofs.location.plain.position_there.Goals as goal
+
+pub returns-in-Some : goal.returns-in-Some
+returns-in-Some c = (sym c.has_failed.ensures ∙ c.if-has_failed.false, c.in-Some.ensures)
 
 pub reset-requires : goal.reset-requires
 reset-requires c = earlier c.position-place.result c.args.stream.now c.both_there.new.stream c.in-None.ensures c.position-place.ensures

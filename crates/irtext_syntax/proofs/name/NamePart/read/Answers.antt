@@ -4,7 +4,7 @@ use Rattle.irtext_syntax.specs.NameTexts.{word_text, word_text_found}
 use Rattle.irtext_syntax.proofs.Seen.{gives_seen}
 use Rattle.irtext_syntax.proofs.name.NamePart.read.Goals as goal
 
-pub returns-in-Ok : goal.returns-in-Ok
-returns-in-Ok g c =
+pub returns : goal.returns
+returns g c =
     let w = c.new.result in
-    record { answers = gives_seen word_text c.args.stream.now.failed (identifier_at c.args.stream.now.rest) c.args.stream.now c.identifier_parse.new.stream c.in-Ok.identifier w (sym (word_text_found w) ∙ ap word_text c.new.ensures) c.in-Ok.ensures }
+    record { answers = gives_seen word_text c.args.stream.now.failed (identifier_at c.args.stream.now.rest) c.args.stream.now c.identifier_parse.new.stream c.in_ok-identifier.identifier w (sym (word_text_found w) ∙ ap word_text c.new.ensures) c.in_ok-identifier.ensures }

@@ -2,4 +2,4 @@ use Rattle.irtext_syntax.specs.RangeLaws.{encodes-ranged}
 use Rattle.irtext_syntax.proofs.range.RangedPart.write_text.Goals as goal
 
 pub returns : goal.returns
-returns g c = rw (encodes-ranged g.R.Range g.met.R.Range.fits c.args.self.now) c.write_decimal.ensures
+returns g c = rw (encodes-ranged g.R.Range c.args.self.now) c.write_decimal.ensures

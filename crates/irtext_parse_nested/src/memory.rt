@@ -1,0 +1,23 @@
+//! Allocations that failed, as errors of a parse.
+ghost use Rattle.std.specs.Prelude.{◌≡◌, Ok, IfOk, IfErr, OnOk};
+ghost use Rattle.irtext_parse_spec.specs.Promises.Section.{IsStarved};
+
+use irtext_base::parsable::{ParseResult, TextStream};
+use irtext_tokens::irfmt::faults::out_of_memory;
+use std::alloc::AllocError;
+
+/// Returns the value, or the committed error `Memory` for an allocation that failed.
+#[inline(always)]
+pub(crate) fn or_memory<X, A>(
+    stream: &mut TextStream,
+    made: Result<X, AllocError>,
+) -> ParseResult<X, A>
+    ensures value { IfOk result (λ x. made ≡ Ok x) }
+    ensures stream { OnOk result (stream.new ≡ stream.old) }
+    ensures starved { IfErr result IsStarved }
+{
+    match made {
+        Ok(value) => Ok(value),
+        Err(AllocError) => Err(out_of_memory(stream)),
+    }
+}

@@ -1,0 +1,24 @@
+-- The pieces that are names, of values or of blocks.
+use Rattle.std.proofs.Common.{◌≡◌, ℕ, Bool, List, refl}
+use Rattle.irtext_base.specs.Answers.{Outcome, mapped}
+use Rattle.irtext_base.specs.Locations.{AttrView}
+use Rattle.irtext_base.specs.Text.{Text}
+use Rattle.irtext_tokens.specs.ListOutcomes.{separated_at}
+use Rattle.irtext_grammar.specs.Grammar.Tree.{Name}
+use Rattle.irtext_parse_spec.specs.Heads.{flat, piece_at}
+use Rattle.irtext_parse_pieces.specs.declared.lists.NameKind.{NameKind}
+use Rattle.irtext_parse_pieces.specs.declared.lists.NameKind.TheVariants as kind
+use Rattle.irtext_parse_pieces.specs.declared.names.ReadName.{ReadName}
+use Rattle.irtext_parse_pieces.specs.Kinds.{named_at, names_directive, names_tree, read_names}
+use Rattle.irtext_parse_pieces.specs.Named.{StandsFor, Each}
+use Rattle.irtext_parse_pieces.specs.Pieces.{IsPiece}
+
+-- what the directive of all names of a kind parses
+pub names_step : {T A : Type 0} (types : Text → Outcome T) (attr : Text → Outcome (AttrView A)) (inside : Bool) (kind : NameKind) (u : Text) → piece_at types attr inside (flat (names_directive kind)) u ≡ mapped (names_tree kind) (separated_at 44 (named_at kind inside) u)
+names_step types attr inside kind.Value u = refl
+names_step types attr inside kind.Block u = refl
+
+-- names that represent those of the text are a piece of it
+pub names_stand : (T A : Type 0) (kind : NameKind) (names : List Text) (text : Text) (y : List ReadName) (x : List (Name ℕ)) → Each (StandsFor names text) y x → IsPiece {T = T} {A = A} names text (read_names kind y) (names_tree kind x)
+names_stand T A kind.Value names text y x m = (x, refl, m)
+names_stand T A kind.Block names text y x m = (x, refl, m)
