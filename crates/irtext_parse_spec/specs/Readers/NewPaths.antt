@@ -1,7 +1,6 @@
 -- For callers: what parsing a location does to the context: it may add paths.
 use Rattle.std.specs.Prelude.{◌≡◌, ℕ, ◌≤◌, Bool, Result, Ok, Err, List, IfOk, IsTrue, length, Vec, [], ◌∷◌, ◌++◌}
 use Rattle.std.specs.Global.{Global}
-use Rattle.std.specs.declared.alloc.AllocError.{AllocError}
 use Rattle.std.specs.Char.{is_whitespace}
 use Rattle.irtext_base.specs.Text.{Text, front, after}
 use Rattle.irtext_base.specs.Stream.{StreamView}
@@ -49,13 +48,6 @@ module _ {A X Y : Type 0} (is_known : ℕ → Y → Bool) (see : List (List ℕ)
     pub within : (depth : ℕ) → length old.rest ≤ depth → MustReadOver is_known see (outcome depth) paths old result new
 
 module _ {A : Type 0} where
-  -- the location that was made is returned; if an allocation failed, that is the fault
-  abbrev pub AnswersMade : Result (Location A) AllocError → StreamView → Result (Location A) (ParseFault A) → StreamView → Type 0
-  AnswersMade (Ok l) old (Ok k) new = (k ≡ l) × (new ≡ old)
-  AnswersMade (Ok l) old (Err fault) new = ⊥
-  AnswersMade (Err e) old (Ok k) new = ⊥
-  AnswersMade (Err e) old (Err fault) new = StarvesHere itself replaced old fault new
-
   -- a location of this form was made, or an allocation failed
   abbrev pub Makes : LocationView A → StreamView → Result (Location A) (ParseFault A) → StreamView → Type 0
   Makes view old (Ok l) new = (location_view l ≡ view) × (new ≡ old)
