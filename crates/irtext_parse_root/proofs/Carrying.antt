@@ -4,7 +4,6 @@ use Rattle.irtext_base.specs.Format.{Format, Id}
 use Rattle.irtext_base.specs.declared.location.Location.{Location}
 use Rattle.irtext_context.specs.Context.{ContextView}
 use Rattle.irtext_context.specs.declared.base.item.Item.{Item}
-use Rattle.irtext_context.specs.declared.base.item.Item.TheVariants as item
 use Rattle.irtext_graph.specs.declared.arena.Ptr.{Ptr}
 use Rattle.irtext_graph.specs.declared.object.BasicBlock.{BasicBlock}
 use Rattle.irtext_graph.specs.declared.object.Operation.{Operation}

@@ -27,6 +27,7 @@ use Rattle.irtext_parse_nested.specs.Items.{Names, Made, Pledge, StandsAs, Acts,
 use Rattle.irtext_parse_nested.specs.Located.{IsLocated}
 use Rattle.irtext_parse_root.specs.Built.{Built}
 use Rattle.irtext_parse_root.specs.Here.{Base}
+use Rattle.irtext_parse_spec.specs.Readers.Streams.{KeepsRest}
 use Rattle.irtext_parse_root.specs.Levels.{Level, pledges_of}
 use Rattle.irtext_parse_root.specs.Told.{all_done}
 use Rattle.irtext_parse_root.specs.Turned.{Carries, Remains, Turned, Faulted, at_text, by_names}
@@ -85,6 +86,10 @@ pub never_open : {X : Type 0} (b : Bool) → b ≡ true → b ≡ false → X
 never_open b c e = let z : true ≡ false = sym c ∙ e in absurd (cc z)
 
 -- ---- what is carried
+-- the source and the caller's data are unchanged by one and by the next
+pub rest_both : {T A U : Type 0} {a b c : code.State T A U} → KeepsRest a b → KeepsRest b c → KeepsRest a c
+rest_both h k = record { src = k.src ∙ h.src; aux_data = k.aux_data ∙ h.aux_data }
+
 -- marks that were added after others
 pub gains_both : {X : Type 0} (a b c : List (ℕ × X)) → GainsMarks a b → GainsMarks b c → GainsMarks a c
 gains_both a b c h k = (h.0 ++ k.0, k.1 ∙ (ap (λ z. z ++ k.0) h.1 ∙ append_assoc a h.0 k.0))
@@ -102,7 +107,7 @@ module _ {T A U : Type 0} where
 
   pub carries_both : {n0 n1 n2 : Names} {s0 s1 s2 : StateStream T A U} → Carries n0 s0 n1 s1 → Carries n1 s1 n2 s2 → Carries n0 s0 n2 s2
   carries_both {s0 = s0} {s1 = s1} {s2 = s2} h k = record {
-    rest = record { src = k.rest.src ∙ h.rest.src; aux_data = k.rest.aux_data ∙ h.rest.aux_data };
+    rest = rest_both h.rest k.rest;
     moves = moves_more h.moves k.moves;
     keeps = λ i text e. k.keeps i text (h.keeps i text e);
     lasts = lasts_then s0.state.ctx.now s1.state.ctx.now s2.state.ctx.now h.lasts k.lasts;
@@ -119,7 +124,7 @@ module _ {T A U : Type 0} where
 
   -- what remains if a turn fails after others
   pub remains_on : {n0 n1 : Names} {s0 s1 : StateStream T A U} {z : code.State T A U} → Carries n0 s0 n1 s1 → Remains s1.state z → Remains s0.state z
-  remains_on {s0 = s0} {s1 = s1} {z = z} h k = record { rest = record { src = k.rest.src ∙ h.rest.src; aux_data = k.rest.aux_data ∙ h.rest.aux_data }; gains = gains_both (marks_of s0.state) (marks_of s1.state) (marks_of z) h.gains k.gains }
+  remains_on {s0 = s0} {s1 = s1} {z = z} h k = record { rest = rest_both h.rest k.rest; gains = gains_both (marks_of s0.state) (marks_of s1.state) (marks_of z) h.gains k.gains }
 
   -- or if it is out of memory after them
   pub remains_so : {n0 n1 : Names} {s0 s1 : StateStream T A U} → Carries n0 s0 n1 s1 → Remains s0.state s1.state

@@ -3,7 +3,10 @@ use Rattle.std.proofs.Common.{◌≡◌, ◌≤◌, ℕ, Bool, true, [], ◌∷�
 use Rattle.irtext_base.specs.Text.{Text}
 use Rattle.irtext_base.specs.Answers.{Read}
 use Rattle.irtext_base.specs.Locations.{AttrView}
+use Rattle.irtext_base.specs.declared.parsable.fault.ParseFault.{ParseFault}
+use Rattle.irtext_context.specs.Context.{KeepsOlder}
 use Rattle.irtext_context.specs.declared.base.item.Item.TheVariants as item
+use Rattle.irtext_graph.specs.Back.{IsClosedBelow}
 use Rattle.irtext_graph.specs.declared.arena.Ptr.{Ptr}
 use Rattle.irtext_graph.specs.declared.object.BasicBlock.{BasicBlock}
 use Rattle.irtext_graph.specs.declared.object.Operation.{Operation}
@@ -34,10 +37,10 @@ use Rattle.irtext_parse_nested.specs.OpenOperation.{IsBegun, IsRegion}
 use Rattle.irtext_parse_nested.specs.Ends.{noted_as, GainsMarks, BecomesNamed}
 use Rattle.irtext_parse_nested.specs.Items.{Names, IsSound, KeepsLive}
 use Rattle.irtext_parse_nested.specs.Later.{GoesOn}
-use Rattle.irtext_parse_nested.proofs.Marking.{gains_nothing}
+use Rattle.irtext_parse_nested.proofs.Marking.{gains_nothing, on_err, always_err}
 use Rattle.irtext_parse_nested.specs.Located.{IsLocated}
 use Rattle.irtext_parse_nested.specs.Read.{ReadsFront, begun_by, BeginsOperation, EndsOperation, BeginsRegion, EndsRegion, BeginsBlock}
-use Rattle.irtext_parse_root.specs.Turned.{Remains}
+use Rattle.irtext_parse_root.specs.Turned.{Spares}
 use Rattle.irtext_parse_root.specs.Turns.{Begins, Continues, Ends, Enters, Leaves, Heads}
 
 module _ {T A U : Type 0} (types_at : Reader T) (attr : Reader (AttrView A)) (before : Names) (old : StateStream T A U) (names : Names) (new : StateStream T A U) (rest : KeepsRest old.state new.state) where
@@ -149,10 +152,7 @@ module _ {T A U : Type 0} (types_at : Reader T) (attr : Reader (AttrView A)) (be
         → OnOk r (Moves old.stream new.stream) → OnOk r (GoesOn types_at attr before old b next names new) → OnOk r (ModifiesOnly (TheOperation b.op ∷ []) old.state.ctx.now new.state.ctx.now) → OnOk r Lasting → OnOk r Sounding
         → OnOk r (Continues types_at attr before old b next names new)
     goes_given b next (Ok u) keeps values labels same moves goes spares lasts sound = record {
-      op = goes.op;
-      results = goes.results;
-      inside = goes.inside;
-      reads = goes.reads;
+      goes = goes;
       spares = spares;
       marks = same;
       carries = record { rest = rest; moves = moves; keeps = keeps; lasts = lasts; sound = sound; gains = gains_nothing same };
@@ -160,12 +160,12 @@ module _ {T A U : Type 0} (types_at : Reader T) (attr : Reader (AttrView A)) (be
     }
     goes_given b next (Err f) keeps values labels same moves goes spares lasts sound = tt
 
-  module _ {X E : Type 0} where
-    -- after an error, no mark was recorded, or some were
-    pub remains_same : (r : Result X E) → marks_of new.state ≡ marks_of old.state → OnErr r (Remains old.state new.state)
-    remains_same (Ok x) same = tt
-    remains_same (Err f) same = record { rest = rest; gains = gains_nothing same }
+  module _ {X : Type 0} {P : ℕ → Type 0} (r : Result X (ParseFault A)) (keeps : KeepsNames before.names names.names) where
+    -- what is left, where no mark was recorded
+    pub spares_same : marks_of new.state ≡ marks_of old.state → ((m : ℕ) → m ≤ old.state.ctx.now.graph.made → P m → KeepsOlder m old.state.ctx.now new.state.ctx.now) → Spares P before old.state r names new.state
+    spares_same same kept = record { remains = always_err r (record { rest = rest; gains = gains_nothing same }); names = keeps; kept = λ m le closed sound all. kept m le all }
 
-    pub remains_more : (r : Result X E) → OnErr r (GainsMarks (marks_of old.state) (marks_of new.state)) → OnErr r (Remains old.state new.state)
-    remains_more (Ok x) gains = tt
-    remains_more (Err f) gains = record { rest = rest; gains = gains }
+    -- and where some were
+    pub spares_more : OnErr r (GainsMarks (marks_of old.state) (marks_of new.state))
+        → ((m : ℕ) → m ≤ old.state.ctx.now.graph.made → IsClosedBelow m old.state.ctx.now.graph → IsSound m before old.state → P m → KeepsOlder m old.state.ctx.now new.state.ctx.now) → Spares P before old.state r names new.state
+    spares_more gains kept = record { remains = on_err r (λ g. record { rest = rest; gains = g }) gains; names = keeps; kept = kept }

@@ -34,14 +34,17 @@ pub mod RegionRefused
 pub mod RegionRuns
 pub mod Rooted
 pub mod Rules
+pub mod Says
 pub mod SectionFirst
 pub mod SectionGives
 pub mod Sectioned
+pub mod Sparing
 pub mod Staying
 pub mod Stopping
 pub mod Telling
 pub mod Turning
 pub mod Under
+pub mod Undoing
 pub mod Unplaced
 pub mod WholeRoot
 pub mod WholeSteps

@@ -6,7 +6,6 @@ use Rattle.std.proofs.lemmas.Bool.Decides.{nat_tests}
 use Rattle.irtext_base.specs.Format.{has, distinct}
 use Rattle.irtext_context.specs.declared.base.item.Item.{Item}
 use Rattle.irtext_context.specs.declared.base.item.Item.TheVariants as item
-use Rattle.irtext_graph.specs.declared.object.Operation.{Operation}
 use Rattle.irtext_graph.specs.declared.object.Object.{Object}
 use Rattle.irtext_graph.specs.Chained.{Among}
 use Rattle.irtext_graph.proofs.Preorders.{among_left, among_right}

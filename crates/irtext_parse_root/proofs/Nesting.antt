@@ -1,5 +1,5 @@
 -- An operation with all that nests in it, from its beginning to its end, or to the first fault.
-use Rattle.std.proofs.Common.{◌≡◌, ◌∙◌, ◌-◌, ◌+◌, ℕ, true, false, List, [], ◌∷◌, ◌++◌, length, Option, Some, None, refl, sym, ap, subst, append_assoc, append-nil, arith, le_refl, inl, inr}
+use Rattle.std.proofs.Common.{◌≡◌, ◌∙◌, ◌-◌, ℕ, true, false, List, [], ◌∷◌, ◌++◌, length, Option, Some, None, refl, sym, ap, subst, append_assoc, append-nil, arith, le_refl, inl, inr}
 use Rattle.irtext_base.specs.Text.{Text}
 use Rattle.irtext_base.specs.Locations.{AttrView}
 use Rattle.irtext_base.specs.declared.location.Location.{Location}
@@ -16,7 +16,7 @@ use Rattle.irtext_parse_state.specs.declared.parsable.state.StateStream.{StateSt
 use Rattle.irtext_grammar.specs.Contexts.Formats.{format_of}
 use Rattle.irtext_grammar.specs.Contexts.Held.{whole}
 use Rattle.irtext_grammar.specs.Grammar.Tree.{Tree}
-use Rattle.irtext_grammar.specs.Names.History.{Outcome as Machine, going, failed}
+use Rattle.irtext_grammar.specs.Names.History.{Outcome as Machine, failed}
 use Rattle.irtext_grammar.specs.Names.Script.{Path}
 use Rattle.irtext_parse_spec.specs.Promises.Root.{UnlessMemory}
 use Rattle.irtext_parse_spec.specs.Promises.Supported.{is_committed}
@@ -24,7 +24,6 @@ use Rattle.irtext_parse_spec.proofs.Joins.Answers.{Splits}
 use Rattle.irtext_parse_spec.proofs.Joins.Attributes.{splits_attr}
 use Rattle.irtext_parse_spec.specs.Heads.{front_steps}
 use Rattle.irtext_parse_spec.specs.Reached.{Advanced, Stopped, Actions, steps_in, operation_at}
-use Rattle.irtext_parse_spec.specs.Resume as theory
 use Rattle.irtext_parse_spec.specs.Resume.{OpenOperation, to_come, an_operation, EndsIn, Goes}
 use Rattle.irtext_parse_spec.proofs.Naming.Keeps.{failed_keeps}
 use Rattle.irtext_parse_spec.proofs.Resume.Failed.{failed_at}

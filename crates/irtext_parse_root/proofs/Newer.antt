@@ -1,7 +1,6 @@
 -- The items that carry marks were created by the parse: they are newer than all objects that were live before it.
 use Rattle.std.proofs.Common.{◌≡◌, ◌∙◌, ℕ, Bool, true, false, cond, List, [], ◌∷◌, Option, Some, None, IsSome, option_map, refl, sym, subst, inl, inr}
 use Rattle.std.specs.Prelude.{nat_lt, option_and_then}
-use Rattle.irtext_base.specs.Locations.{AttrView}
 use Rattle.irtext_base.specs.declared.location.Location.{Location}
 use Rattle.irtext_context.specs.Context.{ContextView, KeepsOlder, operation_of, block_of}
 use Rattle.irtext_context.specs.declared.base.item.Item.{Item}
@@ -17,18 +16,12 @@ use Rattle.irtext_graph.specs.Back.{AllOlder}
 use Rattle.irtext_graph.specs.Chained.{Among}
 use Rattle.irtext_graph.specs.Graph.{parent_of}
 use Rattle.irtext_graph.specs.Store.{get, before}
-use Rattle.irtext_tokens.specs.Infix.{Reader}
-use Rattle.irtext_parse_state.specs.States.{marks_of}
-use Rattle.irtext_parse_state.specs.declared.parsable.state.StateStream.{StateStream}
-use Rattle.irtext_grammar.specs.Contexts.Held.{whole}
 use Rattle.irtext_grammar.specs.Grammar.Tree.{Tree}
 use Rattle.irtext_parse_spec.specs.Building.{finished}
 use Rattle.irtext_parse_spec.specs.Unchanged.{IsThere}
 use Rattle.irtext_parse_spec.specs.Tracks.{Made, HoldsMade}
-use Rattle.irtext_parse_nested.specs.Located.{IsLocated}
 use Rattle.irtext_parse_root.specs.Carried.{marks_in, object_of, AreCarried}
 use Rattle.irtext_parse_section.specs.Applied.{IsNewer, AreNewer}
-use Rattle.irtext_parse_root.specs.Marked.{LeavesMarked}
 use Rattle.irtext_parse_root.proofs.Marks.{carried_back}
 
 older_is : {X : Type 0} (m : ℕ) (x : Option (Entry X)) (e : Entry X) → older m x ≡ Some e → x ≡ Some e

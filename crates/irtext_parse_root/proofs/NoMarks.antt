@@ -5,14 +5,14 @@ use Rattle.irtext_base.specs.Answers.{Outcome}
 use Rattle.irtext_base.specs.Locations.{AttrView}
 use Rattle.irtext_base.specs.declared.location.Location.{Location}
 use Rattle.irtext_base.specs.declared.parsable.fault.ParseFault.{ParseFault}
-use Rattle.irtext_context.specs.Context.{ContextView}
+use Rattle.irtext_context.specs.Context.{ContextView, KeepsOlder}
 use Rattle.irtext_context.specs.Dialects.{Table}
+use Rattle.irtext_graph.specs.Back.{AllOlder}
 use Rattle.irtext_graph.specs.declared.arena.Ptr.{Ptr}
 use Rattle.irtext_graph.specs.declared.object.Operation.{Operation}
 use Rattle.irtext_parse_state.specs.States.{marks_of}
 use Rattle.irtext_parse_state.specs.declared.parsable.state.StateStream.{StateStream}
 use Rattle.irtext_grammar.specs.Contexts.Formats.{format_of}
-use Rattle.irtext_grammar.specs.Contexts.Held.{whole}
 use Rattle.irtext_grammar.specs.Names.History.{going, failed}
 use Rattle.irtext_parse_spec.specs.Promises.Root.{UnlessMemory}
 use Rattle.irtext_parse_spec.specs.Promises.Section.{indices_of}
@@ -54,10 +54,16 @@ module _ {T A : Type 0} (types_at : Text → Outcome T) (attr : Text → Outcome
       inr (alone.by_names f is (λ path. subst (λ ms. EndsIn (failed f) (operation_at dialects types_at attr (naming (format_of dialects) path) true rest (going (start_with ms)))) none (so path)))
 
 -- an operation that was parsed where no mark was recorded
-pub marked_alone : {T A U : Type 0} (types_at : Text → Outcome T) (attr : Text → Outcome (AttrView A)) (op : Ptr Operation) (old new : StateStream T A U) → marks_of old.state ≡ [] → ReadsTree types_at attr op old new → LeavesMarked types_at attr op old new
-marked_alone types_at attr op old new none t = record {
+pub marked_alone : {T A U : Type 0} (types_at : Text → Outcome T) (attr : Text → Outcome (AttrView A)) (op : Ptr Operation) (old new : StateStream T A U) → marks_of old.state ≡ []
+    → AllOlder old.state.ctx.now.graph.made old.state.ctx.now.graph → KeepsOlder old.state.ctx.now.graph.made old.state.ctx.now new.state.ctx.now
+    → ReadsTree types_at attr op old new → LeavesMarked types_at attr op old new
+marked_alone types_at attr op old new none older kept t = record {
+  accepted = t.accepted;
+  moves = t.moves;
   leaves = tree_alone types_at attr old.state.ctx.now.dialects (indices_of (marks_of old.state)) (ap indices_of none) _ op (indices_of (marks_of new.state)) old.state.ctx.now new.state.ctx.now old.stream.rest new.stream.rest t.leaves;
   closed = t.closed;
   carried = subst (AreCarried t.leaves.items (marks_in t.leaves.tree)) (sym (t.noted ∙ ap (λ ms. ms ++ t.marks) none)) t.carried;
   falls = t.falls;
+  older = older;
+  kept = kept;
 }

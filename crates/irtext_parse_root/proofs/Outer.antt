@@ -1,26 +1,25 @@
 -- The outermost parser's promise, with the section where it is looked for.
-use Rattle.std.proofs.Common.{◌≡◌, ◌∙◌, ◌⊎◌, ◌↔◌, ℕ, Bool, true, false, true≢false, cond, ◌&&◌, List, [], ◌∷◌, refl, sym, inl, inr}
+use Rattle.std.proofs.Common.{◌≡◌, ◌∙◌, ◌⊎◌, ◌↔◌, Bool, true, false, true≢false, cond, ◌&&◌, List, [], ◌∷◌, refl, sym, inl, inr}
 use Rattle.std.specs.Prelude.{IsTrue}
 use Rattle.irtext_base.specs.Text.{Text}
 use Rattle.irtext_base.specs.Answers.{Outcome}
-use Rattle.irtext_base.specs.Own.{texts_of, Texts}
+use Rattle.irtext_base.specs.Own.{Texts}
 use Rattle.irtext_base.specs.Locations.{AttrView}
 use Rattle.irtext_base.specs.Stream.{StreamView}
 use Rattle.irtext_base.specs.declared.parsable.fault.ParseFault.{ParseFault}
+use Rattle.irtext_base.specs.declared.text.IrText as ir_text
 use Rattle.irtext_context.specs.Dialects.{Table}
 use Rattle.irtext_graph.specs.declared.arena.Ptr.{Ptr}
 use Rattle.irtext_graph.specs.declared.object.Operation.{Operation}
-use Rattle.irtext_tokens.specs.AttrTexts.{attr_at}
 use Rattle.irtext_parse_state.specs.declared.parsable.state.StateStream.{StateStream}
 use Rattle.irtext_grammar.specs.Contexts.Held.{whole}
 use Rattle.irtext_parse_spec.specs.Promises.Root.{UnlessMemory}
 use Rattle.irtext_parse_spec.specs.Promises.Section.{is_noted}
-use Rattle.irtext_parse_spec.proofs.Joins.Answers.{Splits}
-use Rattle.irtext_parse_spec.specs.Exact.{NeedsWord}
-use Rattle.irtext_parse_spec.proofs.Naming.Shorter.{Shortens}
 use Rattle.irtext_promises.specs.Promises.{HasFault, BuildsTree, BuildsRoot, BuildsWith, RefusesRoot, RefusesWith}
 use Rattle.irtext_promises.proofs.Refuses.{refuses_tree}
 use Rattle.irtext_promises.proofs.Root.{root_refused}
+use Rattle.irtext_parse_root.proofs.Laws.{Laws}
+use Rattle.irtext_parse_root.specs.Parses.{attr, texts}
 
 -- ---- tests
 pub marks_there : {X : Type 0} (marks : List X) (b : Bool) → (IsTrue b ↔ (marks ≡ [] → ⊥)) → b ≡ true → marks ≡ [] → ⊥
@@ -76,12 +75,11 @@ module _ {T A : Type 0} (types : Texts T) (owns : Texts A) (types_at : Text → 
   refused_with true old fault e h = h
   refused_with false old fault e h = absurd (true≢false (sym e))
 
-module _ {T A : Type 0} (types_at : Text → Outcome T) (types_written : T → Text) (reading : Text → Outcome A) (written : A → Text) (types_split : Splits types_at) (splits : Splits reading) (words : NeedsWord reading)
-    (short_types : Shortens (texts_of types_at types_written)) (short_owns : Shortens (texts_of reading written)) (dialects : List (Text × Table)) where
+module _ {T A : Type 0} {types : ir_text.Ghosts T A} {owns : ir_text.Ghosts A A} (laws : Laws types owns) (dialects : List (Text × Table)) where
   -- a fault of the operation
-  pub fault_with : (look : Bool) (old : StreamView) (fault : ParseFault A) → UnlessMemory (HasFault {T = T} types_at (attr_at reading) dialects (whole old) old.rest) fault
-      → UnlessMemory (RefusesWith (texts_of types_at types_written) (texts_of reading written) types_at (attr_at reading) dialects look old) fault
+  pub fault_with : (look : Bool) (old : StreamView) (fault : ParseFault A) → UnlessMemory (HasFault {T = T} types.reading (attr owns) dialects (whole old) old.rest) fault
+      → UnlessMemory (RefusesWith (texts types) (texts owns) types.reading (attr owns) dialects look old) fault
   fault_with true old fault (inl s) = inl s
-  fault_with true old fault (inr h) = inr (root_refused types_at types_written reading written dialects types_split splits words short_types short_owns old fault h)
+  fault_with true old fault (inr h) = inr (root_refused types.reading types.written owns.reading owns.written dialects laws.types_split laws.splits laws.words laws.short_types laws.short_owns old fault h)
   fault_with false old fault (inl s) = inl s
-  fault_with false old fault (inr h) = inr (refuses_tree types_at types_written reading written dialects types_split splits words short_types short_owns old fault h)
+  fault_with false old fault (inr h) = inr (refuses_tree types.reading types.written owns.reading owns.written dialects laws.types_split laws.splits laws.words laws.short_types laws.short_owns old fault h)

@@ -233,7 +233,7 @@ module _ {T A U : Type 0} (types_at : Reader T) (reading : Reader A) (h : Splits
         let s = piece_comes (slice_get (steps_in ctx.dialects (id_of b.id)) b.step) is in
         let ss = drop (b.step + 1) (steps_in ctx.dialects (id_of b.id)) in
         let e = steps_here before.names text ctx b o here.levels.0.0 s.0 s.1 in
-        let r = c.reads o s.0 ss here.levels.0.0 e in
+        let r = c.goes.reads o s.0 ss here.levels.0.0 e in
         let own_then = r.2 own here.levels.0.1 in (
           record {
             later = at_operation next (with_steps o ss (o.parts ++ tree.piece r.0.piece ∷ [])) (record own { entries = put_all own.entries (stored r.0.piece) }) ∷ more;
@@ -241,18 +241,18 @@ module _ {T A U : Type 0} (types_at : Reader T) (reading : Reader A) (h : Splits
               next_is = refl;
               others = here.others;
               levels = ((r.1, own_lasts names new c.carries (with_steps o ss (o.parts ++ tree.piece r.0.piece ∷ [])) (record own { entries = put_all own.entries (stored r.0.piece) }) own_then.0), others_last names new c.carries more here.levels.1);
-              nest = (subst (λ p. StandsInBlock base p more) (sym c.op) here.nest.0, nests_last names new c.carries base v more here.nest.1);
+              nest = (subst (λ p. StandsInBlock base p more) (sym c.goes.op) here.nest.0, nests_last names new c.carries base v more here.nest.1);
               values = c.depth.values ∙ here.values;
               labels = c.depth.labels ∙ here.labels;
             };
-            turned = piece_read types_at attr base before old b o own more next s.0 ss names new e s.2 c.op c.results r.0 own_then.1 c.spares c.marks (moves_fewer old.stream new.stream c.carries.moves);
+            turned = piece_read types_at attr base before old b o own more next s.0 ss names new e s.2 c.goes.op c.goes.results r.0 own_then.1 c.spares c.marks (moves_fewer old.stream new.stream c.carries.moves);
           },
           step_nearer often (waiting (at_operation b o own ∷ more)) old.stream.rest new.stream.rest o s.0 ss (o.parts ++ tree.piece r.0.piece ∷ []) e (moves_fewer old.stream new.stream c.carries.moves),
         )
 
     pub piece_proceeds : AreHere T A text ctx before (Some (framed.Operation b)) frames → Proceeds types_at attr (framed.Operation b) frames before old names new (Some (framed.Operation next)) frames
     piece_proceeds = operation_proceeds names new c.carries b frames (Some (framed.Operation next)) frames piece_arrives
-        (λ m le all. (subst (λ p. IsNew m new.state.ctx.now.graph (TheOperation p)) (sym c.op) (frame_new m ctx new.state.ctx.now c.carries.lasts le (framed.Operation b) all.0), frames_new m ctx new.state.ctx.now c.carries.lasts le frames all.1))
+        (λ m le all. (subst (λ p. IsNew m new.state.ctx.now.graph (TheOperation p)) (sym c.goes.op) (frame_new m ctx new.state.ctx.now c.carries.lasts le (framed.Operation b) all.0), frames_new m ctx new.state.ctx.now c.carries.lasts le frames all.1))
 
   -- the white space before what follows is consumed
   module _ (v : StreamView) (passes : PassesTo (after_space old.stream.rest) old.stream v) where

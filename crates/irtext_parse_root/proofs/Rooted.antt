@@ -2,7 +2,7 @@
 use Rattle.std.proofs.Common.{ℕ, List, Option, refl, inl, inr}
 use Rattle.irtext_base.specs.Paths.{Written}
 use Rattle.irtext_base.specs.declared.location.Location.{Location}
-use Rattle.irtext_context.specs.Context.{ContextView, operation, block}
+use Rattle.irtext_context.specs.Context.{ContextView}
 use Rattle.irtext_context.specs.declared.base.item.Item.{Item}
 use Rattle.irtext_context.specs.declared.base.item.Item.TheVariants as item
 use Rattle.irtext_graph.specs.declared.arena.Ptr.{Ptr}

@@ -1,5 +1,5 @@
 -- A fault of the section after an operation is the first failure of every section that the text parses as.
-use Rattle.std.proofs.Common.{◌≡◌, ◌∙◌, ◌-◌, ◌+◌, ℕ, List, ◌++◌, length, take, refl, sym, ap, subst, append_assoc, length-append, arith, inl, inr}
+use Rattle.std.proofs.Common.{◌≡◌, ◌∙◌, ◌-◌, ℕ, List, ◌++◌, length, take, refl, sym, ap, subst, append_assoc, length-append, arith, inl, inr}
 use Rattle.std.proofs.Math.Seq.{take-append_seam}
 use Rattle.irtext_base.specs.Text.{Text}
 use Rattle.irtext_base.specs.Faults.{Fault, fault_of}

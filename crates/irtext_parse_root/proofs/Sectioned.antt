@@ -1,24 +1,24 @@
 -- The promise of a root, from the result of parsing its operation, with a section after it or without one.
 use Rattle.std.proofs.Common.{◌≡◌, ◌∙◌, ◌==◌, ℕ, suc, true, false, List, [], ◌∷◌, ◌++◌, map, length, Option, Some, refl, sym, ap, subst, inl, inr}
 use Rattle.irtext_base.specs.Text.{Text}
-use Rattle.irtext_base.specs.Format.{distinct, Id}
+use Rattle.irtext_base.specs.Format.{distinct}
 use Rattle.irtext_base.specs.Answers.{Outcome, Read}
-use Rattle.irtext_base.specs.Own.{texts_of, Sincere, Lawful}
+use Rattle.irtext_base.specs.Own.{texts_of}
 use Rattle.irtext_base.specs.Paths.{Written}
 use Rattle.irtext_base.specs.declared.location.Location.{Location}
 use Rattle.irtext_base.specs.declared.parsable.fault.ParseFault.{ParseFault}
+use Rattle.irtext_base.specs.declared.text.IrText as ir_text
 use Rattle.irtext_context.specs.Context.{ContextView, KeepsOlder}
 use Rattle.irtext_context.specs.Dialects.{Table}
 use Rattle.irtext_context.specs.declared.base.item.Item.{Item}
 use Rattle.irtext_context.proofs.Kept.{kept_trans}
 use Rattle.irtext_graph.specs.declared.arena.Ptr.{Ptr}
 use Rattle.irtext_graph.specs.declared.object.Operation.{Operation}
-use Rattle.irtext_graph.specs.Back.{AllOlder}
 use Rattle.irtext_graph.specs.Chained.{Among}
 use Rattle.irtext_tokens.specs.AttrTexts.{attr_at}
 use Rattle.irtext_parse_state.specs.States.{marks_of}
 use Rattle.irtext_parse_state.specs.declared.parsable.state.StateStream.{StateStream}
-use Rattle.irtext_grammar.specs.Contexts.Formats.{format_of, isolated, IsAccepted}
+use Rattle.irtext_grammar.specs.Contexts.Formats.{format_of, isolated}
 use Rattle.irtext_grammar.specs.Contexts.Held.{location_over, whole}
 use Rattle.irtext_grammar.specs.Contexts.Nested.{pointers}
 use Rattle.irtext_grammar.specs.Grammar.Marked.{marked, section_if, reads_root}
@@ -36,18 +36,15 @@ use Rattle.irtext_grammar.proofs.Grammar.WholeTree as trees
 use Rattle.irtext_grammar.proofs.Graphs.Links.{all_there}
 use Rattle.irtext_grammar.proofs.Names.ResolvedRoot as resolved
 use Rattle.irtext_parse_spec.specs.Promises.Root.{location_of}
-use Rattle.irtext_parse_spec.specs.Promises.Section.{Moves, indices_of, is_noted, Faults}
+use Rattle.irtext_parse_spec.specs.Promises.Section.{indices_of, is_noted, Faults}
 use Rattle.irtext_parse_spec.specs.Promises.Supported.{location_standing, RefusedAs}
 use Rattle.irtext_parse_spec.specs.Promises.Root.{UnlessMemory}
-use Rattle.irtext_parse_spec.proofs.Joins.Answers.{Splits}
 use Rattle.irtext_parse_spec.proofs.Readers.Answered.{moves_more}
-use Rattle.irtext_parse_spec.specs.Exact.{NeedsWord}
 use Rattle.irtext_parse_spec.specs.Naming.{naming}
 use Rattle.irtext_parse_spec.specs.Naming as paths
 use Rattle.irtext_parse_spec.proofs.Knot.Whole as knot
 use Rattle.irtext_parse_spec.proofs.Naming.Places.{places_fall}
 use Rattle.irtext_parse_spec.proofs.Naming.Scripts.{read_runs}
-use Rattle.irtext_parse_spec.proofs.Naming.Shorter.{Shortens}
 use Rattle.irtext_promises.specs.Given.{RootHas}
 use Rattle.irtext_promises.specs.Held.{held_root, placed_under, IsWhole}
 use Rattle.irtext_promises.specs.Leaves.{StandsBehind}
@@ -72,19 +69,33 @@ use Rattle.irtext_parse_root.proofs.Carrying.{marks_are}
 use Rattle.irtext_parse_pieces.proofs.Meanings.{takes_whole}
 use Rattle.irtext_tokens.proofs.Steps.{alone}
 use Rattle.irtext_parse_nested.specs.Located.{IsLocated}
+use Rattle.irtext_parse_section.specs.Applied.{AreNewer}
 use Rattle.irtext_parse_section.specs.Said.{rules_of}
 use Rattle.irtext_parse_section.specs.Section.{ReadsSection}
 use Rattle.irtext_parse_root.specs.Marked.{LeavesMarked}
 use Rattle.irtext_parse_root.proofs.Closed.{came_to}
+use Rattle.irtext_parse_root.proofs.Laws.{Laws}
 use Rattle.irtext_parse_root.proofs.Marks.{CarriesOnly, marked_items, carries_only}
+use Rattle.irtext_parse_root.proofs.Newer.{all_newer}
 use Rattle.irtext_parse_root.proofs.Rooted.{GivesEach, root_given}
 use Rattle.irtext_parse_root.proofs.Rules.{rules_are}
 use Rattle.irtext_parse_root.proofs.SectionFirst.{first_wrong}
 use Rattle.irtext_parse_root.proofs.SectionGives as gives
 
-module _ {T A U : Type 0} (types_at : Text → Outcome T) (types_written : T → Text) (reading : Text → Outcome A) (written : A → Text) (types_split : Splits types_at) (splits : Splits reading) (words : NeedsWord reading)
-    (short_types : Shortens (texts_of types_at types_written)) (short_owns : Shortens (texts_of reading written)) (op : Ptr Operation) (old mid : StateStream T A U)
-    (accepted : (id : Id) → IsAccepted old.state.ctx.now.dialects id) (m : LeavesMarked types_at (attr_at reading) op old mid) (moves : Moves old.stream mid.stream) where
+module _ {T A U : Type 0} {types : ir_text.Ghosts T A} {owns : ir_text.Ghosts A A} (laws : Laws types owns) (op : Ptr Operation) (old mid : StateStream T A U) (m : LeavesMarked types.reading (attr_at owns.reading) op old mid) where
+  -- what is parsed of a type and of an attribute, and what is printed
+  abbrev types_at : Text → Outcome T
+  types_at = types.reading
+
+  abbrev types_written : T → Text
+  types_written = types.written
+
+  abbrev reading : Text → Outcome A
+  reading = owns.reading
+
+  abbrev written : A → Text
+  written = owns.written
+
   abbrev dialects : List (Text × Table)
   dialects = old.state.ctx.now.dialects
 
@@ -103,33 +114,37 @@ module _ {T A U : Type 0} (types_at : Text → Outcome T) (types_written : T →
   abbrev first_of : ContextView T A → ℕ → Written A
   first_of c = location_of c.paths old.state.src (whole old.stream)
 
+  -- the items of the recorded marks are newer than what was there before
+  pub marks_newer : AreNewer old.state.ctx.now.graph.made mid.state.ctx.now marks
+  marks_newer = all_newer old.state.ctx.now.graph.made old.state.ctx.now mid.state.ctx.now m.older m.kept L m.leaves.items m.leaves.whole op t m.leaves.held marks m.carried
+
   -- ---- no section
   -- an operation that was parsed with no section keeps its promise
   pub tree_built : BuildsTree (texts_of types_at types_written) (texts_of reading written) (attr_at reading) op old mid
-  tree_built = kept.builds_tree types_at types_written reading written types_split splits words short_types short_owns L op old mid accepted m.leaves m.closed
-      (λ n l e. place_told mid.state.ctx.now.paths old.state.src (whole old.stream) n l e) moves
+  tree_built = kept.builds_tree types_at types_written reading written laws.types_split laws.splits laws.words laws.short_types laws.short_owns L op old mid m.accepted m.leaves m.closed
+      (λ n l e. place_told mid.state.ctx.now.paths old.state.src (whole old.stream) n l e) m.moves
 
   is_marked : is_noted noted ≡ marked t
-  is_marked = root.marked_noted types_at types_written reading written dialects types_split splits words short_types short_owns accepted L op noted old.state.ctx.now mid.state.ctx.now old.stream.rest mid.stream.rest m.leaves
+  is_marked = root.marked_noted types_at types_written reading written dialects laws.types_split laws.splits laws.words laws.short_types laws.short_owns m.accepted L op noted old.state.ctx.now mid.state.ctx.now old.stream.rest mid.stream.rest m.leaves
 
   reads_it : grammar.reads (knot.L types_at types_written reading written dialects) t old.stream.rest mid.stream.rest
-  reads_it = kept.reads_tree types_at types_written reading written dialects types_split splits words short_types short_owns accepted L op noted old.state.ctx.now mid.state.ctx.now old.stream.rest mid.stream.rest m.leaves
+  reads_it = kept.reads_tree types_at types_written reading written dialects laws.types_split laws.splits laws.words laws.short_types laws.short_owns m.accepted L op noted old.state.ctx.now mid.state.ctx.now old.stream.rest mid.stream.rest m.leaves
 
   tree_resolves : failures_of {X = Written A} (isolated dialects) t [] ≡ []
-  tree_resolves = kept.tree_resolves types_at types_written reading written dialects types_split splits words short_types short_owns accepted L op noted old.state.ctx.now mid.state.ctx.now old.stream.rest mid.stream.rest m.leaves
+  tree_resolves = kept.tree_resolves types_at types_written reading written dialects laws.types_split laws.splits laws.words laws.short_types laws.short_owns m.accepted L op noted old.state.ctx.now mid.state.ctx.now old.stream.rest mid.stream.rest m.leaves
 
   named : (path : ℕ → Path) × paths.Names path t
-  named = kept.named types_at types_written reading written dialects types_split splits words short_types short_owns accepted L op noted old.state.ctx.now mid.state.ctx.now old.stream.rest mid.stream.rest m.leaves
+  named = kept.named types_at types_written reading written dialects laws.types_split laws.splits laws.words laws.short_types laws.short_owns m.accepted L op noted old.state.ctx.now mid.state.ctx.now old.stream.rest mid.stream.rest m.leaves
 
   behind : StandsBehind types_at (attr_at reading) dialects m.leaves.items noted mid.state.ctx.now old.stream.rest mid.stream.rest named.0
   behind = m.leaves.machine named.0
 
   formed : Formed t
-  formed = kept.formed types_at types_written reading written dialects types_split splits words short_types short_owns accepted L op noted old.state.ctx.now mid.state.ctx.now old.stream.rest mid.stream.rest m.leaves
+  formed = kept.formed types_at types_written reading written dialects laws.types_split laws.splits laws.words laws.short_types laws.short_owns m.accepted L op noted old.state.ctx.now mid.state.ctx.now old.stream.rest mid.stream.rest m.leaves
 
   ran : run (going start) (events (tree_script (isolated dialects) t done)) ≡ going behind.state
   ran =
-      let found = knot.tree_found types_at types_written reading written dialects types_split splits (naming (format_of dialects) named.0) words t old.stream.rest mid.stream.rest (going start) reads_it in
+      let found = knot.tree_found types_at types_written reading written dialects laws.types_split laws.splits (naming (format_of dialects) named.0) laws.words t old.stream.rest mid.stream.rest (going start) reads_it in
       let runs = read_runs (texts_of types_at types_written) (texts_of reading written) (format_of dialects) named.0 (isolated dialects) t old.stream.rest mid.stream.rest named.1 reads_it (going start) in
       sym runs ∙ came_to tt tt _ _ mid.stream.rest mid.stream.rest (sym found ∙ behind.came)
 
@@ -144,7 +159,7 @@ module _ {T A U : Type 0} (types_at : Text → Outcome T) (types_written : T →
   tells_first n l e = place_told mid.state.ctx.now.paths old.state.src (whole old.stream) n l e
 
   tree_only : OnlyNew op old.state.ctx.now mid.state.ctx.now
-  tree_only = kept.tree_only types_at types_written reading written dialects types_split splits words short_types short_owns accepted L op noted old.state.ctx.now mid.state.ctx.now old.stream.rest mid.stream.rest m.leaves m.closed (first_of mid.state.ctx.now) tells_first
+  tree_only = kept.tree_only types_at types_written reading written dialects laws.types_split laws.splits laws.words laws.short_types laws.short_owns m.accepted L op noted old.state.ctx.now mid.state.ctx.now old.stream.rest mid.stream.rest m.leaves m.closed (first_of mid.state.ctx.now) tells_first
 
   whole_without : IsWhole mid.state.ctx.now op
   whole_without = root_whole mid.state.ctx.now (first_of mid.state.ctx.now) [] op t
@@ -159,15 +174,15 @@ module _ {T A U : Type 0} (types_at : Text → Outcome T) (types_written : T →
         entries = [];
         reads = (mid.stream.rest, reads_it, subst (λ z. section_if (knot.L types_at types_written reading written dialects) (location_standing (attr_at reading)) z [] mid.stream.rest mid.stream.rest) (sym bare) refl);
         resolves = tree_resolves;
-        moves = moves;
-        builds = kept.tree_builds types_at types_written reading written dialects types_split splits words short_types short_owns accepted L op noted old.state.ctx.now mid.state.ctx.now old.stream.rest mid.stream.rest m.leaves m.closed (first_of mid.state.ctx.now) tells_first;
+        moves = m.moves;
+        builds = kept.tree_builds types_at types_written reading written dialects laws.types_split laws.splits laws.words laws.short_types laws.short_owns m.accepted L op noted old.state.ctx.now mid.state.ctx.now old.stream.rest mid.stream.rest m.leaves m.closed (first_of mid.state.ctx.now) tells_first;
         is_whole = whole_without;
         fresh = none;
         only = tree_only;
       }
 
   -- ---- a section
-  module _ (some : marks_of mid.state ≡ [] → ⊥) (sincere : Sincere reading) (lawful : Lawful A (texts_of reading written)) where
+  module _ (some : marks_of mid.state ≡ [] → ⊥) where
     has_mark : marked t ≡ true
     has_mark = sym is_marked ∙ go (marks_of mid.state) some
       where
@@ -187,7 +202,7 @@ module _ {T A U : Type 0} (types_at : Text → Outcome T) (types_written : T →
     same_rules = rules_are L mid.state.ctx.now m.leaves.items (pointers mid.state.ctx.now.graph op) t (is_tree (first_of mid.state.ctx.now)) marks m.carried (length old.stream.rest) (length mid.stream.rest) m.falls apart
 
     carries : (n : ℕ) (x : Item) (mark : Option (Mark ℕ)) → Among (n, object_of x) m.leaves.items → Among (n, mark) (marked_items t) → CarriesOnly marks x mark
-    carries = carries_only t (suc (length old.stream.rest)) (suc (length mid.stream.rest)) (places_fall (texts_of types_at types_written) (texts_of reading written) (format_of dialects) short_types short_owns t old.stream.rest mid.stream.rest reads_it)
+    carries = carries_only t (suc (length old.stream.rest)) (suc (length mid.stream.rest)) (places_fall (texts_of types_at types_written) (texts_of reading written) (format_of dialects) laws.short_types laws.short_owns t old.stream.rest mid.stream.rest reads_it)
         m.leaves.items marks m.carried (length old.stream.rest) (length mid.stream.rest) m.falls m.leaves.held.tracks.once apart
 
     -- ---- it was parsed
@@ -195,7 +210,7 @@ module _ {T A U : Type 0} (types_at : Text → Outcome T) (types_written : T →
     module _ (entries : List (Entry ℕ A (Written A))) (taken rest : Text) (reads : section_at (attr_at reading) noted (rules_of marks) mid.stream.rest ≡ Read entries taken rest) where
       read : section (knot.L types_at types_written reading written dialects) (location_standing (attr_at reading)) entries mid.stream.rest rest
           × (taken ++ rest ≡ mid.stream.rest) × (refused noted (rules_of marks) entries ≡ [])
-      read = section_read (texts_of types_at types_written) reading written (format_of dialects) sincere lawful noted (rules_of marks) mid.stream.rest entries taken rest reads
+      read = section_read (texts_of types_at types_written) reading written (format_of dialects) laws.sincere laws.lawful noted (rules_of marks) mid.stream.rest entries taken rest reads
 
       none_wrong : refused noted (rule_of t) entries ≡ []
       none_wrong = subst (λ rules. refused noted rules entries ≡ []) same_rules read.2
@@ -204,10 +219,9 @@ module _ {T A U : Type 0} (types_at : Text → Outcome T) (types_written : T →
       reads_marked = (mid.stream.rest, reads_it, subst (λ b. section_if (knot.L types_at types_written reading written dialects) (location_standing (attr_at reading)) b entries mid.stream.rest rest) (sym has_mark) read.0)
 
       pub resolves_marked : failures_of (isolated dialects) t entries ≡ []
-      resolves_marked = root.section_failures types_at types_written reading written dialects types_split splits words short_types short_owns accepted L op noted old.state.ctx.now mid.state.ctx.now old.stream.rest mid.stream.rest m.leaves entries ∙ none_wrong
+      resolves_marked = root.section_failures types_at types_written reading written dialects laws.types_split laws.splits laws.words laws.short_types laws.short_owns m.accepted L op noted old.state.ctx.now mid.state.ctx.now old.stream.rest mid.stream.rest m.leaves entries ∙ none_wrong
 
-    module _ (new : StateStream T A U) (r : ReadsSection (attr_at reading) mid new) (older : AllOlder old.state.ctx.now.graph.made old.state.ctx.now.graph)
-        (before : KeepsOlder old.state.ctx.now.graph.made old.state.ctx.now mid.state.ctx.now) (later : KeepsOlder old.state.ctx.now.graph.made mid.state.ctx.now new.state.ctx.now) where
+    module _ (new : StateStream T A U) (r : ReadsSection (attr_at reading) mid new) (later : KeepsOlder old.state.ctx.now.graph.made mid.state.ctx.now new.state.ctx.now) where
       abbrev first : ℕ → Written A
       first = first_of new.state.ctx.now
 
@@ -230,16 +244,16 @@ module _ {T A U : Type 0} (types_at : Text → Outcome T) (types_written : T →
       held = builds_given mid.state.ctx.now new.state.ctx.now shape first (isolated dialects) op t r.entries (all_there (isolated dialects) first r.entries t formed done tree_resolves) (keeps_links first r.entries) has
 
       all_kept : KeepsOlder old.state.ctx.now.graph.made old.state.ctx.now new.state.ctx.now
-      all_kept = kept_trans before later
+      all_kept = kept_trans m.kept later
 
       abbrev mark : ℕ
       mark = old.state.ctx.now.graph.made
 
       only : OnlyNew op old.state.ctx.now new.state.ctx.now
       only = only_still op old.state.ctx.now mid.state.ctx.now new.state.ctx.now tree_only shape
-          (λ p h. operation_stays mark old.state.ctx.now.graph new.state.ctx.now.graph older all_kept.graph p h ∙ sym (operation_stays mark old.state.ctx.now.graph mid.state.ctx.now.graph older before.graph p h))
-          (λ b h. block_stays mark old.state.ctx.now.graph new.state.ctx.now.graph older all_kept.graph b h ∙ sym (block_stays mark old.state.ctx.now.graph mid.state.ctx.now.graph older before.graph b h))
-          (λ q h. region_stays mark old.state.ctx.now.graph new.state.ctx.now.graph older all_kept.graph q h ∙ sym (region_stays mark old.state.ctx.now.graph mid.state.ctx.now.graph older before.graph q h))
+          (λ p h. operation_stays mark old.state.ctx.now.graph new.state.ctx.now.graph m.older all_kept.graph p h ∙ sym (operation_stays mark old.state.ctx.now.graph mid.state.ctx.now.graph m.older m.kept.graph p h))
+          (λ b h. block_stays mark old.state.ctx.now.graph new.state.ctx.now.graph m.older all_kept.graph b h ∙ sym (block_stays mark old.state.ctx.now.graph mid.state.ctx.now.graph m.older m.kept.graph b h))
+          (λ q h. region_stays mark old.state.ctx.now.graph new.state.ctx.now.graph m.older all_kept.graph q h ∙ sym (region_stays mark old.state.ctx.now.graph mid.state.ctx.now.graph m.older m.kept.graph q h))
           all_kept.paths later.dialects
 
       -- the root keeps its promise
@@ -249,7 +263,7 @@ module _ {T A U : Type 0} (types_at : Text → Outcome T) (types_written : T →
         entries = r.entries;
         reads = reads_marked r.entries r.taken new.stream.rest r.reads;
         resolves = resolves_marked r.entries r.taken new.stream.rest r.reads;
-        moves = moves_more moves r.moves;
+        moves = moves_more m.moves r.moves;
         builds = held;
         is_whole = root_whole new.state.ctx.now first r.entries op t (subst (λ ps. RootHas new.state.ctx.now first r.entries ps t) (sym (pointers_same mid.state.ctx.now.graph new.state.ctx.now.graph shape op)) has);
         fresh = r.fresh;
@@ -260,10 +274,10 @@ module _ {T A U : Type 0} (types_at : Text → Outcome T) (types_written : T →
     pub section_refused : (fault : ParseFault A) → Faults true (RefusedAs (section_at (attr_at reading) noted (rules_of marks) mid.stream.rest)) mid.stream fault
         → UnlessMemory (RefusesRoot (texts_of types_at types_written) (texts_of reading written) types_at (attr_at reading) dialects old.stream) fault
     section_refused fault (inl starved) = inl starved
-    section_refused fault (inr (cause, upto, h, at)) = inr (root.root_refused_behind types_at types_written reading written dialects types_split splits words short_types short_owns accepted L op noted old.state.ctx.now mid.state.ctx.now old.stream mid.stream.rest m.leaves fault
+    section_refused fault (inr (cause, upto, h, at)) = inr (root.root_refused_behind types_at types_written reading written dialects laws.types_split laws.splits laws.words laws.short_types laws.short_owns m.accepted L op noted old.state.ctx.now mid.state.ctx.now old.stream mid.stream.rest m.leaves fault
         (λ es left s.
         let k = subst (λ b. section_if (knot.L types_at types_written reading written dialects) (location_standing (attr_at reading)) b es mid.stream.rest left) has_mark s in
-        let found = section_found (texts_of types_at types_written) reading written (format_of dialects) sincere lawful noted (rules_of marks) mid.stream.rest es left k in
-        first_wrong (whole old.stream) mid.stream.passed mid.stream.rest (takes_whole alone old.stream mid.stream moves.taken mid.stream.rest moves.takes) fault cause upto at.because at.place
+        let found = section_found (texts_of types_at types_written) reading written (format_of dialects) laws.sincere laws.lawful noted (rules_of marks) mid.stream.rest es left k in
+        first_wrong (whole old.stream) mid.stream.passed mid.stream.rest (takes_whole alone old.stream mid.stream m.moves.taken mid.stream.rest m.moves.takes) fault cause upto at.because at.place
         (section_at (attr_at reading) noted (rules_of marks) mid.stream.rest) es left (refused noted (rule_of t) es)
         (subst (λ rules. ReadOrStops mid.stream.rest (section_at (attr_at reading) noted (rules_of marks) mid.stream.rest) es left (refused noted rules es)) same_rules found) h))

@@ -1,6 +1,6 @@
 -- Each turn takes the open frames to those after it: for the text, for the names, and for what the context contains.
-use Rattle.std.proofs.Common.{◌≡◌, ◌∙◌, ◌+◌, ◌<◌, ◌≤◌, ℕ, Bool, true, false, cond, List, [], ◌∷◌, ◌++◌, map, length, codes, Option, Some, None, refl, sym, ap, subst, append-nil}
-use Rattle.irtext_base.specs.Text.{Text, begins, after_space}
+use Rattle.std.proofs.Common.{◌≡◌, ◌∙◌, ◌<◌, ◌≤◌, ℕ, Bool, true, false, cond, List, [], ◌∷◌, ◌++◌, map, length, codes, Option, Some, None, refl, sym, ap, subst, append-nil}
+use Rattle.irtext_base.specs.Text.{Text, after_space}
 use Rattle.irtext_base.specs.Stream.{StreamView}
 use Rattle.irtext_base.specs.Locations.{AttrView}
 use Rattle.irtext_context.specs.Context.{ContextView, OperationView, operation}
@@ -9,7 +9,6 @@ use Rattle.irtext_context.specs.declared.base.item.Item.{Item}
 use Rattle.irtext_context.specs.declared.base.item.Item.TheVariants as item
 use Rattle.irtext_graph.specs.declared.arena.Ptr.{Ptr}
 use Rattle.irtext_graph.specs.declared.object.BasicBlock.{BasicBlock}
-use Rattle.irtext_graph.specs.declared.object.Operation.{Operation}
 use Rattle.irtext_graph.specs.declared.object.Object.TheVariants.{TheOperation, TheBlock, TheRegion}
 use Rattle.irtext_tokens.specs.Infix.{Reader, ◌▷◌}
 use Rattle.irtext_tokens.specs.Tokens.{space_at, word}

@@ -65,7 +65,8 @@ use Rattle.irtext_parse_root.specs.Levels.{Level, at_region, isolated_in}
 use Rattle.irtext_parse_root.specs.Told.{did_enter, told, all_done}
 use Rattle.irtext_parse_root.specs.Turned.{Turned, Faulted, at_text, by_names, Stops, Finishes}
 use Rattle.irtext_parse_root.specs.Under as under
-use Rattle.irtext_parse_root.specs.Under.{IsolatedAs, IsPositionOf, ReadsUnder, FaultUnder, RefusesUnder}
+use Rattle.irtext_promises.specs.Alone.{IsOutermost}
+use Rattle.irtext_parse_root.specs.Under.{IsolatedAs, ReadsUnder, FaultUnder, RefusesUnder}
 use Rattle.irtext_parse_root.proofs.Carrying.{falls_both}
 use Rattle.irtext_parse_root.proofs.Chains.{moved_whole, turned_over, faulted_over}
 use Rattle.irtext_parse_root.proofs.Nearer.{moves_fewer}
@@ -184,7 +185,7 @@ neither false b e = (refl, e)
 module _ {T A U : Type 0} (types_at : Reader T) (attr : Reader (AttrView A)) (before : Names) (old : StateStream T A U) (iso : Bool) (op : Ptr Operation) (isolation : IsolatedAs old.state.ctx.now op iso) where
   -- it can't be entered, whatever text follows
   pub unentered_refused : (iso || is_open before.values) ≡ false → (fault : ParseFault A) → fault_of fault.cause ≡ NotIsolated → fault.committed ≡ true
-      → ((view : OperationView T A) → operation old.state.ctx.now op ≡ Some view → IsPositionOf view.loc fault.pos) → UnlessMemory (RefusesUnder types_at attr op before old) fault
+      → ((view : OperationView T A) → operation old.state.ctx.now op ≡ Some view → IsOutermost view.loc fault.pos) → UnlessMemory (RefusesUnder types_at attr op before old) fault
   unentered_refused shut fault because flag at =
       let both = neither iso (is_open before.values) shut in
       inr (under.not_isolated (subst (IsolatedAs old.state.ctx.now op) both.0 isolation) both.1 because flag at)

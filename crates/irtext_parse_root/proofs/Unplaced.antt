@@ -1,5 +1,5 @@
 -- A region that is created without a parent: names, parents and placeholders are unchanged, and only the region was created.
-use Rattle.std.proofs.Common.{◌≡◌, ◌≤◌, ◌+◌, inl, ℕ, Bool, true, false, cond, [], ◌∷◌, Option, Some, None, IsSome, map, slice_get, ◌==◌, eqb-true, arith, refl, ap, subst}
+use Rattle.std.proofs.Common.{◌≡◌, ◌≤◌, inl, ℕ, [], ◌∷◌, Option, Some, None, IsSome, map, arith, refl, ap, subst}
 use Rattle.std.specs.Option.{option_map, option_and_then}
 use Rattle.irtext_context.specs.Context.{ContextView, operation_of, block_of, region_of, with_graph, region}
 use Rattle.irtext_graph.specs.declared.arena.Ptr.{Ptr}
@@ -9,10 +9,10 @@ use Rattle.irtext_graph.specs.declared.object.Object.{Object}
 use Rattle.irtext_graph.specs.declared.object.Object.TheVariants.{TheOperation, TheBlock, TheRegion}
 use Rattle.irtext_graph.specs.Chained.{Among}
 use Rattle.irtext_graph.specs.Content.{AnOperation, ARegion}
-use Rattle.irtext_graph.specs.Graph.{GraphView, content, content_of, parent, parent_of, children_of, IsLive, IsNew, MakesRegion}
+use Rattle.irtext_graph.specs.Graph.{GraphView, content, content_of, parent_of, children_of, IsLive, IsNew, MakesRegion}
 use Rattle.irtext_graph.specs.Parts.{operation_at}
-use Rattle.irtext_graph.specs.Store.{Cell, Store, drawn, object_in, get, Inserts}
-use Rattle.irtext_graph.specs.declared.arena.Entry.{Entry}
+use Rattle.irtext_graph.specs.Store.{get}
+use Rattle.irtext_names.proofs.Gained.{fresh_place}
 use Rattle.irtext_parse_spec.specs.Grows.{RegionCame}
 use Rattle.irtext_parse_spec.specs.Unchanged.{IsAsItWas, ModifiesOnly}
 use Rattle.irtext_parse_spec.proofs.Edits.{spares_by, kept_as_many}
@@ -33,18 +33,6 @@ module _ {O B T : Type 0} (g k : GraphView (Option O) B T) (r : Ptr Region) (mak
       (λ p b. ap (λ s. map TheRegion (children_of (get s p))) makes.operations)
 
 -- ---- in a context
--- a pointer with a generation that was not yet used finds nothing
-found_none : {X : Type 0} (c : Option (Cell X)) (n : ℕ) → n ≡ drawn c + 1 → object_in c n ≡ None
-found_none None n e = refl
-found_none (Some c) n e = go (c.generation == n) refl
-  where
-    go : (b : Bool) → (c.generation == n) ≡ b → cond b c.object None ≡ None
-    go false is = refl
-    go true is = let k = eqb-true c.generation n is in absurd (omega arith)
-
-came_new : {X K : Type 0} (old new : Store X) (p : Ptr K) (x : Entry X) → Inserts old new p x → get old p ≡ None
-came_new old new p x i = found_none (slice_get old.cells p.index) p.generation i.next
-
 module _ {T A : Type 0} (old new : ContextView T A) (r : Ptr Region) (makes : MakesRegion old.graph new.graph r) (with_it : new ≡ with_graph old new.graph) where
   -- the region is live, and has no parent
   pub alone_is : region new r ≡ Some (record { parent = None; blocks = [] })
@@ -52,7 +40,7 @@ module _ {T A : Type 0} (old new : ContextView T A) (r : Ptr Region) (makes : Ma
 
   pub alone_came : RegionCame old new r
   alone_came = record {
-    is_new = λ there. let e = ap (option_map region_of) (came_new old.graph.regions new.graph.regions r _ makes.regions) in let h = subst IsSome e there in absurd (cc);
+    is_new = λ there. let e = ap (option_map region_of) (fresh_place old.graph.regions new.graph.regions r makes.regions) in let h = subst IsSome e there in absurd (cc);
     view = record { parent = None; blocks = [] };
     is = alone_is;
     blocks = refl;

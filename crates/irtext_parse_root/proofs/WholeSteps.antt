@@ -82,7 +82,7 @@ module _ {T A U : Type 0} (E : Type 0) (attr : Text → Outcome (AttrView A)) (o
       let end : StateStream T A U = record { stream = mid.stream; state = new.state } in
       record {
         end = end;
-        section = held_under _ _ noted (reads_section E attr old mid entries k a end gives refl fresh);
+        parsed = held_under _ _ noted (reads_section E attr old mid entries k a end gives refl fresh);
         ends = subst (OnlySpace mid.stream) (sym stream) ends;
         state = refl;
       }
@@ -91,7 +91,7 @@ module _ {T A U : Type 0} (E : Type 0) (attr : Text → Outcome (AttrView A)) (o
 module _ {T A U : Type 0} (types_at : Text → Outcome T) (attr : Text → Outcome (AttrView A)) (op : Ptr Operation) (old mid : StateStream T A U) (tree : ReadsTree types_at attr op old mid) where
   -- the operation, and what follows it
   pub reads_whole : (new : StateStream T A U) → EndsAny attr mid new → ReadsWholeAny types_at attr op old new
-  reads_whole new e = record { end = e.end; root = record { mid = mid; operation = tree; section = e.section }; ends = e.ends; state = e.state }
+  reads_whole new e = record { end = e.end; parsed = record { mid = mid; operation = tree; section = e.parsed }; ends = e.ends; state = e.state }
 
   -- the operation, but not what has to follow it
   pub misses_whole : (fault : ParseFault A) → whole mid.stream ≡ whole old.stream → UnlessMemory (MissesEnd attr mid) fault → UnlessMemory (MissesWholeAny types_at attr old) fault

@@ -12,16 +12,13 @@ use Rattle.irtext_parse_spec.specs.Promises.Supported.{RefusedAs}
 use Rattle.irtext_parse_spec.specs.Entries.{section_at}
 use Rattle.irtext_parse_section.specs.Said.{rules_of}
 use Rattle.irtext_parse_section.specs.Section.{ReadsSection}
-use Rattle.irtext_parse_root.specs.Whole.{OnlySpace, ExpectsEnd}
+use Rattle.irtext_parse_root.specs.Whole.{EndsAfter, ExpectsEnd}
 use Rattle.irtext_parse_root.specs.WholeAny.{IsRest}
 
 module _ {T A U : Type 0} (attr : Text → Outcome (AttrView A)) where
   -- if a mark is recorded, the section of all recorded marks was parsed; and only white space was left, which was consumed
-  pub record EndsAny (old new : StateStream T A U) : Type 0 where
-    pub end : StateStream T A U
-    pub section : cond (is_noted (marks_of old.state)) (ReadsSection attr old end) (end ≡ old)
-    pub ends : OnlySpace end.stream new.stream
-    pub state : new.state ≡ end.state
+  abbrev pub EndsAny : StateStream T A U → StateStream T A U → Type 0
+  EndsAny = EndsAfter (λ old end. cond (is_noted (marks_of old.state)) (ReadsSection attr old end) (end ≡ old))
 
   -- a mark is recorded, but the section of all recorded marks was not parsed; or something else than white space is left
   pub data MissesEnd (old : StateStream T A U) (fault : ParseFault A) : Type 0 where

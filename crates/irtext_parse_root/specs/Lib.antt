@@ -8,6 +8,7 @@ pub mod Here
 pub mod Levels
 pub mod Marked
 pub mod Nested
+pub mod Parses
 pub mod Region
 pub mod Results
 pub mod Stands

@@ -1,13 +1,14 @@
 -- Between functions: what a step of the loop does, and how it fails. Steps compose.
-use Rattle.std.specs.Prelude.{◌≡◌, ◌≤◌, ◌<◌, ℕ, true, List, [], ◌++◌, length, option_to_list, Option, Some, None}
+use Rattle.std.specs.Prelude.{◌≡◌, ◌≤◌, ◌<◌, ℕ, true, false, List, [], ◌++◌, length, option_to_list, Option, Some, None, Result, IfOk, IfErr, OnErr}
 use Rattle.irtext_base.specs.Text.{Text}
 use Rattle.irtext_base.specs.Faults.{Fault}
 use Rattle.irtext_base.specs.Locations.{AttrView}
 use Rattle.irtext_base.specs.declared.parsable.fault.ParseFault.{ParseFault}
 use Rattle.irtext_base.specs.declared.location.Source.{Source}
-use Rattle.irtext_context.specs.Context.{ContextView, RegionView, region}
+use Rattle.irtext_context.specs.Context.{ContextView, RegionView, region, KeepsOlder}
 use Rattle.irtext_context.specs.Dialects.{Table}
 use Rattle.irtext_context.specs.declared.base.item.Item.{Item}
+use Rattle.irtext_graph.specs.Back.{IsClosedBelow}
 use Rattle.irtext_graph.specs.declared.arena.Ptr.{Ptr}
 use Rattle.irtext_graph.specs.declared.object.Region.{Region}
 use Rattle.irtext_tokens.specs.Infix.{Reader}
@@ -31,7 +32,7 @@ use Rattle.irtext_parse_nested.specs.Located.{IsLocated}
 use Rattle.irtext_parse_root.specs.declared.frames.Frame.{Frame}
 use Rattle.irtext_parse_root.specs.Built.{Built}
 use Rattle.irtext_parse_root.specs.Carried.{Falls}
-use Rattle.irtext_parse_root.specs.Here.{Base, IsHere}
+use Rattle.irtext_parse_root.specs.Here.{AreHere, Base, IsHere}
 use Rattle.irtext_parse_root.specs.Levels.{Level, next_of, waiting, pledges_of, left_to_do, AreAllNew}
 use Rattle.irtext_parse_root.specs.Told.{Did, told, all_done}
 
@@ -61,6 +62,19 @@ module _ {T A U : Type 0} where
     pub since : ℕ
     pub past : since ≤ s.ctx.now.graph.made
     pub sound : IsSound since names s
+
+  -- a step can be made: the stream has not failed, the names are sound, and this is the innermost of the open frames and these are the others
+  pub record AreReady (frame : Frame) (waits : List Frame) (names : Names) (s : StateStream T A U) : Type 0 where
+    pub fine : s.stream.failed ≡ false
+    pub sound : IsSoundOnce names s.state
+    pub here : AreHere T A (whole s.stream) s.state.ctx.now names (Some frame) waits
+
+  -- What an action, a step or the loop leaves: on an error the recorded marks are kept, the known names keep their numbers, and objects
+  -- that are older than some count are unchanged if what is open was created since.
+  pub record Spares {X : Type 0} (IsOpenSince : ℕ → Type 0) (before : Names) (old : code.State T A U) (result : Result X (ParseFault A)) (after : Names) (new : code.State T A U) : Type 0 where
+    pub remains : OnErr result (Remains old new)
+    pub names : KeepsNames before.names after.names
+    pub kept : (m : ℕ) → m ≤ old.ctx.now.graph.made → IsClosedBelow m old.ctx.now.graph → IsSound m before old → IsOpenSince m → KeepsOlder m old.ctx.now new.ctx.now
 
 module _ {T A U : Type 0} (types_at : Reader T) (attr : Reader (AttrView A)) (dialects : List (Text × Table)) (source : Source) (text : Text) (base : Base) where
   -- The first list of open frames became the second by these actions, and the names, the context and the marks agree with the result of
@@ -114,6 +128,12 @@ module _ {T A U : Type 0} (types_at : Reader T) (attr : Reader (AttrView A)) whe
     pub committed : fault.committed ≡ true
     pub stops : (base : Base) (v l : ℕ) (ls : List (Level T A)) → IsHere base v l ls before (whole old.stream) old.state.ctx.now (Some frame) waits
         → UnlessMemory (Faulted types_at attr old.state.ctx.now.dialects ls before old) fault
+
+  -- a step: it was made or failed, and this is what it leaves
+  pub record Steps (frame : Frame) (waits : List Frame) (before : Names) (old : StateStream T A U) (result : Result (Option Frame) (ParseFault A)) (names : Names) (new : StateStream T A U) (frames : List Frame) : Type 0 where
+    pub proceeds : IfOk result (λ next. Proceeds frame waits before old names new next frames)
+    pub stops : IfErr result (Stops frame waits before old)
+    pub spares : Spares (λ m. AreAllNew m old.state.ctx.now.graph (Some frame) waits) before old.state result names new.state
 
   -- The rest of a frame was parsed, in which no other frame was open: whenever it was the open frame, no frame is open any more.
   pub record Finishes (frame : Frame) (before : Names) (old : StateStream T A U) (names : Names) (new : StateStream T A U) : Type 0 where

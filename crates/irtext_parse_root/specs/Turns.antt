@@ -1,5 +1,5 @@
 -- Between functions: what each action of the loop promises: what was parsed, the names, and what was added to the context.
-use Rattle.std.specs.Prelude.{◌≡◌, ◌≤◌, ℕ, Bool, true, List, [], ◌∷◌, ◌++◌, length, map, Option, Some, None, slice_get}
+use Rattle.std.specs.Prelude.{◌≡◌, ◌≤◌, ℕ, Bool, true, List, [], ◌∷◌, ◌++◌, length, map, Option, Some, slice_get}
 use Rattle.irtext_base.specs.Text.{Text}
 use Rattle.irtext_base.specs.Answers.{Read}
 use Rattle.irtext_base.specs.Faults.{id_of}
@@ -19,14 +19,13 @@ use Rattle.irtext_scopes.specs.Scopes.{is_open, outer}
 use Rattle.irtext_tokens.specs.Tokens.{space_at}
 use Rattle.irtext_parse_state.specs.States.{marks_of}
 use Rattle.irtext_parse_state.specs.declared.parsable.state.StateStream.{StateStream}
-use Rattle.irtext_grammar.specs.Contexts.Formats.{format_of, isolated}
+use Rattle.irtext_grammar.specs.Contexts.Formats.{format_of}
 use Rattle.irtext_grammar.specs.Contexts.Held.{whole}
-use Rattle.irtext_grammar.specs.Grammar.Tree as tree
-use Rattle.irtext_grammar.specs.Grammar.Tree.{Mark, Piece}
-use Rattle.irtext_grammar.specs.Graphs.Build.{put_all, stored, read_names}
-use Rattle.irtext_parse_spec.specs.Heads.{Step, mark_if_at}
+use Rattle.irtext_grammar.specs.Grammar.Tree.{Mark}
+use Rattle.irtext_grammar.specs.Graphs.Build.{put_all, read_names}
+use Rattle.irtext_parse_spec.specs.Heads.{mark_if_at}
 use Rattle.irtext_parse_spec.specs.Reached.{steps_in}
-use Rattle.irtext_parse_spec.specs.Resume.{OpenOperation, with_steps}
+use Rattle.irtext_parse_spec.specs.Resume.{OpenOperation}
 use Rattle.irtext_parse_spec.specs.Grows.{RegionCame, OperationGains, RegionGains, BlockCame, OwnBecame}
 use Rattle.irtext_parse_spec.specs.Unchanged.{OwnSoFar, HasOwn, HasUses, ModifiesOnly}
 use Rattle.irtext_parse_pieces.specs.declared.coming.Coming.{Coming}
@@ -38,8 +37,9 @@ use Rattle.irtext_parse_nested.specs.OpenOperation.{IsBegun, IsRegion}
 use Rattle.irtext_parse_pieces.specs.Coming.{IsStep}
 use Rattle.irtext_parse_nested.specs.Ends.{noted_as}
 use Rattle.irtext_parse_nested.specs.Items.{Names}
+use Rattle.irtext_parse_nested.specs.Later.{GoesOn}
 use Rattle.irtext_parse_nested.specs.Located.{IsLocated}
-use Rattle.irtext_parse_nested.specs.Read.{begun_by, BeginsOperation, ReadsPiece, EndsOperation, BeginsRegion, EndsRegion, BeginsBlock}
+use Rattle.irtext_parse_nested.specs.Read.{begun_by, BeginsOperation, EndsOperation, BeginsRegion, EndsRegion, BeginsBlock}
 use Rattle.irtext_parse_root.specs.Turned.{Carries}
 
 -- ---- which action it is
@@ -67,17 +67,8 @@ module _ {T A U : Type 0} where
       pub fresh : (m : ℕ) → m ≤ old.state.ctx.now.graph.made → IsNew m new.state.ctx.now.graph (TheOperation b.op)
 
     -- a piece after a region was parsed, by the next step of an open operation
-    pub record Continues (b : BegunOperation) (next : BegunOperation) (names : Names) (new : StateStream T A U) : Type 0 where
-      pub op : next.op ≡ b.op
-      pub results : next.results ≡ b.results
-      pub inside : next.inside ≡ b.inside
-      pub reads : (o : OpenOperation T A) (step : Step) (ss : List Step) → IsBegun before.names (whole old.stream) old.state.ctx.now b o → o.steps ≡ step ∷ ss
-          → (r : ReadsPiece types_at attr o step b before old names new)
-          × IsBegun names.names (whole old.stream) new.state.ctx.now next (with_steps o ss (o.parts ++ tree.piece r.piece ∷ []))
-          × ((own : OwnSoFar T A) → HasBegun (format_of old.state.ctx.now.dialects) o own
-          → HasBegun (format_of old.state.ctx.now.dialects) (with_steps o ss (o.parts ++ tree.piece r.piece ∷ [])) (record own { entries = put_all own.entries (stored r.piece) })
-          × ((view : OperationView T A) → operation old.state.ctx.now b.op ≡ Some view → HasOwn (IsLocated old.state.src (whole old.stream)) view own → HasUses old.state.ctx.now b.op own
-          → OwnBecame old.state.ctx.now new.state.ctx.now (IsLocated old.state.src (whole old.stream)) b.op (record own { entries = put_all own.entries (stored r.piece) })))
+    pub record Continues (b next : BegunOperation) (names : Names) (new : StateStream T A U) : Type 0 where
+      pub goes : GoesOn types_at attr before old b next names new
       pub spares : ModifiesOnly (TheOperation b.op ∷ []) old.state.ctx.now new.state.ctx.now
       pub marks : marks_of new.state ≡ marks_of old.state
       pub carries : Carries before old names new

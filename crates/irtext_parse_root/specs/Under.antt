@@ -5,9 +5,7 @@ use Rattle.irtext_base.specs.Faults.{Fault, Unexpected, Word, fault_of, id_of}
 use Rattle.irtext_base.specs.Faults as causes
 use Rattle.irtext_base.specs.Stream.{IsAt, first_of}
 use Rattle.irtext_base.specs.Locations.{AttrView}
-use Rattle.irtext_base.specs.declared.location.Location.{Location, SrcPos}
 use Rattle.irtext_base.specs.declared.parsable.fault.ParseFault.{ParseFault}
-use Rattle.irtext_stream.specs.declared.position.SourcePosition.{SourcePosition}
 use Rattle.irtext_context.specs.Context.{ContextView, OperationView, operation, with_graph, KeepsOlder}
 use Rattle.irtext_context.specs.declared.base.item.Item.{Item}
 use Rattle.irtext_graph.specs.Back.{IsClosedBelow}
@@ -28,6 +26,7 @@ use Rattle.irtext_grammar.specs.Names.TextScopes.{Failure}
 use Rattle.irtext_parse_spec.specs.Promises.Section.{Moves}
 use Rattle.irtext_parse_spec.specs.Reached.{Advanced, Stopped, begins_region, region_at}
 use Rattle.irtext_parse_spec.specs.Resume.{EndsIn}
+use Rattle.irtext_promises.specs.Alone.{IsOutermost}
 use Rattle.irtext_parse_nested.specs.Items.{Names, Made, StandsAs, IsFailure, IsTextFault, IsSound, doing}
 use Rattle.irtext_parse_nested.specs.Located.{IsLocated}
 use Rattle.irtext_parse_root.specs.Built.{HoldsRegion}
@@ -38,11 +37,6 @@ use Rattle.irtext_parse_root.specs.Told.{Did, did_enter, told}
 -- whether the operation is isolated from above
 abbrev pub IsolatedAs : {T A : Type 0} → ContextView T A → Ptr Operation → Bool → Type 0
 IsolatedAs {T} {A} c op iso = (view : OperationView T A) → operation c op ≡ Some view → iso ≡ isolated c.dialects (id_of view.id)
-
--- the position is that of the location, if it is a position in a source; otherwise the beginning of the text
-abbrev pub IsPositionOf : {A : Type 0} → Location A → SourcePosition → Type 0
-IsPositionOf (SrcPos source position) at = at ≡ position
-IsPositionOf _ at = IsAt at.line at.column []
 
 module _ {T A U : Type 0} (types_at : Reader T) (attr : Reader (AttrView A)) where
   -- A region was parsed from the old position of the stream to the new one, and was appended to the operation. These actions were done,
@@ -84,5 +78,5 @@ module _ {T A U : Type 0} (types_at : Reader T) (attr : Reader (AttrView A)) whe
   -- is. Or it is isolated or a scope of values is open: then the fault is that of the text.
   pub data RefusesUnder (op : Ptr Operation) (before : Names) (old : StateStream T A U) (fault : ParseFault A) : Type 0 where
     not_isolated : IsolatedAs old.state.ctx.now op false → is_open before.values ≡ false → fault_of fault.cause ≡ causes.NotIsolated → fault.committed ≡ true
-        → ((view : OperationView T A) → operation old.state.ctx.now op ≡ Some view → IsPositionOf view.loc fault.pos) → RefusesUnder op before old fault
+        → ((view : OperationView T A) → operation old.state.ctx.now op ≡ Some view → IsOutermost view.loc fault.pos) → RefusesUnder op before old fault
     in_text : (iso : Bool) → IsolatedAs old.state.ctx.now op iso → (iso || is_open before.values) ≡ true → FaultUnder iso before old fault → RefusesUnder op before old fault

@@ -27,6 +27,13 @@ pub record OnlySpace (old new : StreamView) : Type 0 where
   pub space : after_space old.rest ≡ []
   pub passes : Takes itself replaced (front is_whitespace old.rest) [] old new
 
+-- something was parsed as stated, and only white space was left after it, which was consumed
+pub record EndsAfter {T A U : Type 0} (IsParsed : StateStream T A U → StateStream T A U → Type 0) (old new : StateStream T A U) : Type 0 where
+  pub end : StateStream T A U
+  pub parsed : IsParsed old end
+  pub ends : OnlySpace end.stream new.stream
+  pub state : new.state ≡ end.state
+
 -- Something else than white space is left in this rest of the text. The fault is committed: the end of the text was expected, at the
 -- first such character.
 pub record ExpectsEnd {A : Type 0} (text rest : Text) (fault : ParseFault A) : Type 0 where
@@ -39,11 +46,8 @@ pub record ExpectsEnd {A : Type 0} (text rest : Text) (fault : ParseFault A) : T
 
 module _ {T A U : Type 0} (types : Texts T) (owns : Texts A) (types_at : Text → Outcome T) (attr : Text → Outcome (AttrView A)) where
   -- a root was parsed, and only white space was left after it, which was consumed
-  pub record BuildsWhole (op : Ptr Operation) (old new : StateStream T A U) : Type 0 where
-    pub end : StateStream T A U
-    pub root : BuildsRoot types owns attr op old end
-    pub ends : OnlySpace end.stream new.stream
-    pub state : new.state ≡ end.state
+  abbrev pub BuildsWhole : Ptr Operation → StateStream T A U → StateStream T A U → Type 0
+  BuildsWhole op = EndsAfter (BuildsRoot types owns attr op)
 
   -- With the context's dialects, the text up to this rest parses as a tree and its section, and both resolve; but something else than
   -- white space is left after them.

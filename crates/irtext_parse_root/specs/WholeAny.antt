@@ -15,7 +15,7 @@ use Rattle.irtext_parse_spec.specs.Promises.Section.{indices_of, is_noted}
 use Rattle.irtext_parse_spec.specs.Entries.{section_at}
 use Rattle.irtext_parse_section.specs.Said.{rules_of}
 use Rattle.irtext_parse_root.specs.AnyState.{ReadsTree, ReadsAny, MissesAny}
-use Rattle.irtext_parse_root.specs.Whole.{OnlySpace, ExpectsEnd}
+use Rattle.irtext_parse_root.specs.Whole.{EndsAfter, ExpectsEnd}
 
 module _ {T A U : Type 0} (attr : Text → Outcome (AttrView A)) where
   -- the text at the position of the stream parses as the section of all recorded marks, and this is the rest after it
@@ -30,11 +30,8 @@ module _ {T A U : Type 0} (attr : Text → Outcome (AttrView A)) where
 module _ {T A U : Type 0} (types_at : Text → Outcome T) (attr : Text → Outcome (AttrView A)) where
   -- an operation was parsed, and if a mark is recorded then, the section of all recorded marks, the earlier ones too; and only white
   -- space was left after it, which was consumed
-  pub record ReadsWholeAny (op : Ptr Operation) (old new : StateStream T A U) : Type 0 where
-    pub end : StateStream T A U
-    pub root : ReadsAny types_at attr true op old end
-    pub ends : OnlySpace end.stream new.stream
-    pub state : new.state ≡ end.state
+  abbrev pub ReadsWholeAny : Ptr Operation → StateStream T A U → StateStream T A U → Type 0
+  ReadsWholeAny op = EndsAfter (ReadsAny types_at attr true op)
 
   -- no operation was parsed, or not the section of all recorded marks after it; or both were parsed, but something else than white space
   -- is left

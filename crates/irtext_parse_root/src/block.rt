@@ -2,7 +2,6 @@
 ghost use Rattle.std.specs.Prelude.{◌≡◌, ◌<◌, false, true, length, option_copied, IfErr, OnOk};
 ghost use Rattle.irtext_base.specs.Faults as fault;
 ghost use Rattle.irtext_base.specs.Faults.{fault_of};
-ghost use Rattle.irtext_base.specs.Format.{same_text, given_names_key, block_label_key};
 ghost use Rattle.irtext_base.specs.Stream.{IsAt, after_failure};
 ghost use Rattle.irtext_stream.specs.Places.{AtOffset};
 ghost use Rattle.irtext_tokens.specs.AttrTexts.{attr_at};
@@ -33,31 +32,11 @@ use irtext_parse_pieces::entries::{Key, ReadEntry};
 use irtext_parse_pieces::headers::{BlockHead, block_head_parse};
 use irtext_parse_pieces::marks::ReadMark;
 use irtext_parse_pieces::names::ReadName;
+use irtext_parse_section::rules::{is_given, is_label_key, is_names_key};
 use irtext_parse_state::parsable::{State, StateStream};
 use irtext_scopes::tracker::NameTracker;
 use irtext_tokens::irfmt::faults::{next_is, out_of_memory, refuse_at, unexpected};
 use irtext_tokens::irfmt::parsers::held;
-
-fn is_given<A>(attr: &AttrObj<A>) -> bool
-    ensures { result ≡ acts.is_given (attribute_of attr.now) }
-{
-    match attr {
-        AttrObj::GivenNames(_) => true,
-        AttrObj::Ident(_) | AttrObj::Own(_) => false,
-    }
-}
-
-fn is_names_key(key: &Identifier) -> bool
-    ensures { result ≡ same_text key.now given_names_key }
-{
-    key.as_str() == "builtin_given_names"
-}
-
-fn is_label_key(key: &Identifier) -> bool
-    ensures { result ≡ same_text key.now block_label_key }
-{
-    key.as_str() == "builtin_block_label"
-}
 
 /// Whether an attribute is allowed under a key of any dictionary.
 fn may_hold<A>(key: &Identifier, attr: &AttrObj<A>) -> bool

@@ -1,15 +1,12 @@
 //! What comes next in an open operation, according to its format.
-ghost use Rattle.std.specs.Prelude.{◌≡◌, ◌≢◌, ◌+◌, ◌<◌, false, length, slice_get, IsSome, IfSome};
+ghost use Rattle.std.specs.Prelude.{◌≡◌, ◌≢◌, ◌+◌, false, length, slice_get, IsSome, IfSome};
 ghost use Rattle.irtext_base.specs.Faults.{id_of};
-ghost use Rattle.irtext_format_check.specs.Directives.{format_of};
 ghost use Rattle.irtext_grammar.specs.Contexts.Formats.{isolated};
-ghost use Rattle.irtext_parse_spec.specs.Heads.{steps_of};
 ghost use Rattle.irtext_parse_spec.specs.Reached.{steps_in};
 ghost use Rattle.irtext_parse_pieces.specs.Coming.{IsStep};
 ghost use Rattle.irtext_parse_pieces.specs.declared.coming.Coming.TheVariants as comes;
 ghost use Rattle.irtext_parse_root.specs.Turns.{IsNext};
 
-use irtext_base::format::OpFormat;
 use irtext_base::text::{AttrText, IrText};
 use irtext_context::base::Context;
 use irtext_parse_nested::frame::BegunOperation;
@@ -22,20 +19,6 @@ pub struct Next {
     pub coming: Coming,
     pub isolated: bool,
     pub behind: usize,
-}
-
-/// The index after that of a step.
-fn behind(format: &OpFormat, index: usize) -> usize
-    requires { index < length (steps_of (format_of format.now)) }
-    ensures { result ≡ index + 1 }
-{
-    match format {
-        OpFormat::Canonical => index + 1,
-        OpFormat::Custom(directives) => {
-            let count = directives.len();
-            if index < count { index + 1 } else { index }
-        }
-    }
 }
 
 /// Nothing of the operation is left but its end.
@@ -81,7 +64,7 @@ pub(crate) fn next_turn<T: IrText<A>, A: AttrText<A>>(
         Some(step) => Next {
             coming: kind_of(step),
             isolated: info.isolated,
-            behind: behind(&info.format, begun.step),
+            behind: begun.step + 1,
         },
         None => ended(begun.step),
     }

@@ -3,7 +3,6 @@
 //! implementations.
 #![tactic(auto)]
 
-mod alone;
 pub mod block;
 mod coming;
 pub mod frames;
@@ -21,4 +20,5 @@ pub mod results;
 mod steps;
 pub mod tree;
 mod turns;
+mod undo;
 pub mod whole;

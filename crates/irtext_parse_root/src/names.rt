@@ -3,23 +3,11 @@ ghost use Rattle.std.specs.Prelude.{false, IfErr, OnOk};
 ghost use Rattle.irtext_parse_spec.specs.Heads.{used_at, target_at};
 ghost use Rattle.irtext_parse_pieces.specs.Named.{Misses};
 
-use irtext_base::parsable::{CharStream, ParseFault, ParseResult};
-use irtext_base::result::Cause;
+use irtext_base::parsable::{CharStream, ParseResult};
 use irtext_context::base::{BasicBlock, Ptr, Value};
-use irtext_tokens::irfmt::faults::{commit, refuse_at};
-use irtext_tokens::irfmt::parsers::{identifier_parse, text_parse};
-
-/// Returns the error for a name that is used where no scope is open, at the name. If no name comes next, the error is uncommitted and the
-/// stream is unchanged.
-fn used_outside<S: CharStream, A>(stream: &mut S) -> ParseFault<A>
-    ensures { Misses S.view S.at (used_at false) stream.old result stream.new }
-{
-    let at = stream.position();
-    match identifier_parse(stream) {
-        Ok(name) => refuse_at(stream, at, Cause::NoActiveScope(name)),
-        Err(fault) => fault,
-    }
-}
+use irtext_parse_pieces::names::used_outside;
+use irtext_tokens::irfmt::faults::commit;
+use irtext_tokens::irfmt::parsers::text_parse;
 
 /// Parses the name of a value that is used, as `x`. It is called where no scope of values is open, so it always fails, with
 /// `NoActiveScope` at the name. If no name comes next, the error is uncommitted and the stream is unchanged.

@@ -1,18 +1,12 @@
 //! The parser for an operation with everything nested in it.
-ghost use Rattle.std.specs.Prelude.{◌≡◌, ◌≤◌, ℕ, false, IfOk, IfErr, OnOk, OnErr};
-ghost use Rattle.irtext_context.specs.Context.{KeepsOlder};
-ghost use Rattle.irtext_graph.specs.Back.{IsClosedBelow};
+ghost use Rattle.std.specs.Prelude.{◌≡◌, ◌≤◌, ℕ, false, IfOk, IfErr, OnOk, ⊤};
 ghost use Rattle.irtext_graph.specs.Graph.{IsNew};
 ghost use Rattle.irtext_graph.specs.declared.object.Object.TheVariants.{TheOperation};
 ghost use Rattle.irtext_tokens.specs.AttrTexts.{attr_at};
-ghost use Rattle.irtext_scopes.specs.Names.{KeepsNames};
 ghost use Rattle.irtext_parse_spec.specs.Promises.Root.{UnlessMemory};
 ghost use Rattle.irtext_parse_spec.specs.Readers.Streams.{KeepsRest};
-ghost use Rattle.irtext_parse_nested.specs.Ends.{GainsMarks};
-ghost use Rattle.irtext_parse_state.specs.States.{marks_of};
-ghost use Rattle.irtext_parse_nested.specs.Items.{IsSound};
 ghost use Rattle.irtext_parse_root.specs.Nested.{ReadsNested, RefusesNested};
-ghost use Rattle.irtext_parse_root.specs.Turned.{Carries, IsSoundOnce};
+ghost use Rattle.irtext_parse_root.specs.Turned.{Carries, IsSoundOnce, Spares};
 
 use crate::frames::Frame;
 use crate::items::items_parse;
@@ -43,11 +37,7 @@ pub fn nested_parse<T: IrText<A>, A: AttrText<A>, U>(
     ensures new { IfOk result (λ p. (m : ℕ) → m ≤ s.old.state.ctx.now.graph.made
         → IsNew m s.new.state.ctx.now.graph (TheOperation p)) }
     ensures rest { KeepsRest s.old.state s.new.state }
-    ensures unnoted { OnErr result (GainsMarks (marks_of s.old.state) (marks_of s.new.state)) }
-    ensures names { KeepsNames names.old.names names.new.names }
-    ensures kept { (m : ℕ) → m ≤ s.old.state.ctx.now.graph.made → IsClosedBelow m s.old.state.ctx.now.graph
-        → IsSound m names.old s.old.state
-        → KeepsOlder m s.old.state.ctx.now s.new.state.ctx.now }
+    ensures spares { Spares (λ _. ⊤) names.old s.old.state result names.new s.new.state }
 {
     let mut keys = Keys::none(s.stream.allocator());
     let begun = begin(s, names, &mut keys, None)?;

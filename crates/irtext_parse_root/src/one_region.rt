@@ -1,8 +1,9 @@
-//! The parser for one region of a live operation, with everything nested in it.
-ghost use Rattle.std.specs.Prelude.{◌≡◌, ◌≤◌, ◌||◌, ℕ, true, false, Some, IfOk, IfErr, OnErr, IsSome};
+//! The parser for one region of a live operation, with everything nested in it. The region has no parent until all of it is parsed.
+ghost use Rattle.std.specs.Prelude.{◌≡◌, ◌≤◌, ◌||◌, ℕ, true, false, Some, IfOk, IfErr, OnErr, IsSome, ◌∷◌, [], OnOk};
 ghost use Rattle.irtext_base.specs.Faults as fault;
 ghost use Rattle.irtext_base.specs.Faults.{fault_of, id_of};
-ghost use Rattle.irtext_context.specs.Context.{OperationView, operation, KeepsOlder};
+ghost use Rattle.irtext_base.specs.Stream.{after_failure};
+ghost use Rattle.irtext_context.specs.Context.{OperationView, operation, KeepsOlder, with_graph};
 ghost use Rattle.irtext_graph.specs.Back.{IsClosedBelow};
 ghost use Rattle.irtext_tokens.specs.AttrTexts.{attr_at};
 ghost use Rattle.irtext_scopes.specs.Names.{KeepsNames};
@@ -13,9 +14,15 @@ ghost use Rattle.irtext_parse_spec.specs.Promises.Root.{UnlessMemory};
 ghost use Rattle.irtext_parse_spec.specs.Readers.Streams.{KeepsRest};
 ghost use Rattle.irtext_parse_nested.specs.Ends.{GainsMarks};
 ghost use Rattle.irtext_parse_nested.specs.Items.{IsSound};
-ghost use Rattle.irtext_parse_root.specs.Under.{IsolatedAs, IsPositionOf, ReadsUnder, RefusesUnder};
+ghost use Rattle.irtext_promises.specs.Alone.{IsOutermost};
+ghost use Rattle.irtext_parse_root.specs.Under.{IsolatedAs, ReadsUnder, RefusesUnder};
+ghost use Rattle.irtext_graph.specs.Graph.{Appends, CanInsert, MakesRegion, IsLive};
+ghost use Rattle.irtext_graph.specs.declared.object.Object.TheVariants.{TheOperation, TheRegion};
+ghost use Rattle.irtext_scopes.specs.Tracker.{entered};
+ghost use Rattle.irtext_names.specs.Tied.{MatchesGraph};
+ghost use Rattle.irtext_parse_spec.specs.Promises.Section.{IsStarved};
+ghost use Rattle.irtext_parse_nested.specs.Read.{BeginsRegion, RefusesRegion};
 
-use crate::alone::{region_alone, region_placed};
 use crate::frames::Frame;
 use crate::items::items_parse;
 use irtext_base::base::OpId;
@@ -28,13 +35,16 @@ use irtext_base::text::{AttrText, IrText};
 use irtext_context::base::context::making::Making;
 use irtext_context::base::operation::OperationAccess;
 use irtext_context::base::{Context, Operation, Ptr, Region};
-use irtext_parse_nested::frame::Names;
+use irtext_graph::held::HasGraph;
+use irtext_parse_nested::frame::{BegunRegion, Names};
+use irtext_parse_nested::regions::{brace_demanded, enter_here};
 use irtext_parse_state::parsable::StateStream;
 use irtext_parse_state::parsable::state::State;
-use irtext_tokens::irfmt::faults::{next_is, unexpected};
+use irtext_tokens::irfmt::faults::{next_is, out_of_memory, unexpected};
+use std::alloc::AllocError;
 
 /// Whether operations with this id are isolated from above.
-fn isolated_by<T: IrText<A>, A: AttrText<A>>(ctx: &Context<T, A>, id: &OpId) -> bool
+pub(crate) fn isolated_by<T: IrText<A>, A: AttrText<A>>(ctx: &Context<T, A>, id: &OpId) -> bool
     ensures { result ≡ isolated ctx.now.dialects (id_of id.now) }
 {
     match ctx.op_info(id) {
@@ -63,8 +73,8 @@ fn isolated_here<T: IrText<A>, A: AttrText<A>, U>(
 }
 
 /// The position of a location that is a position in a source; for other locations the beginning of a text.
-fn position_of<A>(loc: &Location<A>) -> SourcePosition
-    ensures { IsPositionOf loc.now result }
+pub(crate) fn position_of<A>(loc: &Location<A>) -> SourcePosition
+    ensures { IsOutermost loc.now result }
 {
     match loc {
         Location::SrcPos { src: _, pos } => *pos,
@@ -81,7 +91,7 @@ fn position_in<T: IrText<A>, A: AttrText<A>>(
     op: Ptr<Operation>,
 ) -> SourcePosition
     requires { IsSome (operation ctx.now op) }
-    ensures { (view : OperationView T A) → operation ctx.now op ≡ Some view → IsPositionOf view.loc result }
+    ensures { (view : OperationView T A) → operation ctx.now op ≡ Some view → IsOutermost view.loc result }
 {
     position_of(op.loc(ctx))
 }
@@ -93,7 +103,7 @@ fn position_here<T: IrText<A>, A: AttrText<A>, U>(
 ) -> SourcePosition
     requires { IsSome (operation state.now.ctx.now op) }
     ensures { (view : OperationView T A) → operation state.now.ctx.now op ≡ Some view
-        → IsPositionOf view.loc result }
+        → IsOutermost view.loc result }
 {
     position_in(state.ctx, op)
 }
@@ -108,10 +118,11 @@ fn can_enter(names: &Names, isolated: bool) -> bool
 /// Returns the error for a region whose operation is not isolated while no scope of values is open, at a position. Leaves the stream
 /// failed.
 #[cold]
-fn not_isolated<A>(stream: &mut TextStream, pos: SourcePosition) -> ParseFault<A>
+pub(crate) fn not_isolated<A>(stream: &mut TextStream, pos: SourcePosition) -> ParseFault<A>
     ensures cause { fault_of result.cause ≡ fault.NotIsolated }
     ensures committed { result.committed ≡ true }
     ensures place { result.pos ≡ pos }
+    ensures fails { stream.new ≡ after_failure stream.old }
 {
     stream.fail();
     ParseFault {
@@ -120,6 +131,94 @@ fn not_isolated<A>(stream: &mut TextStream, pos: SourcePosition) -> ParseFault<A
             ParserNameTrackerError::TopLevelOpRegionNotIsolatedFromAbove,
         ),
         committed: true,
+    }
+}
+
+/// Creates a detached region in the context of the state. The only error is `Memory`, if an allocation fails.
+fn region_made<T: IrText<A>, A: AttrText<A>, U>(
+    s: &mut StateStream<'_, T, A, U>,
+) -> ParseResult<Ptr<Region>, A>
+    ensures lent { s.new.state.ctx.ghost_name ≡ s.old.state.ctx.ghost_name }
+    ensures rest { KeepsRest s.old.state s.new.state }
+    ensures marks { marks_of s.new.state ≡ marks_of s.old.state }
+    ensures stream { OnOk result (s.new.stream ≡ s.old.stream) }
+    ensures makes { IfOk result (λ r. MakesRegion s.old.state.ctx.now.graph s.new.state.ctx.now.graph r) }
+    ensures with_it { s.new.state.ctx.now ≡ with_graph s.old.state.ctx.now s.new.state.ctx.now.graph }
+    ensures starved { IfErr result IsStarved }
+    ensures kept { (m : ℕ) → m ≤ s.old.state.ctx.now.graph.made → KeepsOlder m s.old.state.ctx.now
+        s.new.state.ctx.now }
+{
+    let ctx = &mut *s.state.ctx;
+    match ctx.graph_mut().make_region() {
+        Ok(region) => Ok(region),
+        Err(AllocError) => Err(out_of_memory(&mut s.stream)),
+    }
+}
+
+/// Opens the scopes of a new detached region, creates it, and parses its `{` and the white space after it. `isolated` says whether its
+/// operation is isolated from above. If it is not, and no scope of values is open, fails at the beginning of the text. Every error is
+/// committed.
+fn region_alone<T: IrText<A>, A: AttrText<A>, U>(
+    s: &mut StateStream<'_, T, A, U>,
+    names: &mut Names,
+    isolated: bool,
+) -> ParseResult<BegunRegion, A>
+    requires fine { s.old.stream.failed ≡ false }
+    requires tied { MatchesGraph names.old.values names.old.labels s.old.state.ctx.now.graph }
+    ensures lent { s.new.state.ctx.ghost_name ≡ s.old.state.ctx.ghost_name }
+    ensures rest { KeepsRest s.old.state s.new.state }
+    ensures marks { marks_of s.new.state ≡ marks_of s.old.state }
+    ensures begins { IfOk result (λ r. BeginsRegion T.IrText.reading (attr_at A.IrText.reading) isolated r
+        names.old s.old names.new s.new) }
+    ensures refused { IfErr result (UnlessMemory (RefusesRegion T.IrText.reading (attr_at A.IrText.reading)
+        isolated names.old s.old)) }
+    ensures committed { IfErr result (λ fault. fault.committed ≡ true) }
+    ensures names { names.new.names ≡ names.old.names }
+    ensures values { OnOk result (names.new.values ≡ entered isolated names.old.values) }
+    ensures labels { OnOk result (names.new.labels ≡ [] ∷ names.old.labels) }
+    ensures open { OnOk result (is_open names.new.values ≡ true) }
+    ensures makes { IfOk result (λ r. MakesRegion s.old.state.ctx.now.graph s.new.state.ctx.now.graph
+        r.region) }
+    ensures with_it { s.new.state.ctx.now ≡ with_graph s.old.state.ctx.now s.new.state.ctx.now.graph }
+    ensures sound { OnOk result ((m : ℕ) → m ≤ s.old.state.ctx.now.graph.made → IsSound m names.old
+        s.old.state → IsSound m names.new s.new.state) }
+    ensures kept { (m : ℕ) → m ≤ s.old.state.ctx.now.graph.made → KeepsOlder m s.old.state.ctx.now
+        s.new.state.ctx.now }
+{
+    let at = s.stream.position();
+    enter_here(s, names, isolated)?;
+    let region = region_made(s)?;
+    brace_demanded(&mut s.stream)?;
+    Ok(BegunRegion {
+        region,
+        isolated,
+        at,
+    })
+}
+
+/// Appends a detached region to an operation. If an allocation fails, the context is unchanged.
+fn region_placed<T: IrText<A>, A: AttrText<A>, U>(
+    s: &mut StateStream<'_, T, A, U>,
+    op: Ptr<Operation>,
+    region: Ptr<Region>,
+) -> ParseResult<(), A>
+    requires op { IsLive s.old.state.ctx.now.graph (TheOperation op) }
+    requires region { IsLive s.old.state.ctx.now.graph (TheRegion region) }
+    requires can { CanInsert s.old.state.ctx.now.graph (TheOperation op) (TheRegion region) }
+    ensures lent { s.new.state.ctx.ghost_name ≡ s.old.state.ctx.ghost_name }
+    ensures rest { KeepsRest s.old.state s.new.state }
+    ensures marks { marks_of s.new.state ≡ marks_of s.old.state }
+    ensures stream { OnOk result (s.new.stream ≡ s.old.stream) }
+    ensures places { OnOk result (Appends s.old.state.ctx.now.graph s.new.state.ctx.now.graph
+        (TheOperation op) (TheRegion region)) }
+    ensures with_it { s.new.state.ctx.now ≡ with_graph s.old.state.ctx.now s.new.state.ctx.now.graph }
+    ensures unchanged { OnErr result (s.new.state.ctx.now ≡ s.old.state.ctx.now) }
+    ensures starved { IfErr result IsStarved }
+{
+    let ctx = &mut *s.state.ctx;
+    match region.insert_at_back(op, ctx) {
+        Ok(()) => Ok(()),
+        Err(AllocError) => Err(out_of_memory(&mut s.stream)),
     }
 }
 

@@ -10,8 +10,8 @@ ghost use Rattle.irtext_parse_spec.specs.Readers.Refusals.{Refusal, RefusesFaile
 ghost use Rattle.irtext_promises.specs.Alone.{IsOutermost};
 ghost use Rattle.irtext_parse_root.specs.Results.{RefusesResults};
 
+use crate::one_region::position_of;
 use crate::outermost::failed_fault;
-use crate::region::position_of;
 use irtext_base::base::Identifier;
 use irtext_base::location::Location;
 use irtext_base::parsable::{CharStream, ParseFault, ParseResult, SourcePosition, TextStream};

@@ -1,18 +1,11 @@
 //! One step of the loop: for the innermost frame it begins a nested frame, continues the frame, or ends it.
-ghost use Rattle.std.specs.Prelude.{◌≡◌, ◌≢◌, ◌≤◌, ◌+◌, ◌++◌, ◌∷◌, [], ℕ, false, length, IfOk, IfErr, OnOk, OnErr, None, Some, IfSome, slice_get};
+ghost use Rattle.std.specs.Prelude.{◌≡◌, ◌≢◌, ◌+◌, None, IfSome, length, slice_get};
 ghost use Rattle.irtext_base.specs.Faults.{id_of};
-ghost use Rattle.irtext_context.specs.Context.{KeepsOlder};
-ghost use Rattle.irtext_graph.specs.Back.{IsClosedBelow};
 ghost use Rattle.irtext_tokens.specs.AttrTexts.{attr_at};
-ghost use Rattle.irtext_scopes.specs.Names.{KeepsNames};
 ghost use Rattle.irtext_grammar.specs.Contexts.Formats as formats;
-ghost use Rattle.irtext_grammar.specs.Contexts.Held.{whole};
 ghost use Rattle.irtext_parse_spec.specs.Reached.{steps_in};
 ghost use Rattle.irtext_parse_pieces.specs.Coming.{IsStep};
-ghost use Rattle.irtext_parse_nested.specs.Items.{IsSound};
-ghost use Rattle.irtext_parse_root.specs.Here.{AreHere};
-ghost use Rattle.irtext_parse_root.specs.Levels.{AreAllNew};
-ghost use Rattle.irtext_parse_root.specs.Turned.{IsSoundOnce, Remains, Proceeds, Stops};
+ghost use Rattle.irtext_parse_root.specs.Turned.{AreReady, Steps};
 ghost use Rattle.irtext_parse_root.specs.Turns.{IsNext};
 ghost use Rattle.irtext_parse_pieces.specs.declared.coming.Coming.TheVariants as comes;
 ghost use Rattle.irtext_parse_root.specs.declared.frames.Frame.TheVariants as framed;
@@ -66,23 +59,11 @@ fn piece_step<T: IrText<A>, A: AttrText<A>, U>(
     frames: &mut Waiting,
     begun: BegunOperation,
 ) -> ParseResult<Option<Frame>, A>
-    requires fine { s.old.stream.failed ≡ false }
-    requires sound { IsSoundOnce names.old s.old.state }
-    requires here { AreHere T A (whole s.old.stream) s.old.state.ctx.now names.old
-        (Some (framed.Operation begun)) frames.old }
+    requires ready { AreReady (framed.Operation begun) frames.old names.old s.old }
     requires next { IsNext s.old.state.ctx.now.dialects begun comes.Piece }
     ensures lent { s.new.state.ctx.ghost_name ≡ s.old.state.ctx.ghost_name }
-    ensures proceeds { IfOk result (λ next. Proceeds T.IrText.reading (attr_at A.IrText.reading)
-        (framed.Operation begun)
-        frames.old names.old s.old names.new s.new next frames.new) }
-    ensures stops { IfErr result (Stops T.IrText.reading (attr_at A.IrText.reading)
-        (framed.Operation begun) frames.old
-        names.old s.old) }
-    ensures remains { OnErr result (Remains s.old.state s.new.state) }
-    ensures names { KeepsNames names.old.names names.new.names }
-    ensures kept { (m : ℕ) → m ≤ s.old.state.ctx.now.graph.made → IsClosedBelow m s.old.state.ctx.now.graph →
-        IsSound m names.old s.old.state
-        → AreAllNew m s.old.state.ctx.now.graph (Some (framed.Operation begun)) frames.old → KeepsOlder m s.old.state.ctx.now s.new.state.ctx.now }
+    ensures steps { Steps T.IrText.reading (attr_at A.IrText.reading) (framed.Operation begun) frames.old names.old
+        s.old result names.new s.new frames.new }
 {
     let mut begun = begun;
     go_on(s, names, &mut begun)?;
@@ -98,25 +79,13 @@ fn region_step<T: IrText<A>, A: AttrText<A>, U>(
     isolated: bool,
     behind: usize,
 ) -> ParseResult<Option<Frame>, A>
-    requires fine { s.old.stream.failed ≡ false }
-    requires sound { IsSoundOnce names.old s.old.state }
-    requires here { AreHere T A (whole s.old.stream) s.old.state.ctx.now names.old
-        (Some (framed.Operation begun)) frames.old }
+    requires ready { AreReady (framed.Operation begun) frames.old names.old s.old }
     requires next { IsNext s.old.state.ctx.now.dialects begun comes.Region }
     requires isolated { isolated ≡ formats.isolated s.old.state.ctx.now.dialects (id_of begun.id) }
     requires behind { behind ≡ begun.step + 1 }
     ensures lent { s.new.state.ctx.ghost_name ≡ s.old.state.ctx.ghost_name }
-    ensures proceeds { IfOk result (λ next. Proceeds T.IrText.reading (attr_at A.IrText.reading)
-        (framed.Operation begun)
-        frames.old names.old s.old names.new s.new next frames.new) }
-    ensures stops { IfErr result (Stops T.IrText.reading (attr_at A.IrText.reading)
-        (framed.Operation begun) frames.old
-        names.old s.old) }
-    ensures remains { OnErr result (Remains s.old.state s.new.state) }
-    ensures names { KeepsNames names.old.names names.new.names }
-    ensures kept { (m : ℕ) → m ≤ s.old.state.ctx.now.graph.made → IsClosedBelow m s.old.state.ctx.now.graph →
-        IsSound m names.old s.old.state
-        → AreAllNew m s.old.state.ctx.now.graph (Some (framed.Operation begun)) frames.old → KeepsOlder m s.old.state.ctx.now s.new.state.ctx.now }
+    ensures steps { Steps T.IrText.reading (attr_at A.IrText.reading) (framed.Operation begun) frames.old names.old
+        s.old result names.new s.new frames.new }
 {
     let op = begun.op;
     space_parse(&mut s.stream);
@@ -137,25 +106,13 @@ fn regions_step<T: IrText<A>, A: AttrText<A>, U>(
     isolated: bool,
     behind: usize,
 ) -> ParseResult<Option<Frame>, A>
-    requires fine { s.old.stream.failed ≡ false }
-    requires sound { IsSoundOnce names.old s.old.state }
-    requires here { AreHere T A (whole s.old.stream) s.old.state.ctx.now names.old
-        (Some (framed.Operation begun)) frames.old }
+    requires ready { AreReady (framed.Operation begun) frames.old names.old s.old }
     requires next { IsNext s.old.state.ctx.now.dialects begun comes.Regions }
     requires isolated { isolated ≡ formats.isolated s.old.state.ctx.now.dialects (id_of begun.id) }
     requires behind { behind ≡ begun.step + 1 }
     ensures lent { s.new.state.ctx.ghost_name ≡ s.old.state.ctx.ghost_name }
-    ensures proceeds { IfOk result (λ next. Proceeds T.IrText.reading (attr_at A.IrText.reading)
-        (framed.Operation begun)
-        frames.old names.old s.old names.new s.new next frames.new) }
-    ensures stops { IfErr result (Stops T.IrText.reading (attr_at A.IrText.reading)
-        (framed.Operation begun) frames.old
-        names.old s.old) }
-    ensures remains { OnErr result (Remains s.old.state s.new.state) }
-    ensures names { KeepsNames names.old.names names.new.names }
-    ensures kept { (m : ℕ) → m ≤ s.old.state.ctx.now.graph.made → IsClosedBelow m s.old.state.ctx.now.graph →
-        IsSound m names.old s.old.state
-        → AreAllNew m s.old.state.ctx.now.graph (Some (framed.Operation begun)) frames.old → KeepsOlder m s.old.state.ctx.now s.new.state.ctx.now }
+    ensures steps { Steps T.IrText.reading (attr_at A.IrText.reading) (framed.Operation begun) frames.old names.old
+        s.old result names.new s.new frames.new }
 {
     space_parse(&mut s.stream);
     if !next_is(&s.stream, '{') {
@@ -175,23 +132,11 @@ fn end_step<T: IrText<A>, A: AttrText<A>, U>(
     frames: &mut Waiting,
     begun: BegunOperation,
 ) -> ParseResult<Option<Frame>, A>
-    requires fine { s.old.stream.failed ≡ false }
-    requires sound { IsSoundOnce names.old s.old.state }
-    requires here { AreHere T A (whole s.old.stream) s.old.state.ctx.now names.old
-        (Some (framed.Operation begun)) frames.old }
+    requires ready { AreReady (framed.Operation begun) frames.old names.old s.old }
     requires next { IsNext s.old.state.ctx.now.dialects begun comes.End }
     ensures lent { s.new.state.ctx.ghost_name ≡ s.old.state.ctx.ghost_name }
-    ensures proceeds { IfOk result (λ next. Proceeds T.IrText.reading (attr_at A.IrText.reading)
-        (framed.Operation begun)
-        frames.old names.old s.old names.new s.new next frames.new) }
-    ensures stops { IfErr result (Stops T.IrText.reading (attr_at A.IrText.reading)
-        (framed.Operation begun) frames.old
-        names.old s.old) }
-    ensures remains { OnErr result (Remains s.old.state s.new.state) }
-    ensures names { KeepsNames names.old.names names.new.names }
-    ensures kept { (m : ℕ) → m ≤ s.old.state.ctx.now.graph.made → IsClosedBelow m s.old.state.ctx.now.graph →
-        IsSound m names.old s.old.state
-        → AreAllNew m s.old.state.ctx.now.graph (Some (framed.Operation begun)) frames.old → KeepsOlder m s.old.state.ctx.now s.new.state.ctx.now }
+    ensures steps { Steps T.IrText.reading (attr_at A.IrText.reading) (framed.Operation begun) frames.old names.old
+        s.old result names.new s.new frames.new }
 {
     end(s, names, &begun)?;
     Ok(frames.pop())
@@ -204,22 +149,10 @@ fn operation_step<T: IrText<A>, A: AttrText<A>, U>(
     frames: &mut Waiting,
     begun: BegunOperation,
 ) -> ParseResult<Option<Frame>, A>
-    requires fine { s.old.stream.failed ≡ false }
-    requires sound { IsSoundOnce names.old s.old.state }
-    requires here { AreHere T A (whole s.old.stream) s.old.state.ctx.now names.old
-        (Some (framed.Operation begun)) frames.old }
+    requires ready { AreReady (framed.Operation begun) frames.old names.old s.old }
     ensures lent { s.new.state.ctx.ghost_name ≡ s.old.state.ctx.ghost_name }
-    ensures proceeds { IfOk result (λ next. Proceeds T.IrText.reading (attr_at A.IrText.reading)
-        (framed.Operation begun)
-        frames.old names.old s.old names.new s.new next frames.new) }
-    ensures stops { IfErr result (Stops T.IrText.reading (attr_at A.IrText.reading)
-        (framed.Operation begun) frames.old
-        names.old s.old) }
-    ensures remains { OnErr result (Remains s.old.state s.new.state) }
-    ensures names { KeepsNames names.old.names names.new.names }
-    ensures kept { (m : ℕ) → m ≤ s.old.state.ctx.now.graph.made → IsClosedBelow m s.old.state.ctx.now.graph →
-        IsSound m names.old s.old.state
-        → AreAllNew m s.old.state.ctx.now.graph (Some (framed.Operation begun)) frames.old → KeepsOlder m s.old.state.ctx.now s.new.state.ctx.now }
+    ensures steps { Steps T.IrText.reading (attr_at A.IrText.reading) (framed.Operation begun) frames.old names.old
+        s.old result names.new s.new frames.new }
 {
     let next = coming_here(&s.state, &begun);
     match next.coming {
@@ -238,22 +171,10 @@ fn blocks_step<T: IrText<A>, A: AttrText<A>, U>(
     frames: &mut Waiting,
     region: BegunRegion,
 ) -> ParseResult<Option<Frame>, A>
-    requires fine { s.old.stream.failed ≡ false }
-    requires sound { IsSoundOnce names.old s.old.state }
-    requires here { AreHere T A (whole s.old.stream) s.old.state.ctx.now names.old
-        (Some (framed.Region region)) frames.old }
+    requires ready { AreReady (framed.Region region) frames.old names.old s.old }
     ensures lent { s.new.state.ctx.ghost_name ≡ s.old.state.ctx.ghost_name }
-    ensures proceeds { IfOk result (λ next. Proceeds T.IrText.reading (attr_at A.IrText.reading)
-        (framed.Region region)
-        frames.old names.old s.old names.new s.new next frames.new) }
-    ensures stops { IfErr result (Stops T.IrText.reading (attr_at A.IrText.reading)
-        (framed.Region region) frames.old
-        names.old s.old) }
-    ensures remains { OnErr result (Remains s.old.state s.new.state) }
-    ensures names { KeepsNames names.old.names names.new.names }
-    ensures kept { (m : ℕ) → m ≤ s.old.state.ctx.now.graph.made → IsClosedBelow m s.old.state.ctx.now.graph →
-        IsSound m names.old s.old.state
-        → AreAllNew m s.old.state.ctx.now.graph (Some (framed.Region region)) frames.old → KeepsOlder m s.old.state.ctx.now s.new.state.ctx.now }
+    ensures steps { Steps T.IrText.reading (attr_at A.IrText.reading) (framed.Region region) frames.old names.old
+        s.old result names.new s.new frames.new }
 {
     space_parse(&mut s.stream);
     if !next_is(&s.stream, '^') {
@@ -275,21 +196,10 @@ fn block_step<T: IrText<A>, A: AttrText<A>, U>(
     frames: &mut Waiting,
     block: BegunBlock,
 ) -> ParseResult<Option<Frame>, A>
-    requires fine { s.old.stream.failed ≡ false }
-    requires sound { IsSoundOnce names.old s.old.state }
-    requires here { AreHere T A (whole s.old.stream) s.old.state.ctx.now names.old (Some (framed.Block block))
-        frames.old }
+    requires ready { AreReady (framed.Block block) frames.old names.old s.old }
     ensures lent { s.new.state.ctx.ghost_name ≡ s.old.state.ctx.ghost_name }
-    ensures proceeds { IfOk result (λ next. Proceeds T.IrText.reading (attr_at A.IrText.reading)
-        (framed.Block block)
-        frames.old names.old s.old names.new s.new next frames.new) }
-    ensures stops { IfErr result (Stops T.IrText.reading (attr_at A.IrText.reading) (framed.Block block)
-        frames.old names.old s.old) }
-    ensures remains { OnErr result (Remains s.old.state s.new.state) }
-    ensures names { KeepsNames names.old.names names.new.names }
-    ensures kept { (m : ℕ) → m ≤ s.old.state.ctx.now.graph.made → IsClosedBelow m s.old.state.ctx.now.graph →
-        IsSound m names.old s.old.state
-        → AreAllNew m s.old.state.ctx.now.graph (Some (framed.Block block)) frames.old → KeepsOlder m s.old.state.ctx.now s.new.state.ctx.now }
+    ensures steps { Steps T.IrText.reading (attr_at A.IrText.reading) (framed.Block block) frames.old names.old
+        s.old result names.new s.new frames.new }
 {
     if !another_stands(&mut s.stream, block.first) {
         return Ok(frames.pop());
@@ -313,20 +223,10 @@ pub(crate) fn step<T: IrText<A>, A: AttrText<A>, U>(
     frames: &mut Waiting,
     frame: Frame,
 ) -> ParseResult<Option<Frame>, A>
-    requires fine { s.old.stream.failed ≡ false }
-    requires sound { IsSoundOnce names.old s.old.state }
-    requires here { AreHere T A (whole s.old.stream) s.old.state.ctx.now names.old (Some frame) frames.old }
+    requires ready { AreReady frame frames.old names.old s.old }
     ensures lent { s.new.state.ctx.ghost_name ≡ s.old.state.ctx.ghost_name }
-    ensures proceeds { IfOk result (λ next. Proceeds T.IrText.reading (attr_at A.IrText.reading) frame
-        frames.old names.old
-        s.old names.new s.new next frames.new) }
-    ensures stops { IfErr result (Stops T.IrText.reading (attr_at A.IrText.reading) frame frames.old
-        names.old s.old) }
-    ensures remains { OnErr result (Remains s.old.state s.new.state) }
-    ensures names { KeepsNames names.old.names names.new.names }
-    ensures kept { (m : ℕ) → m ≤ s.old.state.ctx.now.graph.made → IsClosedBelow m s.old.state.ctx.now.graph →
-        IsSound m names.old s.old.state
-        → AreAllNew m s.old.state.ctx.now.graph (Some frame) frames.old → KeepsOlder m s.old.state.ctx.now s.new.state.ctx.now }
+    ensures steps { Steps T.IrText.reading (attr_at A.IrText.reading) frame frames.old names.old
+        s.old result names.new s.new frames.new }
 {
     match frame {
         Frame::Operation(begun) => operation_step(s, names, frames, begun),

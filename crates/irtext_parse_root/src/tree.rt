@@ -13,11 +13,10 @@ ghost use Rattle.irtext_grammar.specs.Contexts.Formats.{IsAccepted};
 ghost use Rattle.irtext_grammar.specs.Contexts.Held.{whole};
 ghost use Rattle.irtext_parse_spec.specs.Promises.Root.{IsFresh, UnlessMemory};
 ghost use Rattle.irtext_parse_spec.specs.Promises.Section.{Moves, indices_of};
-ghost use Rattle.irtext_parse_spec.specs.Readers.Refusals.{Refusal};
-ghost use Rattle.irtext_parse_spec.specs.Readers.Streams.{KeepsRest};
 ghost use Rattle.irtext_promises.specs.Promises.{HasFault};
 ghost use Rattle.irtext_parse_root.specs.AnyState.{HasFaultFrom, ReadsTree};
 ghost use Rattle.irtext_parse_root.specs.Marked.{LeavesMarked};
+ghost use Rattle.irtext_parse_root.specs.Parses.{CanUndo};
 
 use crate::nested::nested_parse;
 use irtext_base::parsable::{CharStream, ParseFault, ParseResult, TextStream};
@@ -59,7 +58,7 @@ pub fn tree_parse<T: IrText<A>, A: AttrText<A>, U>(
 ) -> ParseResult<Ptr<Operation>, A>
     requires fine { s.old.stream.failed ≡ false }
     ensures lent { s.new.state.ctx.ghost_name ≡ s.old.state.ctx.ghost_name }
-    ensures rest { KeepsRest s.old.state s.new.state }
+    ensures undone { CanUndo s.old result s.new }
     ensures read { IfOk result (λ op. ReadsTree T.IrText.reading (attr_at A.IrText.reading) op s.old s.new) }
     ensures missed { IfErr result (UnlessMemory (HasFaultFrom {T = T} T.IrText.reading
         (attr_at A.IrText.reading) s.old.state.ctx.now.dialects
@@ -72,7 +71,6 @@ pub fn tree_parse<T: IrText<A>, A: AttrText<A>, U>(
     ensures at_fault { IsFresh s.old →
         IfErr result (UnlessMemory (HasFault {T = T} T.IrText.reading (attr_at A.IrText.reading) s.old.state.ctx.now.dialects
         (whole s.old.stream) s.old.stream.rest)) }
-    ensures refused { IfErr result (λ fault. Refusal s.old.stream fault s.new.stream) }
     ensures noted { (more : List (ℕ × Item)) × (marks_of s.new.state ≡ marks_of s.old.state ++ more) }
     ensures kept { KeepsOlder s.old.state.ctx.now.graph.made s.old.state.ctx.now s.new.state.ctx.now }
 {

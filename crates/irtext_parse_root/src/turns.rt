@@ -1,12 +1,10 @@
 //! The actions of the loop, each with its contract.
-ghost use Rattle.std.specs.Prelude.{◌≡◌, ◌≤◌, ◌∷◌, ℕ, List, false, true, length, is_some, IfOk, IfErr, IfSome, IsSome, OnOk, OnErr};
-ghost use Rattle.irtext_context.specs.Context.{operation, KeepsOlder};
-ghost use Rattle.irtext_graph.specs.Back.{IsClosedBelow};
+ghost use Rattle.std.specs.Prelude.{◌≡◌, ◌∷◌, ℕ, List, false, true, length, is_some, IfOk, IfErr, IfSome, IsSome, OnOk};
+ghost use Rattle.irtext_context.specs.Context.{operation};
 ghost use Rattle.irtext_graph.specs.Graph.{IsNew, IsLive};
 ghost use Rattle.irtext_graph.specs.Parts.{results};
 ghost use Rattle.irtext_graph.specs.declared.object.Object.TheVariants.{TheOperation, TheBlock, TheRegion};
 ghost use Rattle.irtext_tokens.specs.AttrTexts.{attr_at};
-ghost use Rattle.irtext_scopes.specs.Names.{KeepsNames};
 ghost use Rattle.irtext_scopes.specs.Scopes.{is_open};
 ghost use Rattle.irtext_grammar.specs.Contexts.Held.{whole};
 ghost use Rattle.irtext_parse_spec.specs.Promises.Root.{UnlessMemory};
@@ -16,9 +14,8 @@ ghost use Rattle.irtext_parse_spec.specs.Unchanged.{IsThere};
 ghost use Rattle.irtext_names.specs.Rows.{AreKnown};
 ghost use Rattle.irtext_parse_nested.specs.OpenOperation.{IsBegun, IsRegion};
 ghost use Rattle.irtext_parse_nested.specs.Ends.{numbers_of};
-ghost use Rattle.irtext_parse_nested.specs.Items.{IsSound};
 ghost use Rattle.irtext_parse_nested.specs.Read.{RefusesOperation, RefusesPiece, RefusesEnd, RefusesRegion, RefusesRegionEnd, RefusesBlock};
-ghost use Rattle.irtext_parse_root.specs.Turned.{IsSoundOnce, Remains};
+ghost use Rattle.irtext_parse_root.specs.Turned.{IsSoundOnce, Spares};
 ghost use Rattle.irtext_parse_root.specs.Turns.{IsNext, Begins, Continues, Ends, Enters, Leaves, Heads};
 ghost use Rattle.irtext_parse_pieces.specs.declared.coming.Coming.TheVariants as comes;
 
@@ -51,11 +48,8 @@ pub(crate) fn begin<T: IrText<A>, A: AttrText<A>, U>(
         true (is_some block)
         names.old s.old)) }
     ensures unread { IfErr result (λ fault. fault.committed ≡ false → s.new.stream ≡ s.old.stream) }
-    ensures remains { OnErr result (Remains s.old.state s.new.state) }
-    ensures names { KeepsNames names.old.names names.new.names }
-    ensures kept { (m : ℕ) → m ≤ s.old.state.ctx.now.graph.made → IsClosedBelow m s.old.state.ctx.now.graph →
-        IsSound m names.old s.old.state
-        → IfSome block (λ b. IsNew m s.old.state.ctx.now.graph (TheBlock b)) → KeepsOlder m s.old.state.ctx.now s.new.state.ctx.now }
+    ensures spares { Spares (λ m. IfSome block (λ b. IsNew m s.old.state.ctx.now.graph (TheBlock b))) names.old s.old.state
+        result names.new s.new.state }
 {
     operation_begin(s, names, keys, block)
 }
@@ -81,11 +75,8 @@ pub(crate) fn go_on<T: IrText<A>, A: AttrText<A>, U>(
         IsBegun names.old.names (whole s.old.stream) s.old.state.ctx.now begun.old o → o.steps ≡ step ∷ ss
         → UnlessMemory (RefusesPiece T.IrText.reading (attr_at A.IrText.reading) o step names.old s.old) fault) }
     ensures committed { IfErr result (λ fault. fault.committed ≡ true) }
-    ensures remains { OnErr result (Remains s.old.state s.new.state) }
-    ensures names { KeepsNames names.old.names names.new.names }
-    ensures kept { (m : ℕ) → m ≤ s.old.state.ctx.now.graph.made → IsClosedBelow m s.old.state.ctx.now.graph →
-        IsSound m names.old s.old.state
-        → IsNew m s.old.state.ctx.now.graph (TheOperation begun.old.op) → KeepsOlder m s.old.state.ctx.now s.new.state.ctx.now }
+    ensures spares { Spares (λ m. IsNew m s.old.state.ctx.now.graph (TheOperation begun.old.op)) names.old s.old.state
+        result names.new s.new.state }
 {
     operation_piece(s, names, begun)
 }
@@ -110,11 +101,8 @@ pub(crate) fn end<T: IrText<A>, A: AttrText<A>, U>(
         IsBegun names.old.names (whole s.old.stream) s.old.state.ctx.now begun.now o
         → UnlessMemory (RefusesEnd T.IrText.reading (attr_at A.IrText.reading) o begun.now names.old s.old) fault) }
     ensures committed { IfErr result (λ fault. fault.committed ≡ true) }
-    ensures remains { OnErr result (Remains s.old.state s.new.state) }
-    ensures names { KeepsNames names.old.names names.new.names }
-    ensures kept { (m : ℕ) → m ≤ s.old.state.ctx.now.graph.made → IsClosedBelow m s.old.state.ctx.now.graph →
-        IsSound m names.old s.old.state
-        → IsNew m s.old.state.ctx.now.graph (TheOperation begun.now.op) → KeepsOlder m s.old.state.ctx.now s.new.state.ctx.now }
+    ensures spares { Spares (λ m. IsNew m s.old.state.ctx.now.graph (TheOperation begun.now.op)) names.old s.old.state
+        result names.new s.new.state }
 {
     operation_end(s, names, begun)
 }
@@ -135,11 +123,8 @@ pub(crate) fn enter<T: IrText<A>, A: AttrText<A>, U>(
     ensures refused { IfErr result (UnlessMemory (RefusesRegion T.IrText.reading (attr_at A.IrText.reading)
         isolated names.old s.old)) }
     ensures committed { IfErr result (λ fault. fault.committed ≡ true) }
-    ensures remains { OnErr result (Remains s.old.state s.new.state) }
-    ensures names { KeepsNames names.old.names names.new.names }
-    ensures kept { (m : ℕ) → m ≤ s.old.state.ctx.now.graph.made → IsClosedBelow m s.old.state.ctx.now.graph →
-        IsSound m names.old s.old.state
-        → IsNew m s.old.state.ctx.now.graph (TheOperation op) → KeepsOlder m s.old.state.ctx.now s.new.state.ctx.now }
+    ensures spares { Spares (λ m. IsNew m s.old.state.ctx.now.graph (TheOperation op)) names.old s.old.state
+        result names.new s.new.state }
 {
     region_begin(s, names, op, isolated)
 }
@@ -162,11 +147,8 @@ pub(crate) fn leave<T: IrText<A>, A: AttrText<A>, U>(
         region.isolated place
         → UnlessMemory (RefusesRegionEnd T.IrText.reading (attr_at A.IrText.reading) region.isolated place names.old s.old) fault) }
     ensures committed { IfErr result (λ fault. fault.committed ≡ true) }
-    ensures remains { OnErr result (Remains s.old.state s.new.state) }
-    ensures names { KeepsNames names.old.names names.new.names }
-    ensures kept { (m : ℕ) → m ≤ s.old.state.ctx.now.graph.made → IsClosedBelow m s.old.state.ctx.now.graph →
-        IsSound m names.old s.old.state
-        → IsNew m s.old.state.ctx.now.graph (TheRegion region.region) → KeepsOlder m s.old.state.ctx.now s.new.state.ctx.now }
+    ensures spares { Spares (λ m. IsNew m s.old.state.ctx.now.graph (TheRegion region.region)) names.old s.old.state
+        result names.new s.new.state }
 {
     region_end(s, names, region)
 }
@@ -189,11 +171,8 @@ pub(crate) fn head<T: IrText<A>, A: AttrText<A>, U>(
     ensures refused { IfErr result (UnlessMemory (RefusesBlock T.IrText.reading (attr_at A.IrText.reading)
         names.old s.old)) }
     ensures committed { IfErr result (λ fault. fault.committed ≡ true) }
-    ensures remains { OnErr result (Remains s.old.state s.new.state) }
-    ensures names { KeepsNames names.old.names names.new.names }
-    ensures kept { (m : ℕ) → m ≤ s.old.state.ctx.now.graph.made → IsClosedBelow m s.old.state.ctx.now.graph →
-        IsSound m names.old s.old.state
-        → IsNew m s.old.state.ctx.now.graph (TheRegion region) → KeepsOlder m s.old.state.ctx.now s.new.state.ctx.now }
+    ensures spares { Spares (λ m. IsNew m s.old.state.ctx.now.graph (TheRegion region)) names.old s.old.state
+        result names.new s.new.state }
 {
     block_begin(s, names, keys, region)
 }

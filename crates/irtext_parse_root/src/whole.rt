@@ -1,30 +1,26 @@
 //! The parser for a whole text: a root, and white space up to the end.
-ghost use Rattle.std.specs.Prelude.{◌≡◌, ℕ, List, ◌++◌, false, IfOk, IfErr, OnOk, OnErr};
-ghost use Rattle.irtext_base.specs.Own.{texts_of};
+ghost use Rattle.std.specs.Prelude.{◌≡◌, ℕ, false, IfErr, OnOk, OnErr};
 ghost use Rattle.irtext_context.specs.Context.{KeepsOlder};
-ghost use Rattle.irtext_context.specs.Made.{SameObjects};
-ghost use Rattle.irtext_context.specs.declared.base.item.Item.{Item};
 ghost use Rattle.irtext_tokens.specs.AttrTexts.{attr_at};
 ghost use Rattle.irtext_parse_state.specs.States.{marks_of};
 ghost use Rattle.irtext_grammar.specs.Contexts.Held.{whole};
-ghost use Rattle.irtext_parse_spec.specs.Readers.Refusals.{Refusal, CommittedRefusal, RefusesFailed};
+ghost use Rattle.irtext_parse_spec.specs.Readers.Refusals.{CommittedRefusal};
 ghost use Rattle.irtext_parse_spec.specs.Readers.Streams.{KeepsRest};
-ghost use Rattle.irtext_parse_spec.specs.Promises.Root.{IsFresh, UnlessMemory};
+ghost use Rattle.irtext_parse_spec.specs.Promises.Root.{UnlessMemory};
 ghost use Rattle.irtext_parse_section.specs.Applied.{AreNewer};
 ghost use Rattle.irtext_parse_root.specs.Ended.{EndsAny, MissesEnd};
-ghost use Rattle.irtext_parse_root.specs.Whole.{OnlySpace, ExpectsEnd, BuildsWhole, RefusesWhole};
-ghost use Rattle.irtext_parse_root.specs.WholeAny.{ReadsWholeAny, MissesWholeAny};
+ghost use Rattle.irtext_parse_root.specs.Parses.{CanUndo, Parses, AnswersWhole};
+ghost use Rattle.irtext_parse_root.specs.Whole.{OnlySpace, ExpectsEnd};
 
-use crate::outermost::{failed_fault, made_in};
+use crate::outermost::failed_fault;
 use crate::tree::tree_parse;
+use crate::undo::{start_of, undone_on_error};
 use irtext_base::parsable::{CharStream, ParseResult, TextStream};
 use irtext_base::result::Expected;
 use irtext_base::text::{AttrText, IrText};
-use irtext_context::base::context::making::Making;
 use irtext_context::base::{Operation, Ptr};
 use irtext_parse_section::section::{section_checked, section_given};
 use irtext_parse_state::parsable::StateStream;
-use irtext_parse_state::parsable::state::Noting;
 use irtext_tokens::irfmt::faults::commit_unexpected;
 use irtext_tokens::irfmt::parsers::skip_white_space;
 
@@ -78,23 +74,8 @@ fn ended_parse<T: IrText<A>, A: AttrText<A>, U>(
 ) -> ParseResult<Ptr<Operation>, A>
     requires fine { s.old.stream.failed ≡ false }
     ensures lent { s.new.state.ctx.ghost_name ≡ s.old.state.ctx.ghost_name }
-    ensures rest { KeepsRest s.old.state s.new.state }
-    ensures refused { IfErr result (λ fault. Refusal s.old.stream fault s.new.stream) }
-    ensures read { IfOk result (λ op. ReadsWholeAny T.IrText.reading (attr_at A.IrText.reading) op
-        s.old s.new) }
-    ensures missed { IfErr result (UnlessMemory (MissesWholeAny T.IrText.reading
-        (attr_at A.IrText.reading) s.old)) }
-    ensures builds { IsFresh s.old →
-        IfOk result (λ op. BuildsWhole (texts_of T.IrText.reading T.IrText.written) (texts_of A.IrText.reading A.IrText.written)
-        T.IrText.reading (attr_at A.IrText.reading) op s.old s.new) }
-    ensures unresolved { IsFresh s.old →
-        IfErr result (UnlessMemory
-        (RefusesWhole (texts_of T.IrText.reading T.IrText.written) (texts_of A.IrText.reading A.IrText.written) T.IrText.reading
-        (attr_at A.IrText.reading) s.old)) }
-    ensures noted { OnErr result ((more : List (ℕ × Item))
-        × (marks_of s.new.state ≡ marks_of s.old.state ++ more)) }
-    ensures kept { OnErr result (KeepsOlder s.old.state.ctx.now.graph.made s.old.state.ctx.now
-        s.new.state.ctx.now) }
+    ensures undone { CanUndo s.old result s.new }
+    ensures answers { AnswersWhole T.IrText.own A.IrText.own s.old result s.new }
 {
     let earlier = s.state.has_marks();
     let op = tree_parse(s)?;
@@ -102,41 +83,21 @@ fn ended_parse<T: IrText<A>, A: AttrText<A>, U>(
     Ok(op)
 }
 
-/// Parses a root with its section, as `root_parse` does, after which only white space may be left. Otherwise the error is `Unexpected` at
-/// the first other character: the end of the text was expected. On an error, the objects that were created are removed, none of the
-/// root's marks stays recorded, and everything older is unchanged: the items of roots that were parsed before, whose marks are still
-/// recorded, keep what they had. On a stream that has failed the error is `StreamFailed`; if an allocation fails, the error is `Memory`.
+/// Parses a root with its section, as `outermost_parse` does, after which only white space may be left. Otherwise the error is
+/// `Unexpected` at the first other character: the end of the text was expected. On an error, the objects that were created are removed,
+/// none of the root's marks stays recorded, and everything older is unchanged: the items of roots that were parsed before, whose marks are
+/// still recorded, keep what they had. On a stream that has failed the error is `StreamFailed`; if an allocation fails, the error is
+/// `Memory`.
 pub fn whole_parse<T: IrText<A>, A: AttrText<A>, U>(
     s: &mut StateStream<'_, T, A, U>,
 ) -> ParseResult<Ptr<Operation>, A>
     ensures lent { s.new.state.ctx.ghost_name ≡ s.old.state.ctx.ghost_name }
-    ensures rest { KeepsRest s.old.state s.new.state }
-    ensures refused { IfErr result (λ fault. Refusal s.old.stream fault s.new.stream) }
-    ensures failed { RefusesFailed s.old.stream result s.new.stream }
-    ensures read { IfOk result (λ op. ReadsWholeAny T.reading (attr_at A.reading) op s.old s.new) }
-    ensures missed { s.old.stream.failed ≡ false
-        → IfErr result (UnlessMemory (MissesWholeAny T.reading (attr_at A.reading) s.old)) }
-    ensures builds { IsFresh s.old →
-        IfOk result (λ op. BuildsWhole (texts_of T.reading T.written) (texts_of A.reading A.written) T.reading
-        (attr_at A.reading) op s.old s.new) }
-    ensures unresolved { IsFresh s.old →
-        IfErr result (UnlessMemory
-        (RefusesWhole (texts_of T.reading T.written) (texts_of A.reading A.written) T.reading
-        (attr_at A.reading) s.old)) }
-    ensures objects { OnErr result (SameObjects s.old.state.ctx.now s.new.state.ctx.now) }
-    ensures marks { OnErr result (marks_of s.new.state ≡ marks_of s.old.state) }
+    ensures parses { Parses (AnswersWhole T.IrText.own A.IrText.own) s.old result s.new }
 {
     if s.stream.has_failed() {
         return Err(failed_fault(&s.stream));
     }
-    let made = made_in(&s.state);
-    let marks = s.state.num_marks();
-    match ended_parse(s) {
-        Ok(op) => Ok(op),
-        Err(fault) => {
-            s.state.ctx.roll_back(made);
-            s.state.truncate_marks(marks);
-            Err(fault)
-        }
-    }
+    let start = start_of(&s.state);
+    let answer = ended_parse(s);
+    undone_on_error(s, start, answer)
 }

@@ -53,7 +53,7 @@ pub closed_where_fits : {T A : Type 0} (written : A → Text) (C : Printing T A)
 closed_where_fits written C ctx p g h d f = record { closed = found_closed C (isolated ctx.dialects) g h.found d h.results h.operands h.successors h.alone; fits = f; unlabelled = h.unlabelled }
 
 module _ {T A : Type 0} (types : ir_text.Ghosts T A) (owns : ir_text.Ghosts A A) (attributes : attr_text.Ghosts A A) (same : A → A → Bool)
-    (ctx : ContextView T A) (p : Ptr Operation) (g : Graph T A) (sees : seen_root owns.written ctx p ≡ Some g) (nested : Nested (children ctx.graph) (parent ctx.graph)) (layout : Shown (Unit {0})) where
+    (ctx : ContextView T A) (p : Ptr Operation) (nested : Nested (children ctx.graph) (parent ctx.graph)) (layout : Shown (Unit {0})) where
   -- what the caller's types mean by their texts
   abbrev texts : Texts T
   texts = texts_of types.reading types.written
@@ -71,8 +71,8 @@ module _ {T A : Type 0} (types : ir_text.Ghosts T A) (owns : ir_text.Ghosts A A)
   root op = record { own = seen_operation owns.written ctx p op; regions = seen_regions owns.written ctx (pointers ctx.graph p).regions }
 
   -- what was printed without a limit fits
-  pub seen_fits : levels layout.limit ≡ None → (heads.MisfitsUnder types owns attributes same ctx p layout → ⊥) → Fit C (isolated ctx.dialects) g
-  seen_fits unlimited fits = go (operation ctx p) refl sees
+  seen_fits : (g : Graph T A) → seen_root owns.written ctx p ≡ Some g → levels layout.limit ≡ None → (heads.MisfitsUnder types owns attributes same ctx p layout → ⊥) → Fit C (isolated ctx.dialects) g
+  seen_fits g sees unlimited fits = go (operation ctx p) refl sees
     where
       go : (o : Option (OperationView T A)) → operation ctx p ≡ o → option_map root o ≡ Some g → Fit C (isolated ctx.dialects) g
       go None e s = absurd (cc)
@@ -87,27 +87,34 @@ module _ {T A : Type 0} (types : ir_text.Ghosts T A) (owns : ir_text.Ghosts A A)
           (subst (λ rs. OperationFault C (isolated ctx.dialects) layout.width Misfit (seen_operation owns.written ctx p view) (seen_regions owns.written ctx rs) ⊎ RegionsFault C (isolated ctx.dialects) layout.width Misfit layout.indent None (seen_regions owns.written ctx rs))
           (inside_is ctx.graph nested p) k)))))
 
+  -- The four facts of what is parsed back from the printed text of a root, in a context with the same dialects.
+  pub record IsBack (g : Graph T A) (text : List ℕ) (other : ContextView T A) : Type 0 where
+    pub back : levels layout.limit ≡ None → (Fit C (isolated ctx.dialects) g → ClosedRoot C (isolated ctx.dialects) g) → (q : Ptr Operation) (left : ContextView T A) → ReadsText texts own_texts attr text other q left → ComesBack texts own_texts attr C ctx.dialects g q left
+    pub whole : levels layout.limit ≡ None → (Fit C (isolated ctx.dialects) g → ClosedRoot C (isolated ctx.dialects) g × Named C g) → (q : Ptr Operation) (left : ContextView T A) → ReadsText texts own_texts attr text other q left → ComesBackWhole texts own_texts attr C ctx.dialects g q left
+    pub limited : Fit C (isolated ctx.dialects) g → (AllShown (written C (levels layout.limit) g) → ⊥) → (q : Ptr Operation) (left : ContextView T A) → ReadsText texts own_texts attr text other q left → ⊥
+    pub refused : levels layout.limit ≡ None → (Fit C (isolated ctx.dialects) g → ClosedRoot C (isolated ctx.dialects) g) → (f : ParseFault A) → UnlessMemory (RefusesText texts own_texts attr text other types.reading) f → fault_of f.cause ≡ faults.Memory
+
   module _ (types_law : Lawful T texts) (owns_law : Lawful A own_texts) (unreserved : Unreserved A own_texts) (sound : (a b : A) → same a b ≡ true → a ≡ b) (reflexive : (a : A) → same a a ≡ true)
-      (nowhere : block_round ctx p ≡ None) (kept : KeptRoot attr owns.written C (isolated ctx.dialects) g) (bytes : List ℕ) (utf8 : IsUtf8 bytes) (few : length bytes < 2 ^ 64) (printed : IsPrinted types owns attributes same ctx p layout bytes)
-      (text : List ℕ) (text_is : text ≡ bytes) (other : ContextView T A) (same_dialects : other.dialects ≡ ctx.dialects) where
+      (bytes : List ℕ) (utf8 : IsUtf8 bytes) (few : length bytes < 2 ^ 64) (printed : IsPrinted types owns attributes same ctx p layout bytes) (text : List ℕ) (text_is : text ≡ bytes) (other : ContextView T A) (same_dialects : other.dialects ≡ ctx.dialects)
+      (keeps : (g : Graph T A) → seen_root owns.written ctx p ≡ Some g → KeptRoot attr owns.written C (isolated ctx.dialects) g) (nowhere : block_round ctx p ≡ None) (g : Graph T A) (sees : seen_root owns.written ctx p ≡ Some g) where
     as_printed : Fit C (isolated ctx.dialects) g → PrintedRoot texts own_texts attr C ctx p g layout.width layout.indent (levels layout.limit) bytes
-    as_printed fits = record { sees = sees; kept = kept; fits = fits; utf8 = utf8; few = few; printed = printed.is_text g sees nowhere }
+    as_printed fits = record { sees = sees; kept = keeps g sees; fits = fits; utf8 = utf8; few = few; printed = printed.is_text g sees nowhere }
 
     -- nothing is parsed from a root of which a region was left out
-    pub nothing_back : Fit C (isolated ctx.dialects) g → (AllShown (written C (levels layout.limit) g) → ⊥) → (q : Ptr Operation) (left : ContextView T A) → ReadsText texts own_texts attr text other q left → ⊥
+    nothing_back : Fit C (isolated ctx.dialects) g → (AllShown (written C (levels layout.limit) g) → ⊥) → (q : Ptr Operation) (left : ContextView T A) → ReadsText texts own_texts attr text other q left → ⊥
     nothing_back fits out q left r =
         none_read texts owns.reading owns.written types_law owns_law unreserved attributes.outlined attributes.print_once same sound reflexive ctx p g layout.width layout.indent bytes (levels layout.limit) (as_printed fits) r.old (r.starts.text ∙ ap chars text_is)
         (ap (λ (v : ContextView T A). v.dialects) r.starts.context ∙ same_dialects) out q r.new r.builds
 
     module _ (unlimited : levels layout.limit ≡ None) where
       fits_there : Fit C (isolated ctx.dialects) g
-      fits_there = seen_fits unlimited printed.fits
+      fits_there = seen_fits g sees unlimited printed.fits
 
       wholly : PrintedRoot texts own_texts attr C ctx p g layout.width layout.indent None bytes
       wholly = subst (λ l. PrintedRoot texts own_texts attr C ctx p g layout.width layout.indent l bytes) unlimited (as_printed fits_there)
 
       -- what is parsed from it is equal to it
-      pub reads_back : (Fit C (isolated ctx.dialects) g → ClosedRoot C (isolated ctx.dialects) g) → (q : Ptr Operation) (left : ContextView T A) → ReadsText texts own_texts attr text other q left → ComesBack texts own_texts attr C ctx.dialects g q left
+      reads_back : (Fit C (isolated ctx.dialects) g → ClosedRoot C (isolated ctx.dialects) g) → (q : Ptr Operation) (left : ContextView T A) → ReadsText texts own_texts attr text other q left → ComesBack texts own_texts attr C ctx.dialects g q left
       reads_back closed q left r = (
         r.new.stream.rest,
         subst (λ (z : ContextView T A). HeldBack texts own_texts attr C (isolated ctx.dialects) g r.new.stream.rest (held_root z q)) r.ends
@@ -116,7 +123,7 @@ module _ {T A : Type 0} (types : ir_text.Ghosts T A) (owns : ir_text.Ghosts A A)
       )
 
       -- with nothing filled in but positions, where all has names
-      pub reads_whole : (Fit C (isolated ctx.dialects) g → ClosedRoot C (isolated ctx.dialects) g × Named C g) → (q : Ptr Operation) (left : ContextView T A) → ReadsText texts own_texts attr text other q left → ComesBackWhole texts own_texts attr C ctx.dialects g q left
+      reads_whole : (Fit C (isolated ctx.dialects) g → ClosedRoot C (isolated ctx.dialects) g × Named C g) → (q : Ptr Operation) (left : ContextView T A) → ReadsText texts own_texts attr text other q left → ComesBackWhole texts own_texts attr C ctx.dialects g q left
       reads_whole closed q left r = let k = closed fits_there in (
         r.new.stream.rest,
         subst (λ (z : ContextView T A). HeldWhole texts own_texts attr C (isolated ctx.dialects) g r.new.stream.rest (held_root z q)) r.ends
@@ -125,10 +132,13 @@ module _ {T A : Type 0} (types : ir_text.Ghosts T A) (owns : ir_text.Ghosts A A)
       )
 
       -- and it is an error only if out of memory
-      pub memory_alone : (Fit C (isolated ctx.dialects) g → ClosedRoot C (isolated ctx.dialects) g) → (f : ParseFault A) → UnlessMemory (RefusesText texts own_texts attr text other types.reading) f → fault_of f.cause ≡ faults.Memory
+      memory_alone : (Fit C (isolated ctx.dialects) g → ClosedRoot C (isolated ctx.dialects) g) → (f : ParseFault A) → UnlessMemory (RefusesText texts own_texts attr text other types.reading) f → fault_of f.cause ≡ faults.Memory
       memory_alone closed f h =
           elim h [
             | inl m ↦ m.because
             | inr r ↦ absurd (not_refused texts owns.reading owns.written types_law owns_law unreserved attributes.outlined attributes.print_once same sound reflexive ctx p g layout.width layout.indent bytes wholly (closed fits_there) r.old (r.starts.text ∙ ap chars text_is)
                 (ap (λ (v : ContextView T A). v.dialects) r.starts.context ∙ same_dialects) types.reading f r.refuses)
           ]
+
+    pub is_back : IsBack g text other
+    is_back = record { back = reads_back; whole = reads_whole; limited = nothing_back; refused = memory_alone }

@@ -12,5 +12,6 @@ pub use Rattle.irtext_promises.specs.OnlyNew
 pub use Rattle.irtext_promises.specs.Alone
 pub use Rattle.irtext_parse_root.specs.Whole
 pub use Rattle.irtext_parse_root.specs.AnyState
+pub use Rattle.irtext_parse_root.specs.Parses
 pub use Rattle.irtext_promises.specs.PrintedRoot
 pub use Rattle.pliron_text.specs.Calls

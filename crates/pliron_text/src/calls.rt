@@ -27,7 +27,7 @@ use irtext_base::parsable::{ParseFault, ParseResult, SourcePosition, TextStream}
 use irtext_base::result::Cause;
 use irtext_base::text::{AttrText, IrText};
 use irtext_context::base::{Context, Operation, Ptr};
-use irtext_parse_root::outermost::root_parse;
+use irtext_parse_root::outermost::outermost_parse;
 use irtext_parse_spec::context::keeps_parts;
 use irtext_parse_state::parsable::{State, StateStream};
 use irtext_print::printable::{Refusal, State as PrintState};
@@ -111,7 +111,7 @@ fn fresh_parse<T: IrText<A>, A: AttrText<A>, U>(
         (attr_at A.reading) s.old.state.ctx.now.dialects s.old.stream)) }
     ensures objects { OnErr result (SameObjects s.old.state.ctx.now s.new.state.ctx.now) }
 {
-    root_parse(s)
+    outermost_parse(s, true)
 }
 
 /// Parses a text as a root, in this context.

@@ -1,18 +1,14 @@
 //! Parsers for a single region and a single block.
-ghost use Rattle.std.specs.Prelude.{◌≡◌, false, IsSome, IfOk, IfErr, OnOk, OnErr};
-ghost use Rattle.irtext_base.specs.Own.{texts_of};
+ghost use Rattle.std.specs.Prelude.{◌≡◌, false, IsSome, IfErr, OnOk};
 ghost use Rattle.irtext_context.specs.Context.{operation};
-ghost use Rattle.irtext_context.specs.Made.{SameObjects};
 ghost use Rattle.irtext_tokens.specs.AttrTexts.{attr_at};
 ghost use Rattle.irtext_parse_state.specs.States.{marks_of};
 ghost use Rattle.irtext_parse_spec.specs.Promises.Root.{IsFresh, UnlessMemory};
 ghost use Rattle.irtext_parse_spec.specs.Promises.Section.{indices_of};
 ghost use Rattle.irtext_parse_spec.specs.Readers.Refusals.{Refusal, RefusesFailed};
-ghost use Rattle.irtext_parse_spec.specs.Readers.Streams.{KeepsRest};
-ghost use Rattle.irtext_promises.specs.Alone.{BuildsRegion, RefusesRegion, RefusesBlock};
-ghost use Rattle.irtext_parse_root.specs.AnyRegion.{ReadsRegion, MissesRegion};
+ghost use Rattle.irtext_promises.specs.Alone.{RefusesBlock};
 ghost use Rattle.irtext_parse_root.specs.Block.{MissesBlock};
-ghost use Rattle.irtext_parse_root.specs.Region.{unisolated};
+ghost use Rattle.irtext_parse_root.specs.Parses.{Parses, AnswersRegion};
 
 use crate::block::block_parse;
 use crate::parsable::Parsable;
@@ -48,21 +44,7 @@ impl<T: IrText<A>, A: AttrText<A>, U> Parsable<T, A, U> for Region {
     ) -> ParseResult<Ptr<Region>, A>
         requires { IsSome (operation stream.old.state.ctx.now op) }
         ensures lent { stream.new.state.ctx.ghost_name ≡ stream.old.state.ctx.ghost_name }
-        ensures rest { KeepsRest stream.old.state stream.new.state }
-        ensures refused { IfErr result (λ fault. Refusal stream.old.stream fault stream.new.stream) }
-        ensures failed { RefusesFailed stream.old.stream result stream.new.stream }
-        ensures read { OnOk result (ReadsRegion T.reading (attr_at A.reading) op stream.old stream.new) }
-        ensures missed { stream.old.stream.failed ≡ false →
-            IfErr result (UnlessMemory (MissesRegion T.reading (attr_at A.reading) op stream.old)) }
-        ensures builds { IsFresh stream.old →
-            IfOk result (λ r. BuildsRegion (texts_of T.reading T.written) (texts_of A.reading A.written)
-            op r stream.old stream.new) }
-        ensures unresolved { IsFresh stream.old →
-            IfErr result (UnlessMemory
-            (RefusesRegion (texts_of T.reading T.written) (texts_of A.reading A.written)
-            stream.old.state.ctx.now.dialects (unisolated stream.old.state.ctx.now op) stream.old.stream)) }
-        ensures objects { OnErr result (SameObjects stream.old.state.ctx.now stream.new.state.ctx.now) }
-        ensures marks { OnErr result (marks_of stream.new.state ≡ marks_of stream.old.state) }
+        ensures parses { Parses (AnswersRegion T.IrText.own A.IrText.own op) stream.old result stream.new }
     {
         region_parse(stream, op)
     }

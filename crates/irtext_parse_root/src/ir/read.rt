@@ -1,14 +1,6 @@
 //! The parser for operations.
-ghost use Rattle.std.specs.Prelude.{◌≡◌, false, IfOk, IfErr, OnErr};
-ghost use Rattle.irtext_context.specs.Made.{SameObjects};
-ghost use Rattle.irtext_base.specs.Own.{texts_of};
-ghost use Rattle.irtext_tokens.specs.AttrTexts.{attr_at};
-ghost use Rattle.irtext_parse_state.specs.States.{marks_of};
-ghost use Rattle.irtext_parse_spec.specs.Readers.Refusals.{Refusal, RefusesFailed};
-ghost use Rattle.irtext_parse_spec.specs.Readers.Streams.{KeepsRest};
-ghost use Rattle.irtext_parse_spec.specs.Promises.Root.{IsFresh, UnlessMemory};
-ghost use Rattle.irtext_promises.specs.Promises.{BuildsWith, RefusesWith};
-ghost use Rattle.irtext_parse_root.specs.AnyState.{ReadsAny, MissesAny};
+ghost use Rattle.std.specs.Prelude.{◌≡◌};
+ghost use Rattle.irtext_parse_root.specs.Parses.{Parses, AnswersOperation};
 
 use crate::outermost::outermost_parse;
 use crate::parsable::Parsable;
@@ -37,24 +29,8 @@ impl<T: IrText<A>, A: AttrText<A>, U> Parsable<T, A, U> for Operation {
         config: OperationParserConfig,
     ) -> ParseResult<Ptr<Operation>, A>
         ensures lent { stream.new.state.ctx.ghost_name ≡ stream.old.state.ctx.ghost_name }
-        ensures rest { KeepsRest stream.old.state stream.new.state }
-        ensures refused { IfErr result (λ fault. Refusal stream.old.stream fault stream.new.stream) }
-        ensures failed { RefusesFailed stream.old.stream result stream.new.stream }
-        ensures read { IfOk result (λ op.
-            ReadsAny T.reading (attr_at A.reading) config.look_for_outlined_attrs op stream.old stream.new) }
-        ensures missed { stream.old.stream.failed ≡ false →
-            IfErr result (UnlessMemory
-            (MissesAny T.reading (attr_at A.reading) config.look_for_outlined_attrs stream.old)) }
-        ensures builds { IsFresh stream.old →
-            IfOk result (λ op. BuildsWith (texts_of T.reading T.written) (texts_of A.reading A.written)
-            (attr_at A.reading) config.look_for_outlined_attrs op stream.old stream.new) }
-        ensures unresolved { IsFresh stream.old →
-            IfErr result (UnlessMemory
-            (RefusesWith (texts_of T.reading T.written) (texts_of A.reading A.written) T.reading
-            (attr_at A.reading) stream.old.state.ctx.now.dialects config.look_for_outlined_attrs
-            stream.old.stream)) }
-        ensures objects { OnErr result (SameObjects stream.old.state.ctx.now stream.new.state.ctx.now) }
-        ensures marks { OnErr result (marks_of stream.new.state ≡ marks_of stream.old.state) }
+        ensures parses { Parses (AnswersOperation T.IrText.own A.IrText.own config.look_for_outlined_attrs)
+            stream.old result stream.new }
     {
         outermost_parse(stream, config.look_for_outlined_attrs)
     }

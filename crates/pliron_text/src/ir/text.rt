@@ -1,21 +1,11 @@
 //! The calls that parse an operation, and that give it as a printable value.
-ghost use Rattle.std.specs.Prelude.{◌≡◌, true, false, IfOk, IfErr, OnErr};
-ghost use Rattle.irtext_context.specs.Made.{SameObjects};
-ghost use Rattle.irtext_base.specs.Own.{texts_of};
-ghost use Rattle.irtext_tokens.specs.AttrTexts.{attr_at};
-ghost use Rattle.irtext_parse_state.specs.States.{marks_of};
-ghost use Rattle.irtext_parse_spec.specs.Readers.Refusals.{Refusal, RefusesFailed};
-ghost use Rattle.irtext_parse_spec.specs.Promises.Root.{IsFresh, UnlessMemory};
-ghost use Rattle.irtext_promises.specs.Promises.{BuildsRoot, RefusesRoot};
-ghost use Rattle.irtext_parse_root.specs.AnyState.{ReadsAny, MissesAny};
-ghost use Rattle.irtext_parse_root.specs.Whole.{BuildsWhole, RefusesWhole};
-ghost use Rattle.irtext_parse_root.specs.WholeAny.{ReadsWholeAny, MissesWholeAny};
-ghost use Rattle.irtext_parse_spec.specs.Readers.Streams.{KeepsRest};
+ghost use Rattle.std.specs.Prelude.{◌≡◌, true};
+ghost use Rattle.irtext_parse_root.specs.Parses.{Parses, AnswersOperation, AnswersWhole};
 
 use irtext_base::parsable::ParseResult;
 use irtext_base::text::{AttrText, IrText};
 use irtext_context::base::{Context, Operation, Ptr};
-use irtext_parse_root::outermost::root_parse;
+use irtext_parse_root::outermost::outermost_parse;
 use irtext_parse_root::whole::whole_parse;
 use irtext_parse_state::parsable::StateStream;
 use irtext_print_ir::ir::print::concrete::OpObj;
@@ -33,6 +23,11 @@ pub trait OperationText {
     /// committed error with the cause `StreamFailed`. After any error, including out of memory, all objects of the context, the
     /// recorded marks, the source and the caller's data are unchanged; the context may hold more file paths than before.
     ///
+    /// The clause `parses` says this on every state (`read`, `missed`): an operation is returned for a text that has no error, and an
+    /// error that is not out of memory is the first one of the text, of a name or of a mark. On a stream that has not failed, and with no
+    /// mark recorded, it says so in the terms of the grammar (`builds`, `unresolved`): the text is that of a tree and its section, which
+    /// resolve, and what they build is what is new in the context; or whatever tree the text is does not resolve.
+    ///
     /// This text is a module with a region of one block, which contains one operation:
     ///
     /// ```text
@@ -45,22 +40,7 @@ pub trait OperationText {
         stream: &mut StateStream<'_, T, A, U>,
     ) -> ParseResult<Ptr<Operation>, A>
         ensures lent { stream.new.state.ctx.ghost_name ≡ stream.old.state.ctx.ghost_name }
-        ensures rest { KeepsRest stream.old.state stream.new.state }
-        ensures refused { IfErr result (λ fault. Refusal stream.old.stream fault stream.new.stream) }
-        ensures failed { RefusesFailed stream.old.stream result stream.new.stream }
-        ensures read { IfOk result (λ op. ReadsAny T.reading (attr_at A.reading) true op stream.old
-            stream.new) }
-        ensures missed { stream.old.stream.failed ≡ false →
-            IfErr result (UnlessMemory (MissesAny T.reading (attr_at A.reading) true stream.old)) }
-        ensures builds { IsFresh stream.old →
-            IfOk result (λ op. BuildsRoot (texts_of T.reading T.written) (texts_of A.reading A.written)
-            (attr_at A.reading) op stream.old stream.new) }
-        ensures unresolved { IsFresh stream.old →
-            IfErr result (UnlessMemory
-            (RefusesRoot (texts_of T.reading T.written) (texts_of A.reading A.written) T.reading
-            (attr_at A.reading) stream.old.state.ctx.now.dialects stream.old.stream)) }
-        ensures objects { OnErr result (SameObjects stream.old.state.ctx.now stream.new.state.ctx.now) }
-        ensures marks { OnErr result (marks_of stream.new.state ≡ marks_of stream.old.state) };
+        ensures parses { Parses (AnswersOperation T.IrText.own A.IrText.own true) stream.old result stream.new };
 
     /// Parses an operation as `top_level_parse` does; only white space may follow it, or the section after it, up to the end of the text.
     /// If something else follows, the error is committed and its position is there: ``Unexpected `b`, expected end of input``. The end is
@@ -71,22 +51,7 @@ pub trait OperationText {
         stream: &mut StateStream<'_, T, A, U>,
     ) -> ParseResult<Ptr<Operation>, A>
         ensures lent { stream.new.state.ctx.ghost_name ≡ stream.old.state.ctx.ghost_name }
-        ensures rest { KeepsRest stream.old.state stream.new.state }
-        ensures refused { IfErr result (λ fault. Refusal stream.old.stream fault stream.new.stream) }
-        ensures failed { RefusesFailed stream.old.stream result stream.new.stream }
-        ensures read { IfOk result (λ op. ReadsWholeAny T.reading (attr_at A.reading) op stream.old
-            stream.new) }
-        ensures missed { stream.old.stream.failed ≡ false →
-            IfErr result (UnlessMemory (MissesWholeAny T.reading (attr_at A.reading) stream.old)) }
-        ensures builds { IsFresh stream.old →
-            IfOk result (λ op. BuildsWhole (texts_of T.reading T.written) (texts_of A.reading A.written) T.reading
-            (attr_at A.reading) op stream.old stream.new) }
-        ensures unresolved { IsFresh stream.old →
-            IfErr result (UnlessMemory
-            (RefusesWhole (texts_of T.reading T.written) (texts_of A.reading A.written) T.reading
-            (attr_at A.reading) stream.old)) }
-        ensures objects { OnErr result (SameObjects stream.old.state.ctx.now stream.new.state.ctx.now) }
-        ensures marks { OnErr result (marks_of stream.new.state ≡ marks_of stream.old.state) };
+        ensures parses { Parses (AnswersWhole T.IrText.own A.IrText.own) stream.old result stream.new };
 
     /// Returns the operation as a plain value that prints its concrete text: its id and its pieces, without its mark and without a
     /// section.
@@ -98,7 +63,7 @@ impl OperationText for Operation {
     fn top_level_parse<T: IrText<A>, A: AttrText<A>, U>(
         stream: &mut StateStream<'_, T, A, U>,
     ) -> ParseResult<Ptr<Operation>, A> {
-        root_parse(stream)
+        outermost_parse(stream, true)
     }
 
     fn whole_text_parse<T: IrText<A>, A: AttrText<A>, U>(

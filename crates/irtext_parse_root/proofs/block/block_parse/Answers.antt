@@ -1,4 +1,4 @@
-use Rattle.std.proofs.Common.{◌∙◌, ap, sym}
+use Rattle.std.proofs.Common.{◌∙◌, ap, refl, sym, true≢false}
 use Rattle.irtext_tokens.specs.AttrTexts.{attr_at}
 use Rattle.irtext_parse_state.specs.States.{marks_of}
 use Rattle.irtext_parse_spec.specs.Promises.Section.{indices_of}
@@ -15,27 +15,25 @@ header_fault-requires-clause-read g c =
     let h = head_read g.T.IrText.reading (attr_at g.A.IrText.reading) c.header_parse.new.names.names old (sym c.has_failed.ensures ∙ c.if-has_failed.false) c.in-Ok.head c.header_parse.new.stream c.in-Ok.ensures.read in
     record { head = h.head; is = h.is }
 
-pub returns-in-Ok-clause-refused : goal.returns-in-Ok-clause-refused
-returns-in-Ok-clause-refused g c =
+pub returns-in-Ok : goal.returns-in-Ok
+returns-in-Ok g c =
     let old = c.args.s.now.stream in
+    let new = c.header_fault.new.stream in
+    let names = c.header_parse.new.names.names in
+    let marks = indices_of (marks_of c.args.s.now.state) in
+    let attr = attr_at g.A.IrText.reading in
     let fine = sym c.has_failed.ensures ∙ c.if-has_failed.false in
-    let names = c.header_parse.new.names.names in
-    let h = head_read g.T.IrText.reading (attr_at g.A.IrText.reading) names old fine c.in-Ok.head c.header_parse.new.stream c.in-Ok.ensures.read in
-    read_refusal g.T.IrText.reading (attr_at g.A.IrText.reading) old c.header_fault.new.stream c.header_fault.result names fine c.in-Ok.head c.header_parse.new.stream h c.header_fault.ensures.fails
-    (indices_of (marks_of c.args.s.now.state)) (c.header_fault.ensures.first h.head h.is)
-
-pub returns-in-Ok-clause-missed : goal.returns-in-Ok-clause-missed
-returns-in-Ok-clause-missed g c = λ fine.
-    let old = c.args.s.now.stream in
-    let names = c.header_parse.new.names.names in
-    let h = head_read g.T.IrText.reading (attr_at g.A.IrText.reading) names old fine c.in-Ok.head c.header_parse.new.stream c.in-Ok.ensures.read in
-    read_missed g.T.IrText.reading (attr_at g.A.IrText.reading) old c.header_fault.new.stream c.header_fault.result names fine c.in-Ok.head c.header_parse.new.stream h c.header_fault.ensures.fails
-    (indices_of (marks_of c.args.s.now.state)) (c.header_fault.ensures.first h.head h.is)
-
-pub returns-in-Ok-clause-unresolved : goal.returns-in-Ok-clause-unresolved
-returns-in-Ok-clause-unresolved g c = λ fresh.
-    misses_fresh g.T.IrText.reading (attr_at g.A.IrText.reading) c.args.s.now.stream c.header_fault.new.stream c.header_fault.result (indices_of (marks_of c.args.s.now.state)) (ap indices_of fresh.marks)
-    (returns-in-Ok-clause-missed g c fresh.fine)
+    let h = head_read g.T.IrText.reading attr names old fine c.in-Ok.head c.header_parse.new.stream c.in-Ok.ensures.read in
+    let said = c.header_fault.ensures.first h.head h.is in
+    let missed = read_missed g.T.IrText.reading attr old new c.header_fault.result names fine c.in-Ok.head c.header_parse.new.stream h c.header_fault.ensures.fails marks said in
+    record {
+      state = refl;
+      refused = read_refusal g.T.IrText.reading attr old new c.header_fault.result names fine c.in-Ok.head c.header_parse.new.stream h c.header_fault.ensures.fails marks said;
+      failed = λ e. absurd (true≢false (sym e ∙ fine));
+      none = tt;
+      missed = λ _. missed;
+      unresolved = λ fresh. misses_fresh g.T.IrText.reading attr old new c.header_fault.result marks (ap indices_of fresh.marks) missed;
+    }
 
 -- ---- it is not
 pub returns-clause-refused : goal.returns-clause-refused

@@ -1,12 +1,9 @@
-use Rattle.std.proofs.Common.{◌≡◌, ◌≤◌, ℕ, List, Some, []}
-use Rattle.irtext_context.specs.Context.{KeepsOlder}
-use Rattle.irtext_graph.specs.Back.{IsClosedBelow}
+use Rattle.std.proofs.Common.{◌≡◌, ◌≤◌, ℕ, List, Ok, Some, []}
 use Rattle.irtext_tokens.specs.AttrTexts.{attr_at}
 use Rattle.irtext_grammar.specs.Contexts.Held.{whole}
-use Rattle.irtext_parse_nested.specs.Items.{IsSound}
 use Rattle.irtext_parse_root.specs.Here.{Base, IsHere}
 use Rattle.irtext_parse_root.specs.Levels.{Level, AreAllNew, left_to_do}
-use Rattle.irtext_parse_root.specs.Turned.{Carries, Arrives}
+use Rattle.irtext_parse_root.specs.Turned.{Carries, Arrives, Spares}
 use Rattle.irtext_parse_root.proofs.items.items_parse.Given as goal
 
 -- the frames that were open at the start led to those that are open now, and older objects are unchanged
@@ -16,8 +13,7 @@ invariant-loop-next g l = record {
   carries : Carries l.fn.names l.fn.s l.names l.s;
   arrives : (base : Base) (v k : ℕ) (ls : List (Level g.row.T.Denot g.row.A.Denot)) → IsHere base v k ls l.fn.names (whole l.fn.s.stream) l.fn.s.state.ctx.now (Some l.fn.first) []
       → Arrives g.T.IrText.reading (attr_at g.A.IrText.reading) base v k ls l.fn.names l.fn.s l.names l.s l.next l.frames;
-  kept : (m : ℕ) → m ≤ l.fn.s.state.ctx.now.graph.made → IsClosedBelow m l.fn.s.state.ctx.now.graph → IsSound m l.fn.names l.fn.s.state
-      → AreAllNew m l.fn.s.state.ctx.now.graph (Some l.fn.first) [] → KeepsOlder m l.fn.s.state.ctx.now l.s.state.ctx.now;
+  spares : Spares {A = g.row.A.Denot} {X = Unit {0}} (λ m. AreAllNew m l.fn.s.state.ctx.now.graph (Some l.fn.first) []) l.fn.names l.fn.s.state (Ok tt) l.names l.s.state;
   fresh : (m : ℕ) → m ≤ l.fn.s.state.ctx.now.graph.made → AreAllNew m l.fn.s.state.ctx.now.graph (Some l.fn.first) [] → AreAllNew m l.s.state.ctx.now.graph l.next l.frames;
 }
 

@@ -1,6 +1,6 @@
 use Rattle.std.proofs.Common.{◌∙◌, arith, le_refl, sym, subst, inl}
 use Rattle.irtext_context.specs.Context.{KeepsOlder}
-use Rattle.irtext_context.proofs.Kept.{kept_closed, kept_trans}
+use Rattle.irtext_context.proofs.Kept.{kept_closed}
 use Rattle.irtext_context.proofs.Parts.{stands_seen}
 use Rattle.irtext_graph.specs.Back.{AllOlder, IsClosedBelow}
 use Rattle.irtext_graph.specs.declared.object.Object.TheVariants.{TheRegion}
@@ -8,16 +8,17 @@ use Rattle.irtext_tokens.specs.AttrTexts.{attr_at}
 use Rattle.irtext_tokens.proofs.Exits.{handed_on}
 use Rattle.irtext_parse_state.specs.States.{marks_of}
 use Rattle.irtext_parse_nested.proofs.Marking.{gains_nothing}
-use Rattle.irtext_parse_root.specs.Under.{IsPositionOf}
-use Rattle.irtext_parse_root.proofs.Chains.{never_open, gains_both}
+use Rattle.irtext_promises.specs.Alone.{IsOutermost}
+use Rattle.irtext_parse_root.proofs.Chains.{never_open, gains_both, rest_both}
 use Rattle.irtext_parse_root.proofs.Under.{region_is_here, unentered_refused, unbegun_refused, entry_refused, under_stops, still_alone, can_place, reads_under}
+use Rattle.irtext_parse_root.proofs.Sparing.{fine_after, alone_kept}
 use Rattle.irtext_parse_root.proofs.Unplaced.{alone_lasts, alone_new, alone_there}
 use Rattle.irtext_parse_root.proofs.one_region.region_parse.Goals as goal
 
 pub returns-then-not-can_enter-clause-refused : goal.returns-then-not-can_enter-clause-refused
 returns-then-not-can_enter-clause-refused g c =
     unentered_refused g.T.IrText.reading (attr_at g.A.IrText.reading) c.args.names.now c.args.s.now c.isolated_here-closed.result c.args.op c.isolated_here-closed.ensures (sym c.can_enter.ensures ∙ c.if-not-can_enter.true) c.not_isolated.result c.not_isolated.ensures.cause
-    c.not_isolated.ensures.committed (λ view is. subst (IsPositionOf view.loc) (sym c.not_isolated.ensures.place) (c.position_here-at.ensures view is))
+    c.not_isolated.ensures.committed (λ view is. subst (IsOutermost view.loc) (sym c.not_isolated.ensures.place) (c.position_here-at.ensures view is))
 
 pub returns-then-not-next_is-clause-refused : goal.returns-then-not-next_is-clause-refused
 returns-then-not-next_is-clause-refused g c =
@@ -45,18 +46,20 @@ returns-in_err-begun-clause-names g c i text e = rw c.region_alone.ensures.names
 pub returns-in_err-begun-clause-kept : goal.returns-in_err-begun-clause-kept
 returns-in_err-begun-clause-kept g c = rw (handed_on c.from_residual.result c.from_residual.ensures.1) (λ m le closed sound. c.region_alone.ensures.kept m le)
 
-pub items_parse-requires-clause-here : goal.items_parse-requires-clause-here
-items_parse-requires-clause-here g c =
+pub items_parse-requires : goal.items_parse-requires
+items_parse-requires g c =
+    let made = c.args.s.now.state.ctx.now.graph.made in
     let e = c.in_ok-begun.ensures in
     let w = c.region_alone.ensures in
-    region_is_here g.T.IrText.reading g.A.IrText.reading g.met.T.IrText.sincere.reads g.met.A.IrText.sincere.reads c.args.names.now c.args.s.now c.in_ok-begun.begun c.isolated_here-closed.result c.region_alone.new.names c.region_alone.new.s
-    e.begins e.makes w.with_it e.values e.labels e.open w.marks w.rest
-
-pub items_parse-requires-clause-sound : goal.items_parse-requires-clause-sound
-items_parse-requires-clause-sound g c =
-    let made = c.args.s.now.state.ctx.now.graph.made in
-    let more = c.in_ok-begun.ensures.makes.made in
-    record { since = made; past = omega (arith, more); sound = c.in_ok-begun.ensures.sound made (le_refl made) c.requires.sound }
+    let more = e.makes.made in
+    record {
+      ready = record {
+        fine = fine_after c.requires.fine e.begins.moves;
+        sound = record { since = made; past = omega (arith, more); sound = e.sound made (le_refl made) c.requires.sound };
+        here = region_is_here g.T.IrText.reading g.A.IrText.reading g.met.T.IrText.sincere.reads g.met.A.IrText.sincere.reads c.args.names.now c.args.s.now c.in_ok-begun.begun c.isolated_here-closed.result c.region_alone.new.names c.region_alone.new.s
+            e.begins e.makes w.with_it e.values e.labels e.open w.marks w.rest;
+      };
+    }
 
 pub returns-in_err-items_parse-clause-refused : goal.returns-in_err-items_parse-clause-refused
 returns-in_err-items_parse-clause-refused g c =
@@ -70,27 +73,19 @@ pub returns-in_err-items_parse-clause-unread : goal.returns-in_err-items_parse-c
 returns-in_err-items_parse-clause-unread g c = rw (handed_on c.from_residual-in_err-items_parse.result c.from_residual-in_err-items_parse.ensures.1) (never_open _ c.in_err-items_parse.ensures.stops.committed)
 
 pub returns-in_err-items_parse-clause-rest : goal.returns-in_err-items_parse-clause-rest
-returns-in_err-items_parse-clause-rest g c =
-    let a = c.region_alone.ensures.rest in
-    let b = c.in_err-items_parse.ensures.remains.rest in
-    record { src = b.src ∙ a.src; aux_data = b.aux_data ∙ a.aux_data }
+returns-in_err-items_parse-clause-rest g c = rest_both c.region_alone.ensures.rest c.in_err-items_parse.ensures.spares.remains.rest
 
 pub returns-in_err-items_parse-clause-unnoted : goal.returns-in_err-items_parse-clause-unnoted
 returns-in_err-items_parse-clause-unnoted g c =
     rw (handed_on c.from_residual-in_err-items_parse.result c.from_residual-in_err-items_parse.ensures.1)
-    (gains_both (marks_of c.args.s.now.state) (marks_of c.region_alone.new.s.state) (marks_of c.items_parse.new.s.state) (gains_nothing c.region_alone.ensures.marks) c.in_err-items_parse.ensures.remains.gains)
+    (gains_both (marks_of c.args.s.now.state) (marks_of c.region_alone.new.s.state) (marks_of c.items_parse.new.s.state) (gains_nothing c.region_alone.ensures.marks) c.in_err-items_parse.ensures.spares.remains.gains)
 
 pub returns-in_err-items_parse-clause-names : goal.returns-in_err-items_parse-clause-names
-returns-in_err-items_parse-clause-names g c i text e = c.in_err-items_parse.ensures.names i text (rw c.region_alone.ensures.names e)
+returns-in_err-items_parse-clause-names g c i text e = c.in_err-items_parse.ensures.spares.names i text (rw c.region_alone.ensures.names e)
 
 pub returns-in_err-items_parse-clause-kept : goal.returns-in_err-items_parse-clause-kept
 returns-in_err-items_parse-clause-kept g c =
-    rw (handed_on c.from_residual-in_err-items_parse.result c.from_residual-in_err-items_parse.ensures.1)
-    (λ m le closed sound.
-    let first = c.region_alone.ensures.kept m le in
-    let more = c.in_ok-begun.ensures.makes.made in
-    kept_trans first (c.in_err-items_parse.ensures.kept m (omega (arith, le, more)) (kept_closed closed first) (c.in_ok-begun.ensures.sound m le sound)
-    (alone_new c.args.s.now.state.ctx.now c.region_alone.new.s.state.ctx.now c.in_ok-begun.begun.region c.in_ok-begun.ensures.makes c.region_alone.ensures.with_it m le, tt)))
+    rw (handed_on c.from_residual-in_err-items_parse.result c.from_residual-in_err-items_parse.ensures.1) (alone_kept c.args.s.now c.region_alone.new.s c.in_ok-begun.begun c.in_ok-begun.ensures.makes c.region_alone.ensures.with_it c.region_alone.ensures.kept c.in_ok-begun.ensures.sound c.in_err-items_parse.ensures.spares)
 
 pub region_placed-requires-clause-op : goal.region_placed-requires-clause-op
 region_placed-requires-clause-op g c =
@@ -110,11 +105,9 @@ region_placed-requires-clause-can g c =
     let w = c.region_alone.ensures in
     let older = subst (λ n. AllOlder n old.graph) c.made.ensures.made c.made.ensures.older in
     let closed = subst (λ n. IsClosedBelow n old.graph) c.made.ensures.made c.made.ensures.closed in
-    let first = w.kept made (le_refl made) in
     let more = e.makes.made in
     let is_new = alone_new old c.region_alone.new.s.state.ctx.now c.in_ok-begun.begun.region e.makes w.with_it made (le_refl made) in
-    let then = c.in_ok-items_parse.ensures.kept made (omega (arith, more)) (kept_closed closed first) (e.sound made (le_refl made) c.requires.sound) (is_new, tt) in
-    let both = kept_trans first then in
+    let both = alone_kept c.args.s.now c.region_alone.new.s c.in_ok-begun.begun c.in_ok-begun.ensures.makes c.region_alone.ensures.with_it c.region_alone.ensures.kept c.in_ok-begun.ensures.sound c.in_ok-items_parse.ensures.spares made (le_refl made) closed c.requires.sound in
     let v = still_alone g.T.IrText.reading g.A.IrText.reading g.met.T.IrText.sincere.reads g.met.A.IrText.sincere.reads c.args.names.now c.args.s.now c.in_ok-begun.begun c.isolated_here-closed.result c.region_alone.new.names c.region_alone.new.s
     e.begins e.makes w.with_it e.values e.labels e.open w.marks w.rest c.items_parse.new.names c.items_parse.new.s c.in_ok-items_parse.ensures.finishes in
     can_place made old c.items_parse.new.s.state.ctx.now older both (kept_closed closed both) c.in_ok-begun.begun.region
@@ -127,11 +120,7 @@ pub returns-in_err-region_placed-clause-unread : goal.returns-in_err-region_plac
 returns-in_err-region_placed-clause-unread g c = rw (handed_on c.from_residual-in_err-region_placed.result c.from_residual-in_err-region_placed.ensures.1) (never_open _ c.in_err-region_placed.ensures.starved.flag)
 
 pub returns-in_err-region_placed-clause-rest : goal.returns-in_err-region_placed-clause-rest
-returns-in_err-region_placed-clause-rest g c =
-    let a = c.region_alone.ensures.rest in
-    let b = c.in_ok-items_parse.ensures.finishes.carries.rest in
-    let d = c.region_placed.ensures.rest in
-    record { src = d.src ∙ (b.src ∙ a.src); aux_data = d.aux_data ∙ (b.aux_data ∙ a.aux_data) }
+returns-in_err-region_placed-clause-rest g c = rest_both (rest_both c.region_alone.ensures.rest c.in_ok-items_parse.ensures.finishes.carries.rest) c.region_placed.ensures.rest
 
 pub returns-in_err-region_placed-clause-unnoted : goal.returns-in_err-region_placed-clause-unnoted
 returns-in_err-region_placed-clause-unnoted g c =
@@ -140,17 +129,12 @@ returns-in_err-region_placed-clause-unnoted g c =
     (gains_both (marks_of c.args.s.now.state) (marks_of c.region_alone.new.s.state) (marks_of c.items_parse.new.s.state) (gains_nothing c.region_alone.ensures.marks) c.in_ok-items_parse.ensures.finishes.carries.gains) (gains_nothing c.region_placed.ensures.marks))
 
 pub returns-in_err-region_placed-clause-names : goal.returns-in_err-region_placed-clause-names
-returns-in_err-region_placed-clause-names g c i text e = c.in_ok-items_parse.ensures.names i text (rw c.region_alone.ensures.names e)
+returns-in_err-region_placed-clause-names g c i text e = c.in_ok-items_parse.ensures.spares.names i text (rw c.region_alone.ensures.names e)
 
 pub returns-in_err-region_placed-clause-kept : goal.returns-in_err-region_placed-clause-kept
 returns-in_err-region_placed-clause-kept g c =
     rw (handed_on c.from_residual-in_err-region_placed.result c.from_residual-in_err-region_placed.ensures.1)
-    (λ m le closed sound.
-    let first = c.region_alone.ensures.kept m le in
-    let more = c.in_ok-begun.ensures.makes.made in
-    subst (λ x. KeepsOlder m c.args.s.now.state.ctx.now x) (sym c.in_err-region_placed.ensures.unchanged)
-    (kept_trans first (c.in_ok-items_parse.ensures.kept m (omega (arith, le, more)) (kept_closed closed first) (c.in_ok-begun.ensures.sound m le sound)
-    (alone_new c.args.s.now.state.ctx.now c.region_alone.new.s.state.ctx.now c.in_ok-begun.begun.region c.in_ok-begun.ensures.makes c.region_alone.ensures.with_it m le, tt))))
+    (λ m le closed sound. subst (KeepsOlder m c.args.s.now.state.ctx.now) (sym c.in_err-region_placed.ensures.unchanged) (alone_kept c.args.s.now c.region_alone.new.s c.in_ok-begun.begun c.in_ok-begun.ensures.makes c.region_alone.ensures.with_it c.region_alone.ensures.kept c.in_ok-begun.ensures.sound c.in_ok-items_parse.ensures.spares m le closed sound))
 
 pub returns-clause-read : goal.returns-clause-read
 returns-clause-read g c =
@@ -160,18 +144,10 @@ returns-clause-read g c =
     reads_under g.T.IrText.reading g.A.IrText.reading g.met.T.IrText.sincere.reads g.met.A.IrText.sincere.reads c.args.names.now c.args.s.now c.in_ok-begun.begun c.isolated_here-closed.result c.region_alone.new.names c.region_alone.new.s
     e.begins e.makes w.with_it e.values e.labels e.open w.marks w.rest c.items_parse.new.names c.items_parse.new.s c.in_ok-items_parse.ensures.finishes c.args.op c.region_placed.new.s c.isolated_here-closed.ensures p.stream p.marks
     (λ m le sound. let more = e.makes.made in c.in_ok-items_parse.ensures.finishes.carries.sound m (omega (arith, le, more)) (e.sound m le sound))
-    (λ m le closed sound.
-    let first = w.kept m le in
-    let more = e.makes.made in
-    kept_trans first (c.in_ok-items_parse.ensures.kept m (omega (arith, le, more)) (kept_closed closed first) (e.sound m le sound)
-    (alone_new c.args.s.now.state.ctx.now c.region_alone.new.s.state.ctx.now c.in_ok-begun.begun.region e.makes w.with_it m le, tt))) p.places p.with_it
+    (alone_kept c.args.s.now c.region_alone.new.s c.in_ok-begun.begun c.in_ok-begun.ensures.makes c.region_alone.ensures.with_it c.region_alone.ensures.kept c.in_ok-begun.ensures.sound c.in_ok-items_parse.ensures.spares) p.places p.with_it
 
 pub returns-clause-rest : goal.returns-clause-rest
-returns-clause-rest g c =
-    let a = c.region_alone.ensures.rest in
-    let b = c.in_ok-items_parse.ensures.finishes.carries.rest in
-    let d = c.region_placed.ensures.rest in
-    record { src = d.src ∙ (b.src ∙ a.src); aux_data = d.aux_data ∙ (b.aux_data ∙ a.aux_data) }
+returns-clause-rest g c = rest_both (rest_both c.region_alone.ensures.rest c.in_ok-items_parse.ensures.finishes.carries.rest) c.region_placed.ensures.rest
 
 pub returns-clause-names : goal.returns-clause-names
-returns-clause-names g c i text e = c.in_ok-items_parse.ensures.names i text (rw c.region_alone.ensures.names e)
+returns-clause-names g c i text e = c.in_ok-items_parse.ensures.spares.names i text (rw c.region_alone.ensures.names e)

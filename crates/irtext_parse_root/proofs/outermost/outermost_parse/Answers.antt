@@ -1,28 +1,26 @@
-use Rattle.std.proofs.Common.{◌∙◌, ap, sym, subst, take, length}
-use Rattle.std.proofs.Math.Seq.{take-append_seam}
-use Rattle.irtext_context.proofs.Kept.{rolled_back}
+use Rattle.std.proofs.Common.{◌∙◌, sym}
 use Rattle.irtext_context.specs.Context.{KeepsOlder}
 use Rattle.irtext_graph.specs.Back.{IsClosedBelow}
-use Rattle.irtext_parse_state.specs.States.{marks_of}
+use Rattle.irtext_parse_state.specs.declared.parsable.state.StateStream.{StateStream}
+use Rattle.irtext_parse_root.proofs.Undoing.{closed_there, parses, parses_failed, kept_on_ok}
 use Rattle.irtext_parse_root.proofs.outermost.outermost_parse.Goals as goal
 
-pub roll_back-requires : goal.roll_back-requires
-roll_back-requires g c =
-    let made = sym c.made_in-made.ensures.made in
-    record {
-      closed = subst (λ m. IsClosedBelow m c.marked_parse.new.s.state.ctx.now.graph) made (c.in-Err.ensures.closed (subst (λ m. IsClosedBelow m c.args.s.now.state.ctx.now.graph) c.made_in-made.ensures.made c.made_in-made.ensures.closed));
-    }
+pub returns-then-has_failed-clause-parses : goal.returns-then-has_failed-clause-parses
+returns-then-has_failed-clause-parses g c = parses_failed c.args.s.now c.failed_fault.result (sym c.has_failed.ensures ∙ c.if-has_failed.true) c.failed_fault.ensures
 
-pub returns-in-Err-clause-missed : goal.returns-in-Err-clause-missed
-returns-in-Err-clause-missed g c = λ fine. c.in-Err.ensures.missed
+pub undone_on_error-requires : goal.undone_on_error-requires
+undone_on_error-requires g c = record { closed = closed_there c.start_of-start.result c.args.s.now c.marked_parse-answer.new.s c.start_of-start.ensures c.marked_parse-answer.result c.marked_parse-answer.ensures.undone }
 
-pub returns-in-Err-clause-objects : goal.returns-in-Err-clause-objects
-returns-in-Err-clause-objects g c =
-    let k = subst (λ m. KeepsOlder m c.args.s.now.state.ctx.now c.marked_parse.new.s.state.ctx.now) (sym c.made_in-made.ensures.made) c.in-Err.ensures.kept_else in
-    rw c.truncate_marks.ensures.ctx (rolled_back c.made_in-made.ensures.older k c.roll_back.ensures.back)
+pub returns-clause-parses : goal.returns-clause-parses
+returns-clause-parses g c = parses c.start_of-start.result c.args.s.now c.marked_parse-answer.new.s c.undone_on_error.new.s c.start_of-start.ensures (sym c.has_failed.ensures ∙ c.if-has_failed.false)
+    c.marked_parse-answer.result c.undone_on_error.result c.marked_parse-answer.ensures.undone c.marked_parse-answer.ensures.answers c.undone_on_error.ensures.back
 
-pub returns-in-Err-clause-marks : goal.returns-in-Err-clause-marks
-returns-in-Err-clause-marks g c =
-    let old = marks_of c.args.s.now.state in
-    let m = c.in-Err.ensures.noted in
-    c.truncate_marks.ensures.marks ∙ (ap (λ n. take n (marks_of c.marked_parse.new.s.state)) c.num_marks-marks.ensures ∙ (ap (take (length old)) m.1 ∙ take-append_seam old m.0))
+pub returns-clause-keeps : goal.returns-clause-keeps
+returns-clause-keeps g c = λ fresh.
+    let old = c.args.s.now.state.ctx.now in
+    kept_on_ok (λ (s : StateStream g.row.T.Denot g.row.A.Denot g.row.U.Denot). KeepsOlder old.graph.made old s.state.ctx.now) c.marked_parse-answer.result c.undone_on_error.result c.undone_on_error.ensures.back (c.marked_parse-answer.ensures.kept fresh)
+
+pub returns-clause-closed : goal.returns-clause-closed
+returns-clause-closed g c =
+    let old = c.args.s.now.state.ctx.now in
+    kept_on_ok (λ (s : StateStream g.row.T.Denot g.row.A.Denot g.row.U.Denot). IsClosedBelow old.graph.made old.graph → IsClosedBelow old.graph.made s.state.ctx.now.graph) c.marked_parse-answer.result c.undone_on_error.result c.undone_on_error.ensures.back c.marked_parse-answer.ensures.closed

@@ -1,30 +1,95 @@
-use Rattle.std.proofs.Common.{refl, sym, ap, subst}
+use Rattle.std.proofs.Common.{refl, sym, ap, subst, le_refl}
 use Rattle.irtext_graph.proofs.Made.{same_keeps}
 use Rattle.irtext_promises.specs.Alone.{IsOutermost}
+use Rattle.irtext_tokens.specs.AttrTexts.{attr_at}
+use Rattle.irtext_parse_spec.specs.Readers.Refusals.{Refusal}
 use Rattle.irtext_parse_nested.proofs.Marking.{gains_nothing}
-use Rattle.irtext_parse_root.proofs.RegionRefused.{reported, unreported, refused_unisolated, unisolated_missed, unisolated_refused}
+use Rattle.irtext_parse_root.proofs.Laws.{Laws, laws_of}
+use Rattle.irtext_parse_root.proofs.Fresh.{fresh_sound}
+use Rattle.irtext_parse_root.proofs.Refused.{refusal_by}
+use Rattle.irtext_parse_root.proofs.RegionGains.{there_in, gains_region}
+use Rattle.irtext_parse_root.proofs.RegionReads.{builds_region}
+use Rattle.irtext_parse_root.proofs.RegionRefused.{reported, unreported, refused_unisolated, unisolated_missed, unisolated_refused, closed_as, closed_id, says_region, region_read, misses_region, refuses_region}
+use Rattle.irtext_parse_root.proofs.region.alone_parse.Given as given
 use Rattle.irtext_parse_root.proofs.region.alone_parse.Goals as goal
 
-pub returns-in-Some-clause-refused : goal.returns-in-Some-clause-refused
-returns-in-Some-clause-refused g c = refused_unisolated c.args.s.now.stream c.not_isolated.new.stream c.not_isolated.result c.not_isolated.ensures.cause c.not_isolated.ensures.committed (ap (λ v. v.failed) c.not_isolated.ensures.fails)
+laws : (g : given.Over) → Laws g.T.IrText g.A.IrText
+laws g = laws_of g.T.IrText g.A.IrText g.met.T.IrText.sincere g.met.A.IrText.sincere g.met.A.IrText.lawful
 
-pub returns-in-Some-clause-missed : goal.returns-in-Some-clause-missed
-returns-in-Some-clause-missed g c =
-    let r = reported _ c.in-Some.at c.in-Some.ensures in
-    unisolated_missed r.0 r.1 c.not_isolated.result c.not_isolated.ensures.cause c.not_isolated.ensures.committed (subst (IsOutermost r.0) (sym c.not_isolated.ensures.place) r.2)
-
-pub returns-in-Some-clause-unresolved : goal.returns-in-Some-clause-unresolved
-returns-in-Some-clause-unresolved g c = λ fresh.
-    let r = reported _ c.in-Some.at c.in-Some.ensures in
-    unisolated_refused r.0 r.1 c.not_isolated.result c.not_isolated.ensures.cause (subst (IsOutermost r.0) (sym c.not_isolated.ensures.place) r.2)
-
-pub returns-in-Some-clause-noted : goal.returns-in-Some-clause-noted
-returns-in-Some-clause-noted g c = gains_nothing refl
-
-pub returns-in-Some-clause-kept : goal.returns-in-Some-clause-kept
-returns-in-Some-clause-kept g c =
+-- ---- the operation is not isolated
+pub returns-in-Some-clause-undone : goal.returns-in-Some-clause-undone
+returns-in-Some-clause-undone g c =
     let ctx = c.args.s.now.state.ctx.now in
-    record { graph = same_keeps ctx.graph.made ctx.graph ctx.graph refl; paths = λ i path e. e; dialects = refl }
+    let e = c.not_isolated.ensures in
+    record {
+      rest = record { src = refl; aux_data = refl };
+      refused = refused_unisolated c.args.s.now.stream c.not_isolated.new.stream c.not_isolated.result e.cause e.committed (ap (λ v. v.failed) e.fails);
+      noted = gains_nothing refl;
+      kept = record { graph = same_keeps ctx.graph.made ctx.graph ctx.graph refl; paths = λ i path e. e; dialects = refl };
+    }
 
-pub isolated_parse-requires-clause-closed : goal.isolated_parse-requires-clause-closed
-isolated_parse-requires-clause-closed g c = unreported _ c.in-None.ensures
+pub returns-in-Some-clause-answers : goal.returns-in-Some-clause-answers
+returns-in-Some-clause-answers g c =
+    let e = c.not_isolated.ensures in
+    let r = reported _ c.in-Some.at c.in-Some.ensures in
+    let at = subst (IsOutermost r.0) (sym e.place) r.2 in
+    record {
+      read = tt;
+      missed = λ fine. unisolated_missed r.0 r.1 c.not_isolated.result e.cause e.committed at;
+      builds = λ fresh. tt;
+      unresolved = λ fresh. unisolated_refused r.0 r.1 c.not_isolated.result e.cause at;
+    }
+
+-- ---- it is
+pub region_parse-requires-clause-sound : goal.region_parse-requires-clause-sound
+region_parse-requires-clause-sound g c = fresh_sound c.new-names.result c.args.s.now.state c.new-names.ensures.names c.new-names.ensures.values c.new-names.ensures.labels c.context_keeps.ensures.older
+
+pub returns-clause-undone : goal.returns-clause-undone
+returns-clause-undone g c =
+    let m = c.args.s.now.state.ctx.now.graph.made in
+    let e = c.new-names.ensures in
+    let f = c.in-Err.ensures in
+    let says = says_region g.T.IrText.reading g.A.IrText.reading g.met.T.IrText.sincere g.met.A.IrText.sincere c.new-names.result c.args.s.now e.names e.values e.labels c.args.parent c.in-Err.fault f.refused in
+    record {
+      rest = f.rest;
+      refused = subst (Refusal c.args.s.now.stream c.in-Err.fault) (sym c.failed_by.ensures) (refusal_by c.args.s.now.stream c.region_parse.new.s.stream c.in-Err.fault says f.unread);
+      noted = f.unnoted;
+      kept = f.kept m (le_refl m) c.context_keeps.ensures.closed (fresh_sound c.new-names.result c.args.s.now.state e.names e.values e.labels c.context_keeps.ensures.older);
+    }
+
+pub returns-clause-answers : goal.returns-clause-answers
+returns-clause-answers g c =
+    let e = c.new-names.ensures in
+    let l = laws g in
+    record {
+      read = tt;
+      missed = λ fine. misses_region g.T.IrText.reading (attr_at g.A.IrText.reading) c.new-names.result c.args.s.now e.names e.values e.labels c.args.parent c.requires.stands (unreported _ c.in_default.ensures) c.in-Err.fault c.in-Err.ensures.refused;
+      builds = λ fresh. tt;
+      unresolved = λ fresh. refuses_region g.T.IrText.reading g.T.IrText.written g.A.IrText.reading g.A.IrText.written l.types_split l.splits l.words l.short_types l.short_owns
+          c.new-names.result c.args.s.now e.names e.values e.labels fresh c.args.parent c.requires.stands (unreported _ c.in_default.ensures) c.in-Err.fault c.in-Err.ensures.refused;
+    }
+
+pub returns-in-Ok-clause-undone : goal.returns-in-Ok-clause-undone
+returns-in-Ok-clause-undone g c = record { rest = c.in-Ok.ensures.rest; refused = tt; noted = tt; kept = tt }
+
+pub returns-in-Ok-clause-answers : goal.returns-in-Ok-clause-answers
+returns-in-Ok-clause-answers g c =
+    let l = laws g in
+    let e = c.new-names.ensures in
+    let before = c.context_keeps.ensures in
+    let old = c.args.s.now in
+    let new = c.region_parse.new.s in
+    let m = old.state.ctx.now.graph.made in
+    let u = c.in-Ok.ensures.read in
+    let begun = fresh_sound c.new-names.result old.state e.names e.values e.labels before.older in
+    let kept = u.older m (le_refl m) before.closed begun in
+    let id = closed_id old.state.ctx.now c.args.parent c.requires.stands (unreported _ c.in_default.ensures) in
+    record {
+      read = region_read g.T.IrText.reading (attr_at g.A.IrText.reading) c.new-names.result old e.names e.values e.labels c.args.parent c.requires.stands (unreported _ c.in_default.ensures) c.in-Ok.region c.region_parse.new.names new u;
+      missed = λ fine. tt;
+      builds = λ fresh. builds_region g.T.IrText.reading g.T.IrText.written g.A.IrText.reading g.A.IrText.written l.types_split l.splits l.words l.short_types l.short_owns
+          c.new-names.result c.region_parse.new.names old new e.names e.values e.labels fresh c.args.parent c.in-Ok.region u before.accepted (closed_as old.state.ctx.now c.args.parent c.requires.stands (unreported _ c.in_default.ensures) u.iso u.isolation)
+          id.0 id.1 c.requires.stands before.older kept (u.sound m (le_refl m) begun) c.context_keeps-in-Ok.ensures.nest before.holders
+          (gains_region m old.state.ctx.now u.mid.state.ctx.now new.state.ctx.now c.args.parent c.in-Ok.region before.older kept u.places u.with_it (there_in old.state.ctx.now c.args.parent c.requires.stands));
+      unresolved = λ fresh. tt;
+    }

@@ -1,22 +1,13 @@
-use Rattle.std.proofs.Common.{◌∙◌, ap, sym, subst, take, length}
-use Rattle.std.proofs.Math.Seq.{take-append_seam}
-use Rattle.irtext_context.proofs.Kept.{kept_closed, rolled_back}
-use Rattle.irtext_context.specs.Context.{KeepsOlder}
-use Rattle.irtext_parse_state.specs.States.{marks_of}
+use Rattle.std.proofs.Common.{◌∙◌, sym}
+use Rattle.irtext_parse_root.proofs.Undoing.{closed_there, parses, parses_failed}
 use Rattle.irtext_parse_root.proofs.region.region_parse.Goals as goal
 
-pub roll_back-requires : goal.roll_back-requires
-roll_back-requires g c =
-    let k = subst (λ m. KeepsOlder m c.args.s.now.state.ctx.now c.alone_parse.new.s.state.ctx.now) (sym c.made_in-made.ensures.made) c.in-Err.ensures.kept in
-    record { closed = kept_closed c.made_in-made.ensures.closed k }
+pub returns-then-has_failed-clause-parses : goal.returns-then-has_failed-clause-parses
+returns-then-has_failed-clause-parses g c = parses_failed c.args.s.now c.failed_fault.result (sym c.has_failed.ensures ∙ c.if-has_failed.true) c.failed_fault.ensures
 
-pub returns-in-Err-clause-objects : goal.returns-in-Err-clause-objects
-returns-in-Err-clause-objects g c =
-    let k = subst (λ m. KeepsOlder m c.args.s.now.state.ctx.now c.alone_parse.new.s.state.ctx.now) (sym c.made_in-made.ensures.made) c.in-Err.ensures.kept in
-    rw c.truncate_marks.ensures.ctx (rolled_back c.made_in-made.ensures.older k c.roll_back.ensures.back)
+pub undone_on_error-requires : goal.undone_on_error-requires
+undone_on_error-requires g c = record { closed = closed_there c.start_of-start.result c.args.s.now c.alone_parse-answer.new.s c.start_of-start.ensures c.alone_parse-answer.result c.alone_parse-answer.ensures.undone }
 
-pub returns-in-Err-clause-marks : goal.returns-in-Err-clause-marks
-returns-in-Err-clause-marks g c =
-    let old = marks_of c.args.s.now.state in
-    let m = c.in-Err.ensures.noted in
-    c.truncate_marks.ensures.marks ∙ (ap (λ n. take n (marks_of c.alone_parse.new.s.state)) c.num_marks-marks.ensures ∙ (ap (take (length old)) m.1 ∙ take-append_seam old m.0))
+pub returns-clause-parses : goal.returns-clause-parses
+returns-clause-parses g c = parses c.start_of-start.result c.args.s.now c.alone_parse-answer.new.s c.undone_on_error.new.s c.start_of-start.ensures (sym c.has_failed.ensures ∙ c.if-has_failed.false)
+    c.alone_parse-answer.result c.undone_on_error.result c.alone_parse-answer.ensures.undone c.alone_parse-answer.ensures.answers c.undone_on_error.ensures.back

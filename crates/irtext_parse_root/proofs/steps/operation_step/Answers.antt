@@ -9,7 +9,7 @@ use Rattle.irtext_parse_root.proofs.steps.operation_step.Goals as goal
 
 pub coming_here-next-requires : goal.coming_here-next-requires
 coming_here-next-requires g c =
-    let there = operation_there (whole c.args.s.now.stream) c.args.s.now.state.ctx.now c.args.names.now c.args.frames.now c.args.begun c.requires.here in
+    let there = operation_there (whole c.args.s.now.stream) c.args.s.now.state.ctx.now c.args.names.now c.args.frames.now c.args.begun c.requires.ready.here in
     let dialects = c.args.s.now.state.ctx.now.dialects in
     record {
       counted = there.1.counted ∙ ap (λ i. length (steps_in dialects i)) (sym there.1.id);

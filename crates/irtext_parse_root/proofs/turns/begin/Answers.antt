@@ -1,5 +1,5 @@
 use Rattle.irtext_tokens.specs.AttrTexts.{attr_at}
-use Rattle.irtext_parse_root.proofs.Handing.{begins_given, remains_same}
+use Rattle.irtext_parse_root.proofs.Handing.{begins_given, spares_same}
 use Rattle.irtext_parse_root.proofs.turns.begin.Goals as goal
 
 pub operation_begin-requires-clause-tied : goal.operation_begin-requires-clause-tied
@@ -10,10 +10,7 @@ returns-clause-begins g c =
     let e = c.operation_begin.ensures in
     begins_given g.T.IrText.reading (attr_at g.A.IrText.reading) c.args.names.now c.args.s.now c.operation_begin.new.names c.operation_begin.new.s e.rest c.args.block c.operation_begin.result e.names e.values e.labels e.marks e.begins e.came e.lasts e.sound e.new
 
-pub returns-clause-remains : goal.returns-clause-remains
-returns-clause-remains g c =
+pub returns-clause-spares : goal.returns-clause-spares
+returns-clause-spares g c =
     let e = c.operation_begin.ensures in
-    remains_same g.T.IrText.reading (attr_at g.A.IrText.reading) c.args.names.now c.args.s.now c.operation_begin.new.names c.operation_begin.new.s e.rest c.operation_begin.result e.marks
-
-pub returns-clause-kept : goal.returns-clause-kept
-returns-clause-kept g c m le closed sound new = c.operation_begin.ensures.kept m le new
+    spares_same g.T.IrText.reading (attr_at g.A.IrText.reading) c.args.names.now c.args.s.now c.operation_begin.new.names c.operation_begin.new.s e.rest c.operation_begin.result e.names e.marks e.kept

@@ -1,5 +1,5 @@
 use Rattle.irtext_tokens.specs.AttrTexts.{attr_at}
-use Rattle.irtext_parse_root.proofs.Handing.{ends_given, remains_more}
+use Rattle.irtext_parse_root.proofs.Handing.{ends_given, spares_more}
 use Rattle.irtext_parse_root.proofs.turns.end.Goals as goal
 
 pub operation_end-requires-clause-tied : goal.operation_end-requires-clause-tied
@@ -13,7 +13,7 @@ returns-clause-ends g c =
     let e = c.operation_end.ensures in
     ends_given g.T.IrText.reading (attr_at g.A.IrText.reading) c.args.names.now c.args.s.now c.operation_end.new.names c.operation_end.new.s e.rest c.args.begun.now c.operation_end.result c.requires.begun e.names e.values e.labels e.ends e.own e.spares e.noted e.lasts e.sound
 
-pub returns-clause-remains : goal.returns-clause-remains
-returns-clause-remains g c =
+pub returns-clause-spares : goal.returns-clause-spares
+returns-clause-spares g c =
     let e = c.operation_end.ensures in
-    remains_more g.T.IrText.reading (attr_at g.A.IrText.reading) c.args.names.now c.args.s.now c.operation_end.new.names c.operation_end.new.s e.rest c.operation_end.result e.unnoted
+    spares_more g.T.IrText.reading (attr_at g.A.IrText.reading) c.args.names.now c.args.s.now c.operation_end.new.names c.operation_end.new.s e.rest c.operation_end.result e.names e.unnoted e.kept

@@ -6,7 +6,7 @@ use Rattle.irtext_parse_spec.specs.Reached.{steps_in}
 use Rattle.irtext_parse_nested.specs.Later.{IsFlatNext}
 use Rattle.irtext_parse_pieces.specs.Coming.{IsStep}
 use Rattle.irtext_parse_pieces.specs.declared.coming.Coming.TheVariants as comes
-use Rattle.irtext_parse_root.proofs.Handing.{goes_given, remains_same}
+use Rattle.irtext_parse_root.proofs.Handing.{goes_given, spares_same}
 use Rattle.irtext_parse_root.proofs.turns.go_on.Goals as goal
 
 flat_here : (o : Option Step) → IsStep comes.Piece o → IsFlatNext o
@@ -24,10 +24,7 @@ returns-clause-goes_on g c =
     let e = c.operation_piece.ensures in
     goes_given g.T.IrText.reading (attr_at g.A.IrText.reading) c.args.names.now c.args.s.now c.operation_piece.new.names c.operation_piece.new.s e.rest c.args.begun.now c.operation_piece.new.begun c.operation_piece.result e.names e.values e.labels e.marks e.moves e.goes_on e.spares e.lasts e.sound
 
-pub returns-clause-remains : goal.returns-clause-remains
-returns-clause-remains g c =
+pub returns-clause-spares : goal.returns-clause-spares
+returns-clause-spares g c =
     let e = c.operation_piece.ensures in
-    remains_same g.T.IrText.reading (attr_at g.A.IrText.reading) c.args.names.now c.args.s.now c.operation_piece.new.names c.operation_piece.new.s e.rest c.operation_piece.result e.marks
-
-pub returns-clause-kept : goal.returns-clause-kept
-returns-clause-kept g c m le closed sound new = c.operation_piece.ensures.kept m le new
+    spares_same g.T.IrText.reading (attr_at g.A.IrText.reading) c.args.names.now c.args.s.now c.operation_piece.new.names c.operation_piece.new.s e.rest c.operation_piece.result e.names e.marks e.kept

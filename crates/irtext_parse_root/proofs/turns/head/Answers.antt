@@ -1,5 +1,5 @@
 use Rattle.irtext_tokens.specs.AttrTexts.{attr_at}
-use Rattle.irtext_parse_root.proofs.Handing.{heads_given, first_given, remains_more}
+use Rattle.irtext_parse_root.proofs.Handing.{heads_given, first_given, spares_more}
 use Rattle.irtext_parse_root.proofs.turns.head.Goals as goal
 
 pub block_begin-requires-clause-values : goal.block_begin-requires-clause-values
@@ -21,7 +21,7 @@ returns-clause-heads g c =
     let e = c.block_begin.ensures in
     heads_given g.T.IrText.reading (attr_at g.A.IrText.reading) c.args.names.now c.args.s.now c.block_begin.new.names c.block_begin.new.s e.rest c.args.region c.block_begin.result e.names e.values e.labels e.begins e.came e.gains e.spares e.lasts e.sound e.new e.noted
 
-pub returns-clause-remains : goal.returns-clause-remains
-returns-clause-remains g c =
+pub returns-clause-spares : goal.returns-clause-spares
+returns-clause-spares g c =
     let e = c.block_begin.ensures in
-    remains_more g.T.IrText.reading (attr_at g.A.IrText.reading) c.args.names.now c.args.s.now c.block_begin.new.names c.block_begin.new.s e.rest c.block_begin.result e.unnoted
+    spares_more g.T.IrText.reading (attr_at g.A.IrText.reading) c.args.names.now c.args.s.now c.block_begin.new.names c.block_begin.new.s e.rest c.block_begin.result e.names e.unnoted e.kept

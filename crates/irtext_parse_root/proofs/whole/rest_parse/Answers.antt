@@ -26,7 +26,7 @@ pub returns-then-not-has_marks-clause-read : goal.returns-then-not-has_marks-cla
 returns-then-not-has_marks-clause-read g c =
     let old = c.args.s.now in
     let none = none_noted true (marks_of old.state) c.has_marks.result c.has_marks.ensures c.if-not-has_marks.true in
-    where_ok c.end_demanded.result (λ e. record { end = old; section = held_beside _ _ none refl; ends = e; state = refl }) c.end_demanded.ensures.ends
+    where_ok c.end_demanded.result (λ e. record { end = old; parsed = held_beside _ _ none refl; ends = e; state = refl }) c.end_demanded.ensures.ends
 
 pub returns-then-not-has_marks-clause-missed : goal.returns-then-not-has_marks-clause-missed
 returns-then-not-has_marks-clause-missed g c = λ fine.

@@ -2,36 +2,36 @@ use Rattle.std.proofs.Common.{◌<◌, ◌^◌, refl, subst, length, string_byte
 use Rattle.std.proofs.lemmas.Str.{IsUtf8-string_bytes}
 use Rattle.irtext_grammar.proofs.Graphs.OwnEquality.{sound, reflexive}
 use Rattle.irtext_print.specs.Printers.Appended.{fresh}
-use Rattle.pliron_text.proofs.Back.{reads_back, reads_whole, nothing_back, memory_alone}
+use Rattle.irtext_promises.specs.OnlyNew.{OnlyNew}
+use Rattle.pliron_text.proofs.Back.{is_back}
 use Rattle.pliron_text.proofs.calls.there_and_back.Goals as goal
 
 pub returns-in-Err-clause-refused : goal.returns-in-Err-clause-refused
 returns-in-Err-clause-refused g c = λ unlimited nowhere x sees closed. c.in-Err.ensures.refused
 
-pub returns-in-Ok-read_text-clause-back : goal.returns-in-Ok-read_text-clause-back
-returns-in-Ok-read_text-clause-back g c = λ unlimited nowhere x sees closed.
-    reads_back g.T.IrText g.A.IrText g.A.AttrText g.A.PartialEq.eq c.args.ctx.now c.args.op x sees c.keeps_parts.ensures.all.counters.nested (fresh c.args.layout.now.width c.args.layout.now.indent c.args.layout.now.limit)
-    g.met.T.IrText.lawful g.met.A.IrText.lawful g.met.A.AttrText.unreserved (sound g.A.PartialEq.eq g.met.A.IrText.decides refl) (reflexive g.A.PartialEq.eq g.met.A.IrText.decides refl) nowhere (c.keeps_parts.ensures.kept c.args.op x sees)
-    (string_bytes c.in-Ok.text) (IsUtf8-string_bytes c.in-Ok.text) (subst (λ z. length z < 2 ^ 64) c.as_str-bytes.ensures.value c.bytes_counted.ensures) c.in-Ok.ensures.text c.as_str-bytes.result.now c.as_str-bytes.ensures.value c.args.other.now c.requires.dialects
-    unlimited closed c.in-Ok-read_text.root c.read_text.new.ctx c.in-Ok-read_text.ensures.reads
+-- ---- the text was parsed back
+pub returns-in-Ok-read_text : goal.returns-in-Ok-read_text
+returns-in-Ok-read_text g c =
+    let facts = is_back g.T.IrText g.A.IrText g.A.AttrText g.A.PartialEq.eq c.args.ctx.now c.args.op c.keeps_parts.ensures.all.counters.nested (fresh c.args.layout.now.width c.args.layout.now.indent c.args.layout.now.limit)
+    g.met.T.IrText.lawful g.met.A.IrText.lawful g.met.A.AttrText.unreserved (sound g.A.PartialEq.eq g.met.A.IrText.decides refl) (reflexive g.A.PartialEq.eq g.met.A.IrText.decides refl)
+    (string_bytes c.in-Ok.text) (IsUtf8-string_bytes c.in-Ok.text) (subst (λ z. length z < 2 ^ 64) c.as_str-bytes.ensures.value c.bytes_counted.ensures) c.in-Ok.ensures.text
+    c.as_str-bytes.result.now c.as_str-bytes.ensures.value c.args.other.now c.requires.dialects (c.keeps_parts.ensures.kept c.args.op) in
+    let root = c.in-Ok-read_text.root in
+    let left = c.read_text.new.ctx in
+    let reads = c.in-Ok-read_text.ensures.reads in
+    record {
+      back = λ unlimited nowhere x sees closed. (facts nowhere x sees).back unlimited closed root left reads;
+      whole = λ unlimited nowhere x sees closed. (facts nowhere x sees).whole unlimited closed root left reads;
+      limited = λ nowhere x sees fits out. (facts nowhere x sees).limited fits out root left reads;
+      only = subst (λ z. OnlyNew root z left) reads.starts.context (subst (OnlyNew root reads.old.state.ctx.now) reads.ends reads.builds.only);
+      refused = λ unlimited nowhere x sees closed. tt;
+      objects = tt;
+    }
 
-pub returns-in-Ok-read_text-clause-whole : goal.returns-in-Ok-read_text-clause-whole
-returns-in-Ok-read_text-clause-whole g c = λ unlimited nowhere x sees closed.
-    reads_whole g.T.IrText g.A.IrText g.A.AttrText g.A.PartialEq.eq c.args.ctx.now c.args.op x sees c.keeps_parts.ensures.all.counters.nested (fresh c.args.layout.now.width c.args.layout.now.indent c.args.layout.now.limit)
-    g.met.T.IrText.lawful g.met.A.IrText.lawful g.met.A.AttrText.unreserved (sound g.A.PartialEq.eq g.met.A.IrText.decides refl) (reflexive g.A.PartialEq.eq g.met.A.IrText.decides refl) nowhere (c.keeps_parts.ensures.kept c.args.op x sees)
-    (string_bytes c.in-Ok.text) (IsUtf8-string_bytes c.in-Ok.text) (subst (λ z. length z < 2 ^ 64) c.as_str-bytes.ensures.value c.bytes_counted.ensures) c.in-Ok.ensures.text c.as_str-bytes.result.now c.as_str-bytes.ensures.value c.args.other.now c.requires.dialects
-    unlimited closed c.in-Ok-read_text.root c.read_text.new.ctx c.in-Ok-read_text.ensures.reads
-
-pub returns-in-Ok-read_text-clause-limited : goal.returns-in-Ok-read_text-clause-limited
-returns-in-Ok-read_text-clause-limited g c = λ nowhere x sees fits out.
-    nothing_back g.T.IrText g.A.IrText g.A.AttrText g.A.PartialEq.eq c.args.ctx.now c.args.op x sees c.keeps_parts.ensures.all.counters.nested (fresh c.args.layout.now.width c.args.layout.now.indent c.args.layout.now.limit)
-    g.met.T.IrText.lawful g.met.A.IrText.lawful g.met.A.AttrText.unreserved (sound g.A.PartialEq.eq g.met.A.IrText.decides refl) (reflexive g.A.PartialEq.eq g.met.A.IrText.decides refl) nowhere (c.keeps_parts.ensures.kept c.args.op x sees)
-    (string_bytes c.in-Ok.text) (IsUtf8-string_bytes c.in-Ok.text) (subst (λ z. length z < 2 ^ 64) c.as_str-bytes.ensures.value c.bytes_counted.ensures) c.in-Ok.ensures.text c.as_str-bytes.result.now c.as_str-bytes.ensures.value c.args.other.now c.requires.dialects
-    fits out c.in-Ok-read_text.root c.read_text.new.ctx c.in-Ok-read_text.ensures.reads
-
+-- ---- it was not
 pub returns-clause-refused : goal.returns-clause-refused
 returns-clause-refused g c = λ unlimited nowhere x sees closed.
-    memory_alone g.T.IrText g.A.IrText g.A.AttrText g.A.PartialEq.eq c.args.ctx.now c.args.op x sees c.keeps_parts.ensures.all.counters.nested (fresh c.args.layout.now.width c.args.layout.now.indent c.args.layout.now.limit)
-    g.met.T.IrText.lawful g.met.A.IrText.lawful g.met.A.AttrText.unreserved (sound g.A.PartialEq.eq g.met.A.IrText.decides refl) (reflexive g.A.PartialEq.eq g.met.A.IrText.decides refl) nowhere (c.keeps_parts.ensures.kept c.args.op x sees)
-    (string_bytes c.in-Ok.text) (IsUtf8-string_bytes c.in-Ok.text) (subst (λ z. length z < 2 ^ 64) c.as_str-bytes.ensures.value c.bytes_counted.ensures) c.in-Ok.ensures.text c.as_str-bytes.result.now c.as_str-bytes.ensures.value c.args.other.now c.requires.dialects
-    unlimited closed c.in-Err-read_text.fault c.in-Err-read_text.ensures.refuses
+    (is_back g.T.IrText g.A.IrText g.A.AttrText g.A.PartialEq.eq c.args.ctx.now c.args.op c.keeps_parts.ensures.all.counters.nested (fresh c.args.layout.now.width c.args.layout.now.indent c.args.layout.now.limit)
+    g.met.T.IrText.lawful g.met.A.IrText.lawful g.met.A.AttrText.unreserved (sound g.A.PartialEq.eq g.met.A.IrText.decides refl) (reflexive g.A.PartialEq.eq g.met.A.IrText.decides refl)
+    (string_bytes c.in-Ok.text) (IsUtf8-string_bytes c.in-Ok.text) (subst (λ z. length z < 2 ^ 64) c.as_str-bytes.ensures.value c.bytes_counted.ensures) c.in-Ok.ensures.text
+    c.as_str-bytes.result.now c.as_str-bytes.ensures.value c.args.other.now c.requires.dialects (c.keeps_parts.ensures.kept c.args.op) nowhere x sees).refused unlimited closed c.in-Err-read_text.fault c.in-Err-read_text.ensures.refuses

@@ -6,7 +6,7 @@ use Rattle.irtext_tokens.specs.AttrTexts.{attr_at}
 use Rattle.irtext_parse_nested.proofs.Entering.{unentered, unbraced, braced}
 use Rattle.irtext_parse_nested.proofs.NamesLeft.{sound_left}
 use Rattle.irtext_parse_root.proofs.Unplaced.{alone_leaves, alone_there}
-use Rattle.irtext_parse_root.proofs.alone.region_alone.Goals as goal
+use Rattle.irtext_parse_root.proofs.one_region.region_alone.Goals as goal
 
 pub returns-in_err-enter_here-clause-refused : goal.returns-in_err-enter_here-clause-refused
 returns-in_err-enter_here-clause-refused g c =

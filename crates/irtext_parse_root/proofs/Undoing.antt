@@ -1,0 +1,98 @@
+-- A parser that failed is undone: what is known of it before gives what it promises afterwards.
+use Rattle.std.proofs.Common.{◌≡◌, ◌∙◌, true, false, true≢false, Result, Ok, Err, length, take, refl, sym, ap, subst}
+use Rattle.std.proofs.Math.Seq.{take-append_seam}
+use Rattle.std.specs.Prelude.{OnOk, OnErr}
+use Rattle.irtext_base.specs.declared.parsable.fault.ParseFault.{ParseFault}
+use Rattle.irtext_context.proofs.Kept.{kept_closed, rolled_back}
+use Rattle.irtext_context.specs.Context.{KeepsOlder, RollsBack}
+use Rattle.irtext_graph.specs.Back.{IsClosedBelow}
+use Rattle.irtext_parse_state.specs.States.{marks_of}
+use Rattle.irtext_parse_state.specs.declared.parsable.state.State as code
+use Rattle.irtext_parse_state.specs.declared.parsable.state.StateStream.{StateStream}
+use Rattle.irtext_parse_spec.specs.Readers.Refusals.{Refusal, FailedRefusal}
+use Rattle.irtext_parse_spec.specs.Readers.Streams.{KeepsRest}
+use Rattle.irtext_parse_root.proofs.Chains.{rest_both}
+use Rattle.irtext_parse_root.specs.Parses.{Undoes, CanUndo, Answers, Parses, StartsAt, TakesBack}
+use Rattle.irtext_parse_root.specs.declared.undo.Start.{Start}
+
+-- what the call does with an answer and with an error
+module _ {T A U X : Type 0} (start : Start) (answer : Result X (ParseFault A)) (old new : StateStream T A U) where
+  pub takes_none : (x : X) → answer ≡ Ok x → TakesBack start answer old (Ok x) old
+  takes_none x is = subst (λ a. TakesBack start a old (Ok x) old) (sym is) (record { same = refl; rest = record { src = refl; aux_data = refl }; stream = refl; unchanged = refl; objects = tt; marks = tt })
+
+  pub takes_all : (fault : ParseFault A) → answer ≡ Err fault → KeepsRest old.state new.state → new.stream ≡ old.stream → RollsBack start.made old.state.ctx.now new.state.ctx.now → marks_of new.state ≡ take start.marks (marks_of old.state)
+      → TakesBack start answer old (Err fault) new
+  takes_all fault is rest stream objects marks = subst (λ a. TakesBack start a old (Err fault) new) (sym is) (record { same = refl; rest = rest; stream = stream; unchanged = tt; objects = objects; marks = marks })
+
+-- what succeeded in two parts leaves the source and the caller's data
+pub done_undoable : {T A U X : Type 0} {x : X} {old new : StateStream T A U} {mid : code.State T A U} → KeepsRest old.state mid → KeepsRest mid new.state → CanUndo {A = A} old (Ok x) new
+done_undoable first second = record { rest = rest_both first second; refused = tt; noted = tt; kept = tt }
+
+kept_since : {T A U : Type 0} (start : Start) (old mid : StateStream T A U) → StartsAt start old.state → KeepsOlder old.state.ctx.now.graph.made old.state.ctx.now mid.state.ctx.now → KeepsOlder start.made old.state.ctx.now mid.state.ctx.now
+kept_since start old mid at k = subst (λ m. KeepsOlder m old.state.ctx.now mid.state.ctx.now) (sym at.made) k
+
+module _ {T A U X : Type 0} (start : Start) (old mid : StateStream T A U) (at : StartsAt start old.state) where
+  -- what was there at the start may be given back
+  pub closed_there : (answer : Result X (ParseFault A)) → CanUndo old answer mid → OnErr answer (IsClosedBelow start.made mid.state.ctx.now.graph)
+  closed_there (Ok x) can = tt
+  closed_there (Err fault) can = kept_closed at.closed (kept_since start old mid at can.kept)
+
+  -- on an error all that is older is as it was
+  undoes_by : (new : StateStream T A U) → old.stream.failed ≡ false → (answer : Result X (ParseFault A)) → CanUndo old answer mid → KeepsRest mid.state new.state → new.stream ≡ mid.stream
+      → OnErr answer (RollsBack start.made mid.state.ctx.now new.state.ctx.now) → OnErr answer (marks_of new.state ≡ take start.marks (marks_of mid.state)) → Undoes old answer new
+  undoes_by new fine (Ok x) can rest stream objects marks = record {
+    rest = rest_both can.rest rest;
+    refused = tt;
+    failed = λ e. absurd (true≢false (sym e ∙ fine));
+    objects = tt;
+    marks = tt;
+  }
+  undoes_by new fine (Err fault) can rest stream objects marks =
+      let earlier = marks_of old.state in
+      record {
+        rest = rest_both can.rest rest;
+        refused = subst (Refusal old.stream fault) (sym stream) can.refused;
+        failed = λ e. absurd (true≢false (sym e ∙ fine));
+        objects = rolled_back at.older (kept_since start old mid at can.kept) objects;
+        marks = marks ∙ (ap (λ n. take n (marks_of mid.state)) at.marks ∙ (ap (take (length earlier)) can.noted.1 ∙ take-append_seam earlier can.noted.0));
+      }
+
+-- what is promised of the state after a success is known of the state before the call
+pub kept_on_ok : {T A U X : Type 0} (P : StateStream T A U → Type 0) {start : Start} {mid new : StateStream T A U} (answer result : Result X (ParseFault A)) → TakesBack start answer mid result new → P mid → OnOk result (P new)
+kept_on_ok {A = A} {X = X} P {mid = mid} {new = new} answer result back p = subst (λ r. OnOk r (P new)) (sym back.same) (go answer back.unchanged)
+  where
+    go : (r : Result X (ParseFault A)) → OnOk r (new ≡ mid) → OnOk r (P new)
+    go (Ok x) e = subst P (sym e) p
+    go (Err fault) e = tt
+
+-- what is said of the text stays
+module _ {T A U X : Type 0} {Reads Builds : X → StateStream T A U → StateStream T A U → Type 0} {Misses Refuses : StateStream T A U → ParseFault A → Type 0} (start : Start) (old mid new : StateStream T A U) (at : StartsAt start old.state) (fine : old.stream.failed ≡ false) where
+  answers_by : (answer : Result X (ParseFault A)) → OnOk answer (new ≡ mid) → Answers Reads Builds Misses Refuses old answer mid → Answers Reads Builds Misses Refuses old answer new
+  answers_by (Ok x) e p = subst (Answers Reads Builds Misses Refuses old (Ok x)) (sym e) p
+  answers_by (Err fault) e p = record { read = tt; missed = p.missed; builds = λ fresh. tt; unresolved = p.unresolved }
+
+  -- so the parser keeps its whole promise
+  pub parses : (answer result : Result X (ParseFault A)) → CanUndo old answer mid → Answers Reads Builds Misses Refuses old answer mid → TakesBack start answer mid result new → Parses (Answers Reads Builds Misses Refuses) old result new
+  parses answer result can says back = subst (λ r. Parses (Answers Reads Builds Misses Refuses) old r new) (sym back.same) (record {
+    undone = undoes_by start old mid at new fine answer can back.rest back.stream back.objects back.marks;
+    answers = answers_by answer back.unchanged says;
+  })
+
+-- on a stream that had failed nothing is parsed
+pub parses_failed : {T A U X : Type 0} {Reads Builds : X → StateStream T A U → StateStream T A U → Type 0} {Misses Refuses : StateStream T A U → ParseFault A → Type 0} (s : StateStream T A U) (fault : ParseFault A) → s.stream.failed ≡ true → FailedRefusal s.stream fault s.stream
+    → Parses (Answers Reads Builds Misses Refuses) s (Err fault) s
+parses_failed s fault failed says = record {
+  undone = record {
+    rest = record { src = refl; aux_data = refl };
+    refused = record { committed = λ e. failed; uncommitted = λ e. refl; first = λ e. absurd (true≢false (sym says.committed ∙ e)); failed = λ e. failed };
+    failed = λ e. says;
+    objects = record { operations = λ p. refl; blocks = λ p. refl; regions = λ p. refl; paths = λ i path e. e; dialects = refl };
+    marks = refl;
+  };
+  answers = record {
+    read = tt;
+    missed = λ fine. absurd (true≢false (sym failed ∙ fine));
+    builds = λ fresh. tt;
+    unresolved = λ fresh. absurd (true≢false (sym failed ∙ fresh.fine));
+  };
+}
