@@ -114,12 +114,8 @@ impl<'c, T: IrText<A>, A: AttrText<A>> Printer<'c, T, A> {
     #[inline(always)]
     fn fmt_facet(self, value: Value, of_type: &T, facet: Facet, f: &mut String) -> fmt::Result
         requires { ValueStands self.ctx.now.graph value }
-        ensures { OnOk result (IfSome (number_of self.entry.ctx.now value)
-            (λ n. AppendsText f.old (texts.facet_text T.IrText.written self.entry.ctx.now facet (
-              n,
-              of_type.now,
-            ))
-            f.new)) }
+        ensures { OnOk result (IfSome (number_of self.entry.ctx.now value) (λ n. AppendsText f.old
+            (texts.facet_text T.IrText.written self.entry.ctx.now facet (n, of_type.now)) f.new)) }
     {
         match facet {
             Facet::Name => fmt_value_name(self.ctx, value, f),
@@ -239,25 +235,25 @@ impl<'c, T: IrText<A>, A: AttrText<A>> Printer<'c, T, A> {
     pub(crate) fn fmt_enclosed(
         self,
         listed: Listed,
-        open: &str,
-        close: &str,
+        before: &str,
+        after: &str,
         both: &str,
         f: &mut String,
     ) -> fmt::Result
         requires stands { IsLive self.ctx.now.graph (owner listed) }
-        requires joined { both.now ≡ open.now ++ close.now }
-        requires open { list_all is_ascii open.now ≡ true }
-        requires close { list_all is_ascii close.now ≡ true }
+        requires joined { both.now ≡ before.now ++ after.now }
+        requires before { list_all is_ascii before.now ≡ true }
+        requires after { list_all is_ascii after.now ≡ true }
         ensures { OnOk result (AppendsText f.old
-            (open.now ++ (texts.list_text T.IrText.written self.entry.ctx.now listed 0 ++ close.now)) f.new) }
+            (before.now ++ (texts.list_text T.IrText.written self.entry.ctx.now listed 0 ++ after.now)) f.new) }
     {
         if self.count(listed) == 0 {
             f.push_str(both)?;
             return Ok(());
         }
-        f.push_str(open)?;
+        f.push_str(before)?;
         self.fmt_listed(listed, 0, f)?;
-        f.push_str(close)?;
+        f.push_str(after)?;
         Ok(())
     }
 }

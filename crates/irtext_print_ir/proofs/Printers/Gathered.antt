@@ -1,5 +1,5 @@
 -- What was printed and gathered of an operation, as the clauses of its printing have it.
-use Rattle.std.proofs.Common.{◌≡◌, ◌∙◌, ◌++◌, ℕ, Bool, List, [], true, refl, sym, ap, length, Option, Some, None, option_map, IsSome, Result, Ok, Err, OnOk, append-nil}
+use Rattle.std.proofs.Common.{◌≡◌, ◌∙◌, ◌++◌, ℕ, Bool, List, [], true, refl, sym, ap, subst, length, Option, Some, None, option_map, IsSome, Result, Ok, Err, OnOk, append-nil}
 use Rattle.std.specs.Str.{encode_utf8_all}
 use Rattle.irtext_base.specs.Text.{Text}
 use Rattle.irtext_base.specs.declared.text.AttrText as attr_text
@@ -38,10 +38,27 @@ same_block (Some a) (Some b) e = cc
 pub rests : {U : Type 0} (s t : Shown U) (xs : List Item) → t ≡ with_gathered s xs → t ≡ with_gathered s (gathered_of t)
 rests s t xs e = e ∙ ap (with_gathered s) (sym (ap gathered_of e))
 
+-- the same if the items were taken out first
+pub rests_put : {U : Type 0} (s between t : Shown U) (after : List Item) → between ≡ with_gathered s [] → t ≡ with_gathered between after → t ≡ with_gathered s (gathered_of t)
+rests_put s between t after left put = rests s t after (put ∙ ap (λ z. with_gathered z after) left)
+
 -- three facts about a success
 pub together : {X E P Q R Z : Type 0} (r : Result X E) → (P → Q → R → Z) → OnOk r P → OnOk r Q → OnOk r R → OnOk r Z
 together (Ok x) f p q k = f p q k
 together (Err e) f p q k = tt
+
+-- Nested text was printed while the gathered items were taken out of the state, and they were put back with those that it added. What it
+-- appends and adds, and whether it fits, may depend on the state without the gathered items.
+pub put_back : {U X E : Type 0} (r : Result X E) (whole : Shown U → ℕ → Text) (added : Shown U → List Item) (Misfits : Shown U → Type 0) (s between t : Shown U) (before after : List Item) (old new : List ℕ)
+    → before ≡ gathered_of s → between ≡ with_gathered s [] → t ≡ with_gathered between after
+    → OnOk r (new ≡ old ++ encode_utf8_all (whole between (length before))) → OnOk r (after ≡ before ++ added between) → OnOk r (Misfits between → ⊥)
+    → OnOk r (Printed (whole (with_gathered s []) (length s.gathered)) (gathers s (added (with_gathered s []))) (Misfits (with_gathered s [])) old t new)
+put_back r whole added Misfits s between t before after old new taken left put =
+    together r (λ w i f. record {
+      text = w ∙ ap (λ z. old ++ encode_utf8_all (whole z (length before))) left ∙ ap (λ gs. old ++ encode_utf8_all (whole (with_gathered s []) (length gs))) taken;
+      state = put ∙ ap (λ z. with_gathered z after) left ∙ ap (with_gathered s) (i ∙ ap (λ gs. gs ++ added between) taken ∙ ap (λ z. s.gathered ++ added z) left);
+      fits = λ m. f (subst Misfits (sym left) m);
+    })
 
 module _ {T A U : Type 0} (types : ir_text.Ghosts T A) (owns : ir_text.Ghosts A A) (attributes : attr_text.Ghosts A A) (same : A → A → Bool) (ctx : ContextView T A) (p : Ptr Operation) (s : Shown U) where
   -- the text with the mark, after this many marks

@@ -108,9 +108,14 @@ module _ {T A : Type 0} (types : ir_text.Ghosts T A) (owns : ir_text.Ghosts A A)
   -- ---- one printing
 
   module _ {U : Type 0} (p : Ptr Operation) (s : Shown U) (old : String Global) (t : Shown U) (new : String Global) where
-    -- a concrete text was printed
+    -- a concrete text was printed, and the mark after it if it is to be printed
+    abbrev pub PrintsNested : Bool → Type 0
+    PrintsNested marked = Printed (heads.text_under types owns attributes same ctx p s marked (length s.gathered)) (gathers s (heads.items_under types owns attributes same ctx p s marked))
+        (heads.MisfitsUnder types owns attributes same ctx p s) (string_bytes old) t (string_bytes new)
+
+    -- a concrete text was printed, without its mark
     abbrev pub PrintsConcrete : Type 0
-    PrintsConcrete = Printed (concrete_text p s) (concrete_left p s) (heads.MisfitsUnder types owns attributes same ctx p s) (string_bytes old) t (string_bytes new)
+    PrintsConcrete = PrintsNested false
 
     -- a root was printed, with its mark, numbered after what was gathered before
     abbrev pub PrintsRoot : Type 0

@@ -6,37 +6,21 @@ ghost use Rattle.irtext_print.specs.Printers.Appended.{AppendsText};
 ghost use Rattle.irtext_print.specs.Printers.Printing.{gathered_of, with_gathered};
 ghost use Rattle.irtext_print.specs.declared.printable.refusal.Refusal.TheVariants as refusal;
 ghost use Rattle.irtext_print_ir.specs.Printers.Printed as printed;
-ghost use Rattle.irtext_print.specs.Items.{section_at};
 ghost use Rattle.irtext_print_ops.specs.Heads as heads;
 
-use crate::ir::print::gathering::{gather_mark, gather_operation};
+use crate::ir::print::concrete::gather_operation;
 use crate::printable::{Printable, Refusal, State};
 use irtext_base::text::{AttrText, IrText};
 use irtext_context::base::{Context, Item, Operation, Ptr};
 use irtext_graph::held::HasGraph;
-use irtext_print::printable::gathered::{has_gathered, take_gathered};
+use irtext_print::printable::gathered::{has_gathered, put_gathered, take_gathered};
 use irtext_print::section::{print_alone, print_section};
+use irtext_print_ops::printer::Printer;
 use std::fmt;
 
 pub mod concrete;
 pub mod debug;
-pub(crate) mod gathering;
 pub mod parts;
-
-/// Appends the section of all gathered items, and clears them.
-fn fmt_section<T: IrText<A>, A: AttrText<A>, U>(
-    ctx: &Context<T, A>,
-    state: &mut State<U>,
-    f: &mut String,
-) -> Result<(), Refusal>
-    ensures text { OnOk result (AppendsText f.old
-        (section_at T.IrText.own A.IrText.own A.AttrText.own A.eq ctx.now (gathered_of state.old)) f.new) }
-    ensures state { state.new ≡ with_gathered state.old [] }
-    ensures refused { IfErr result (λ e. e ≡ refusal.Memory) }
-{
-    let gathered = take_gathered(state, ctx.allocator());
-    print_section(ctx, &gathered, f)
-}
 
 /// Appends what follows the concrete text of an operation in no block: its mark, and the section of all gathered items, which are
 /// cleared. If nothing was gathered, no list is allocated for the operation alone.
@@ -56,8 +40,14 @@ fn fmt_end<T: IrText<A>, A: AttrText<A>, U>(
     if !has_gathered(state) {
         return print_alone(ctx, Item::Operation(op), f);
     }
-    gather_mark(ctx, op, state, f)?;
-    fmt_section(ctx, state, f)
+    let mut items = take_gathered(state, ctx.allocator());
+    match (Printer { ctx }).end_operation(op, true, &mut items, f) {
+        Ok(()) => print_section(ctx, &items, f),
+        Err(refusal) => {
+            put_gathered(state, items);
+            Err(refusal)
+        }
+    }
 }
 
 /// Appends the text of an operation with everything nested in it, and its mark, numbered after the marks that were gathered before. If

@@ -5,11 +5,33 @@ ghost use Rattle.irtext_print.specs.Printers.Printing.{gathered_of, with_gathere
 ghost use Rattle.irtext_print_ir.specs.Printers.Printed as printed;
 ghost use Rattle.irtext_print_ops.specs.Heads as heads;
 
-use crate::ir::print::gathering::gather_operation;
 use crate::printable::{Printable, Refusal, State};
 use irtext_base::text::{AttrText, IrText};
 use irtext_context::base::{Context, Operation, Ptr};
+use irtext_print::printable::gathered::{put_gathered, take_gathered};
+use irtext_print_ops::nested::print_nested;
 use std::fmt;
+
+/// Appends the concrete text of an operation with everything nested in it, and its mark after that, if `marked`. Items are gathered.
+pub(crate) fn gather_operation<T: IrText<A>, A: AttrText<A>, U>(
+    ctx: &Context<T, A>,
+    op: Ptr<Operation>,
+    marked: bool,
+    state: &mut State<U>,
+    f: &mut String,
+) -> Result<(), Refusal>
+    requires live { IsSome (operation ctx.now op) }
+    ensures prints { OnOk result (printed.PrintsNested T.IrText.own A.IrText.own A.AttrText.own A.eq ctx.now
+        op state.old f.old state.new f.new marked) }
+    ensures refused { IfErr result (heads.RefusesUnder T.IrText.own A.IrText.own A.AttrText.own A.eq ctx.now
+        op state.old) }
+    ensures rest { state.new ≡ with_gathered state.old (gathered_of state.new) }
+{
+    let mut items = take_gathered(state, ctx.allocator());
+    let answer = print_nested(ctx, op, marked, state, &mut items, f);
+    put_gathered(state, items);
+    answer
+}
 
 /// Appends the concrete text of an operation with everything nested in it, as [`OpObj`] prints it. Items inside are gathered in the
 /// state.

@@ -7,10 +7,11 @@ ghost use Rattle.irtext_print.specs.Printers.Printing.{gathered_of, with_gathere
 ghost use Rattle.irtext_print_ir.specs.Printers.Printed as printed;
 ghost use Rattle.irtext_print_ops.specs.Heads as heads;
 
-use crate::ir::print::gathering::{gather_block, gather_region};
 use crate::printable::{Printable, Refusal, State};
 use irtext_base::text::{AttrText, IrText};
 use irtext_context::base::{BasicBlock, Context, Ptr, Region};
+use irtext_print::printable::gathered::{put_gathered, take_gathered};
+use irtext_print_ops::nested::{print_nested_block, print_nested_region};
 use std::fmt;
 
 /// Appends the text of a block with everything nested in it, at the state's indentation, with its mark. The items, the block and those
@@ -39,7 +40,10 @@ pub fn print_block<T: IrText<A>, A: AttrText<A>, U>(
         ctx.now block state.old) }
     ensures rest { state.new ≡ with_gathered state.old (gathered_of state.new) }
 {
-    gather_block(ctx, block, state, f)
+    let mut items = take_gathered(state, ctx.allocator());
+    let answer = print_nested_block(ctx, block, state, &mut items, f);
+    put_gathered(state, items);
+    answer
 }
 
 /// Appends the text of a region with everything nested in it, at the state's indentation: `{..}` if the state's limit elides it,
@@ -61,7 +65,10 @@ pub fn print_region<T: IrText<A>, A: AttrText<A>, U>(
         ctx.now region state.old) }
     ensures rest { state.new ≡ with_gathered state.old (gathered_of state.new) }
 {
-    gather_region(ctx, region, state, f)
+    let mut items = take_gathered(state, ctx.allocator());
+    let answer = print_nested_region(ctx, region, state, &mut items, f);
+    put_gathered(state, items);
+    answer
 }
 
 /// Prints the block as [`print_block`] does. The block has to be live.

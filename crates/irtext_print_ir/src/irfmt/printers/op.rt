@@ -5,7 +5,7 @@ ghost use Rattle.irtext_print_ir.specs.Printers.OpPrinters.{PrintsPart, WritesPa
 ghost use Rattle.irtext_print.specs.Printers.Printing.{gathered_of, with_gathered};
 ghost use Rattle.irtext_print_ir.specs.Printers.OpPrinters as parts;
 
-use crate::ir::print::gathering::gather_region;
+use crate::ir::print::parts::print_region as print_nested_region;
 use crate::printable::{Printable, Refusal, State};
 use irtext_base::text::{AttrText, IrText};
 use irtext_context::base::{Context, Operation, OperationAccess, Ptr};
@@ -121,7 +121,7 @@ pub fn print_region<T: IrText<A>, A: AttrText<A>, U>(
         return Err(Refusal::Misfit);
     }
     ctx.graph().keeps_nesting();
-    gather_region(ctx, op.get_region(ctx, 0), state, f)
+    print_nested_region(ctx, op.get_region(ctx, 0), state, f)
 }
 
 /// Prints the header as [`print_symb_op_header`] does. The operation has to be live.

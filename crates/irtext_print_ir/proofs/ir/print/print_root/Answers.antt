@@ -5,15 +5,15 @@ use Rattle.irtext_graph.specs.declared.object.Object.TheVariants.{TheBlock}
 use Rattle.irtext_print.proofs.Printers.Appended.{then}
 use Rattle.irtext_print.specs.Printers.Printing.{gathered_of, with_gathered}
 use Rattle.irtext_print_ir.specs.Printers.Printed.{block_round}
-use Rattle.irtext_print_ir.proofs.Printers.Gathered.{same_block, together, in_block, defined, rests}
+use Rattle.irtext_print_ir.proofs.Printers.Gathered.{same_block, in_block, defined, rests}
 use Rattle.irtext_print_ir.proofs.Printers.Ends.{root_ends, both_end}
 use Rattle.irtext_print_ir.proofs.ir.print.print_root.Goals as goal
 
 pub returns-in-Some-clause-prints : goal.returns-in-Some-clause-prints
 returns-in-Some-clause-prints g c =
     let is = same_block (block_round c.args.ctx.now c.args.op) (Some c.in-Some._block) (c.get_parent_block.ensures.parent ∙ ap (option_map TheBlock) c.in-Some.is) in
-    together c.gather_operation.result (λ w k f. in_block g.T.IrText g.A.IrText g.A.AttrText g.A.PartialEq.eq c.args.ctx.now c.args.op c.args.state.now (string_bytes c.args.f.now) c.gather_operation.new.state (string_bytes c.gather_operation.new.f) c.in-Some._block is w k f)
-    c.gather_operation.ensures.text c.gather_operation.ensures.state c.gather_operation.ensures.fits
+    then c.gather_operation.result (λ p. in_block g.T.IrText g.A.IrText g.A.AttrText g.A.PartialEq.eq c.args.ctx.now c.args.op c.args.state.now (string_bytes c.args.f.now) c.gather_operation.new.state (string_bytes c.gather_operation.new.f) c.in-Some._block is p.text p.state p.fits)
+    c.gather_operation.ensures.prints
 
 pub returns-in-Some-clause-text : goal.returns-in-Some-clause-text
 returns-in-Some-clause-text g c = then c.gather_operation.result (λ p. record { text = p.text; state = p.state }) (returns-in-Some-clause-prints g c)
@@ -27,7 +27,7 @@ pub returns-in_ok-gather_operation-in-None-clause-prints : goal.returns-in_ok-ga
 returns-in_ok-gather_operation-in-None-clause-prints g c =
     let is = same_block (block_round c.args.ctx.now c.args.op) None (c.get_parent_block.ensures.parent ∙ ap (option_map TheBlock) c.in-None.is) in
     both_end c.fmt_end.result (λ v e. root_ends g.T.IrText g.A.IrText g.A.AttrText g.A.PartialEq.eq c.args.ctx.now c.args.op c.args.state.now (string_bytes c.args.f.now) (string_bytes c.gather_operation-in-None.new.f) (string_bytes c.fmt_end.new.f) c.gather_operation-in-None.new.state c.fmt_end.new.state is
-    c.in_ok-gather_operation-in-None.ensures.text c.in_ok-gather_operation-in-None.ensures.state c.in_ok-gather_operation-in-None.ensures.fits v e) c.fmt_end.ensures.text c.fmt_end.ensures.state
+    c.in_ok-gather_operation-in-None.ensures.prints.text c.in_ok-gather_operation-in-None.ensures.prints.state c.in_ok-gather_operation-in-None.ensures.prints.fits v e) c.fmt_end.ensures.text c.fmt_end.ensures.state
 
 pub returns-in_ok-gather_operation-in-None-clause-text : goal.returns-in_ok-gather_operation-in-None-clause-text
 returns-in_ok-gather_operation-in-None-clause-text g c = then c.fmt_end.result (λ p. record { text = p.text; state = p.state }) (returns-in_ok-gather_operation-in-None-clause-prints g c)

@@ -1,5 +1,12 @@
-use Rattle.irtext_print_ir.proofs.Printers.Gathered.{together}
+use Rattle.std.proofs.Common.{IfErr, subst, string_bytes}
+use Rattle.irtext_print_ops.specs.Heads as heads
+use Rattle.irtext_print.specs.declared.printable.refusal.Refusal.TheVariants.{Misfit}
+use Rattle.irtext_print_ir.proofs.Printers.Gathered.{put_back, rests_put}
 use Rattle.irtext_print_ir.proofs.ir.print.parts.print_region.Goals as goal
 
-pub returns-clause-prints : goal.returns-clause-prints
-returns-clause-prints g c = together c.gather_region.result (λ w k f. record { text = w; state = k; fits = f }) c.gather_region.ensures.text c.gather_region.ensures.state c.gather_region.ensures.fits
+pub returns : goal.returns
+returns g c = record {
+  prints = put_back c.print_nested_region-answer.result (λ z n. heads.region_text_under g.T.IrText g.A.IrText g.A.AttrText g.A.PartialEq.eq c.args.ctx.now c.args.region z n) (λ z. heads.region_items_under g.T.IrText g.A.IrText g.A.AttrText g.A.PartialEq.eq c.args.ctx.now c.args.region z) (λ z. heads.RegionFaultUnder g.T.IrText g.A.IrText g.A.AttrText g.A.PartialEq.eq c.args.ctx.now c.args.region z Misfit) c.args.state.now c.take_gathered-items.new.state c.put_gathered.new.state c.take_gathered-items.result.items c.print_nested_region-answer.new.items.items (string_bytes c.args.f.now) (string_bytes c.print_nested_region-answer.new.f) c.take_gathered-items.ensures.taken c.take_gathered-items.ensures.left c.put_gathered.ensures c.print_nested_region-answer.ensures.text c.print_nested_region-answer.ensures.items c.print_nested_region-answer.ensures.fits;
+  refused = subst (λ z. IfErr c.print_nested_region-answer.result (heads.RefusesRegionUnder g.T.IrText g.A.IrText g.A.AttrText g.A.PartialEq.eq c.args.ctx.now c.args.region z)) c.take_gathered-items.ensures.left c.print_nested_region-answer.ensures.refused;
+  rest = rests_put c.args.state.now c.take_gathered-items.new.state c.put_gathered.new.state c.print_nested_region-answer.new.items.items c.take_gathered-items.ensures.left c.put_gathered.ensures;
+}

@@ -3,18 +3,17 @@ use Rattle.irtext_context.proofs.Parts.{stands_seen}
 use Rattle.irtext_graph.specs.Graph.{children, parent}
 use Rattle.irtext_graph.specs.Nested.{Nested}
 use Rattle.irtext_graph.specs.Parts.{regions}
-use Rattle.irtext_print.proofs.Printers.Appended.{then-err}
+use Rattle.irtext_print.proofs.Printers.Appended.{then, then-err}
 use Rattle.irtext_print_ops.proofs.Turned.{region_stands}
 use Rattle.irtext_print_ops.specs.Heads as heads
-use Rattle.irtext_print_ir.proofs.Printers.Gathered.{together}
 use Rattle.irtext_print_ir.proofs.Printers.OpPrinters.{sole_at, sole_none}
 use Rattle.irtext_print_ir.proofs.irfmt.printers.op.print_region.Goals as goal
 
 pub num_regions-requires : goal.num_regions-requires
 num_regions-requires g c = stands_seen c.args.ctx.now c.args.op c.requires.live
 
-pub gather_region-requires : goal.gather_region-requires
-gather_region-requires g c = record {
+pub print_region-requires : goal.print_region-requires
+print_region-requires g c = record {
   live = region_stands (heads.printing_of g.T.IrText g.A.IrText g.A.AttrText g.A.PartialEq.eq c.args.ctx.now) (heads.language_of g.T.IrText g.A.IrText g.A.AttrText g.A.PartialEq.eq c.args.ctx.now) c.args.ctx.now 0
       (subst (λ z. Nested (children z) (parent z)) c.graph.ensures c.keeps_nesting.ensures.forest) c.args.op c.get_region.result 0 c.get_region.ensures;
 }
@@ -25,10 +24,9 @@ returns-then-num_regions-ne1-clause-refused g c = λ other. inl (refl, sole_none
 pub returns-clause-prints : goal.returns-clause-prints
 returns-clause-prints g c =
     let one : length (regions c.args.ctx.now.graph c.args.op) ≡ 1 = sym c.num_regions.ensures ∙ c.if-num_regions-ne1.false in
-    together c.gather_region.result (λ w k f. (c.get_region.result, sole_at (regions c.args.ctx.now.graph c.args.op) c.get_region.result one c.get_region.ensures, record { text = w; state = k; fits = f }))
-    c.gather_region.ensures.text c.gather_region.ensures.state c.gather_region.ensures.fits
+    then c.print_region.result (λ p. (c.get_region.result, sole_at (regions c.args.ctx.now.graph c.args.op) c.get_region.result one c.get_region.ensures, p)) c.print_region.ensures.prints
 
 pub returns-clause-refused : goal.returns-clause-refused
 returns-clause-refused g c =
     let one : length (regions c.args.ctx.now.graph c.args.op) ≡ 1 = sym c.num_regions.ensures ∙ c.if-num_regions-ne1.false in
-    then-err c.gather_region.result (λ e h other. inr (c.get_region.result, sole_at (regions c.args.ctx.now.graph c.args.op) c.get_region.result one c.get_region.ensures, h other)) c.gather_region.ensures.refused
+    then-err c.print_region.result (λ e h other. inr (c.get_region.result, sole_at (regions c.args.ctx.now.graph c.args.op) c.get_region.result one c.get_region.ensures, h other)) c.print_region.ensures.refused
