@@ -9,7 +9,7 @@ use Rattle.irtext_graph.specs.Back.{IsClosedBelow}
 use Rattle.irtext_parse_state.specs.States.{marks_of}
 use Rattle.irtext_parse_state.specs.declared.parsable.state.State as code
 use Rattle.irtext_parse_state.specs.declared.parsable.state.StateStream.{StateStream}
-use Rattle.irtext_parse_spec.specs.Readers.Refusals.{Refusal, FailedRefusal}
+use Rattle.irtext_parse_spec.specs.Readers.Refusals.{Refusal}
 use Rattle.irtext_parse_spec.specs.Readers.Streams.{KeepsRest}
 use Rattle.irtext_parse_root.proofs.Chains.{rest_both}
 use Rattle.irtext_parse_root.specs.Parses.{Undoes, CanUndo, Answers, Parses, StartsAt, TakesBack}
@@ -77,22 +77,3 @@ module _ {T A U X : Type 0} {Reads Builds : X → StateStream T A U → StateStr
     undone = undoes_by start old mid at new fine answer can back.rest back.stream back.objects back.marks;
     answers = answers_by answer back.unchanged says;
   })
-
--- on a stream that had failed nothing is parsed
-pub parses_failed : {T A U X : Type 0} {Reads Builds : X → StateStream T A U → StateStream T A U → Type 0} {Misses Refuses : StateStream T A U → ParseFault A → Type 0} (s : StateStream T A U) (fault : ParseFault A) → s.stream.failed ≡ true → FailedRefusal s.stream fault s.stream
-    → Parses (Answers Reads Builds Misses Refuses) s (Err fault) s
-parses_failed s fault failed says = record {
-  undone = record {
-    rest = record { src = refl; aux_data = refl };
-    refused = record { committed = λ e. failed; uncommitted = λ e. refl; first = λ e. absurd (true≢false (sym says.committed ∙ e)); failed = λ e. failed };
-    failed = λ e. says;
-    objects = record { operations = λ p. refl; blocks = λ p. refl; regions = λ p. refl; paths = λ i path e. e; dialects = refl };
-    marks = refl;
-  };
-  answers = record {
-    read = tt;
-    missed = λ fine. absurd (true≢false (sym failed ∙ fine));
-    builds = λ fresh. tt;
-    unresolved = λ fresh. absurd (true≢false (sym failed ∙ fresh.fine));
-  };
-}

@@ -2,11 +2,8 @@ use Rattle.std.proofs.Common.{◌∙◌, sym}
 use Rattle.irtext_context.specs.Context.{KeepsOlder}
 use Rattle.irtext_graph.specs.Back.{IsClosedBelow}
 use Rattle.irtext_parse_state.specs.declared.parsable.state.StateStream.{StateStream}
-use Rattle.irtext_parse_root.proofs.Undoing.{closed_there, parses, parses_failed, kept_on_ok}
+use Rattle.irtext_parse_root.proofs.Undoing.{closed_there, parses, kept_on_ok}
 use Rattle.irtext_parse_root.proofs.outermost.outermost_parse.Goals as goal
-
-pub returns-then-has_failed-clause-parses : goal.returns-then-has_failed-clause-parses
-returns-then-has_failed-clause-parses g c = parses_failed c.args.s.now c.failed_fault.result (sym c.has_failed.ensures ∙ c.if-has_failed.true) c.failed_fault.ensures
 
 pub undone_on_error-requires : goal.undone_on_error-requires
 undone_on_error-requires g c = record { closed = closed_there c.start_of-start.result c.args.s.now c.marked_parse-answer.new.s c.start_of-start.ensures c.marked_parse-answer.result c.marked_parse-answer.ensures.undone }
