@@ -133,14 +133,19 @@ fn step(alloc: Global, dictionary: &mut AttributeDict<()>, number: usize) -> Res
     }
 }
 
-/// The number of the first step with another text than expected, with a dictionary of its own.
-fn first_differing(alloc: Global) -> Result<Option<usize>, Fail> {
-    let mut dictionary: AttributeDict<()> = AttributeDict::new(alloc);
-    differing(alloc, STEPS, &mut dictionary, step)
+/// The number of the first line of a table whose text differs from the expected one, with an empty dictionary for all lines.
+pub fn differing_step<F: Fn(Global, &mut AttributeDict<()>, usize) -> Result<String, Fail>>(
+    alloc: Global,
+    wanted: &[&str],
+    said: F,
+) -> Result<Option<usize>, Fail>
+    requires { F.IsAlwaysCallable said }
+{
+    differing(alloc, wanted, &mut AttributeDict::new(alloc), said)
 }
 
 #[test]
 fn pairs_are_put_replaced_and_taken_out(rt: HostRuntime) -> Result<(), Fail> {
-    assert_eq!(rt; first_differing(rt.alloc())?, None);
+    assert_eq!(rt; differing_step(rt.alloc(), STEPS, step)?, None);
     Ok(())
 }

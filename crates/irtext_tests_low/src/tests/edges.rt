@@ -1,12 +1,14 @@
 //! Attributes that are set on an operation, and `Refusal`s as errors.
-use irtext_base::base::{AttrObj, GIVEN_NAMES_KEY, Identifier, OpId, SYM_NAME_KEY};
+use irtext_base::base::{AttrObj, GIVEN_NAMES_KEY, Identifier, SYM_NAME_KEY};
 use irtext_base::location::Location;
 use irtext_base::result::{Error, Result as Answer};
 use irtext_context::base::context::making::Making;
 use irtext_context::base::{Operation, OperationAccess, Ptr};
 use irtext_demo::DemoAttr;
 use irtext_dict::base::AttributeDict;
+use irtext_tests_common::building::{id, live};
 use irtext_tests_common::contexts::{Ctx, named, with_context};
+use irtext_tests_common::tables::failing;
 use std::alloc::{AllocError, Global};
 use std::test::Fail;
 
@@ -52,23 +54,26 @@ fn step(alloc: Global, ctx: &mut Ctx, op: Ptr<Operation>, key: &str) -> Result<S
     cause_or(alloc, &answer, "set")
 }
 
-/// The first key with another result than expected, with an operation without attributes.
+/// Whether a key has this result.
+fn holds(
+    alloc: Global,
+    ctx: &mut Ctx,
+    op: Ptr<Operation>,
+    row: &(&str, &str),
+) -> Result<bool, Fail> {
+    Ok(step(alloc, ctx, op, row.0)?.as_str() == row.1)
+}
+
+/// The first key with another result than expected, with an operation without attributes, which has one in the end.
 fn differing(alloc: Global, ctx: &mut Ctx) -> Result<Option<usize>, Fail> {
-    let id = OpId {
-        dialect: named(alloc, "builtin")?,
-        name: named(alloc, "module")?,
-    };
+    let id = id(alloc, ("builtin", "module"))?;
     let op = ctx.make_operation(id, AttributeDict::new(alloc), Location::Unknown)?;
-    for number in 0..KEYS.len() {
-        let said = step(alloc, ctx, op, KEYS[number].0)?;
-        if said.as_str() != KEYS[number].1 {
-            return Ok(Some(number));
-        }
-    }
-    if !ctx.contains_operation(op) || op.attributes(ctx).len() != 1 {
+    let differing = failing(KEYS, ctx, |ctx, row| holds(alloc, ctx, op, row))?;
+    live(ctx, op)?;
+    if op.attributes(ctx).len() != 1 {
         return Ok(Some(KEYS.len()));
     }
-    Ok(None)
+    Ok(differing)
 }
 
 /// The text of an error.

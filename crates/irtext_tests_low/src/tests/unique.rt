@@ -2,14 +2,15 @@
 use crate::tests::locations::make;
 use irtext_base::base::{AttrObj, GIVEN_NAMES_KEY, Identifier};
 use irtext_context::base::{
-    BasicBlock, BlockAccess, NewBlock, Operation, OperationAccess, OperationData, Ptr,
+    BasicBlock, BlockAccess, Item, NewBlock, Operation, OperationAccess, OperationData, Ptr,
 };
 use irtext_demo::{DemoAttr, DemoType};
 use irtext_few::Few;
 use irtext_grammar::UniqueName;
 use irtext_graph::held::HasGraph;
 use irtext_graph::object::Value;
-use irtext_tests_common::contexts::{Ctx, named, with_context, with_counters};
+use irtext_tests_common::building::erase;
+use irtext_tests_common::contexts::{Ctx, named, with_counters};
 use std::alloc::Global;
 use std::test::Fail;
 
@@ -29,15 +30,11 @@ fn block_name(alloc: Global, ctx: &Ctx, block: Ptr<BasicBlock>) -> Result<String
     Ok(block.unique_name(ctx)?)
 }
 
-/// The names of values, each with a space after it.
-fn value_names(alloc: Global, ctx: &Ctx, values: &[Value]) -> Result<String, Fail> {
-    let mut names = String::new(alloc);
-    for v in values {
-        let name = value_name(alloc, ctx, *v)?;
-        names.push_str(name.as_str())?;
-        names.push_str(" ")?;
-    }
-    Ok(names)
+/// Appends the name of a value, and a space.
+fn append(alloc: Global, ctx: &Ctx, v: Value, names: &mut String) -> Result<(), Fail> {
+    let name = value_name(alloc, ctx, v)?;
+    names.push_str(name.as_str())?;
+    Ok(names.push(' ')?)
 }
 
 /// A name, if there is a text.
@@ -93,13 +90,11 @@ fn name_arguments(
 
 /// The names of the first four arguments of a block.
 fn argument_names(alloc: Global, ctx: &Ctx, block: Ptr<BasicBlock>) -> Result<String, Fail> {
-    let values = [
-        Value::Argument(block, 0),
-        Value::Argument(block, 1),
-        Value::Argument(block, 2),
-        Value::Argument(block, 3),
-    ];
-    value_names(alloc, ctx, &values)
+    let mut names = String::new(alloc);
+    for index in 0..4 {
+        append(alloc, ctx, Value::Argument(block, index), &mut names)?;
+    }
+    Ok(names)
 }
 
 /// The names of a block's three arguments, without given names and with two, of which one is left out.
@@ -109,15 +104,6 @@ fn of_arguments(alloc: Global, ctx: &mut Ctx) -> Result<String, Fail> {
     name_arguments(alloc, ctx, block, &[None, Some("x")])?;
     let with = argument_names(alloc, ctx, block)?;
     Ok(format!(in alloc; "{without}| {with}")?)
-}
-
-#[test]
-fn arguments_have_their_blocks_names(rt: HostRuntime) -> Result<(), Fail> {
-    assert_eq!(rt;
-        with_context(rt.alloc(), of_arguments)?.as_str(),
-        "v0 v1 v2 - | v0 x_v1 v2 - "
-    );
-    Ok(())
 }
 
 /// The data of a module whose first result has the name `c0`.
@@ -149,29 +135,12 @@ fn of_results(alloc: Global, ctx: &mut Ctx) -> Result<String, Fail> {
     let data = named_data(alloc, ctx)?;
     let op = with_results(ctx, data)?;
     let placeholder = with_results(ctx, None)?;
-    let values = [
-        Value::Result(op, 0),
-        Value::Result(op, 1),
-        Value::Result(op, 2),
-        Value::Result(placeholder, 0),
-    ];
-    value_names(alloc, ctx, &values)
-}
-
-#[test]
-fn results_have_their_operations_names(rt: HostRuntime) -> Result<(), Fail> {
-    assert_eq!(rt;
-        with_context(rt.alloc(), of_results)?.as_str(),
-        "c0_v0 v1 - v2 "
-    );
-    Ok(())
-}
-
-/// Erases a block, if nothing uses it.
-fn erase(ctx: &mut Ctx, block: Ptr<BasicBlock>) {
-    if ctx.contains_block(block) && block.can_erase(ctx) {
-        block.erase(ctx);
+    let mut names = String::new(alloc);
+    for index in 0..3 {
+        append(alloc, ctx, Value::Result(op, index), &mut names)?;
     }
+    append(alloc, ctx, Value::Result(placeholder, 0), &mut names)?;
+    Ok(names)
 }
 
 /// The names of two blocks, the second with a label, and of one that is at the place of the first.
@@ -179,7 +148,7 @@ fn of_blocks(alloc: Global, ctx: &mut Ctx) -> Result<String, Fail> {
     let first = made(alloc, ctx, None, 1)?;
     let second = made(alloc, ctx, Some("entry"), 0)?;
     let before = block_name(alloc, ctx, first)?;
-    erase(ctx, first);
+    erase(ctx, Item::Block(first))?;
     let third = made(alloc, ctx, None, 1)?;
     let gone = block_name(alloc, ctx, first)?;
     let labelled = block_name(alloc, ctx, second)?;
@@ -188,15 +157,46 @@ fn of_blocks(alloc: Global, ctx: &mut Ctx) -> Result<String, Fail> {
     Ok(format!(in alloc; "{before} {gone} {labelled} {again} {argument}")?)
 }
 
+/// What is named.
+#[derive(Clone, Copy)]
+enum Kind {
+    Arguments,
+    Results,
+    Blocks,
+}
+
+/// What is named, the numbers from which values and places count, and the names.
+const NAMES: &[(Kind, u64, u32, &str)] = &[
+    (Kind::Arguments, 0, 1, "v0 v1 v2 - | v0 x_v1 v2 - "),
+    (Kind::Results, 0, 1, "c0_v0 v1 - v2 "),
+    (Kind::Blocks, 0, 1, "block1v1 - entry_block2v1 block1v2 v1"),
+    (
+        Kind::Blocks,
+        7,
+        40,
+        "block40v1 - entry_block41v1 block40v2 v8",
+    ),
+];
+
+/// The names of what is made so.
+fn names_of(alloc: Global, ctx: &mut Ctx, kind: Kind) -> Result<String, Fail> {
+    match kind {
+        Kind::Arguments => of_arguments(alloc, ctx),
+        Kind::Results => of_results(alloc, ctx),
+        Kind::Blocks => of_blocks(alloc, ctx),
+    }
+}
+
 #[test]
-fn blocks_have_their_place_and_generation(rt: HostRuntime) -> Result<(), Fail> {
-    assert_eq!(rt;
-        with_context(rt.alloc(), of_blocks)?.as_str(),
-        "block1v1 - entry_block2v1 block1v2 v1"
-    );
-    assert_eq!(rt;
-        with_counters(rt.alloc(), 7, 40, of_blocks)?.as_str(),
-        "block40v1 - entry_block41v1 block40v2 v8"
-    );
+fn values_and_blocks_have_their_names(rt: HostRuntime) -> Result<(), Fail> {
+    for row in NAMES {
+        let names = with_counters(
+            rt.alloc(),
+            row.1,
+            row.2,
+            |alloc, ctx| names_of(alloc, ctx, row.0),
+        )?;
+        assert_eq!(rt; names.as_str(), row.3);
+    }
     Ok(())
 }
