@@ -2,10 +2,9 @@
 use irtext_base::base::{AttrObj, Identifier, Refusal};
 use irtext_base::result::Result as Answer;
 use irtext_dict::base::AttributeDict;
-use irtext_tests_common::answers::named;
+use irtext_tests_common::answers::{named, value_or_cause};
 use irtext_tests_common::tables::differing;
 use std::alloc::Global;
-use std::fmt;
 use std::test::Fail;
 
 /// Texts, and the identifier of each, or the error.
@@ -15,17 +14,6 @@ const WORDS: &[(&str, &str)] = &[
     ("1a", "Unexpected `1`, expected identifier"),
     ("a-b", "Unexpected `-`, expected identifier"),
 ];
-
-/// The text of a result: its value, or the cause of its error.
-pub fn value_or_cause<X: fmt::Display>(
-    alloc: Global,
-    answer: &Answer<X, ()>,
-) -> Result<String, Fail> {
-    match answer {
-        Ok(value) => Ok(format!(in alloc; "{value}")?),
-        Err(error) => Ok(format!(in alloc; "{}", error.err)?),
-    }
-}
 
 /// The identifier of a text, or the error.
 fn word(alloc: Global, text: &str) -> Result<String, Fail> {

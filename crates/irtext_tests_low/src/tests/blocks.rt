@@ -12,23 +12,20 @@ use irtext_demo::{DemoAttr, DemoType};
 use irtext_few::Few;
 use irtext_graph::held::HasGraph;
 use irtext_graph::object::Value;
-use irtext_tests_common::building::{block_inside, into_block, live, live_block, place};
+use irtext_tests_common::answers::done_or_cause;
+use irtext_tests_common::building::{block_inside, into_block, live, live_block, place, types};
 use irtext_tests_common::contexts::{Ctx, named, with_context, with_counters};
 use irtext_tests_common::tables::failing;
 use std::alloc::Global;
 use std::test::Fail;
 
-/// Makes a block with this many arguments, each a pointer, and without a label.
+/// Makes a block without a label, and arguments of these types.
 fn made(
     alloc: Global,
     ctx: &mut Ctx,
-    count: usize,
+    letters: &str,
 ) -> Result<Answer<Ptr<BasicBlock>, DemoAttr>, Fail> {
-    let mut types = Vec::new(alloc);
-    for _ in 0..count {
-        types.push(DemoType::Pointer)?;
-    }
-    Ok(BasicBlock::new(ctx, None, Few::from_vec(types)))
+    Ok(BasicBlock::new(ctx, None, types(alloc, letters)?))
 }
 
 /// Whether the first argument of a block is a pointer.
@@ -105,7 +102,7 @@ fn holds(
 
 /// The first step with another result than expected, for a block that begins with three arguments.
 fn differing(alloc: Global, ctx: &mut Ctx) -> Result<Option<usize>, Fail> {
-    let block = made(alloc, ctx, 3)?.ok().ok_or("refused")?;
+    let block = made(alloc, ctx, "ppp")?.ok().ok_or("refused")?;
     if !begins_with_pointer(ctx, block) || shown(alloc, ctx, block)?.as_str() != "- 3 0 true" {
         return Ok(Some(STEPS.len()));
     }
@@ -121,12 +118,9 @@ fn blocks_are_labelled_and_written(rt: HostRuntime) -> Result<(), Fail> {
 /// The result if one number is left for values: for a block of two arguments, the number of live objects then, and whether a block
 /// of one is made.
 fn filled(alloc: Global, ctx: &mut Ctx) -> Result<String, Fail> {
-    let said = match made(alloc, ctx, 2)? {
-        Ok(_) => String::from_str(alloc, "made")?,
-        Err(error) => format!(in alloc; "{}", error.err)?,
-    };
+    let said = done_or_cause(alloc, &made(alloc, ctx, "pp")?, "made")?;
     let live = ctx.num_live();
-    let one = made(alloc, ctx, 1)?.is_ok();
+    let one = made(alloc, ctx, "p")?.is_ok();
     Ok(format!(in alloc; "{said} {live} {one}")?)
 }
 

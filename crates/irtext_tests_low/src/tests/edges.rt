@@ -6,6 +6,7 @@ use irtext_context::base::context::making::Making;
 use irtext_context::base::{Operation, OperationAccess, Ptr};
 use irtext_demo::DemoAttr;
 use irtext_dict::base::AttributeDict;
+use irtext_tests_common::answers::done_or_cause;
 use irtext_tests_common::building::{id, live};
 use irtext_tests_common::contexts::{Ctx, named, with_context};
 use irtext_tests_common::tables::failing;
@@ -28,14 +29,6 @@ fn set(
     }
 }
 
-/// This word for a call that succeeded, or the cause of its error.
-fn cause_or(alloc: Global, answer: &Answer<(), DemoAttr>, word: &str) -> Result<String, Fail> {
-    match answer {
-        Ok(()) => Ok(String::from_str(alloc, word)?),
-        Err(error) => Ok(format!(in alloc; "{}", error.err)?),
-    }
-}
-
 /// The keys that are set, one after the other, and the result for each.
 const KEYS: &[(&str, &str)] = &[
     (SYM_NAME_KEY, "set"),
@@ -51,7 +44,7 @@ fn step(alloc: Global, ctx: &mut Ctx, op: Ptr<Operation>, key: &str) -> Result<S
     let key = named(alloc, key)?;
     let attr = AttrObj::Ident(named(alloc, "main")?);
     let answer = set(ctx, op, key, attr);
-    cause_or(alloc, &answer, "set")
+    done_or_cause(alloc, &answer, "set")
 }
 
 /// Whether a key has this result.

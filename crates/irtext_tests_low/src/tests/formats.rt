@@ -5,12 +5,12 @@ use irtext_base::result::Result as Answer;
 use irtext_context::dialect::{Dialect, DialectName};
 use irtext_demo::DemoAttr;
 use irtext_format_check::format::check_format;
+use irtext_tests_common::answers::value_or_cause;
 use irtext_tests_common::building::id;
 use irtext_tests_common::contexts::named;
 use irtext_tests_common::formats::format_of;
 use std::alloc::Global;
 use std::convert::AsStr;
-use std::fmt;
 use std::test::Fail;
 
 const ACCEPTED: &[&str] = &[
@@ -84,17 +84,6 @@ fn comes_back(alloc: Global) -> Result<bool, Fail> {
     let same = matches!(&copy, Ok(copy) if *copy == name);
     let word = named(alloc, "test")?;
     Ok(same && name.as_str() == "test" && Identifier::from(name) == word)
-}
-
-/// The text of a result: its value, or the cause of its error.
-fn value_or_cause<X: fmt::Display>(
-    alloc: Global,
-    answer: &Answer<X, DemoAttr>,
-) -> Result<String, Fail> {
-    match answer {
-        Ok(value) => Ok(format!(in alloc; "{value}")?),
-        Err(error) => Ok(format!(in alloc; "{}", error.err)?),
-    }
 }
 
 /// The name of a dialect as a text, or the error.

@@ -7,6 +7,7 @@ use irtext_few::Few;
 use irtext_graph::held::HasGraph;
 use irtext_graph_queries::operation::OperationParts;
 use irtext_graph_queries::value::ValueUses;
+use irtext_tests_common::answers::done_or_cause;
 use irtext_tests_common::building::{block, id, types};
 use irtext_tests_common::contexts::{Ctx, with_counters, with_demo};
 use irtext_tests_common::tables::failing;
@@ -117,14 +118,6 @@ fn operations_are_made_with_all_that_they_have(rt: HostRuntime) -> Result<(), Fa
     Ok(())
 }
 
-/// The text of a result.
-fn said(alloc: Global, answer: &Answer<Ptr<Operation>, DemoAttr>) -> Result<String, Fail> {
-    match answer {
-        Ok(_) => Ok(String::from_str(alloc, "made")?),
-        Err(error) => Ok(format!(in alloc; "{}", error.err)?),
-    }
-}
-
 /// Ids that are not registered with the demo dialects, and the error for an operation of each.
 const UNREGISTERED: &[(&str, &str, &str)] = &[
     ("other", "module", "Unregistered dialect other"),
@@ -140,7 +133,7 @@ fn is_refused(
 ) -> Result<bool, Fail> {
     let answer = answered(alloc, ctx, (row.0, row.1), &[used], &[])?;
     Ok(
-        said(alloc, &answer)?.as_str() == row.2
+        done_or_cause(alloc, &answer, "made")?.as_str() == row.2
             && ctx.num_live() == 3
             && num_uses(ctx, used) == Some(0),
     )
@@ -167,7 +160,7 @@ fn filled(alloc: Global, ctx: &mut Ctx) -> Result<String, Fail> {
     let used = Value::Result(made(alloc, ctx, &[], &[])?, 0);
     let block = made_block(alloc, ctx)?;
     let answer = answered(alloc, ctx, ("builtin", "module"), &[used], &[block])?;
-    let said = said(alloc, &answer)?;
+    let said = done_or_cause(alloc, &answer, "made")?;
     let same = ctx.num_live() == 4 && num_uses(ctx, used) == Some(0);
     Ok(format!(in alloc; "{said} {same}")?)
 }

@@ -1,15 +1,13 @@
 //! The names under which values and blocks are printed.
 use crate::tests::locations::make;
 use irtext_base::base::{AttrObj, GIVEN_NAMES_KEY, Identifier};
-use irtext_context::base::{
-    BasicBlock, BlockAccess, Item, NewBlock, Operation, OperationAccess, OperationData, Ptr,
-};
+use irtext_context::base::{BasicBlock, Item, Operation, OperationData, Ptr};
 use irtext_demo::{DemoAttr, DemoType};
 use irtext_few::Few;
 use irtext_grammar::UniqueName;
 use irtext_graph::held::HasGraph;
 use irtext_graph::object::Value;
-use irtext_tests_common::building::erase;
+use irtext_tests_common::building::{block, erase, give, live, types};
 use irtext_tests_common::contexts::{Ctx, named, with_counters};
 use std::alloc::Global;
 use std::test::Fail;
@@ -54,40 +52,6 @@ fn given(alloc: Global, texts: &[Option<&str>]) -> Result<AttrObj<DemoAttr>, Fai
     Ok(AttrObj::GivenNames(names))
 }
 
-/// Makes a block with this label or none, and as many arguments.
-fn made(
-    alloc: Global,
-    ctx: &mut Ctx,
-    label: Option<&str>,
-    count: usize,
-) -> Result<Ptr<BasicBlock>, Fail> {
-    let label = name_of(alloc, label)?;
-    let mut types = Vec::new(alloc);
-    for _ in 0..count {
-        types.push(DemoType::Pointer)?;
-    }
-    Ok(
-        BasicBlock::new(ctx, label, Few::from_vec(types))
-            .ok()
-            .ok_or("refused")?,
-    )
-}
-
-/// Gives names to the arguments of a block.
-fn name_arguments(
-    alloc: Global,
-    ctx: &mut Ctx,
-    block: Ptr<BasicBlock>,
-    names: &[Option<&str>],
-) -> Result<(), Fail> {
-    let key = named(alloc, GIVEN_NAMES_KEY)?;
-    let attr = given(alloc, names)?;
-    if ctx.contains_block(block) {
-        block.set_attribute(ctx, key, attr).ok().ok_or("refused")?;
-    }
-    Ok(())
-}
-
 /// The names of the first four arguments of a block.
 fn argument_names(alloc: Global, ctx: &Ctx, block: Ptr<BasicBlock>) -> Result<String, Fail> {
     let mut names = String::new(alloc);
@@ -99,9 +63,10 @@ fn argument_names(alloc: Global, ctx: &Ctx, block: Ptr<BasicBlock>) -> Result<St
 
 /// The names of a block's three arguments, without given names and with two, of which one is left out.
 fn of_arguments(alloc: Global, ctx: &mut Ctx) -> Result<String, Fail> {
-    let block = made(alloc, ctx, Some("entry"), 3)?;
+    let block = block(alloc, ctx, "entry", types(alloc, "ppp")?)?;
     let without = argument_names(alloc, ctx, block)?;
-    name_arguments(alloc, ctx, block, &[None, Some("x")])?;
+    let names = given(alloc, &[None, Some("x")])?;
+    give(alloc, ctx, Item::Block(block), GIVEN_NAMES_KEY, names)?;
     let with = argument_names(alloc, ctx, block)?;
     Ok(format!(in alloc; "{without}| {with}")?)
 }
@@ -109,15 +74,9 @@ fn of_arguments(alloc: Global, ctx: &mut Ctx) -> Result<String, Fail> {
 /// The data of a module whose first result has the name `c0`.
 fn named_data(alloc: Global, ctx: &mut Ctx) -> Result<Option<OperationData<DemoAttr>>, Fail> {
     let op = make(alloc, ctx)?;
-    let key = named(alloc, GIVEN_NAMES_KEY)?;
-    let attr = given(alloc, &[Some("c0")])?;
-    if !ctx.contains_operation(op) {
-        return Ok(None);
-    }
-    op.set_attribute(ctx, key, attr).ok().ok_or("refused")?;
-    if !ctx.contains_operation(op) {
-        return Ok(None);
-    }
+    let names = given(alloc, &[Some("c0")])?;
+    give(alloc, ctx, Item::Operation(op), GIVEN_NAMES_KEY, names)?;
+    live(ctx, op)?;
     Ok(ctx.graph_mut().operation_mut(op).take())
 }
 
@@ -145,11 +104,11 @@ fn of_results(alloc: Global, ctx: &mut Ctx) -> Result<String, Fail> {
 
 /// The names of two blocks, the second with a label, and of one that is at the place of the first.
 fn of_blocks(alloc: Global, ctx: &mut Ctx) -> Result<String, Fail> {
-    let first = made(alloc, ctx, None, 1)?;
-    let second = made(alloc, ctx, Some("entry"), 0)?;
+    let first = block(alloc, ctx, "", types(alloc, "p")?)?;
+    let second = block(alloc, ctx, "entry", types(alloc, "")?)?;
     let before = block_name(alloc, ctx, first)?;
     erase(ctx, Item::Block(first))?;
-    let third = made(alloc, ctx, None, 1)?;
+    let third = block(alloc, ctx, "", types(alloc, "p")?)?;
     let gone = block_name(alloc, ctx, first)?;
     let labelled = block_name(alloc, ctx, second)?;
     let again = block_name(alloc, ctx, third)?;
