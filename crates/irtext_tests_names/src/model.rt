@@ -29,9 +29,9 @@ impl Referred {
         }
     }
 
-    /// The index for a name that is bound next.
+    /// The index for a name that is bound next: a script binds fewer than a million.
     fn next(&self) -> u32 {
-        self.bound.len() as u32
+        (self.bound.len() % 1000000) as u32
     }
 
     /// The result of a use of a name that refers to the index held: if nothing had it, a placeholder waits there.
