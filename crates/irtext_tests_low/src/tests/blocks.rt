@@ -163,6 +163,6 @@ fn erased_inside(alloc: Global, ctx: &mut Ctx) -> Result<bool, Fail> {
 
 #[test]
 fn inner_locations_are_erased(rt: HostRuntime) -> Result<(), Fail> {
-    assert_eq!(rt; with_context(rt.alloc(), erased_inside)?, true);
+    assert!(rt; with_context(rt.alloc(), erased_inside)?);
     Ok(())
 }

@@ -197,6 +197,6 @@ fn exchanged(alloc: Global, ctx: &mut Ctx, other: &mut Ctx) -> Result<bool, Fail
 
 #[test]
 fn sources_and_locations_of_two_contexts(rt: HostRuntime) -> Result<(), Fail> {
-    assert_eq!(rt; with_contexts(rt.alloc(), exchanged)?, true);
+    assert!(rt; with_contexts(rt.alloc(), exchanged)?);
     Ok(())
 }
