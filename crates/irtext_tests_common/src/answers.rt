@@ -16,6 +16,29 @@ pub fn printed<X: fmt::Display, A>(alloc: Global, answer: &Answer<X, A>) -> Resu
     }
 }
 
+/// The text of a result: its value, or the cause of its error.
+pub fn value_or_cause<X: fmt::Display, A>(
+    alloc: Global,
+    answer: &Answer<X, A>,
+) -> Result<String, Fail> {
+    match answer {
+        Ok(value) => Ok(format!(in alloc; "{value}")?),
+        Err(error) => Ok(format!(in alloc; "{}", error.err)?),
+    }
+}
+
+/// This word for a call that succeeded, or the cause of its error.
+pub fn done_or_cause<X, A>(
+    alloc: Global,
+    answer: &Answer<X, A>,
+    done: &str,
+) -> Result<String, Fail> {
+    match answer {
+        Ok(_) => Ok(String::from_str(alloc, done)?),
+        Err(error) => Ok(format!(in alloc; "{}", error.err)?),
+    }
+}
+
 /// The text of a fault: its place and its cause, and `!` if it is committed.
 pub fn told<A>(alloc: Global, fault: &ParseFault<A>) -> Result<String, Fail> {
     let mark = if fault.committed { "!" } else { "" };

@@ -1,6 +1,10 @@
 //! Operations and blocks of a context: how they are made, put into one another, and given attributes and locations.
+ghost use Rattle.std.specs.Prelude.{IsSome, OnOk};
+ghost use Rattle.irtext_context.specs.Context.{block, operation};
+
 use crate::contexts::{Ctx, named};
-use irtext_base::base::{AttrObj, OpId};
+use crate::formats::format_or_canonical;
+use irtext_base::base::{AttrObj, OpId, SYM_NAME_KEY};
 use irtext_base::format::OpFormat;
 use irtext_base::location::{Location, Source};
 use irtext_base::parsable::SourcePosition;
@@ -9,18 +13,38 @@ use irtext_context::base::{
     BasicBlock, BlockAccess, Item, NewBlock, NewOperation, Operation, OperationAccess, Ptr, Value,
 };
 use irtext_context::dialect::{Dialect, DialectName};
-use irtext_demo::{Characters, DemoAttr, DemoType};
+use irtext_demo::{Characters, DemoAttr, DemoType, IntegerType, Signedness, Width};
 use irtext_few::Few;
 use irtext_graph::held::HasGraph;
 use irtext_graph::object::Object;
 use std::alloc::Global;
 use std::test::Fail;
 
-/// The id of these two words.
-pub fn id(alloc: Global, dialect: &str, name: &str) -> Result<OpId, Fail> {
+/// Fails if this is no live operation.
+pub fn live(ctx: &Ctx, op: Ptr<Operation>) -> Result<(), Fail>
+    ensures { OnOk result (IsSome (operation ctx.now op)) }
+{
+    if !ctx.contains_operation(op) {
+        return Err(Fail::from("no such operation"));
+    }
+    Ok(())
+}
+
+/// Fails if this is no live block.
+pub fn live_block(ctx: &Ctx, b: Ptr<BasicBlock>) -> Result<(), Fail>
+    ensures { OnOk result (IsSome (block ctx.now b)) }
+{
+    if !ctx.contains_block(b) {
+        return Err(Fail::from("no such block"));
+    }
+    Ok(())
+}
+
+/// The id of these two words, a dialect and a name.
+pub fn id(alloc: Global, words: (&str, &str)) -> Result<OpId, Fail> {
     Ok(OpId {
-        dialect: named(alloc, dialect)?,
-        name: named(alloc, name)?,
+        dialect: named(alloc, words.0)?,
+        name: named(alloc, words.1)?,
     })
 }
 
@@ -28,17 +52,42 @@ fn add(ctx: &mut Ctx, dialect: &DialectName, id: OpId, format: OpFormat) -> Answ
     Dialect::register(ctx, dialect)?.add_op(id, format, false)
 }
 
-/// Registers the operation of these two words with this format.
+/// Registers the operation of these two words with the format of these letters.
 pub fn register(
     alloc: Global,
     ctx: &mut Ctx,
-    dialect: &str,
-    name: &str,
-    format: OpFormat,
+    words: (&str, &str),
+    letters: &str,
 ) -> Result<(), Fail> {
-    let id = id(alloc, dialect, name)?;
-    let dialect = DialectName::from(named(alloc, dialect)?);
+    let id = id(alloc, words)?;
+    let dialect = DialectName::from(named(alloc, words.0)?);
+    let format = format_or_canonical(alloc, letters)?;
     Ok(add(ctx, &dialect, id, format).ok().ok_or("refused")?)
+}
+
+/// Signed integers of this width.
+fn signed(width: usize) -> Option<DemoType> {
+    let kind = Signedness::Signed;
+    let width = Width::new(width)?;
+    Some(DemoType::Integer(IntegerType { kind, width }))
+}
+
+/// The type for a letter: `p` is a pointer, `i` are signed integers of 64 bits, any other letter those of 8 bits.
+fn type_of(letter: char) -> Option<DemoType> {
+    match letter {
+        'p' => Some(DemoType::Pointer),
+        'i' => signed(64),
+        _ => signed(8),
+    }
+}
+
+/// The types for letters.
+pub fn types(alloc: Global, letters: &str) -> Result<Few<DemoType>, Fail> {
+    let mut types = Vec::new(alloc);
+    for letter in letters.chars() {
+        types.push(type_of(letter).ok_or("no such width")?)?;
+    }
+    Ok(Few::from_vec(types))
 }
 
 /// Makes an operation, if what it uses is live.
@@ -57,6 +106,14 @@ pub fn operation(
     Ok(answer.ok().ok_or("refused")?)
 }
 
+/// Makes `builtin.module` with this name and one region.
+pub fn module(alloc: Global, ctx: &mut Ctx, symbol: &str) -> Result<Ptr<Operation>, Fail> {
+    let id = id(alloc, ("builtin", "module"))?;
+    let op = operation(ctx, id, Few::none(), &[], &[], 1)?;
+    name(alloc, ctx, op, symbol)?;
+    Ok(op)
+}
+
 /// Makes a block with this label, or none if it is empty, and arguments of these types.
 pub fn block(
     alloc: Global,
@@ -70,6 +127,19 @@ pub fn block(
         Some(named(alloc, label)?)
     };
     Ok(BasicBlock::new(ctx, label, types).ok().ok_or("refused")?)
+}
+
+/// Makes such a block last in the first region of an operation.
+pub fn block_inside(
+    alloc: Global,
+    ctx: &mut Ctx,
+    op: Ptr<Operation>,
+    label: &str,
+    types: Few<DemoType>,
+) -> Result<Ptr<BasicBlock>, Fail> {
+    let block = block(alloc, ctx, label, types)?;
+    into_region(ctx, block, op, 0)?;
+    Ok(block)
 }
 
 /// Puts an operation, or a placeholder, last into a block.
@@ -118,15 +188,10 @@ pub fn give(
     Ok(answer.ok().ok_or("refused")?)
 }
 
-/// Gives an operation an attribute.
-pub fn give_operation(
-    alloc: Global,
-    ctx: &mut Ctx,
-    op: Ptr<Operation>,
-    key: &str,
-    attr: AttrObj<DemoAttr>,
-) -> Result<(), Fail> {
-    give(alloc, ctx, Item::Operation(op), key, attr)
+/// Gives an operation its symbol's name.
+pub fn name(alloc: Global, ctx: &mut Ctx, op: Ptr<Operation>, symbol: &str) -> Result<(), Fail> {
+    let symbol = AttrObj::Ident(named(alloc, symbol)?);
+    give(alloc, ctx, Item::Operation(op), SYM_NAME_KEY, symbol)
 }
 
 /// The attribute for a letter: a given name, one that is outlined, a text, or an identifier; each is `x`.

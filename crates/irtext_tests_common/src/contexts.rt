@@ -1,6 +1,4 @@
 //! Contexts of the demo types, passed to a closure: nothing else owns one here, so that a test has one call and no context.
-ghost use Rattle.std.specs.Prelude.{◌≤◌};
-
 pub use crate::answers::named;
 use irtext_base::location::Source;
 use irtext_base::parsable::TextStream;
@@ -29,16 +27,18 @@ pub fn with_context<X, F: FnOnce(Global, &mut Ctx) -> Result<X, Fail> + Drop>(
 }
 
 /// The result of a call with an empty context whose next value has the number `values`, and whose places count from
-/// `places`.
+/// `places`; fails if that is 0, which is no place.
 pub fn with_counters<X, F: FnOnce(Global, &mut Ctx) -> Result<X, Fail> + Drop>(
     alloc: Global,
     values: u64,
     places: u32,
     call: F,
 ) -> Result<X, Fail>
-    requires callable { F.IsAlwaysCallable call }
-    requires places { 1 ≤ places }
+    requires { F.IsAlwaysCallable call }
 {
+    if places == 0 {
+        return Err(Fail::from("no place"));
+    }
     let mut ctx: Ctx = Context::with_counters(alloc, values, places);
     call(alloc, &mut ctx)
 }

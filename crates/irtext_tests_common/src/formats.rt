@@ -28,6 +28,7 @@ fn plain(letter: char) -> Option<Directive> {
 fn key(letter: char) -> Option<&'static str> {
     match letter {
         'k' => Some("k"),
+        'c' => Some("test_value"),
         'n' => Some("builtin_sym_name"),
         'g' => Some("builtin_given_names"),
         _ => None,

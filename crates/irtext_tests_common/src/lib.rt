@@ -1,4 +1,4 @@
-//! What the tests share: results as texts, tables of such texts, formats, deeply nested locations, and operations and blocks; contexts of the demo types and
+//! What the tests share: results as texts, tables of such texts, formats, deeply nested texts and locations, and operations and blocks; contexts of the demo types and
 //! streams over them; and for random scripts pseudo-random numbers, the calls of a script on names, and which names were mentioned.
 #![tactic(auto)]
 

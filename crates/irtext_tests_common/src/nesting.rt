@@ -1,6 +1,25 @@
-//! Locations nested deeper than the stack allows for recursion.
+//! Texts and locations nested deeper than the stack allows for recursion.
 use irtext_base::location::Location;
 use std::alloc::{AllocError, Global};
+
+/// A text between two others, each so many times.
+pub fn between(
+    alloc: Global,
+    depth: usize,
+    before: &str,
+    inside: &str,
+    behind: &str,
+) -> Result<String, AllocError> {
+    let mut text = String::new(alloc);
+    for _ in 0..depth {
+        text.push_str(before)?;
+    }
+    text.push_str(inside)?;
+    for _ in 0..depth {
+        text.push_str(behind)?;
+    }
+    Ok(text)
+}
 
 /// Where a location is in the one around it.
 #[derive(Clone, Copy)]

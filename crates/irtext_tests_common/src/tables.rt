@@ -1,7 +1,6 @@
 //! Tables of expected texts, line by line, for one value or one context that the lines may change.
-use crate::contexts::Ctx;
+use crate::contexts::{Ctx, with_demo};
 use irtext_context::base::Context;
-use irtext_demo::dialects::register_demo;
 use std::alloc::Global;
 use std::test::Fail;
 
@@ -51,27 +50,6 @@ pub fn failing<X, R, F: Fn(&mut X, &R) -> Result<bool, Fail>>(
     Ok(None)
 }
 
-/// A context that has the demo dialects.
-fn demo(alloc: Global) -> Result<Ctx, Fail> {
-    let mut ctx: Ctx = Context::new(alloc);
-    match register_demo(&mut ctx) {
-        Ok(()) => Ok(ctx),
-        Err(_) => Err(Fail::from("not registered")),
-    }
-}
-
-/// Whether a row holds, with a context of its own that has the demo dialects.
-fn holds_alone<R, F: Fn(Global, &mut Ctx, &R) -> Result<bool, Fail>>(
-    alloc: Global,
-    row: &R,
-    holds: &F,
-) -> Result<bool, Fail>
-    requires { F.IsAlwaysCallable holds.now }
-{
-    let mut ctx = demo(alloc)?;
-    holds(alloc, &mut ctx, row)
-}
-
 /// The number of the first row of a table that does not hold, each with a context of its own that has the demo dialects.
 pub fn failing_demo<R, F: Fn(Global, &mut Ctx, &R) -> Result<bool, Fail>>(
     alloc: Global,
@@ -80,10 +58,9 @@ pub fn failing_demo<R, F: Fn(Global, &mut Ctx, &R) -> Result<bool, Fail>>(
 ) -> Result<Option<usize>, Fail>
     requires { F.IsAlwaysCallable holds }
 {
-    for (number, row) in rows.iter().enumerate() {
-        if !holds_alone(alloc, row, &holds)? {
-            return Ok(Some(number));
-        }
-    }
-    Ok(None)
+    failing(
+        rows,
+        &mut (),
+        |_, row| with_demo(alloc, |alloc, ctx| holds(alloc, ctx, row)),
+    )
 }

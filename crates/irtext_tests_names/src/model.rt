@@ -1,25 +1,16 @@
-//! A plain model of names over a graph: the open scopes as vectors of their bindings, which are searched, and what each use
-//! has to hold.
+//! A plain model of names over a graph: the model of a tracker, in which each name is bound to an index, and what each index refers to
+//! and each use has to hold.
 use crate::held::Held;
+use crate::scopes::model::Model as Scopes;
 use crate::steps::Answer;
 use irtext_tests_common::calls::Call;
-use irtext_tests_common::mentioned::Mentioned;
 use std::alloc::{AllocError, Global};
 
-/// A name as a scope binds it, and the index of what it refers to.
-#[derive(Clone, Copy)]
-struct Bound {
-    name: usize,
-    index: usize,
-}
-
-/// The names of one kind.
+/// What the names of one kind refer to.
 #[derive(Drop)]
-pub(crate) struct Table {
+pub(crate) struct Referred {
     alloc: Global,
-    // the open scopes, the innermost last
-    scopes: Vec<Vec<Bound>>,
-    // what each name that was ever bound refers to
+    // what each index that was ever bound refers to
     bound: Vec<Held>,
     // for each use the index of what it holds
     uses: Vec<usize>,
@@ -27,11 +18,10 @@ pub(crate) struct Table {
     refused: usize,
 }
 
-impl Table {
-    fn new(alloc: Global) -> Table {
-        Table {
+impl Referred {
+    fn new(alloc: Global) -> Referred {
+        Referred {
             alloc,
-            scopes: Vec::new(alloc),
             bound: Vec::new(alloc),
             uses: Vec::new(alloc),
             definitions: 0,
@@ -39,86 +29,42 @@ impl Table {
         }
     }
 
-    fn enter(&mut self) -> Result<(), AllocError> {
-        self.scopes.push(Vec::new(self.alloc))?;
-        Ok(())
+    /// The index for a name that is bound next: a script binds fewer than a million.
+    fn next(&self) -> u32 {
+        (self.bound.len() % 1000000) as u32
     }
 
-    /// Whether the entry at this index waits for its definition.
-    fn waits(&self, index: usize) -> bool {
-        matches!(self.bound.get(index), Some(Held::Waits(_)))
-    }
-
-    /// Closes the innermost scope, and returns the first name in it that waits.
-    fn leave(&mut self) -> Option<usize> {
-        let scope = self.scopes.pop()?;
-        for bound in &scope {
-            if self.waits(bound.index) {
-                return Some(bound.name);
-            }
-        }
-        None
-    }
-
-    /// The index of what a name refers to in the innermost scope.
-    fn find(&self, name: usize) -> Option<usize> {
-        for bound in self.scopes.last()? {
-            if bound.name == name {
-                return Some(bound.index);
-            }
-        }
-        None
-    }
-
-    /// Binds a name that is new in the innermost scope.
-    fn bind(&mut self, name: usize, held: Held) -> Result<usize, AllocError> {
-        let index = self.bound.len();
-        self.bound.push(held)?;
-        if let Some(scope) = self.scopes.last_mut() {
-            scope.push(Bound { name, index })?;
-        }
-        Ok(index)
-    }
-
-    fn used(&mut self, name: usize) -> Result<Answer, AllocError> {
-        if self.scopes.is_empty() {
-            return Ok(Answer::NoScope);
-        }
-        let waits = Held::Waits(self.uses.len());
-        let index = match self.find(name) {
-            Some(index) => index,
-            None => self.bind(name, waits)?,
+    /// The result of a use of a name that refers to the index held: if nothing had it, a placeholder waits there.
+    fn used(&mut self, answer: Answer) -> Result<Answer, AllocError> {
+        let Answer::Holds(index) = answer else {
+            return Ok(answer);
         };
+        let index = index as usize;
+        if index == self.bound.len() {
+            self.bound.push(Held::Waits(self.uses.len()))?;
+        }
         self.uses.push(index)?;
         Ok(Answer::Done)
     }
 
-    /// Binds a name to the next definition, in place of the placeholder that waits at an index.
-    fn define(&mut self, name: usize, waiting: Option<usize>) -> Result<(), AllocError> {
+    /// The result of a definition of a name: the next definition is bound, also in place of the placeholder that waits at the index held.
+    fn defined(&mut self, answer: Answer) -> Result<Answer, AllocError> {
+        if answer == Answer::Twice {
+            self.refused = self.refused.wrapping_add(1);
+            return Ok(answer);
+        }
         let held = Held::Definition(self.definitions);
-        self.definitions = self.definitions.wrapping_add(1);
-        let Some(index) = waiting else {
-            self.bind(name, held)?;
-            return Ok(());
-        };
-        if let Some(bound) = self.bound.get_mut(index) {
-            *bound = held;
-        }
-        Ok(())
-    }
-
-    fn defined(&mut self, name: usize) -> Result<Answer, AllocError> {
-        if self.scopes.is_empty() {
-            return Ok(Answer::NoScope);
-        }
-        let found = self.find(name);
-        if let Some(index) = found {
-            if !self.waits(index) {
-                self.refused = self.refused.wrapping_add(1);
-                return Ok(Answer::Twice);
+        match answer {
+            Answer::Done => {}
+            Answer::Holds(waiting) => {
+                if let Some(bound) = self.bound.get_mut(waiting as usize) {
+                    *bound = held;
+                }
             }
+            _ => return Ok(answer),
         }
-        self.define(name, found)?;
+        self.definitions = self.definitions.wrapping_add(1);
+        self.bound.push(held)?;
         Ok(Answer::Done)
     }
 
@@ -146,27 +92,22 @@ impl Table {
     }
 }
 
-/// The names of values and of labels, and the names that were mentioned.
+/// The scopes, and what names of values and labels refer to.
 #[derive(Drop)]
 pub(crate) struct Model {
-    pub(crate) values: Table,
-    pub(crate) labels: Table,
-    pub(crate) names: Mentioned,
+    pub(crate) scopes: Scopes,
+    pub(crate) values: Referred,
+    pub(crate) labels: Referred,
 }
 
 impl Model {
     /// No scope is open, and no name was mentioned.
     pub(crate) fn new(alloc: Global) -> Model {
         Model {
-            values: Table::new(alloc),
-            labels: Table::new(alloc),
-            names: Mentioned::new(alloc),
+            scopes: Scopes::new(alloc),
+            values: Referred::new(alloc),
+            labels: Referred::new(alloc),
         }
-    }
-
-    /// Whether a region is open.
-    pub(crate) fn is_open(&self) -> bool {
-        !self.values.scopes.is_empty() || !self.labels.scopes.is_empty()
     }
 
     /// The number of objects.
@@ -175,43 +116,24 @@ impl Model {
         self.values.num_objects().wrapping_add(labels) as u64
     }
 
-    fn enter(&mut self, isolated: bool) -> Result<Answer, AllocError> {
-        if isolated {
-            self.values.enter()?;
-        } else if self.values.scopes.is_empty() {
-            return Ok(Answer::NotIsolated);
-        }
-        self.labels.enter()?;
-        Ok(Answer::Done)
-    }
-
-    /// Leaves a region, and returns the first name that is left without a definition: values come before labels.
-    fn leave(&mut self, isolated: bool) -> Option<usize> {
-        let value = if isolated { self.values.leave() } else { None };
-        let label = self.labels.leave();
-        value.or(label)
-    }
-
     /// The result of a call, and its name: if a region is left, a name without a definition.
     pub(crate) fn answer(
         &mut self,
         call: Call,
         name: usize,
     ) -> Result<(usize, Answer), AllocError> {
-        let isolated = call.is_isolated();
-        let answer = match call {
-            Call::Enter | Call::EnterIsolated => self.enter(isolated)?,
-            Call::Exit | Call::ExitIsolated => {
-                return Ok(match self.leave(isolated) {
-                    Some(lacking) => (lacking, Answer::Lacks),
-                    None => (name, Answer::Done),
-                });
-            }
-            Call::Use => self.values.used(name)?,
-            Call::Define => self.values.defined(name)?,
-            Call::UseLabel => self.labels.used(name)?,
-            Call::DefineLabel => self.labels.defined(name)?,
+        let next = match call {
+            Call::Use | Call::Define => self.values.next(),
+            _ => self.labels.next(),
         };
-        Ok((name, answer))
+        let (asked, answer) = self.scopes.answer(call, name, next)?;
+        let answer = match call {
+            Call::Use => self.values.used(answer)?,
+            Call::Define => self.values.defined(answer)?,
+            Call::UseLabel => self.labels.used(answer)?,
+            Call::DefineLabel => self.labels.defined(answer)?,
+            _ => answer,
+        };
+        Ok((asked, answer))
     }
 }

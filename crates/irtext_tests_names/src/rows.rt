@@ -74,6 +74,16 @@ const WORKED: &[(&str, &[Held], &[Held], u64)] = &[
     ),
 ];
 
+/// The error of a word, if it is not the name that a region lacks.
+pub(crate) fn refusal(word: &str) -> Option<Answer> {
+    match word {
+        "twice" => Some(Twice),
+        "closed" => Some(NoScope),
+        "shared" => Some(NotIsolated),
+        _ => None,
+    }
+}
+
 /// The call of a word of a script, its name, and its result: success, or what comes after `!`, which is an error or the name that a
 /// region lacks.
 fn row_of(word: &str) -> (Call, &str, Answer) {
@@ -82,11 +92,9 @@ fn row_of(word: &str) -> (Call, &str, Answer) {
         return (call, name, Done);
     };
     let (call, name) = call_of(called);
-    match answer {
-        "twice" => (call, name, Twice),
-        "closed" => (call, name, NoScope),
-        "shared" => (call, name, NotIsolated),
-        lacking => (call, lacking, Lacks),
+    match refusal(answer) {
+        Some(refusal) => (call, name, refusal),
+        None => (call, answer, Lacks),
     }
 }
 

@@ -41,7 +41,7 @@ fn answer_alike(
         return Ok(false);
     };
     let name = names.intern(text)?;
-    if name != model.names.intern(index)? {
+    if name != model.scopes.names.intern(index)? {
         return Ok(false);
     }
     let (asked, answer) = model.answer(call, name)?;
@@ -73,7 +73,7 @@ fn ends_alike(graph: &Tested, made: &Made, model: &Model) -> Result<bool, AllocE
     let labels = model.labels.helds()?;
     let count = graph.num_live();
     Ok(
-        !model.is_open()
+        !model.scopes.is_open()
             && holds_all(graph, &made.values, &values)
             && holds_all(graph, &made.labels, &labels)
             && count == model.num_objects(),

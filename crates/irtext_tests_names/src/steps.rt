@@ -20,11 +20,13 @@ pub(crate) type Tested = Graph<Option<u32>, u32, Option<u8>>;
 /// What a name is defined as, or why it is not.
 pub(crate) type Definition = Result<Defined, DefineFault>;
 
-/// The result: success, no scope is open for the call, a region is not isolated where it has to be, a name is
-/// defined already, a region lacks a definition of this name or of another one, or out of memory.
+/// The result: success, what a name refers to or referred to before, no scope is open for the call, a region is not
+/// isolated where it has to be, a name is defined already, a region lacks a definition of this name or of another one, or
+/// out of memory.
 #[derive(Clone, Copy, PartialEq, Eq)]
 pub(crate) enum Answer {
     Done,
+    Holds(u32),
     NoScope,
     NotIsolated,
     Twice,

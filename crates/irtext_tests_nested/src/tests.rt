@@ -1,5 +1,4 @@
-//! The tests, a file for each subject, and what builds their contexts.
-mod building;
+//! The tests, a file for each subject, and the steps that build their contexts.
 mod misfits;
 mod nested;
 mod pieces;

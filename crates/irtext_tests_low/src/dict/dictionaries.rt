@@ -1,10 +1,9 @@
 //! A dictionary of up to twenty keys and given names: they are inserted, replaced and removed, and are in the order in which
 //! they were inserted.
-use crate::dict::pairs::put;
+use crate::dict::pairs::{differing_step, put};
 use irtext_base::base::{AttrObj, GIVEN_NAMES_KEY, Identifier};
 use irtext_dict::base::AttributeDict;
 use irtext_tests_common::answers::named;
-use irtext_tests_common::tables::differing;
 use std::alloc::Global;
 use std::test::Fail;
 
@@ -112,14 +111,8 @@ fn step(alloc: Global, dictionary: &mut AttributeDict<()>, number: usize) -> Res
     listed(alloc, dictionary)
 }
 
-/// The number of the first edit with another text than expected.
-fn first_differing(alloc: Global) -> Result<Option<usize>, Fail> {
-    let mut dictionary: AttributeDict<()> = AttributeDict::new(alloc);
-    differing(alloc, LISTED, &mut dictionary, step)
-}
-
 #[test]
 fn keys_keep_their_order(rt: HostRuntime) -> Result<(), Fail> {
-    assert_eq!(rt; first_differing(rt.alloc())?, None);
+    assert_eq!(rt; differing_step(rt.alloc(), LISTED, step)?, None);
     Ok(())
 }

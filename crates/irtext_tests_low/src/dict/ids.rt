@@ -1,7 +1,7 @@
 //! Ids of operations made of texts.
-use crate::dict::pairs::value_or_cause;
 use irtext_base::base::OpId;
 use irtext_base::result::Result as Answer;
+use irtext_tests_common::answers::value_or_cause;
 use std::alloc::Global;
 use std::test::Fail;
 

@@ -2,10 +2,9 @@
 use irtext_base::base::{AttrObj, Identifier, Refusal};
 use irtext_base::result::Result as Answer;
 use irtext_dict::base::AttributeDict;
-use irtext_tests_common::answers::named;
+use irtext_tests_common::answers::{named, value_or_cause};
 use irtext_tests_common::tables::differing;
 use std::alloc::Global;
-use std::fmt;
 use std::test::Fail;
 
 /// Texts, and the identifier of each, or the error.
@@ -15,17 +14,6 @@ const WORDS: &[(&str, &str)] = &[
     ("1a", "Unexpected `1`, expected identifier"),
     ("a-b", "Unexpected `-`, expected identifier"),
 ];
-
-/// The text of a result: its value, or the cause of its error.
-pub fn value_or_cause<X: fmt::Display>(
-    alloc: Global,
-    answer: &Answer<X, ()>,
-) -> Result<String, Fail> {
-    match answer {
-        Ok(value) => Ok(format!(in alloc; "{value}")?),
-        Err(error) => Ok(format!(in alloc; "{}", error.err)?),
-    }
-}
 
 /// The identifier of a text, or the error.
 fn word(alloc: Global, text: &str) -> Result<String, Fail> {
@@ -133,14 +121,19 @@ fn step(alloc: Global, dictionary: &mut AttributeDict<()>, number: usize) -> Res
     }
 }
 
-/// The number of the first step with another text than expected, with a dictionary of its own.
-fn first_differing(alloc: Global) -> Result<Option<usize>, Fail> {
-    let mut dictionary: AttributeDict<()> = AttributeDict::new(alloc);
-    differing(alloc, STEPS, &mut dictionary, step)
+/// The number of the first line of a table whose text differs from the expected one, with an empty dictionary for all lines.
+pub fn differing_step<F: Fn(Global, &mut AttributeDict<()>, usize) -> Result<String, Fail>>(
+    alloc: Global,
+    wanted: &[&str],
+    said: F,
+) -> Result<Option<usize>, Fail>
+    requires { F.IsAlwaysCallable said }
+{
+    differing(alloc, wanted, &mut AttributeDict::new(alloc), said)
 }
 
 #[test]
 fn pairs_are_put_replaced_and_taken_out(rt: HostRuntime) -> Result<(), Fail> {
-    assert_eq!(rt; first_differing(rt.alloc())?, None);
+    assert_eq!(rt; differing_step(rt.alloc(), STEPS, step)?, None);
     Ok(())
 }

@@ -1,6 +1,10 @@
 //! Numbers of every type, in decimal and hexadecimal digits and as their text, and booleans.
 ghost use Rattle.std.specs.Prelude.{◌≤◌};
 
+use crate::read::numbers::Kind::{
+    HexI64, HexU8, HexU16, HexU32, HexU64, HexUsize, I8, I16, I32, I64, Isize, Text, Truth, U8,
+    U16, U32, U64, Usize,
+};
 use irtext_base::parsable::{CharStream, TextStream};
 use irtext_tests_common::answers::{line, said, said_next};
 use irtext_tokens::irfmt::parsers::{
@@ -35,155 +39,67 @@ enum Kind {
 
 /// What a text is parsed as, the text, and the result.
 const READ: &[(Kind, &str, &str)] = &[
-    (Kind::I8, "-128", "-128"),
-    (Kind::I8, "127", "127"),
+    (I8, "-128", "-128"),
+    (I8, "127", "127"),
+    (I16, "-32768", "-32768"),
+    (Isize, "-9223372036854775808", "-9223372036854775808"),
+    (U16, "+065535", "65535"),
+    (U64, "18446744073709551615", "18446744073709551615"),
+    (HexU64, "0xff", "255"),
+    (HexU64, "0xDEAD", "57005"),
+    (HexI64, "0x1234", "4660"),
+    (HexUsize, "0xABCDEF", "11259375"),
+    (HexU32, "0xCAFE", "51966"),
+    (HexU8, "0x7f", "127"),
+    (Usize, "0", "0"),
+    (Usize, "+0042x", "42"),
+    (Usize, "18446744073709551615", "18446744073709551615"),
+    (I32, "-2147483648", "-2147483648"),
+    (I32, "+2147483647", "2147483647"),
+    (I32, "-0", "0"),
+    (Text, "0", "0"),
+    (Text, "42", "42"),
+    (Text, "+42", "+42"),
+    (Text, "-42", "-42"),
     (
-        Kind::I8,
-        "-129",
-        "line: 1, column: 1: Number out of range: -129!",
-    ),
-    (
-        Kind::I32,
-        "- 1",
-        "line: 1, column: 2: Unexpected ` `, expected digit!",
-    ),
-    (
-        Kind::I32,
-        "",
-        "line: 1, column: 1: Unexpected end of input, expected digit",
-    ),
-    (
-        Kind::U32,
-        "-1",
-        "line: 1, column: 1: Number out of range: -1!",
-    ),
-    (Kind::I16, "-32768", "-32768"),
-    (
-        Kind::I64,
-        "9223372036854775808",
-        "line: 1, column: 1: Number out of range: 9223372036854775808!",
-    ),
-    (Kind::Isize, "-9223372036854775808", "-9223372036854775808"),
-    (
-        Kind::U8,
-        "256",
-        "line: 1, column: 1: Number out of range: 256!",
-    ),
-    (Kind::U16, "+065535", "65535"),
-    (Kind::U64, "18446744073709551615", "18446744073709551615"),
-    (
-        Kind::Usize,
-        "18446744073709551616",
-        "line: 1, column: 1: Number out of range: 18446744073709551616!",
-    ),
-    (Kind::HexU64, "0xff", "255"),
-    (Kind::HexU64, "0xDEAD", "57005"),
-    (
-        Kind::HexU64,
-        "0x",
-        "line: 1, column: 3: Unexpected end of input, expected hexadecimal digit!",
-    ),
-    (
-        Kind::HexU64,
-        "ff",
-        "line: 1, column: 1: Unexpected `f`, expected `0x`",
-    ),
-    (
-        Kind::HexU64,
-        "0y1",
-        "line: 1, column: 2: Unexpected `y`, expected `0x`!",
-    ),
-    (
-        Kind::HexU64,
-        "0xg",
-        "line: 1, column: 3: Unexpected `g`, expected hexadecimal digit!",
-    ),
-    (Kind::HexI64, "0x1234", "4660"),
-    (Kind::HexUsize, "0xABCDEF", "11259375"),
-    (Kind::HexU32, "0xCAFE", "51966"),
-    (Kind::HexU8, "0x7f", "127"),
-    (
-        Kind::HexU8,
-        "0x100",
-        "line: 1, column: 1: Number out of range: 0x100!",
-    ),
-    (
-        Kind::HexU16,
-        "0x10000",
-        "line: 1, column: 1: Number out of range: 0x10000!",
-    ),
-    (Kind::Usize, "0", "0"),
-    (Kind::Usize, "+0042x", "42"),
-    (Kind::Usize, "18446744073709551615", "18446744073709551615"),
-    (
-        Kind::Usize,
-        "-0",
-        "line: 1, column: 1: Number out of range: -0!",
-    ),
-    (
-        Kind::Usize,
-        "",
-        "line: 1, column: 1: Unexpected end of input, expected digit",
-    ),
-    (
-        Kind::Usize,
-        "+x",
-        "line: 1, column: 2: Unexpected `x`, expected digit!",
-    ),
-    (Kind::I32, "-2147483648", "-2147483648"),
-    (Kind::I32, "+2147483647", "2147483647"),
-    (
-        Kind::I32,
-        "2147483648",
-        "line: 1, column: 1: Number out of range: 2147483648!",
-    ),
-    (Kind::I32, "-0", "0"),
-    (Kind::Text, "0", "0"),
-    (Kind::Text, "42", "42"),
-    (Kind::Text, "+42", "+42"),
-    (Kind::Text, "-42", "-42"),
-    (
-        Kind::Text,
+        Text,
         "-1606938044258990275541962092341162602522202993782792835301376",
         "-1606938044258990275541962092341162602522202993782792835301376",
     ),
-    (
-        Kind::Text,
-        "",
-        "line: 1, column: 1: Unexpected end of input, expected digit",
-    ),
-    (
-        Kind::Text,
-        "-",
-        "line: 1, column: 2: Unexpected end of input, expected digit!",
-    ),
-    (
-        Kind::Text,
-        "+",
-        "line: 1, column: 2: Unexpected end of input, expected digit!",
-    ),
-    (
-        Kind::Text,
-        "x1",
-        "line: 1, column: 1: Unexpected `x`, expected digit",
-    ),
-    (Kind::Truth, "true", "true"),
-    (Kind::Truth, "falsehood", "false"),
-    (
-        Kind::Truth,
-        "no",
-        "line: 1, column: 1: Unexpected `n`, expected true or false",
-    ),
-    (
-        Kind::Truth,
-        "trie",
-        "line: 1, column: 3: Unexpected `i`, expected `true`!",
-    ),
-    (
-        Kind::Truth,
-        "fals",
-        "line: 1, column: 5: Unexpected end of input, expected `false`!",
-    ),
+    (Truth, "true", "true"),
+    (Truth, "falsehood", "false"),
+];
+
+/// What a text is parsed as, and the text, which denotes no number of that type.
+const OUT_OF_RANGE: &[(Kind, &str)] = &[
+    (I8, "-129"),
+    (U32, "-1"),
+    (I64, "9223372036854775808"),
+    (U8, "256"),
+    (Usize, "18446744073709551616"),
+    (HexU8, "0x100"),
+    (HexU16, "0x10000"),
+    (Usize, "-0"),
+    (I32, "2147483648"),
+];
+
+/// What a text is parsed as, the text, the column of the character that is not expected there, and the error.
+const UNEXPECTED: &[(Kind, &str, u8, &str)] = &[
+    (I32, "- 1", 2, "` `, expected digit!"),
+    (I32, "", 1, "end of input, expected digit"),
+    (HexU64, "0x", 3, "end of input, expected hexadecimal digit!"),
+    (HexU64, "ff", 1, "`f`, expected `0x`"),
+    (HexU64, "0y1", 2, "`y`, expected `0x`!"),
+    (HexU64, "0xg", 3, "`g`, expected hexadecimal digit!"),
+    (Usize, "", 1, "end of input, expected digit"),
+    (Usize, "+x", 2, "`x`, expected digit!"),
+    (Text, "", 1, "end of input, expected digit"),
+    (Text, "-", 2, "end of input, expected digit!"),
+    (Text, "+", 2, "end of input, expected digit!"),
+    (Text, "x1", 1, "`x`, expected digit"),
+    (Truth, "no", 1, "`n`, expected true or false"),
+    (Truth, "trie", 3, "`i`, expected `true`!"),
+    (Truth, "fals", 5, "end of input, expected `false`!"),
 ];
 
 /// The results after so many characters were skipped: an integer of eight bits, and then a boolean.
@@ -227,24 +143,24 @@ fn truth(alloc: Global, text: &str) -> Result<String, Fail> {
 /// The result for a text that is parsed as this kind.
 fn read(alloc: Global, kind: Kind, text: &str) -> Result<String, Fail> {
     match kind {
-        Kind::U8 => int::<u8>(alloc, text),
-        Kind::U16 => int::<u16>(alloc, text),
-        Kind::U32 => int::<u32>(alloc, text),
-        Kind::U64 => int::<u64>(alloc, text),
-        Kind::Usize => int::<usize>(alloc, text),
-        Kind::I8 => int::<i8>(alloc, text),
-        Kind::I16 => int::<i16>(alloc, text),
-        Kind::I32 => int::<i32>(alloc, text),
-        Kind::I64 => int::<i64>(alloc, text),
-        Kind::Isize => int::<isize>(alloc, text),
-        Kind::HexU8 => hex::<u8>(alloc, text),
-        Kind::HexU16 => hex::<u16>(alloc, text),
-        Kind::HexU32 => hex::<u32>(alloc, text),
-        Kind::HexU64 => hex::<u64>(alloc, text),
-        Kind::HexUsize => hex::<usize>(alloc, text),
-        Kind::HexI64 => hex::<i64>(alloc, text),
-        Kind::Text => text_of(alloc, text),
-        Kind::Truth => truth(alloc, text),
+        U8 => int::<u8>(alloc, text),
+        U16 => int::<u16>(alloc, text),
+        U32 => int::<u32>(alloc, text),
+        U64 => int::<u64>(alloc, text),
+        Usize => int::<usize>(alloc, text),
+        I8 => int::<i8>(alloc, text),
+        I16 => int::<i16>(alloc, text),
+        I32 => int::<i32>(alloc, text),
+        I64 => int::<i64>(alloc, text),
+        Isize => int::<isize>(alloc, text),
+        HexU8 => hex::<u8>(alloc, text),
+        HexU16 => hex::<u16>(alloc, text),
+        HexU32 => hex::<u32>(alloc, text),
+        HexU64 => hex::<u64>(alloc, text),
+        HexUsize => hex::<usize>(alloc, text),
+        HexI64 => hex::<i64>(alloc, text),
+        Text => text_of(alloc, text),
+        Truth => truth(alloc, text),
     }
 }
 
@@ -266,10 +182,32 @@ fn behind(alloc: Global, skipped: u8, text: &str) -> Result<String, Fail> {
     two(alloc, &mut stream)
 }
 
+/// The error for a number that is out of range.
+fn out_of_range(alloc: Global, text: &str) -> Result<String, Fail> {
+    Ok(format!(in alloc; "line: 1, column: 1: Number out of range: {text}!")?)
+}
+
+/// The error for a character in the first line that is not expected.
+fn not_expected(alloc: Global, column: u8, error: &str) -> Result<String, Fail> {
+    Ok(format!(in alloc; "line: 1, column: {column}: Unexpected {error}")?)
+}
+
 #[test]
 fn numbers_and_truth_values_of_a_text(rt: HostRuntime) -> Result<(), Fail> {
     for row in READ {
         assert_eq!(rt; read(rt.alloc(), row.0, row.1)?.as_str(), row.2);
+    }
+    for row in OUT_OF_RANGE {
+        assert_eq!(rt;
+            read(rt.alloc(), row.0, row.1)?,
+            out_of_range(rt.alloc(), row.1)?
+        );
+    }
+    for row in UNEXPECTED {
+        assert_eq!(rt;
+            read(rt.alloc(), row.0, row.1)?,
+            not_expected(rt.alloc(), row.2, row.3)?
+        );
     }
     Ok(())
 }
@@ -282,18 +220,18 @@ fn a_refused_number_leaves_the_stream_failed(rt: HostRuntime) -> Result<(), Fail
     Ok(())
 }
 
-/// Types, texts and their radices, and the number of each text, or `-` if it is none.
-const RADICES: &[(Kind, &str, u32, &str)] = &[
-    (Kind::U8, "ff", 16, "255"),
-    (Kind::U16, "zz", 36, "1295"),
-    (Kind::U32, "-0", 10, "-"),
-    (Kind::U64, "+101", 2, "5"),
-    (Kind::Usize, "", 10, "-"),
-    (Kind::I8, "-80", 16, "-128"),
-    (Kind::I16, "-0", 10, "0"),
-    (Kind::I32, "2147483648", 10, "-"),
-    (Kind::I64, "+7", 8, "7"),
-    (Kind::Isize, "8", 8, "-"),
+/// Types, radices and texts, and the number of each text, or `-` if it is none.
+const RADICES: &[(Kind, u32, &str, &str)] = &[
+    (U8, 16, "ff", "255"),
+    (U16, 36, "zz", "1295"),
+    (U32, 10, "-0", "-"),
+    (U64, 2, "+101", "5"),
+    (Usize, 10, "", "-"),
+    (I8, 16, "-80", "-128"),
+    (I16, 10, "-0", "0"),
+    (I32, 10, "2147483648", "-"),
+    (I64, 8, "+7", "7"),
+    (Isize, 8, "8", "-"),
 ];
 
 /// The number of a text in a radix, or `-` if it is none.
@@ -312,20 +250,20 @@ fn number<N: FromStrRadix + fmt::Display + Drop>(
 }
 
 /// The number of a text in a radix, for a type.
-fn in_radix(alloc: Global, kind: Kind, text: &str, radix: u32) -> Result<String, Fail> {
+fn in_radix(alloc: Global, kind: Kind, radix: u32, text: &str) -> Result<String, Fail> {
     if radix < 2 || radix > 36 {
         return Err(Fail::from("no radix"));
     }
     match kind {
-        Kind::U8 => number::<u8>(alloc, text, radix),
-        Kind::U16 => number::<u16>(alloc, text, radix),
-        Kind::U32 => number::<u32>(alloc, text, radix),
-        Kind::U64 => number::<u64>(alloc, text, radix),
-        Kind::Usize => number::<usize>(alloc, text, radix),
-        Kind::I8 => number::<i8>(alloc, text, radix),
-        Kind::I16 => number::<i16>(alloc, text, radix),
-        Kind::I32 => number::<i32>(alloc, text, radix),
-        Kind::I64 => number::<i64>(alloc, text, radix),
+        U8 => number::<u8>(alloc, text, radix),
+        U16 => number::<u16>(alloc, text, radix),
+        U32 => number::<u32>(alloc, text, radix),
+        U64 => number::<u64>(alloc, text, radix),
+        Usize => number::<usize>(alloc, text, radix),
+        I8 => number::<i8>(alloc, text, radix),
+        I16 => number::<i16>(alloc, text, radix),
+        I32 => number::<i32>(alloc, text, radix),
+        I64 => number::<i64>(alloc, text, radix),
         _ => number::<isize>(alloc, text, radix),
     }
 }

@@ -238,12 +238,15 @@ fn slices(alloc: Global, text: &str) -> Result<String, Fail> {
     Ok(format!(in alloc; "{first} {second} {stands}")?)
 }
 
+/// A text, and the result for it.
+const SLICES: (&str, &str) = (
+    " \u{3000}\né!=a",
+    "true false line: 2, column: 4 Some('a') false",
+);
+
 #[test]
 fn a_stream_goes_by_slices(rt: HostRuntime) -> Result<(), Fail> {
-    assert_eq!(rt;
-        slices(rt.alloc(), " \u{3000}\né!=a")?.as_str(),
-        "true false line: 2, column: 4 Some('a') false"
-    );
+    assert_eq!(rt; slices(rt.alloc(), SLICES.0)?.as_str(), SLICES.1);
     Ok(())
 }
 

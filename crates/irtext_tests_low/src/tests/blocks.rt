@@ -5,28 +5,27 @@ use irtext_base::location::Source;
 use irtext_base::result::Result as Answer;
 use irtext_context::base::context::making::Making;
 use irtext_context::base::{
-    BasicBlock, BlockAccess, NewBlock, Operation, OperationAccess, Ptr, Region,
+    BasicBlock, BlockAccess, Item, NewBlock, Operation, OperationAccess, Ptr,
 };
 use irtext_context::location::erase_locations;
 use irtext_demo::{DemoAttr, DemoType};
 use irtext_few::Few;
 use irtext_graph::held::HasGraph;
 use irtext_graph::object::Value;
+use irtext_tests_common::answers::done_or_cause;
+use irtext_tests_common::building::{block_inside, into_block, live, live_block, place, types};
 use irtext_tests_common::contexts::{Ctx, named, with_context, with_counters};
-use std::alloc::{AllocError, Global};
+use irtext_tests_common::tables::failing;
+use std::alloc::Global;
 use std::test::Fail;
 
-/// Makes a block with this many arguments, each a pointer, and without a label.
+/// Makes a block without a label, and arguments of these types.
 fn made(
     alloc: Global,
     ctx: &mut Ctx,
-    count: usize,
+    letters: &str,
 ) -> Result<Answer<Ptr<BasicBlock>, DemoAttr>, Fail> {
-    let mut types = Vec::new(alloc);
-    for _ in 0..count {
-        types.push(DemoType::Pointer)?;
-    }
-    Ok(BasicBlock::new(ctx, None, Few::from_vec(types)))
+    Ok(BasicBlock::new(ctx, None, types(alloc, letters)?))
 }
 
 /// Whether the first argument of a block is a pointer.
@@ -38,9 +37,7 @@ fn begins_with_pointer(ctx: &Ctx, block: Ptr<BasicBlock>) -> bool {
 
 /// The text of a block: its label, how many arguments and attributes it has, and whether its location is unknown.
 fn shown(alloc: Global, ctx: &Ctx, block: Ptr<BasicBlock>) -> Result<String, Fail> {
-    if !ctx.contains_block(block) {
-        return Err(Fail::from("no such block"));
-    }
+    live_block(ctx, block)?;
     let label = match block.label(ctx) {
         Some(label) => label.as_str(),
         None => "-",
@@ -93,21 +90,23 @@ const STEPS: &[(Step, bool, &str)] = &[
     (Step::NoLabel, true, "- 3 1 false"),
 ];
 
+/// Whether a step has this result, and leaves the block so.
+fn holds(
+    alloc: Global,
+    ctx: &mut Ctx,
+    block: Ptr<BasicBlock>,
+    row: &(Step, bool, &str),
+) -> Result<bool, Fail> {
+    Ok(write(alloc, ctx, block, row.0)? == row.1 && shown(alloc, ctx, block)?.as_str() == row.2)
+}
+
 /// The first step with another result than expected, for a block that begins with three arguments.
 fn differing(alloc: Global, ctx: &mut Ctx) -> Result<Option<usize>, Fail> {
-    let block = made(alloc, ctx, 3)?.ok().ok_or("refused")?;
+    let block = made(alloc, ctx, "ppp")?.ok().ok_or("refused")?;
     if !begins_with_pointer(ctx, block) || shown(alloc, ctx, block)?.as_str() != "- 3 0 true" {
         return Ok(Some(STEPS.len()));
     }
-    for number in 0..STEPS.len() {
-        let (step, allowed, said) = STEPS[number];
-        if write(alloc, ctx, block, step)? != allowed
-            || shown(alloc, ctx, block)?.as_str() != said
-        {
-            return Ok(Some(number));
-        }
-    }
-    Ok(None)
+    failing(STEPS, ctx, |ctx, row| holds(alloc, ctx, block, row))
 }
 
 #[test]
@@ -119,12 +118,9 @@ fn blocks_are_labelled_and_written(rt: HostRuntime) -> Result<(), Fail> {
 /// The result if one number is left for values: for a block of two arguments, the number of live objects then, and whether a block
 /// of one is made.
 fn filled(alloc: Global, ctx: &mut Ctx) -> Result<String, Fail> {
-    let said = match made(alloc, ctx, 2)? {
-        Ok(_) => String::from_str(alloc, "made")?,
-        Err(error) => format!(in alloc; "{}", error.err)?,
-    };
+    let said = done_or_cause(alloc, &made(alloc, ctx, "pp")?, "made")?;
     let live = ctx.num_live();
-    let one = made(alloc, ctx, 1)?.is_ok();
+    let one = made(alloc, ctx, "p")?.is_ok();
     Ok(format!(in alloc; "{said} {live} {one}")?)
 }
 
@@ -135,38 +131,6 @@ fn arguments_end_at_the_greatest_number(rt: HostRuntime) -> Result<(), Fail> {
         "Out of memory 0 true"
     );
     Ok(())
-}
-
-/// Puts a block into a region, and returns whether it could.
-fn holds_block(
-    ctx: &mut Ctx,
-    region: Ptr<Region>,
-    block: Ptr<BasicBlock>,
-) -> Result<bool, AllocError> {
-    if !ctx.contains_region(region) || !ctx.contains_block(block) {
-        return Ok(false);
-    }
-    if !block.can_insert_at_back(region, ctx) {
-        return Ok(false);
-    }
-    block.insert_at_back(region, ctx)?;
-    Ok(true)
-}
-
-/// Puts an operation into a block, and returns whether it could.
-fn holds_operation(
-    ctx: &mut Ctx,
-    block: Ptr<BasicBlock>,
-    op: Ptr<Operation>,
-) -> Result<bool, AllocError> {
-    if !ctx.contains_block(block) || !ctx.contains_operation(op) {
-        return Ok(false);
-    }
-    if !op.can_insert_at_back(block, ctx) {
-        return Ok(false);
-    }
-    op.insert_at_back(block, ctx)?;
-    Ok(true)
 }
 
 /// Which of three locations are known: those of an operation, of a block in it, and of an operation in the block.
@@ -186,24 +150,19 @@ fn known(
 /// Whether locations are known in an operation with a block and an operation in it, and none once they are erased.
 fn erased_inside(alloc: Global, ctx: &mut Ctx) -> Result<bool, Fail> {
     let (outer, inner) = (make(alloc, ctx)?, make(alloc, ctx)?);
-    let block = made(alloc, ctx, 0)?.ok().ok_or("refused")?;
-    if !write(alloc, ctx, block, Step::Place)? || !ctx.contains_operation(outer) {
-        return Ok(false);
-    }
-    let region = ctx.add_region(outer)?;
-    if !holds_block(ctx, region, block)? || !holds_operation(ctx, block, inner)? {
-        return Ok(false);
-    }
+    live(ctx, outer)?;
+    ctx.add_region(outer)?;
+    let block = block_inside(alloc, ctx, outer, "", Few::none())?;
+    into_block(ctx, inner, block)?;
+    place(ctx, Item::Block(block), 2)?;
     let before = known(ctx, outer, block, inner);
-    if !ctx.contains_operation(outer) {
-        return Ok(false);
-    }
+    live(ctx, outer)?;
     erase_locations(ctx, outer);
     Ok(before == (true, true, true) && known(ctx, outer, block, inner) == (false, false, false))
 }
 
 #[test]
 fn inner_locations_are_erased(rt: HostRuntime) -> Result<(), Fail> {
-    assert_eq!(rt; with_context(rt.alloc(), erased_inside)?, true);
+    assert!(rt; with_context(rt.alloc(), erased_inside)?);
     Ok(())
 }

@@ -7,16 +7,14 @@ use irtext_base::location::Location;
 use irtext_context::base::context::making::Making;
 use irtext_context::base::{Operation, OperationAccess, Ptr};
 use irtext_dict::base::AttributeDict;
-use irtext_tests_common::contexts::{Ctx, named, with_context, with_counters};
+use irtext_tests_common::building::{id, live};
+use irtext_tests_common::contexts::{Ctx, with_context, with_counters};
 use std::alloc::{AllocError, Global};
 use std::test::Fail;
 
 /// The id of modules.
 fn module_id(alloc: Global) -> Result<OpId, Fail> {
-    Ok(OpId {
-        dialect: named(alloc, "builtin")?,
-        name: named(alloc, "module")?,
-    })
+    id(alloc, ("builtin", "module"))
 }
 
 /// Makes an operation without attributes.
@@ -47,9 +45,7 @@ fn passes(alloc: Global, ctx: &mut Ctx, id: OpId) -> Result<(Ptr<Operation>, u64
 /// Makes a module with a region, and another after a mark to which the context is then rolled back; returns what is live.
 fn rolled_back(alloc: Global, ctx: &mut Ctx) -> Result<String, Fail> {
     let first = make(alloc, ctx, module_id(alloc)?)?;
-    if !ctx.contains_operation(first) {
-        return Err(Fail::from("no such operation"));
-    }
+    live(ctx, first)?;
     let region = ctx.add_region(first)?;
     let inside = ctx.contains_region(region) && region.get_parent_op(ctx) == Some(first);
     let (second, before) = passes(alloc, ctx, module_id(alloc)?)?;

@@ -1,12 +1,15 @@
 //! Attributes that are set on an operation, and `Refusal`s as errors.
-use irtext_base::base::{AttrObj, GIVEN_NAMES_KEY, Identifier, OpId, SYM_NAME_KEY};
+use irtext_base::base::{AttrObj, GIVEN_NAMES_KEY, Identifier, SYM_NAME_KEY};
 use irtext_base::location::Location;
 use irtext_base::result::{Error, Result as Answer};
 use irtext_context::base::context::making::Making;
 use irtext_context::base::{Operation, OperationAccess, Ptr};
 use irtext_demo::DemoAttr;
 use irtext_dict::base::AttributeDict;
+use irtext_tests_common::answers::done_or_cause;
+use irtext_tests_common::building::{id, live};
 use irtext_tests_common::contexts::{Ctx, named, with_context};
+use irtext_tests_common::tables::failing;
 use std::alloc::{AllocError, Global};
 use std::test::Fail;
 
@@ -26,14 +29,6 @@ fn set(
     }
 }
 
-/// This word for a call that succeeded, or the cause of its error.
-fn cause_or(alloc: Global, answer: &Answer<(), DemoAttr>, word: &str) -> Result<String, Fail> {
-    match answer {
-        Ok(()) => Ok(String::from_str(alloc, word)?),
-        Err(error) => Ok(format!(in alloc; "{}", error.err)?),
-    }
-}
-
 /// The keys that are set, one after the other, and the result for each.
 const KEYS: &[(&str, &str)] = &[
     (SYM_NAME_KEY, "set"),
@@ -49,26 +44,29 @@ fn step(alloc: Global, ctx: &mut Ctx, op: Ptr<Operation>, key: &str) -> Result<S
     let key = named(alloc, key)?;
     let attr = AttrObj::Ident(named(alloc, "main")?);
     let answer = set(ctx, op, key, attr);
-    cause_or(alloc, &answer, "set")
+    done_or_cause(alloc, &answer, "set")
 }
 
-/// The first key with another result than expected, with an operation without attributes.
+/// Whether a key has this result.
+fn holds(
+    alloc: Global,
+    ctx: &mut Ctx,
+    op: Ptr<Operation>,
+    row: &(&str, &str),
+) -> Result<bool, Fail> {
+    Ok(step(alloc, ctx, op, row.0)?.as_str() == row.1)
+}
+
+/// The first key with another result than expected, with an operation without attributes, which has one in the end.
 fn differing(alloc: Global, ctx: &mut Ctx) -> Result<Option<usize>, Fail> {
-    let id = OpId {
-        dialect: named(alloc, "builtin")?,
-        name: named(alloc, "module")?,
-    };
+    let id = id(alloc, ("builtin", "module"))?;
     let op = ctx.make_operation(id, AttributeDict::new(alloc), Location::Unknown)?;
-    for number in 0..KEYS.len() {
-        let said = step(alloc, ctx, op, KEYS[number].0)?;
-        if said.as_str() != KEYS[number].1 {
-            return Ok(Some(number));
-        }
-    }
-    if !ctx.contains_operation(op) || op.attributes(ctx).len() != 1 {
+    let differing = failing(KEYS, ctx, |ctx, row| holds(alloc, ctx, op, row))?;
+    live(ctx, op)?;
+    if op.attributes(ctx).len() != 1 {
         return Ok(Some(KEYS.len()));
     }
-    Ok(None)
+    Ok(differing)
 }
 
 /// The text of an error.

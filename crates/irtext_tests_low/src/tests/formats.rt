@@ -1,15 +1,16 @@
 //! Which formats are accepted, and by which condition the others are rejected; and the operations of a dialect.
-use irtext_base::base::{Identifier, OpId};
+use irtext_base::base::Identifier;
 use irtext_base::format::{Directive, FormatFault, OpFormat};
 use irtext_base::result::Result as Answer;
 use irtext_context::dialect::{Dialect, DialectName};
 use irtext_demo::DemoAttr;
 use irtext_format_check::format::check_format;
+use irtext_tests_common::answers::value_or_cause;
+use irtext_tests_common::building::id;
 use irtext_tests_common::contexts::named;
 use irtext_tests_common::formats::format_of;
 use std::alloc::Global;
 use std::convert::AsStr;
-use std::fmt;
 use std::test::Fail;
 
 const ACCEPTED: &[&str] = &[
@@ -85,17 +86,6 @@ fn comes_back(alloc: Global) -> Result<bool, Fail> {
     Ok(same && name.as_str() == "test" && Identifier::from(name) == word)
 }
 
-/// The text of a result: its value, or the cause of its error.
-fn value_or_cause<X: fmt::Display>(
-    alloc: Global,
-    answer: &Answer<X, DemoAttr>,
-) -> Result<String, Fail> {
-    match answer {
-        Ok(value) => Ok(format!(in alloc; "{value}")?),
-        Err(error) => Ok(format!(in alloc; "{}", error.err)?),
-    }
-}
-
 /// The name of a dialect as a text, or the error.
 fn told(alloc: Global, text: &str) -> Result<String, Fail> {
     let answer: Answer<DialectName, DemoAttr> = DialectName::try_new(alloc, text);
@@ -117,10 +107,7 @@ fn registered(
     letters: &str,
     isolated: bool,
 ) -> Result<String, Fail> {
-    let id = OpId {
-        dialect: named(alloc, "test")?,
-        name: named(alloc, "z")?,
-    };
+    let id = id(alloc, ("test", "z"))?;
     let format = format_of(alloc, letters)?;
     let answer: Answer<(), DemoAttr> = dialect.add_op(id, format, isolated);
     nothing_or_error(alloc, &answer)
@@ -144,10 +131,7 @@ fn keeps(alloc: Global, dialect: &mut Dialect) -> Result<bool, Fail> {
             return Ok(false);
         }
     }
-    let id = OpId {
-        dialect: named(alloc, "test")?,
-        name: named(alloc, "z")?,
-    };
+    let id = id(alloc, ("test", "z"))?;
     Ok(matches!(dialect.op(&id), Some(info) if info.isolated))
 }
 
@@ -167,10 +151,7 @@ fn is_first_operand(format: &OpFormat) -> bool {
 
 /// Whether `test.z` is isolated, and has the format of its first operand.
 fn is_as_it_was(alloc: Global, dialect: &Dialect) -> Result<bool, Fail> {
-    let id = OpId {
-        dialect: named(alloc, "test")?,
-        name: named(alloc, "z")?,
-    };
+    let id = id(alloc, ("test", "z"))?;
     Ok(match dialect.op(&id) {
         Some(info) => info.isolated && is_first_operand(&info.format),
         None => false,

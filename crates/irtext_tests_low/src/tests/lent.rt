@@ -1,10 +1,11 @@
 //! Attributes that are borrowed mutably from a context: an inserted key is there, a reserved one is rejected, other objects are unchanged.
 use crate::tests::locations::make;
 use irtext_base::base::{AttrObj, GIVEN_NAMES_KEY, SYM_NAME_KEY};
-use irtext_context::base::{BasicBlock, BlockAccess, NewBlock, Operation, OperationAccess, Ptr};
+use irtext_context::base::{BlockAccess, Item, OperationAccess};
 use irtext_demo::DemoAttr;
 use irtext_dict::base::AttributeDict;
 use irtext_few::Few;
+use irtext_tests_common::building::{block, live, live_block};
 use irtext_tests_common::contexts::{Ctx, named, with_context};
 use std::alloc::Global;
 use std::test::Fail;
@@ -16,66 +17,63 @@ fn put(alloc: Global, attributes: &mut AttributeDict<DemoAttr>, key: &str) -> Re
     Ok(attributes.insert(key, attr).is_ok())
 }
 
-/// Whether a dictionary has an identifier as its symbol's name, and nothing else.
-fn is_named(attributes: &AttributeDict<DemoAttr>) -> bool {
-    attributes.len() == 1 && matches!(attributes.get_str(SYM_NAME_KEY), Some(AttrObj::Ident(_)))
-}
-
-/// Puts an identifier under a key of an operation, and returns whether that was allowed.
-fn put_there(alloc: Global, ctx: &mut Ctx, op: Ptr<Operation>, key: &str) -> Result<bool, Fail> {
-    if !ctx.contains_operation(op) {
-        return Err(Fail::from("no such operation"));
+/// Puts an identifier under a key of an item, and returns whether that was allowed.
+fn put_into(alloc: Global, ctx: &mut Ctx, item: Item, key: &str) -> Result<bool, Fail> {
+    match item {
+        Item::Operation(op) => {
+            live(ctx, op)?;
+            put(alloc, ctx.operation_attributes_mut(op), key)
+        }
+        Item::Block(block) => {
+            live_block(ctx, block)?;
+            put(alloc, ctx.block_attributes_mut(block), key)
+        }
     }
-    put(alloc, ctx.operation_attributes_mut(op), key)
 }
 
-/// Whether of two operations the first is named through its dictionary, and the reserved key is rejected.
-fn names_one(alloc: Global, ctx: &mut Ctx) -> Result<bool, Fail> {
+/// How many attributes an item has, and whether its symbol's name is an identifier.
+fn shown(ctx: &Ctx, item: Item) -> Result<(usize, bool), Fail> {
+    match item {
+        Item::Operation(op) => {
+            live(ctx, op)?;
+            Ok(counted(op.attributes(ctx)))
+        }
+        Item::Block(block) => {
+            live_block(ctx, block)?;
+            Ok(counted(block.attributes(ctx)))
+        }
+    }
+}
+
+/// How many attributes a dictionary has, and whether the symbol's name is an identifier.
+fn counted(attributes: &AttributeDict<DemoAttr>) -> (usize, bool) {
+    let is_named = matches!(attributes.get_str(SYM_NAME_KEY), Some(AttrObj::Ident(_)));
+    (attributes.len(), is_named)
+}
+
+/// Whether of two items the first is named through its dictionary, and the reserved key is rejected.
+fn names_one(alloc: Global, ctx: &mut Ctx, item: Item, other: Item) -> Result<bool, Fail> {
+    let allowed = put_into(alloc, ctx, item, SYM_NAME_KEY)?;
+    let refused = !put_into(alloc, ctx, item, GIVEN_NAMES_KEY)?;
+    Ok(allowed && refused && shown(ctx, item)? == (1, true) && shown(ctx, other)? == (0, false))
+}
+
+/// Whether that is so for two operations.
+fn names_operation(alloc: Global, ctx: &mut Ctx) -> Result<bool, Fail> {
     let (op, other) = (make(alloc, ctx)?, make(alloc, ctx)?);
-    let allowed = put_there(alloc, ctx, op, SYM_NAME_KEY)?;
-    let refused = !put_there(alloc, ctx, op, GIVEN_NAMES_KEY)?;
-    if !ctx.contains_operation(op) || !ctx.contains_operation(other) {
-        return Ok(false);
-    }
-    Ok(allowed && refused && is_named(op.attributes(ctx)) && other.attributes(ctx).len() == 0)
+    names_one(alloc, ctx, Item::Operation(op), Item::Operation(other))
+}
+
+/// Whether that is so for two blocks.
+fn names_block(alloc: Global, ctx: &mut Ctx) -> Result<bool, Fail> {
+    let first = block(alloc, ctx, "", Few::none())?;
+    let other = block(alloc, ctx, "", Few::none())?;
+    names_one(alloc, ctx, Item::Block(first), Item::Block(other))
 }
 
 #[test]
-fn attributes_of_operations(rt: HostRuntime) -> Result<(), Fail> {
-    assert_eq!(rt; with_context(rt.alloc(), names_one)?, true);
-    Ok(())
-}
-
-/// Makes a block without a label and arguments.
-fn make_block(ctx: &mut Ctx) -> Result<Ptr<BasicBlock>, Fail> {
-    Ok(
-        BasicBlock::new(ctx, None, Few::none())
-            .ok()
-            .ok_or("refused")?,
-    )
-}
-
-/// Puts an identifier under a key of a block, and returns whether that was allowed.
-fn put_into(alloc: Global, ctx: &mut Ctx, block: Ptr<BasicBlock>, key: &str) -> Result<bool, Fail> {
-    if !ctx.contains_block(block) {
-        return Err(Fail::from("no such block"));
-    }
-    put(alloc, ctx.block_attributes_mut(block), key)
-}
-
-/// Whether of two blocks the first is named through its dictionary, and the reserved key is rejected.
-fn names_one_block(alloc: Global, ctx: &mut Ctx) -> Result<bool, Fail> {
-    let (block, other) = (make_block(ctx)?, make_block(ctx)?);
-    let allowed = put_into(alloc, ctx, block, SYM_NAME_KEY)?;
-    let refused = !put_into(alloc, ctx, block, GIVEN_NAMES_KEY)?;
-    if !ctx.contains_block(block) || !ctx.contains_block(other) {
-        return Ok(false);
-    }
-    Ok(allowed && refused && is_named(block.attributes(ctx)) && other.attributes(ctx).len() == 0)
-}
-
-#[test]
-fn attributes_of_blocks(rt: HostRuntime) -> Result<(), Fail> {
-    assert_eq!(rt; with_context(rt.alloc(), names_one_block)?, true);
+fn attributes_of_operations_and_blocks(rt: HostRuntime) -> Result<(), Fail> {
+    assert!(rt; with_context(rt.alloc(), names_operation)?);
+    assert!(rt; with_context(rt.alloc(), names_block)?);
     Ok(())
 }

@@ -1,6 +1,6 @@
 //! The sources, copies and hashes of locations, and the paths that a context keeps.
 use crate::tests::nested;
-use irtext_base::base::{AttrObj, OpId};
+use irtext_base::base::AttrObj;
 use irtext_base::location::{CloneIntoContext, Location, Source};
 use irtext_base::parsable::SourcePosition;
 use irtext_context::base::context::making::Making;
@@ -8,7 +8,8 @@ use irtext_context::base::{Operation, OperationAccess, Ptr};
 use irtext_context::location::erase_locations;
 use irtext_demo::DemoAttr;
 use irtext_dict::base::AttributeDict;
-use irtext_tests_common::contexts::{Ctx, named, with_contexts};
+use irtext_tests_common::building::id;
+use irtext_tests_common::contexts::{Ctx, named, with_context, with_contexts};
 use std::alloc::Global;
 use std::hash::{DefaultHasher, Hash, Hasher};
 use std::test::Fail;
@@ -151,10 +152,7 @@ fn carried(alloc: Global, from: &mut Ctx, to: &mut Ctx) -> Result<bool, Fail> {
 
 /// Makes a module with a place.
 pub(crate) fn make(alloc: Global, ctx: &mut Ctx) -> Result<Ptr<Operation>, Fail> {
-    let id = OpId {
-        dialect: named(alloc, "builtin")?,
-        name: named(alloc, "module")?,
-    };
+    let id = id(alloc, ("builtin", "module"))?;
     let attributes = AttributeDict::new(alloc);
     Ok(ctx.make_operation(id, attributes, at(Source::InMemory))?)
 }
@@ -169,34 +167,36 @@ fn erased(alloc: Global, ctx: &mut Ctx) -> Result<bool, Fail> {
     Ok(ctx.contains_operation(op) && op.loc(ctx).is_unknown())
 }
 
-/// Whether the condition of a line holds.
-fn holds(alloc: Global, ctx: &mut Ctx, other: &mut Ctx, number: usize) -> Result<bool, Fail> {
-    match number {
-        0 => once(alloc, ctx, other),
-        1 => copied(alloc),
-        2 => attribute_copied(alloc),
-        3 => hashed(ctx),
-        4 => counted(alloc, ctx),
-        5 => moved(ctx, other),
-        6 => carried(alloc, ctx, other),
-        7 => erased(alloc, ctx),
-        8 => nested::copied(alloc),
-        _ => nested::carried(alloc, ctx, other),
-    }
-}
-
-/// The number of the first line that does not hold.
-fn differing(alloc: Global, ctx: &mut Ctx, other: &mut Ctx) -> Result<Option<usize>, Fail> {
-    for number in 0..10 {
-        if !holds(alloc, ctx, other, number)? {
-            return Ok(Some(number));
-        }
-    }
-    Ok(None)
+/// Whether locations of a context are copied, hashed and erased.
+fn kept(alloc: Global, ctx: &mut Ctx) -> Result<bool, Fail> {
+    Ok(
+        copied(alloc)?
+            && attribute_copied(alloc)?
+            && hashed(ctx)?
+            && counted(alloc, ctx)?
+            && erased(alloc, ctx)?
+            && nested::copied(alloc)?,
+    )
 }
 
 #[test]
-fn sources_hashes_and_copies_of_locations(rt: HostRuntime) -> Result<(), Fail> {
-    assert_eq!(rt; with_contexts(rt.alloc(), differing)?, None);
+fn copies_and_hashes_of_locations(rt: HostRuntime) -> Result<(), Fail> {
+    assert!(rt; with_context(rt.alloc(), kept)?);
+    Ok(())
+}
+
+/// Whether two contexts keep each path once, and locations move from one to the other.
+fn exchanged(alloc: Global, ctx: &mut Ctx, other: &mut Ctx) -> Result<bool, Fail> {
+    Ok(
+        once(alloc, ctx, other)?
+            && moved(ctx, other)?
+            && carried(alloc, ctx, other)?
+            && nested::carried(alloc, ctx, other)?,
+    )
+}
+
+#[test]
+fn sources_and_locations_of_two_contexts(rt: HostRuntime) -> Result<(), Fail> {
+    assert!(rt; with_contexts(rt.alloc(), exchanged)?);
     Ok(())
 }

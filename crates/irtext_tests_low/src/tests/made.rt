@@ -1,44 +1,32 @@
 //! Operations of a context that are made with results, operands, successors and regions, or fail.
-use irtext_base::base::OpId;
 use irtext_base::result::Result as Answer;
-use irtext_context::base::{
-    BasicBlock, NewBlock, NewOperation, Operation, OperationAccess, Ptr, Value,
-};
+use irtext_context::base::{BasicBlock, NewOperation, Operation, OperationAccess, Ptr, Value};
 use irtext_demo::dialects::register_demo;
 use irtext_demo::{DemoAttr, DemoType, IntegerType, Signedness, Width};
 use irtext_few::Few;
 use irtext_graph::held::HasGraph;
 use irtext_graph_queries::operation::OperationParts;
 use irtext_graph_queries::value::ValueUses;
-use irtext_tests_common::contexts::{Ctx, named, with_counters, with_demo};
+use irtext_tests_common::answers::done_or_cause;
+use irtext_tests_common::building::{block, id, types};
+use irtext_tests_common::contexts::{Ctx, with_counters, with_demo};
+use irtext_tests_common::tables::failing;
 use std::alloc::{AllocError, Global};
 use std::test::Fail;
-
-/// The type of signed integers of eight bits.
-fn byte() -> Option<DemoType> {
-    let kind = Signedness::Signed;
-    let width = Width::new(8)?;
-    Some(DemoType::Integer(IntegerType { kind, width }))
-}
 
 /// The result of making an operation with two results, a pointer and a byte, with these operands and successors, and with
 /// two regions.
 fn answered(
     alloc: Global,
     ctx: &mut Ctx,
-    id: (&str, &str),
+    words: (&str, &str),
     operands: &[Value],
     successors: &[Ptr<BasicBlock>],
 ) -> Result<Answer<Ptr<Operation>, DemoAttr>, Fail> {
-    let id = OpId {
-        dialect: named(alloc, id.0)?,
-        name: named(alloc, id.1)?,
-    };
-    let byte = byte().ok_or("no such width")?;
+    let (id, types) = (id(alloc, words)?, types(alloc, "pb")?);
     if !ctx.graph().contains_values(operands) || !ctx.graph().contains_blocks(successors) {
         return Err(Fail::from("no such value or block"));
     }
-    let types = Few::two(DemoType::Pointer, byte);
     Ok(Operation::new(ctx, id, types, operands, successors, 2))
 }
 
@@ -54,9 +42,8 @@ fn made(
 }
 
 /// Makes a block with one argument.
-fn made_block(ctx: &mut Ctx) -> Result<Ptr<BasicBlock>, Fail> {
-    let answer = BasicBlock::new(ctx, None, Few::one(DemoType::Pointer));
-    Ok(answer.ok().ok_or("refused")?)
+fn made_block(alloc: Global, ctx: &mut Ctx) -> Result<Ptr<BasicBlock>, Fail> {
+    block(alloc, ctx, "", Few::one(DemoType::Pointer))
 }
 
 /// Whether an operation uses these three values and this block, and nothing else.
@@ -71,6 +58,13 @@ fn is_linked(ctx: &Ctx, op: Ptr<Operation>, operands: [Value; 3], block: Ptr<Bas
         && op.get_operand(ctx, 1) == operands[1]
         && op.get_operand(ctx, 2) == operands[2]
         && op.get_successor(ctx, 0) == block
+}
+
+/// The type of signed integers of eight bits.
+fn byte() -> Option<DemoType> {
+    let kind = Signedness::Signed;
+    let width = Width::new(8)?;
+    Some(DemoType::Integer(IntegerType { kind, width }))
 }
 
 /// Whether an operation has two results, a pointer and a byte.
@@ -106,7 +100,7 @@ fn grows(ctx: &mut Ctx, op: Ptr<Operation>) -> Result<bool, AllocError> {
 /// Whether an operation that uses a result twice, an argument and a block has the parts that it was made with.
 fn linked(alloc: Global, ctx: &mut Ctx) -> Result<bool, Fail> {
     let first = made(alloc, ctx, &[], &[])?;
-    let block = made_block(ctx)?;
+    let block = made_block(alloc, ctx)?;
     let (result, argument) = (Value::Result(first, 1), Value::Argument(block, 0));
     let op = made(alloc, ctx, &[result, argument, result], &[block])?;
     Ok(
@@ -120,16 +114,8 @@ fn linked(alloc: Global, ctx: &mut Ctx) -> Result<bool, Fail> {
 
 #[test]
 fn operations_are_made_with_all_that_they_have(rt: HostRuntime) -> Result<(), Fail> {
-    assert_eq!(rt; with_demo(rt.alloc(), linked)?, true);
+    assert!(rt; with_demo(rt.alloc(), linked)?);
     Ok(())
-}
-
-/// The text of a result.
-fn said(alloc: Global, answer: &Answer<Ptr<Operation>, DemoAttr>) -> Result<String, Fail> {
-    match answer {
-        Ok(_) => Ok(String::from_str(alloc, "made")?),
-        Err(error) => Ok(format!(in alloc; "{}", error.err)?),
-    }
 }
 
 /// Ids that are not registered with the demo dialects, and the error for an operation of each.
@@ -138,20 +124,29 @@ const UNREGISTERED: &[(&str, &str, &str)] = &[
     ("builtin", "other", "Unregistered Op builtin.other"),
 ];
 
-/// The first id for which an operation that is to use a result has another error, or leaves a trace.
+/// Whether an operation of an id that is to use a value has this error, and leaves no trace.
+fn is_refused(
+    alloc: Global,
+    ctx: &mut Ctx,
+    used: Value,
+    row: &(&str, &str, &str),
+) -> Result<bool, Fail> {
+    let answer = answered(alloc, ctx, (row.0, row.1), &[used], &[])?;
+    Ok(
+        done_or_cause(alloc, &answer, "made")?.as_str() == row.2
+            && ctx.num_live() == 3
+            && num_uses(ctx, used) == Some(0),
+    )
+}
+
+/// The number of the first id with another result.
 fn differing(alloc: Global, ctx: &mut Ctx) -> Result<Option<usize>, Fail> {
     let used = Value::Result(made(alloc, ctx, &[], &[])?, 0);
-    for number in 0..UNREGISTERED.len() {
-        let (dialect, name, cause) = UNREGISTERED[number];
-        let answer = answered(alloc, ctx, (dialect, name), &[used], &[])?;
-        if said(alloc, &answer)?.as_str() != cause
-            || ctx.num_live() != 3
-            || num_uses(ctx, used) != Some(0)
-        {
-            return Ok(Some(number));
-        }
-    }
-    Ok(None)
+    failing(
+        UNREGISTERED,
+        ctx,
+        |ctx, row| is_refused(alloc, ctx, used, row),
+    )
 }
 
 #[test]
@@ -163,9 +158,9 @@ fn what_is_not_registered_is_not_made(rt: HostRuntime) -> Result<(), Fail> {
 /// The result for an operation that is to use a result of another, and whether all objects and uses are unchanged then.
 fn filled(alloc: Global, ctx: &mut Ctx) -> Result<String, Fail> {
     let used = Value::Result(made(alloc, ctx, &[], &[])?, 0);
-    let block = made_block(ctx)?;
+    let block = made_block(alloc, ctx)?;
     let answer = answered(alloc, ctx, ("builtin", "module"), &[used], &[block])?;
-    let said = said(alloc, &answer)?;
+    let said = done_or_cause(alloc, &answer, "made")?;
     let same = ctx.num_live() == 4 && num_uses(ctx, used) == Some(0);
     Ok(format!(in alloc; "{said} {same}")?)
 }

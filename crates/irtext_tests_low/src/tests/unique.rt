@@ -1,15 +1,14 @@
 //! The names under which values and blocks are printed.
 use crate::tests::locations::make;
 use irtext_base::base::{AttrObj, GIVEN_NAMES_KEY, Identifier};
-use irtext_context::base::{
-    BasicBlock, BlockAccess, NewBlock, Operation, OperationAccess, OperationData, Ptr,
-};
+use irtext_context::base::{BasicBlock, Item, Operation, OperationData, Ptr};
 use irtext_demo::{DemoAttr, DemoType};
 use irtext_few::Few;
 use irtext_grammar::UniqueName;
 use irtext_graph::held::HasGraph;
 use irtext_graph::object::Value;
-use irtext_tests_common::contexts::{Ctx, named, with_context, with_counters};
+use irtext_tests_common::building::{block, erase, give, live, types};
+use irtext_tests_common::contexts::{Ctx, named, with_counters};
 use std::alloc::Global;
 use std::test::Fail;
 
@@ -29,15 +28,11 @@ fn block_name(alloc: Global, ctx: &Ctx, block: Ptr<BasicBlock>) -> Result<String
     Ok(block.unique_name(ctx)?)
 }
 
-/// The names of values, each with a space after it.
-fn value_names(alloc: Global, ctx: &Ctx, values: &[Value]) -> Result<String, Fail> {
-    let mut names = String::new(alloc);
-    for v in values {
-        let name = value_name(alloc, ctx, *v)?;
-        names.push_str(name.as_str())?;
-        names.push_str(" ")?;
-    }
-    Ok(names)
+/// Appends the name of a value, and a space.
+fn append(alloc: Global, ctx: &Ctx, v: Value, names: &mut String) -> Result<(), Fail> {
+    let name = value_name(alloc, ctx, v)?;
+    names.push_str(name.as_str())?;
+    Ok(names.push(' ')?)
 }
 
 /// A name, if there is a text.
@@ -57,81 +52,31 @@ fn given(alloc: Global, texts: &[Option<&str>]) -> Result<AttrObj<DemoAttr>, Fai
     Ok(AttrObj::GivenNames(names))
 }
 
-/// Makes a block with this label or none, and as many arguments.
-fn made(
-    alloc: Global,
-    ctx: &mut Ctx,
-    label: Option<&str>,
-    count: usize,
-) -> Result<Ptr<BasicBlock>, Fail> {
-    let label = name_of(alloc, label)?;
-    let mut types = Vec::new(alloc);
-    for _ in 0..count {
-        types.push(DemoType::Pointer)?;
-    }
-    Ok(
-        BasicBlock::new(ctx, label, Few::from_vec(types))
-            .ok()
-            .ok_or("refused")?,
-    )
-}
-
-/// Gives names to the arguments of a block.
-fn name_arguments(
-    alloc: Global,
-    ctx: &mut Ctx,
-    block: Ptr<BasicBlock>,
-    names: &[Option<&str>],
-) -> Result<(), Fail> {
-    let key = named(alloc, GIVEN_NAMES_KEY)?;
-    let attr = given(alloc, names)?;
-    if ctx.contains_block(block) {
-        block.set_attribute(ctx, key, attr).ok().ok_or("refused")?;
-    }
-    Ok(())
-}
-
 /// The names of the first four arguments of a block.
 fn argument_names(alloc: Global, ctx: &Ctx, block: Ptr<BasicBlock>) -> Result<String, Fail> {
-    let values = [
-        Value::Argument(block, 0),
-        Value::Argument(block, 1),
-        Value::Argument(block, 2),
-        Value::Argument(block, 3),
-    ];
-    value_names(alloc, ctx, &values)
+    let mut names = String::new(alloc);
+    for index in 0..4 {
+        append(alloc, ctx, Value::Argument(block, index), &mut names)?;
+    }
+    Ok(names)
 }
 
 /// The names of a block's three arguments, without given names and with two, of which one is left out.
 fn of_arguments(alloc: Global, ctx: &mut Ctx) -> Result<String, Fail> {
-    let block = made(alloc, ctx, Some("entry"), 3)?;
+    let block = block(alloc, ctx, "entry", types(alloc, "ppp")?)?;
     let without = argument_names(alloc, ctx, block)?;
-    name_arguments(alloc, ctx, block, &[None, Some("x")])?;
+    let names = given(alloc, &[None, Some("x")])?;
+    give(alloc, ctx, Item::Block(block), GIVEN_NAMES_KEY, names)?;
     let with = argument_names(alloc, ctx, block)?;
     Ok(format!(in alloc; "{without}| {with}")?)
-}
-
-#[test]
-fn arguments_have_their_blocks_names(rt: HostRuntime) -> Result<(), Fail> {
-    assert_eq!(rt;
-        with_context(rt.alloc(), of_arguments)?.as_str(),
-        "v0 v1 v2 - | v0 x_v1 v2 - "
-    );
-    Ok(())
 }
 
 /// The data of a module whose first result has the name `c0`.
 fn named_data(alloc: Global, ctx: &mut Ctx) -> Result<Option<OperationData<DemoAttr>>, Fail> {
     let op = make(alloc, ctx)?;
-    let key = named(alloc, GIVEN_NAMES_KEY)?;
-    let attr = given(alloc, &[Some("c0")])?;
-    if !ctx.contains_operation(op) {
-        return Ok(None);
-    }
-    op.set_attribute(ctx, key, attr).ok().ok_or("refused")?;
-    if !ctx.contains_operation(op) {
-        return Ok(None);
-    }
+    let names = given(alloc, &[Some("c0")])?;
+    give(alloc, ctx, Item::Operation(op), GIVEN_NAMES_KEY, names)?;
+    live(ctx, op)?;
     Ok(ctx.graph_mut().operation_mut(op).take())
 }
 
@@ -149,38 +94,21 @@ fn of_results(alloc: Global, ctx: &mut Ctx) -> Result<String, Fail> {
     let data = named_data(alloc, ctx)?;
     let op = with_results(ctx, data)?;
     let placeholder = with_results(ctx, None)?;
-    let values = [
-        Value::Result(op, 0),
-        Value::Result(op, 1),
-        Value::Result(op, 2),
-        Value::Result(placeholder, 0),
-    ];
-    value_names(alloc, ctx, &values)
-}
-
-#[test]
-fn results_have_their_operations_names(rt: HostRuntime) -> Result<(), Fail> {
-    assert_eq!(rt;
-        with_context(rt.alloc(), of_results)?.as_str(),
-        "c0_v0 v1 - v2 "
-    );
-    Ok(())
-}
-
-/// Erases a block, if nothing uses it.
-fn erase(ctx: &mut Ctx, block: Ptr<BasicBlock>) {
-    if ctx.contains_block(block) && block.can_erase(ctx) {
-        block.erase(ctx);
+    let mut names = String::new(alloc);
+    for index in 0..3 {
+        append(alloc, ctx, Value::Result(op, index), &mut names)?;
     }
+    append(alloc, ctx, Value::Result(placeholder, 0), &mut names)?;
+    Ok(names)
 }
 
 /// The names of two blocks, the second with a label, and of one that is at the place of the first.
 fn of_blocks(alloc: Global, ctx: &mut Ctx) -> Result<String, Fail> {
-    let first = made(alloc, ctx, None, 1)?;
-    let second = made(alloc, ctx, Some("entry"), 0)?;
+    let first = block(alloc, ctx, "", types(alloc, "p")?)?;
+    let second = block(alloc, ctx, "entry", types(alloc, "")?)?;
     let before = block_name(alloc, ctx, first)?;
-    erase(ctx, first);
-    let third = made(alloc, ctx, None, 1)?;
+    erase(ctx, Item::Block(first))?;
+    let third = block(alloc, ctx, "", types(alloc, "p")?)?;
     let gone = block_name(alloc, ctx, first)?;
     let labelled = block_name(alloc, ctx, second)?;
     let again = block_name(alloc, ctx, third)?;
@@ -188,15 +116,46 @@ fn of_blocks(alloc: Global, ctx: &mut Ctx) -> Result<String, Fail> {
     Ok(format!(in alloc; "{before} {gone} {labelled} {again} {argument}")?)
 }
 
+/// What is named.
+#[derive(Clone, Copy)]
+enum Kind {
+    Arguments,
+    Results,
+    Blocks,
+}
+
+/// What is named, the numbers from which values and places count, and the names.
+const NAMES: &[(Kind, u64, u32, &str)] = &[
+    (Kind::Arguments, 0, 1, "v0 v1 v2 - | v0 x_v1 v2 - "),
+    (Kind::Results, 0, 1, "c0_v0 v1 - v2 "),
+    (Kind::Blocks, 0, 1, "block1v1 - entry_block2v1 block1v2 v1"),
+    (
+        Kind::Blocks,
+        7,
+        40,
+        "block40v1 - entry_block41v1 block40v2 v8",
+    ),
+];
+
+/// The names of what is made so.
+fn names_of(alloc: Global, ctx: &mut Ctx, kind: Kind) -> Result<String, Fail> {
+    match kind {
+        Kind::Arguments => of_arguments(alloc, ctx),
+        Kind::Results => of_results(alloc, ctx),
+        Kind::Blocks => of_blocks(alloc, ctx),
+    }
+}
+
 #[test]
-fn blocks_have_their_place_and_generation(rt: HostRuntime) -> Result<(), Fail> {
-    assert_eq!(rt;
-        with_context(rt.alloc(), of_blocks)?.as_str(),
-        "block1v1 - entry_block2v1 block1v2 v1"
-    );
-    assert_eq!(rt;
-        with_counters(rt.alloc(), 7, 40, of_blocks)?.as_str(),
-        "block40v1 - entry_block41v1 block40v2 v8"
-    );
+fn values_and_blocks_have_their_names(rt: HostRuntime) -> Result<(), Fail> {
+    for row in NAMES {
+        let names = with_counters(
+            rt.alloc(),
+            row.1,
+            row.2,
+            |alloc, ctx| names_of(alloc, ctx, row.0),
+        )?;
+        assert_eq!(rt; names.as_str(), row.3);
+    }
     Ok(())
 }

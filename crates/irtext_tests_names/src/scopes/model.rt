@@ -1,5 +1,5 @@
 //! A plain model of a tracker: the open scopes as vectors of their bindings, which are searched.
-use crate::scopes::steps::Answer;
+use crate::steps::Answer;
 use irtext_tests_common::calls::Call;
 use irtext_tests_common::mentioned::Mentioned;
 use std::alloc::{AllocError, Global};
@@ -69,7 +69,7 @@ impl Table {
 
     fn used(&mut self, name: usize, value: u32) -> Result<Answer, AllocError> {
         if self.scopes.is_empty() {
-            return Ok(Answer::Refused);
+            return Ok(Answer::NoScope);
         }
         if let Some(bound) = self.find(name) {
             return Ok(Answer::Holds(bound.value));
@@ -85,12 +85,12 @@ impl Table {
 
     fn defined(&mut self, name: usize, value: u32) -> Result<Answer, AllocError> {
         let answer = match self.find(name) {
-            Some(bound) if bound.is_defined => Answer::Refused,
+            Some(bound) if bound.is_defined => Answer::Twice,
             Some(bound) => Answer::Holds(bound.value),
-            None if self.scopes.is_empty() => Answer::Refused,
+            None if self.scopes.is_empty() => Answer::NoScope,
             None => Answer::Done,
         };
-        if answer != Answer::Refused {
+        if matches!(answer, Answer::Holds(_) | Answer::Done) {
             let is_defined = true;
             self.bind(Bound {
                 name,
@@ -120,11 +120,16 @@ impl Model {
         }
     }
 
+    /// Whether a region is open.
+    pub(crate) fn is_open(&self) -> bool {
+        !self.values.scopes.is_empty() || !self.labels.scopes.is_empty()
+    }
+
     fn enter(&mut self, isolated: bool) -> Result<Answer, AllocError> {
         if isolated {
             self.values.enter()?;
         } else if self.values.scopes.is_empty() {
-            return Ok(Answer::Refused);
+            return Ok(Answer::NotIsolated);
         }
         self.labels.enter()?;
         Ok(Answer::Done)

@@ -1,6 +1,7 @@
 //! Many names, many uses, and many scopes.
-use crate::scopes::steps::Answer::{Done, Holds};
-use crate::scopes::steps::{Answer, Tracker, step};
+use crate::scopes::steps::{Tracker, step};
+use crate::steps::Answer;
+use crate::steps::Answer::{Done, Holds};
 use irtext_scopes::tracker::NameTracker;
 use irtext_tests_common::calls::Call;
 use irtext_tests_common::calls::Call::{

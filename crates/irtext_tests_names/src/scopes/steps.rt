@@ -1,27 +1,20 @@
 //! One step on a tracker, and whether the calls of a script have their results.
 ghost use Rattle.std.specs.Prelude.{◌<◌, length};
 
+use crate::rows::refusal;
+use crate::steps::Answer;
 use irtext_scopes::scopes::DefineFault;
-use irtext_scopes::tracker::NameTracker;
+use irtext_scopes::tracker::{EnterFault, NameTracker};
 use irtext_tests_common::calls::{Call, call_of};
 use std::alloc::{AllocError, Global};
 
 pub(crate) type Tracker = NameTracker<u32, u32>;
 
-/// The result: success, an error, what a name refers to or referred to before, or that a
-/// region lacks a definition of this name.
-#[derive(Clone, Copy, PartialEq, Eq)]
-pub(crate) enum Answer {
-    Done,
-    Refused,
-    Holds(u32),
-    Lacks,
-}
-
 fn entered(tracker: &mut Tracker, isolated: bool) -> Answer {
     match tracker.enter_region(isolated) {
         Ok(()) => Answer::Done,
-        Err(_) => Answer::Refused,
+        Err(EnterFault::TopLevelOpRegionNotIsolatedFromAbove) => Answer::NotIsolated,
+        Err(EnterFault::Memory) => Answer::NoMemory,
     }
 }
 
@@ -34,7 +27,7 @@ fn left(tracker: &mut Tracker, isolated: bool, name: usize) -> Answer
             if tracker.name(lacking) == tracker.name(name) {
                 Answer::Lacks
             } else {
-                Answer::Refused
+                Answer::LacksAnother
             }
         }
     }
@@ -58,11 +51,11 @@ fn used_label(tracker: &mut Tracker, name: usize, placeholder: u32) -> Result<An
     Ok(held(tracker.block_use(name)))
 }
 
-/// What a name refers to, or an error if no scope is open.
+/// What a name refers to; it refers to nothing if no scope is open.
 fn held(known: Option<u32>) -> Answer {
     match known {
         Some(value) => Answer::Holds(value),
-        None => Answer::Refused,
+        None => Answer::NoScope,
     }
 }
 
@@ -70,7 +63,7 @@ fn defined(tracker: &mut Tracker, name: usize, value: u32) -> Answer
     requires { name < length tracker.old.names }
 {
     if !tracker.has_value_scope() {
-        return Answer::Refused;
+        return Answer::NoScope;
     }
     replaced(tracker.ssa_def(name, value))
 }
@@ -79,7 +72,7 @@ fn defined_label(tracker: &mut Tracker, name: usize, block: u32) -> Answer
     requires { name < length tracker.old.names }
 {
     if !tracker.has_label_scope() {
-        return Answer::Refused;
+        return Answer::NoScope;
     }
     replaced(tracker.block_def(name, block))
 }
@@ -89,7 +82,8 @@ fn replaced(definition: Result<Option<u32>, DefineFault>) -> Answer {
     match definition {
         Ok(Some(placeholder)) => Answer::Holds(placeholder),
         Ok(None) => Answer::Done,
-        Err(_) => Answer::Refused,
+        Err(DefineFault::MultipleDefinitions) => Answer::Twice,
+        Err(DefineFault::Memory) => Answer::NoMemory,
     }
 }
 
@@ -120,11 +114,11 @@ fn number(text: &str) -> Option<u32> {
 
 /// The call of a word of a script, its name, its placeholder or definition, and the result.
 fn row_of(word: &str) -> Option<(Call, &str, u32, Answer)> {
-    if let Some((called, lacking)) = word.split_once('!') {
+    if let Some((called, answer)) = word.split_once('!') {
         let (call, name, value) = called_with(called)?;
-        return Some(match lacking {
-            "" => (call, name, value, Answer::Refused),
-            _ => (call, lacking, value, Answer::Lacks),
+        return Some(match refusal(answer) {
+            Some(refusal) => (call, name, value, refusal),
+            None => (call, answer, value, Answer::Lacks),
         });
     }
     let Some((called, held)) = word.split_once('>') else {

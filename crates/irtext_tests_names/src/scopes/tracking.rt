@@ -4,16 +4,16 @@ use irtext_scopes::tracker::NameTracker;
 use std::test::Fail;
 
 /// Scripts: a call on a name has a placeholder or a definition after `:`, and what the name refers to, or referred to before, after `>`; an
-/// error is `!`, before the name that a region lacks if it is that.
+/// error, or the name that a region lacks, comes after `!`.
 const SCRIPTS: &[&str] = &[
     // a name is used before it is defined, and defined once
-    "[ x:100>100 x:101>100 x=:1>100 x:102>1 x=:2! x:103>1 y=:3 y=:4! ]",
+    "[ x:100>100 x:101>100 x=:1>100 x:102>1 x=:2!twice x:103>1 y=:3 y=:4!twice ]",
     // a region whose operation is isolated hides the names around it, and they are visible again when it is left
-    "[ x=:1 y:100>100 [ x:101>101 x=:2>101 y=:3 x:102>2 ] x:103>1 y:104>100 x=:4! y=:5>100 ] x:105!",
+    "[ x=:1 y:100>100 [ x:101>101 x=:2>101 y=:3 x:102>2 ] x:103>1 y:104>100 x=:4!twice y=:5>100 ] x:105!closed",
     // a region whose operation is not isolated has the names of values around it, and labels of its own
-    "{! [ x=:1 ^b=:10 { x:100>1 x=:2! z=:3 ^b:200>200 }!b z:101>3 ^b:201>10 ^b=:11! ]",
+    "{!shared [ x=:1 ^b=:10 { x:100>1 x=:2!twice z=:3 ^b:200>200 }!b z:101>3 ^b:201>10 ^b=:11!twice ]",
     // the first name that was mentioned is returned, values before labels, and the scopes are left all the same
-    "[ [ ^b:200>200 x:100>100 y:101>101 z:102>102 x=:1>100 ]!y y:103>103 ^b:201>201 ^c:202>202 ^b=:10>201 y=:2>103 ]!c ^c=:11!",
+    "[ [ ^b:200>200 x:100>100 y:101>101 z:102>102 x=:1>100 ]!y y:103>103 ^b:201>201 ^c:202>202 ^b=:10>201 y=:2>103 ]!c ^c=:11!closed",
 ];
 
 #[test]

@@ -1,13 +1,18 @@
 //! Which operations fit their formats, and the first reason why the others do not.
-use crate::tests::building::{block, give_operation, id, operation, register};
+use crate::tests::steps::give_letter;
 use irtext_base::location::Location;
 use irtext_context::base::context::making::Making;
-use irtext_context::base::{BasicBlock, Operation, Ptr, Value};
+use irtext_context::base::{BasicBlock, Item, Operation, Ptr, Value};
 use irtext_dict::base::AttributeDict;
 use irtext_print_ops::fits::{FitFault, check_fits};
-use irtext_tests_common::contexts::{Ctx, with_context};
+use irtext_tests_common::building::{block, id, live, operation, register, types};
+use irtext_tests_common::contexts::Ctx;
+use irtext_tests_common::tables::failing_demo;
 use std::alloc::Global;
 use std::test::Fail;
+
+/// The id of the operations.
+const ID: (&str, &str) = ("lab", "d");
 
 /// The number of operands, successors and regions.
 type Counts = (usize, usize, usize);
@@ -63,7 +68,7 @@ fn told(alloc: Global, answer: Result<(), FitFault<'_>>) -> Result<String, Fail>
 
 /// Makes an operation that is not registered.
 fn unregistered(alloc: Global, ctx: &mut Ctx) -> Result<Ptr<Operation>, Fail> {
-    let id = id(alloc, "d")?;
+    let id = id(alloc, ID)?;
     Ok(ctx.make_operation(id, AttributeDict::new(alloc), Location::Unknown)?)
 }
 
@@ -79,11 +84,11 @@ fn made(
         return Err(Fail::from("too many parts"));
     }
     let values = [Value::Argument(blocks[0], 0), Value::Argument(blocks[0], 1)];
-    let name = ("d", row.1);
+    let (id, results) = (id(alloc, ID)?, types(alloc, row.1)?);
     operation(
-        alloc,
         ctx,
-        name,
+        id,
+        results,
         &values[..operands],
         &blocks[..successors],
         regions,
@@ -92,43 +97,34 @@ fn made(
 
 /// Makes the operation of a row that is registered.
 fn registered(alloc: Global, ctx: &mut Ctx, row: &Row) -> Result<Ptr<Operation>, Fail> {
-    register(alloc, ctx, "d", row.0)?;
-    let first = block(alloc, ctx, "", "pp")?;
-    let second = block(alloc, ctx, "", "")?;
+    register(alloc, ctx, ID, row.0)?;
+    let first = block(alloc, ctx, "", types(alloc, "pp")?)?;
+    let second = block(alloc, ctx, "", types(alloc, "")?)?;
     let op = made(alloc, ctx, row, [first, second])?;
     for letter in row.3.chars() {
-        give_operation(alloc, ctx, op, letter)?;
+        give_letter(alloc, ctx, Item::Operation(op), letter)?;
     }
     Ok(op)
 }
 
 /// The text of the result for an operation.
 fn checked(alloc: Global, ctx: &Ctx, op: Ptr<Operation>) -> Result<String, Fail> {
-    if !ctx.contains_operation(op) {
-        return Err(Fail::from("no such operation"));
-    }
+    live(ctx, op)?;
     told(alloc, check_fits(ctx, op))
 }
 
-/// The text of the result for the operation of a row.
-fn said(alloc: Global, ctx: &mut Ctx, row: &Row) -> Result<String, Fail> {
+/// Whether the operation of a row has this result.
+fn holds(alloc: Global, ctx: &mut Ctx, row: &Row) -> Result<bool, Fail> {
     let op = if row.0 == "?" {
         unregistered(alloc, ctx)?
     } else {
         registered(alloc, ctx, row)?
     };
-    checked(alloc, ctx, op)
-}
-
-/// The same in a context of its own.
-fn in_its_own(alloc: Global, row: &Row) -> Result<String, Fail> {
-    with_context(alloc, |alloc, ctx| said(alloc, ctx, row))
+    Ok(checked(alloc, ctx, op)?.as_str() == row.4)
 }
 
 #[test]
 fn operations_fit_or_say_the_first_reason(rt: HostRuntime) -> Result<(), Fail> {
-    for row in ROWS {
-        assert_eq!(rt; in_its_own(rt.alloc(), row)?.as_str(), row.4);
-    }
+    assert_eq!(rt; failing_demo(rt.alloc(), ROWS, holds)?, None);
     Ok(())
 }

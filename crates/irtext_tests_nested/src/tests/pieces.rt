@@ -1,4 +1,4 @@
-//! The pieces of the texts of operations and blocks, each by its own call.
+//! The pieces of the texts of operations and blocks, each by its own call; and which of these are marked, and fit their formats.
 use crate::tests::steps::{FUNCTION, Made, block_of, built, operation_of};
 use irtext_base::format::Directive;
 use irtext_context::base::{BasicBlock, Operation, OperationAccess, Ptr, Value};
@@ -12,7 +12,9 @@ use irtext_print_ops::marks::{is_block_marked, is_operation_marked};
 use irtext_print_ops::names::{fmt_block_label, fmt_value_name};
 use irtext_print_ops::pieces::fmt_piece;
 use irtext_print_ops::results::fmt_results;
+use irtext_tests_common::building::{live, live_block};
 use irtext_tests_common::contexts::{Ctx, with_context};
+use irtext_tests_common::tables::failing;
 use std::alloc::Global;
 use std::test::Fail;
 
@@ -27,6 +29,10 @@ enum Call {
     Label(usize),
     /// The text before a block's operations.
     Head(usize),
+    /// Whether a block is marked.
+    Marked(usize),
+    /// Whether an operation is marked, fits its format, and has the canonical form.
+    Known(usize),
     /// The names of an operation's results.
     Results(usize),
     /// Results and id.
@@ -37,7 +43,7 @@ enum Call {
     Piece(usize, usize),
 }
 
-/// The texts that the calls print in the function, one after the other.
+/// The texts that the calls print in the function.
 const CALLS: &[(Call, &str)] = &[
     (Call::Result(1), "x_v1"),
     (Call::Result(2), "v2"),
@@ -46,6 +52,12 @@ const CALLS: &[(Call, &str)] = &[
     (Call::Label(1), "^exit_block2v1"),
     (Call::Head(0), "^block1v1()"),
     (Call::Head(1), "^exit_block2v1(v0: test.ptr )"),
+    (Call::Marked(0), "false"),
+    (Call::Marked(1), "true"),
+    (Call::Known(0), "true true false"),
+    (Call::Known(1), "true true false"),
+    (Call::Known(2), "false true false"),
+    (Call::Known(3), "true true false"),
     (Call::Results(1), "x_v1 = "),
     (Call::Results(3), ""),
     (Call::Front(0), "lab.fn"),
@@ -74,9 +86,7 @@ fn value_name(ctx: &Ctx, value: Value, text: &mut String) -> Result<(), Fail> {
 
 /// Appends the label of a block, or everything before its operations.
 fn of_block(ctx: &Ctx, block: Ptr<BasicBlock>, whole: bool, text: &mut String) -> Result<(), Fail> {
-    if !ctx.contains_block(block) {
-        return Err(Fail::from("no such block"));
-    }
+    live_block(ctx, block)?;
     if whole {
         return Ok(fmt_block_head(ctx, block, text).ok().ok_or("refused")?);
     }
@@ -91,9 +101,7 @@ fn of_directive(
     directive: &Directive,
     text: &mut String,
 ) -> Result<(), Fail> {
-    if !ctx.contains_operation(op) {
-        return Err(Fail::from("no such operation"));
-    }
+    live(ctx, op)?;
     Ok(
         fmt_piece(ctx, op, directives, directive, text)
             .ok()
@@ -103,9 +111,7 @@ fn of_directive(
 
 /// Appends the text of the directive of an index.
 fn piece(ctx: &Ctx, op: Ptr<Operation>, index: usize, text: &mut String) -> Result<(), Fail> {
-    if !ctx.contains_operation(op) {
-        return Err(Fail::from("no such operation"));
-    }
+    live(ctx, op)?;
     let directives = directives_in(ctx, op.get_opid(ctx)).ok_or("no directives")?;
     let directive = directives.get(index).ok_or("no such directive")?;
     of_directive(ctx, op, directives, directive, text)
@@ -113,15 +119,29 @@ fn piece(ctx: &Ctx, op: Ptr<Operation>, index: usize, text: &mut String) -> Resu
 
 /// Appends the text of a call on an operation.
 fn of_operation(ctx: &Ctx, op: Ptr<Operation>, call: Call, text: &mut String) -> Result<(), Fail> {
-    if !ctx.contains_operation(op) {
-        return Err(Fail::from("no such operation"));
-    }
+    live(ctx, op)?;
     let answer = match call {
         Call::Results(_) => fmt_results(ctx, op, text),
         Call::Front(_) => begin_front(ctx, op, text).map(|_| ()),
         _ => fmt_canonical_front(ctx, op, text),
     };
     Ok(answer.ok().ok_or("refused")?)
+}
+
+/// Appends whether an operation is marked, fits its format, and has the canonical form.
+fn known(ctx: &Ctx, op: Ptr<Operation>, text: &mut String) -> Result<(), Fail> {
+    live(ctx, op)?;
+    let marked = is_operation_marked(ctx, op);
+    let fits = check_fits(ctx, op).is_ok();
+    let canonical = is_canonical(ctx, op);
+    Ok(write!(text, "{marked} {fits} {canonical}")?)
+}
+
+/// Appends whether a block is marked.
+fn marked(ctx: &Ctx, block: Ptr<BasicBlock>, text: &mut String) -> Result<(), Fail> {
+    live_block(ctx, block)?;
+    let marked = is_block_marked(ctx, block);
+    Ok(write!(text, "{marked}")?)
 }
 
 /// Appends the text of a call.
@@ -133,6 +153,8 @@ fn write(ctx: &Ctx, made: &Made, call: Call, text: &mut String) -> Result<(), Fa
         }
         Call::Label(block) => of_block(ctx, block_of(made, block)?, false, text),
         Call::Head(block) => of_block(ctx, block_of(made, block)?, true, text),
+        Call::Marked(block) => marked(ctx, block_of(made, block)?, text),
+        Call::Known(op) => known(ctx, operation_of(made, op)?, text),
         Call::Piece(op, index) => piece(ctx, operation_of(made, op)?, index, text),
         Call::Results(op) | Call::Front(op) | Call::Canonical(op) => {
             of_operation(ctx, operation_of(made, op)?, call, text)
@@ -140,65 +162,21 @@ fn write(ctx: &Ctx, made: &Made, call: Call, text: &mut String) -> Result<(), Fa
     }
 }
 
+/// Whether a call prints this text.
+fn is_written(alloc: Global, ctx: &Ctx, made: &Made, row: &(Call, &str)) -> Result<bool, Fail> {
+    let mut text = String::new(alloc);
+    write(ctx, made, row.0, &mut text)?;
+    Ok(text.as_str() == row.1)
+}
+
 /// The number of the first call that prints another text.
 fn differing(alloc: Global, ctx: &mut Ctx) -> Result<Option<usize>, Fail> {
     let made = built(alloc, ctx, FUNCTION)?;
-    for (number, row) in CALLS.iter().enumerate() {
-        let mut text = String::new(alloc);
-        write(ctx, &made, row.0, &mut text)?;
-        if text.as_str() != row.1 {
-            return Ok(Some(number));
-        }
-    }
-    Ok(None)
+    failing(CALLS, ctx, |ctx, row| is_written(alloc, ctx, &made, row))
 }
 
 #[test]
-fn pieces_are_written_by_their_calls(rt: HostRuntime) -> Result<(), Fail> {
+fn pieces_and_marks_are_written_by_their_calls(rt: HostRuntime) -> Result<(), Fail> {
     assert_eq!(rt; with_context(rt.alloc(), differing)?, None);
-    Ok(())
-}
-
-/// The expected text for operations and blocks of the function, in their order: whether each operation is marked, fits its format, and has
-/// the canonical form; and whether each block is marked.
-const SAID: &str =
-    "o true true false o true true false o false true false o true true false b false b true ";
-
-/// Appends the text for an operation.
-fn tell_operation(ctx: &Ctx, op: Ptr<Operation>, text: &mut String) -> Result<(), Fail> {
-    if !ctx.contains_operation(op) {
-        return Err(Fail::from("no such operation"));
-    }
-    let marked = is_operation_marked(ctx, op);
-    let fits = check_fits(ctx, op).is_ok();
-    let canonical = is_canonical(ctx, op);
-    Ok(write!(text, "o {marked} {fits} {canonical} ")?)
-}
-
-/// Appends the text for a block.
-fn tell_block(ctx: &Ctx, block: Ptr<BasicBlock>, text: &mut String) -> Result<(), Fail> {
-    if !ctx.contains_block(block) {
-        return Err(Fail::from("no such block"));
-    }
-    let marked = is_block_marked(ctx, block);
-    Ok(write!(text, "b {marked} ")?)
-}
-
-/// The text for the function.
-fn said(alloc: Global, ctx: &mut Ctx) -> Result<String, Fail> {
-    let made = built(alloc, ctx, FUNCTION)?;
-    let mut text = String::new(alloc);
-    for op in &made.operations {
-        tell_operation(ctx, *op, &mut text)?;
-    }
-    for block in &made.blocks {
-        tell_block(ctx, *block, &mut text)?;
-    }
-    Ok(text)
-}
-
-#[test]
-fn marks_and_formats_are_known(rt: HostRuntime) -> Result<(), Fail> {
-    assert_eq!(rt; with_context(rt.alloc(), said)?.as_str(), SAID);
     Ok(())
 }

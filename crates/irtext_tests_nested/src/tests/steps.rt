@@ -1,10 +1,11 @@
-//! The steps on an empty context, one after the other: operations and blocks are given by their number, in the order in which they
-//! were made.
-use crate::tests::building::{
-    block, give_block, give_operation, into_block, into_region, operation, place_block,
-    place_operation, placeholder, register,
+//! The steps on a context, one after the other: operations and blocks are given by their number, in the order in which they were made.
+use irtext_base::base::{GIVEN_NAMES_KEY, SYM_NAME_KEY};
+use irtext_context::base::{BasicBlock, Item, Operation, Ptr, Value};
+use irtext_few::Few;
+use irtext_graph::held::HasGraph;
+use irtext_tests_common::building::{
+    attribute, block, give, id, into_block, into_region, operation, place, register, types,
 };
-use irtext_context::base::{BasicBlock, Operation, Ptr, Value};
 use irtext_tests_common::contexts::Ctx;
 use std::alloc::Global;
 use std::test::Fail;
@@ -16,14 +17,11 @@ pub(crate) enum Used {
     Argument(usize, usize),
 }
 
-/// An operation: its name, the types of its results, what it uses, and how many regions it has.
+/// An operation or a block.
 #[derive(Clone, Copy)]
-pub(crate) struct Shape {
-    pub name: &'static str,
-    pub results: &'static str,
-    pub operands: &'static [Used],
-    pub successors: &'static [usize],
-    pub regions: usize,
+pub(crate) enum Part {
+    Operation(usize),
+    Block(usize),
 }
 
 /// One step.
@@ -31,24 +29,20 @@ pub(crate) struct Shape {
 pub(crate) enum Step {
     /// Registers an operation of the dialect `lab` with the format of these letters.
     Register(&'static str, &'static str),
-    /// Makes an operation.
-    Operation(Shape),
-    /// Makes a block with this label or none, and arguments of these types.
-    Block(&'static str, &'static str),
-    /// Puts a block into the region of an operation.
-    IntoRegion(usize, usize, usize),
-    /// Puts an operation into a block.
-    IntoBlock(usize, usize),
-    /// Puts a placeholder into a block.
+    /// Makes an operation with so many regions.
+    Root(&'static str, usize),
+    /// Makes such an operation last in a block.
+    Inner(usize, &'static str, usize),
+    /// Makes an operation last in a block, with results of these types, that uses these values and blocks.
+    Using(usize, &'static str, &'static str, &'static [Used], &'static [usize]),
+    /// Makes a block last in the region of an operation, with this label or none, and arguments of these types.
+    Block(usize, usize, &'static str, &'static str),
+    /// Makes a placeholder last in a block.
     Placeholder(usize),
-    /// Gives an operation an attribute.
-    GiveOperation(usize, char),
-    /// Gives a block an attribute.
-    GiveBlock(usize, char),
-    /// Gives an operation a location.
-    PlaceOperation(usize),
-    /// Gives a block a location.
-    PlaceBlock(usize),
+    /// Gives a part the attribute for a letter.
+    Give(Part, char),
+    /// Gives a part a location.
+    Place(Part),
 }
 
 /// The operations and the blocks that were made, in order.
@@ -71,6 +65,14 @@ pub(crate) fn block_of(made: &Made, number: usize) -> Result<Ptr<BasicBlock>, Fa
     match made.blocks.get(number) {
         Some(block) => Ok(*block),
         None => Err(Fail::from("no such block")),
+    }
+}
+
+/// The item of a part.
+fn item_of(made: &Made, part: Part) -> Result<Item, Fail> {
+    match part {
+        Part::Operation(number) => Ok(Item::Operation(operation_of(made, number)?)),
+        Part::Block(number) => Ok(Item::Block(block_of(made, number)?)),
     }
 }
 
@@ -100,33 +102,95 @@ fn blocks_of(alloc: Global, made: &Made, numbers: &[usize]) -> Result<Vec<Ptr<Ba
     Ok(blocks)
 }
 
-/// Makes an operation.
-fn make_operation(alloc: Global, ctx: &mut Ctx, made: &mut Made, shape: Shape) -> Result<(), Fail> {
-    let values = values_of(alloc, made, shape.operands)?;
-    let blocks = blocks_of(alloc, made, shape.successors)?;
-    let name = (shape.name, shape.results);
-    let op = operation(alloc, ctx, name, &values, &blocks, shape.regions)?;
-    Ok(made.operations.push(op)?)
+/// Makes an operation that uses nothing.
+fn make_root(
+    alloc: Global,
+    ctx: &mut Ctx,
+    made: &mut Made,
+    name: &str,
+    regions: usize,
+) -> Result<Ptr<Operation>, Fail> {
+    let id = id(alloc, ("lab", name))?;
+    let op = operation(ctx, id, Few::none(), &[], &[], regions)?;
+    made.operations.push(op)?;
+    Ok(op)
 }
 
-/// Makes a block.
+/// Makes an operation without regions.
+fn make_using(
+    alloc: Global,
+    ctx: &mut Ctx,
+    made: &mut Made,
+    name: (&str, &str),
+    used: &[Used],
+    successors: &[usize],
+) -> Result<Ptr<Operation>, Fail> {
+    let values = values_of(alloc, made, used)?;
+    let blocks = blocks_of(alloc, made, successors)?;
+    let id = id(alloc, ("lab", name.0))?;
+    let op = operation(ctx, id, types(alloc, name.1)?, &values, &blocks, 0)?;
+    made.operations.push(op)?;
+    Ok(op)
+}
+
+/// Makes a block with this label or none, and arguments of these types.
 fn make_block(
     alloc: Global,
     ctx: &mut Ctx,
     made: &mut Made,
     label: &str,
-    types: &str,
+    letters: &str,
+) -> Result<Ptr<BasicBlock>, Fail> {
+    let block = block(alloc, ctx, label, types(alloc, letters)?)?;
+    made.blocks.push(block)?;
+    Ok(block)
+}
+
+/// Makes a placeholder last in a block.
+fn placeholder(ctx: &mut Ctx, block: Ptr<BasicBlock>) -> Result<(), Fail> {
+    let op = ctx.graph_mut().make_operation(None, Few::none(), &[], &[])?;
+    into_block(ctx, op, block)
+}
+
+/// The key of the attribute for a letter.
+fn key_of(letter: char) -> &'static str {
+    match letter {
+        'g' => GIVEN_NAMES_KEY,
+        's' | 't' => SYM_NAME_KEY,
+        'n' => "n",
+        _ => "k",
+    }
+}
+
+/// Gives an item the attribute for a letter.
+pub(crate) fn give_letter(
+    alloc: Global,
+    ctx: &mut Ctx,
+    item: Item,
+    letter: char,
 ) -> Result<(), Fail> {
-    let block = block(alloc, ctx, label, types)?;
-    Ok(made.blocks.push(block)?)
+    give(alloc, ctx, item, key_of(letter), attribute(alloc, letter)?)
 }
 
 /// Makes the step if it makes an object.
 fn make(alloc: Global, ctx: &mut Ctx, made: &mut Made, step: Step) -> Result<(), Fail> {
     match step {
-        Step::Register(name, letters) => register(alloc, ctx, name, letters),
-        Step::Operation(shape) => make_operation(alloc, ctx, made, shape),
-        Step::Block(label, types) => make_block(alloc, ctx, made, label, types),
+        Step::Root(name, regions) => {
+            make_root(alloc, ctx, made, name, regions)?;
+            Ok(())
+        }
+        Step::Inner(block, name, regions) => {
+            let op = make_root(alloc, ctx, made, name, regions)?;
+            into_block(ctx, op, block_of(made, block)?)
+        }
+        Step::Using(block, name, results, used, successors) => {
+            let op = make_using(alloc, ctx, made, (name, results), used, successors)?;
+            into_block(ctx, op, block_of(made, block)?)
+        }
+        Step::Block(op, region, label, letters) => {
+            let block = make_block(alloc, ctx, made, label, letters)?;
+            into_region(ctx, block, operation_of(made, op)?, region)
+        }
         _ => change(alloc, ctx, made, step),
     }
 }
@@ -134,19 +198,10 @@ fn make(alloc: Global, ctx: &mut Ctx, made: &mut Made, step: Step) -> Result<(),
 /// Makes the step if it changes an object.
 fn change(alloc: Global, ctx: &mut Ctx, made: &Made, step: Step) -> Result<(), Fail> {
     match step {
-        Step::IntoRegion(block, op, index) => {
-            into_region(ctx, block_of(made, block)?, operation_of(made, op)?, index)
-        }
-        Step::IntoBlock(op, block) => {
-            into_block(ctx, operation_of(made, op)?, block_of(made, block)?)
-        }
+        Step::Register(name, letters) => register(alloc, ctx, ("lab", name), letters),
         Step::Placeholder(block) => placeholder(ctx, block_of(made, block)?),
-        Step::GiveOperation(op, letter) => {
-            give_operation(alloc, ctx, operation_of(made, op)?, letter)
-        }
-        Step::GiveBlock(block, letter) => give_block(alloc, ctx, block_of(made, block)?, letter),
-        Step::PlaceOperation(op) => place_operation(ctx, operation_of(made, op)?),
-        Step::PlaceBlock(block) => place_block(ctx, block_of(made, block)?),
+        Step::Give(part, letter) => give_letter(alloc, ctx, item_of(made, part)?, letter),
+        Step::Place(part) => place(ctx, item_of(made, part)?, 1),
         _ => Ok(()),
     }
 }
@@ -169,45 +224,22 @@ pub(crate) const FUNCTION: &[Step] = &[
     Step::Register("const", "k:v"),
     Step::Register("add", "0,1:v"),
     Step::Register("br", "s"),
-    Step::Operation(Shape {
-        name: "fn",
-        results: "",
-        operands: &[],
-        successors: &[],
-        regions: 1,
-    }),
-    Step::GiveOperation(0, 's'),
-    Step::GiveOperation(0, 'k'),
-    Step::PlaceOperation(0),
-    Step::Block("", ""),
-    Step::IntoRegion(0, 0, 0),
-    Step::Block("exit", "p"),
-    Step::IntoRegion(1, 0, 0),
-    Step::Operation(Shape {
-        name: "const",
-        results: "p",
-        operands: &[],
-        successors: &[],
-        regions: 0,
-    }),
-    Step::GiveOperation(1, 'k'),
-    Step::GiveOperation(1, 'g'),
-    Step::IntoBlock(1, 0),
-    Step::Operation(Shape {
-        name: "add",
-        results: "p",
-        operands: &[Used::Result(1, 0), Used::Result(1, 0)],
-        successors: &[],
-        regions: 0,
-    }),
-    Step::IntoBlock(2, 0),
-    Step::Operation(Shape {
-        name: "br",
-        results: "",
-        operands: &[],
-        successors: &[1],
-        regions: 0,
-    }),
-    Step::IntoBlock(3, 0),
-    Step::PlaceOperation(3),
+    Step::Root("fn", 1),
+    Step::Give(Part::Operation(0), 's'),
+    Step::Give(Part::Operation(0), 'k'),
+    Step::Place(Part::Operation(0)),
+    Step::Block(0, 0, "", ""),
+    Step::Block(0, 0, "exit", "p"),
+    Step::Using(0, "const", "p", &[], &[]),
+    Step::Give(Part::Operation(1), 'k'),
+    Step::Give(Part::Operation(1), 'g'),
+    Step::Using(
+        0,
+        "add",
+        "p",
+        &[Used::Result(1, 0), Used::Result(1, 0)],
+        &[],
+    ),
+    Step::Using(0, "br", "", &[], &[1]),
+    Step::Place(Part::Operation(3)),
 ];

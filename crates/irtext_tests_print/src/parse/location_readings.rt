@@ -5,6 +5,8 @@ use irtext_demo::DemoAttr;
 use irtext_parse_root::parsable::{Parsable, SourcePosition, parse_from_str};
 use irtext_print_ir::printable::Disp;
 use irtext_tests_common::contexts::{Ctx, with_context};
+use irtext_tests_common::nesting::between;
+use irtext_tests_common::tables::failing_demo;
 use std::alloc::Global;
 use std::test::Fail;
 
@@ -97,25 +99,6 @@ fn locations_of_a_text(rt: HostRuntime) -> Result<(), Fail> {
     Ok(())
 }
 
-/// A text between two others, each so many times.
-fn between(
-    alloc: Global,
-    depth: usize,
-    front: &str,
-    inside: &str,
-    back: &str,
-) -> Result<String, Fail> {
-    let mut text = String::new(alloc);
-    for _ in 0..depth {
-        text.push_str(front)?;
-    }
-    text.push_str(inside)?;
-    for _ in 0..depth {
-        text.push_str(back)?;
-    }
-    Ok(text)
-}
-
 /// Whether a text is parsed as a location.
 fn is_read(ctx: &mut Ctx, text: &str) -> bool {
     location(ctx, text).is_ok()
@@ -163,18 +146,18 @@ fn shown(
     Ok(format!(in alloc; "{} {}", source.disp(ctx), position.disp(ctx))?)
 }
 
-/// The printed texts of a source and a position that are parsed.
-fn source_and_position(alloc: Global, ctx: &mut Ctx) -> Result<String, Fail> {
-    let source = source(ctx, "\"b\"").ok_or("refused")?;
-    let position = position(ctx, "line : 3,column:4").ok_or("refused")?;
-    shown(alloc, ctx, &source, &position)
+/// Texts of a source and a position, and the printed texts of what they are parsed as.
+const PLACES: &[(&str, &str, &str)] = &[("\"b\"", "line : 3,column:4", "\"b\" line: 3, column: 4")];
+
+/// Whether a source and a position are parsed and printed so.
+fn holds(alloc: Global, ctx: &mut Ctx, row: &(&str, &str, &str)) -> Result<bool, Fail> {
+    let source = source(ctx, row.0).ok_or("refused")?;
+    let position = position(ctx, row.1).ok_or("refused")?;
+    Ok(shown(alloc, ctx, &source, &position)?.as_str() == row.2)
 }
 
 #[test]
 fn sources_and_positions_of_a_text(rt: HostRuntime) -> Result<(), Fail> {
-    assert_eq!(rt;
-        with_context(rt.alloc(), source_and_position)?.as_str(),
-        "\"b\" line: 3, column: 4"
-    );
+    assert_eq!(rt; failing_demo(rt.alloc(), PLACES, holds)?, None);
     Ok(())
 }

@@ -6,26 +6,28 @@ use irtext_base::parsable::SourcePosition;
 use irtext_base::result::{Cause, Error, ErrorKind};
 use irtext_demo::{Characters, DemoAttr};
 use irtext_print_ir::printable::Disp;
-use irtext_tests_common::contexts::{Ctx, with_context};
-use irtext_tests_common::nesting::{Nesting, nested};
+use irtext_tests_common::contexts::Ctx;
+use irtext_tests_common::nesting::{Nesting, between, nested};
+use irtext_tests_common::tables::{differing_alone, failing_demo};
 use std::alloc::Global;
 use std::test::Fail;
 
-/// The printed texts of the locations, one for each line.
-const TEXTS: &str = r#""foo.mlir": line: 42, column: 7
-<in-memory>: line: 1, column: 2
-name: "foo", loc: (?)
-name: "a\"b\\c\nd\te\u{7f}", loc: (?)
-"a\"b\\c.mlir": line: 1, column: 2
-fused[<in-memory>: line: 3, column: 4, ?]
-fused<builtin.string "testattr">[<in-memory>: line: 3, column: 4, ?]
-fused<builtin.identifier m>[<in-memory>: line: 3, column: 4, ?]
-fused<builtin.given_names [m, ?]>[<in-memory>: line: 3, column: 4, ?]
-callsite(? at ?)
-["/tmp/test.pliron": line: 1, column: 1] Compilation error: invalid input program.
+/// The printed texts of the locations, and of an error in files.
+const TEXTS: &[&str] = &[
+    r#""foo.mlir": line: 42, column: 7"#,
+    "<in-memory>: line: 1, column: 2",
+    r#"name: "foo", loc: (?)"#,
+    r#"name: "a\"b\\c\nd\te\u{7f}", loc: (?)"#,
+    r#""a\"b\\c.mlir": line: 1, column: 2"#,
+    "fused[<in-memory>: line: 3, column: 4, ?]",
+    r#"fused<builtin.string "testattr">[<in-memory>: line: 3, column: 4, ?]"#,
+    "fused<builtin.identifier m>[<in-memory>: line: 3, column: 4, ?]",
+    "fused<builtin.given_names [m, ?]>[<in-memory>: line: 3, column: 4, ?]",
+    "callsite(? at ?)",
+    r#"["/tmp/test.pliron": line: 1, column: 1] Compilation error: invalid input program.
 ["/tmp/test.pliron": line: 1, column: 2] Compilation error: invalid input program.
-Test error
-"#;
+Test error"#,
+];
 
 /// How deep locations are nested in one another: deeper than the stack allows for recursion.
 const DEPTH: usize = 100_000;
@@ -147,54 +149,20 @@ fn location_text(alloc: Global, ctx: &Ctx, location: &Location<DemoAttr>) -> Res
     Ok(format!(in alloc; "{}", location.disp(ctx))?)
 }
 
-/// The printed texts of the locations and of the error, each with a newline after it.
-fn texts(alloc: Global, ctx: &mut Ctx) -> Result<String, Fail> {
-    let mut text = String::new(alloc);
-    for line in 0..11 {
-        let shown = shown(alloc, ctx, line)?;
-        write!(text, "{shown}\n")?;
-    }
-    Ok(text)
+#[test]
+fn each_location_has_its_text(rt: HostRuntime) -> Result<(), Fail> {
+    assert_eq!(rt; differing_alone(rt.alloc(), TEXTS, shown)?, None);
+    Ok(())
 }
 
-/// The text of locations nested in one another.
-fn nested_text(alloc: Global, before: &str, behind: &str) -> Result<String, Fail> {
-    let mut text = String::new(alloc);
-    for _ in 0..DEPTH {
-        text.push_str(before)?;
-    }
-    text.push_str("?")?;
-    for _ in 0..DEPTH {
-        text.push_str(behind)?;
-    }
-    Ok(text)
-}
-
-/// The printed text of nested locations.
-fn shown_nested(alloc: Global, ctx: &Ctx, nesting: Nesting) -> Result<String, Fail> {
-    let location = nested(alloc, nesting, DEPTH, Location::Unknown)?;
-    location_text(alloc, ctx, &location)
-}
-
-/// Whether each line of the table is printed as its text.
-fn nested_printed(alloc: Global, ctx: &mut Ctx) -> Result<bool, Fail> {
-    for (nesting, before, behind) in NESTED {
-        let shown = shown_nested(alloc, ctx, *nesting)?;
-        if shown != nested_text(alloc, before, behind)? {
-            return Ok(false);
-        }
-    }
-    Ok(true)
+/// Whether nested locations are printed so.
+fn holds(alloc: Global, ctx: &mut Ctx, row: &(Nesting, &str, &str)) -> Result<bool, Fail> {
+    let location = nested(alloc, row.0, DEPTH, Location::Unknown)?;
+    Ok(location_text(alloc, ctx, &location)? == between(alloc, DEPTH, row.1, "?", row.2)?)
 }
 
 #[test]
 fn deep_locations_are_printed(rt: HostRuntime) -> Result<(), Fail> {
-    assert!(rt; with_context(rt.alloc(), nested_printed)?);
-    Ok(())
-}
-
-#[test]
-fn each_location_has_its_text(rt: HostRuntime) -> Result<(), Fail> {
-    assert_eq!(rt; with_context(rt.alloc(), texts)?.as_str(), TEXTS);
+    assert_eq!(rt; failing_demo(rt.alloc(), NESTED, holds)?, None);
     Ok(())
 }
