@@ -1,14 +1,21 @@
-//! What a caller knows about a context once the reference to its dialect is dropped.
+//! Operations that are registered: with the format of some letters, and what a caller knows about a context once the reference to its
+//! dialect is dropped.
 ghost use Rattle.std.specs.Prelude.{◌≡◌, ◌⊎◌, OnOk, OnErr};
 ghost use Rattle.irtext_context.specs.Dialects.{with_op};
 ghost use Rattle.irtext_context.specs.DialectTable.{dialect_or_new, with_dialect};
 ghost use Rattle.irtext_format_check.specs.Directives.{format_of};
 
+use irtext_demo::DemoAttr;
+use irtext_tests_common::building::id;
+use irtext_tests_common::contexts::{Ctx, named};
+use irtext_tests_common::formats::format_or_canonical;
 use pliron_text::base::{Context, OpId};
 use pliron_text::dialect::{Dialect, DialectName};
 use pliron_text::format::OpFormat;
-use pliron_text::result::Result;
+use pliron_text::result;
 use pliron_text::text::{AttrText, IrText};
+use std::alloc::Global;
+use std::test::Fail;
 
 /// Registers an operation with the dialect of a name, which is registered first if there is none. If the operation is
 /// rejected the dialect stays registered, unchanged.
@@ -18,7 +25,7 @@ pub fn register_operation<T: IrText<A>, A: AttrText<A>>(
     id: OpId,
     format: OpFormat,
     isolated: bool,
-) -> Result<(), A>
+) -> result::Result<(), A>
     ensures ok { OnOk result (ctx.new ≡ record ctx.old {
       dialects = with_dialect ctx.old.dialects name.now
           (with_op (dialect_or_new ctx.old.dialects name.now) id (format_of format) isolated);
@@ -31,4 +38,19 @@ pub fn register_operation<T: IrText<A>, A: AttrText<A>>(
 {
     let dialect = Dialect::register(ctx, name)?;
     dialect.add_op(id, format, isolated)
+}
+
+/// Registers the operation of these two words, a dialect and a name, with the format of these letters.
+pub fn register(
+    alloc: Global,
+    ctx: &mut Ctx,
+    words: (&str, &str),
+    letters: &str,
+    isolated: bool,
+) -> Result<(), Fail> {
+    let id = id(alloc, words)?;
+    let name = DialectName::from(named(alloc, words.0)?);
+    let format = format_or_canonical(alloc, letters)?;
+    let answer: result::Result<(), DemoAttr> = register_operation(ctx, &name, id, format, isolated);
+    Ok(answer.ok().ok_or("refused")?)
 }

@@ -108,9 +108,6 @@ fn differing(alloc: Global, ctx: &mut Ctx, texts: &[(&str, &str)]) -> Result<Opt
 /// The same with the counters of the row.
 fn differing_row(alloc: Global, row: &Row) -> Result<Option<usize>, Fail> {
     let (values, places, texts) = (row.0, row.1, row.2);
-    if places == 0 {
-        return Err(Fail::from("no place"));
-    }
     with_counters(
         alloc,
         values,

@@ -1,5 +1,6 @@
 //! Parts by index: an operation's region, a region's block, a block's operation.
 use irtext_graph::held::HasGraph;
+use irtext_tests_common::building::live;
 use irtext_tests_common::contexts::Ctx;
 use pliron_text::base::{BasicBlock, Operation, OperationParts, Ptr, Value, ValueUses};
 use std::test::Fail;
@@ -11,7 +12,8 @@ pub(crate) fn block(
     region: usize,
     index: usize,
 ) -> Result<Ptr<BasicBlock>, Fail> {
-    if !ctx.contains_operation(op) || region >= op.num_regions(ctx) {
+    live(ctx, op)?;
+    if region >= op.num_regions(ctx) {
         return Err(Fail::from("no such region"));
     }
     let region = op.get_region(ctx, region);
@@ -22,11 +24,7 @@ pub(crate) fn block(
 }
 
 /// The operation of an index in a block.
-pub(crate) fn operation(
-    ctx: &Ctx,
-    block: Ptr<BasicBlock>,
-    index: usize,
-) -> Result<Ptr<Operation>, Fail> {
+fn operation(ctx: &Ctx, block: Ptr<BasicBlock>, index: usize) -> Result<Ptr<Operation>, Fail> {
     if !ctx.contains_block(block) || index >= block.num_operations(ctx) {
         return Err(Fail::from("no such operation"));
     }
@@ -47,7 +45,8 @@ pub(crate) fn at(ctx: &Ctx, root: Ptr<Operation>, path: Path) -> Result<Ptr<Oper
 
 /// The operand of an index.
 pub(crate) fn operand(ctx: &Ctx, op: Ptr<Operation>, index: usize) -> Result<Value, Fail> {
-    if !ctx.contains_operation(op) || index >= op.get_num_operands(ctx) {
+    live(ctx, op)?;
+    if index >= op.get_num_operands(ctx) {
         return Err(Fail::from("no such operand"));
     }
     Ok(op.get_operand(ctx, index))
@@ -59,7 +58,8 @@ pub(crate) fn successor(
     op: Ptr<Operation>,
     index: usize,
 ) -> Result<Ptr<BasicBlock>, Fail> {
-    if !ctx.contains_operation(op) || index >= op.get_num_successors(ctx) {
+    live(ctx, op)?;
+    if index >= op.get_num_successors(ctx) {
         return Err(Fail::from("no such successor"));
     }
     Ok(op.get_successor(ctx, index))

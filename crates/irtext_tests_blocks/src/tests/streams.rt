@@ -1,10 +1,6 @@
 //! Roots with blocks that follow each other on one stream.
-use irtext_tests_common::contexts::{Ctx, Stream, with_demo};
-use irtext_tests_roots::reading::whole;
-use pliron_text::base::{Operation, Ptr};
-use pliron_text::ir::OperationText;
-use pliron_text::location::Source;
-use pliron_text::parsable::{State, StateStream, TextStream};
+use irtext_tests_common::contexts::{Ctx, with_demo};
+use irtext_tests_roots::reading::{two, whole};
 use std::alloc::Global;
 use std::test::Fail;
 
@@ -16,24 +12,10 @@ const TWO: &str =
 const SECOND: &str =
     "builtin.module @n \n{\n  ^a_block2v1() !0:\n    test.use x_v2 !1;\n    test.br ^a_block2v1 !2;\n    x_v2 = test.make: test.ptr  !3\n} !4\n\noutlined_attributes:\n!0 = @[<in-memory>: line: 2, column: 21], [builtin_block_label = builtin.identifier a]\n!1 = @[<in-memory>: line: 2, column: 27], [dbg = !5]\n!2 = @[<in-memory>: line: 2, column: 42], []\n!3 = @[<in-memory>: line: 2, column: 54], [builtin_given_names = builtin.given_names [x]]\n!4 = @[<in-memory>: line: 2, column: 1], []\n!5 = test.dbg \"t\"\n";
 
-/// Two roots on one stream.
-fn two(s: &mut Stream<'_>) -> Option<(Ptr<Operation>, Ptr<Operation>)> {
-    let first = Operation::top_level_parse(s).ok()?;
-    let second = Operation::top_level_parse(s).ok()?;
-    Some((first, second))
-}
-
 /// The text of the second of two roots.
 fn second(alloc: Global, ctx: &mut Ctx) -> Result<String, Fail> {
-    let stream = TextStream::new(alloc, TWO)?;
-    let state = State::new(ctx, Source::InMemory, ());
-    let mut s = StateStream { stream, state };
-    let roots = two(&mut s);
-    let ctx = s.into_ctx();
-    match roots {
-        Some((_first, second)) => whole(alloc, ctx, second),
-        None => Err(Fail::from("refused")),
-    }
+    let (_first, second) = two(alloc, ctx, TWO)?;
+    whole(alloc, ctx, second)
 }
 
 #[test]

@@ -2,10 +2,44 @@
 use crate::tests::parts::{Path, at, block, num_uses, operand, successor};
 use irtext_graph::held::HasGraph;
 use irtext_tests_common::contexts::{Ctx, with_demo};
+use irtext_tests_common::tables::failing_demo;
 use irtext_tests_roots::reading::root;
 use pliron_text::base::{BlockParts, Operation, Ptr, UniqueName, Value};
 use std::alloc::Global;
 use std::test::Fail;
+
+/// Whether each of these parts of a text's root is as expected.
+fn all_hold<R, F: Fn(&Ctx, Ptr<Operation>, &R) -> Result<bool, Fail>>(
+    ctx: &mut Ctx,
+    text: &str,
+    parts: &[R],
+    holds: &F,
+) -> Result<bool, Fail>
+    requires { F.IsAlwaysCallable holds.now }
+{
+    let root = root(ctx, text).ok_or("refused")?;
+    for part in parts {
+        if !holds(ctx, root, part)? {
+            return Ok(false);
+        }
+    }
+    Ok(true)
+}
+
+/// The number of the first text with a part that is not as expected, each in a context of its own.
+fn failing_roots<R, F: Fn(&Ctx, Ptr<Operation>, &R) -> Result<bool, Fail>>(
+    alloc: Global,
+    rows: &[(&str, &[R])],
+    holds: F,
+) -> Result<Option<usize>, Fail>
+    requires { F.IsAlwaysCallable holds }
+{
+    failing_demo(
+        alloc,
+        rows,
+        |_, ctx, row| all_hold(ctx, row.0, row.1, &holds),
+    )
+}
 
 /// A value: a result of an operation by index, or an argument by index of a block by index in its first region.
 #[derive(Clone, Copy)]
@@ -112,23 +146,9 @@ fn is_used(ctx: &Ctx, root: Ptr<Operation>, wanted: &Use) -> Result<bool, Fail> 
     )
 }
 
-/// The index of the first operand that is not as expected.
-fn differing(ctx: &mut Ctx, text: &str, uses: &[Use]) -> Result<Option<usize>, Fail> {
-    let root = root(ctx, text).ok_or("refused")?;
-    for (index, wanted) in uses.iter().enumerate() {
-        if !is_used(ctx, root, wanted)? {
-            return Ok(Some(index));
-        }
-    }
-    Ok(None)
-}
-
 #[test]
 fn each_operand_is_what_its_name_means(rt: HostRuntime) -> Result<(), Fail> {
-    for row in USES {
-        let differing = with_demo(rt.alloc(), |_, ctx| differing(ctx, row.0, row.1))?;
-        assert_eq!(rt; differing, None, "{}", row.0);
-    }
+    assert_eq!(rt; failing_roots(rt.alloc(), USES, is_used)?, None);
     Ok(())
 }
 
@@ -176,23 +196,9 @@ fn is_taken(ctx: &Ctx, root: Ptr<Operation>, wanted: &Branch) -> Result<bool, Fa
     Ok(found == target && target.num_preds(ctx) == wanted.4)
 }
 
-/// The index of the first successor that is not as expected.
-fn differing_branch(ctx: &mut Ctx, text: &str, branches: &[Branch]) -> Result<Option<usize>, Fail> {
-    let root = root(ctx, text).ok_or("refused")?;
-    for (index, wanted) in branches.iter().enumerate() {
-        if !is_taken(ctx, root, wanted)? {
-            return Ok(Some(index));
-        }
-    }
-    Ok(None)
-}
-
 #[test]
 fn each_successor_is_what_its_label_means(rt: HostRuntime) -> Result<(), Fail> {
-    for row in BRANCHES {
-        let differing = with_demo(rt.alloc(), |_, ctx| differing_branch(ctx, row.0, row.1))?;
-        assert_eq!(rt; differing, None, "{}", row.0);
-    }
+    assert_eq!(rt; failing_roots(rt.alloc(), BRANCHES, is_taken)?, None);
     Ok(())
 }
 

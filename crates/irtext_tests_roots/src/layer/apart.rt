@@ -1,5 +1,5 @@
-//! Two contexts in which the same dialect is registered separately: they have the same dialects, so the printed text of the one is parsed
-//! back in the other.
+//! The laws of the two calls over two contexts. If the same dialect is registered with each separately, they have the same dialects, and the
+//! printed text of the one is parsed back in the other; if they have no dialects, no root is printed.
 ghost use Rattle.std.specs.Prelude.{◌≡◌, [], IfOk, OnOk, codes};
 ghost use Rattle.irtext_base.specs.Format as format;
 ghost use Rattle.irtext_format_check.specs.Directives.{directive_of, format_of};
@@ -7,12 +7,16 @@ ghost use Rattle.irtext_tests_roots.specs.Apart.{lab_dialects, lab_format, lab_i
 
 use crate::reading::concrete;
 use crate::registering::register_operation;
+use irtext_context::base::context::making::Making;
 use irtext_demo::DemoAttr;
+use irtext_tests_common::answers::told;
+use irtext_tests_common::building::live;
 use irtext_tests_common::contexts::{Ctx, named};
-use pliron_text::base::{Context, NewBareOperation, OpId, Operation, Ptr};
+use pliron_text::base::{AttributeDict, Context, NewBareOperation, OpId, Operation, Ptr};
 use pliron_text::dialect::DialectName;
 use pliron_text::format::{Directive, OpFormat};
-use pliron_text::laws::two_calls::{printed_and_read, read_printed_and_read};
+use pliron_text::laws::two_calls::{NotBack, printed_and_read, read_printed_and_read};
+use pliron_text::location::Location;
 use pliron_text::printable::State;
 use pliron_text::result::Result as Answer;
 use std::alloc::Global;
@@ -72,19 +76,32 @@ fn make(alloc: Global, ctx: &mut Ctx) -> Result<Ptr<Operation>, Fail>
     }
 }
 
-/// The concrete text of the root in the other context, after `lab.d` is made in the one, printed and parsed.
-fn brought_over(alloc: Global, ctx: &mut Ctx, other: &mut Ctx) -> Result<String, Fail>
+/// The text of a result of the law of the two calls: the concrete text of the root in the other context, or why there is none.
+fn answered(
+    alloc: Global,
+    other: &Ctx,
+    answer: &Result<Ptr<Operation>, NotBack<DemoAttr>>,
+) -> Result<String, Fail> {
+    match answer {
+        Ok(root) => concrete(alloc, other, *root),
+        Err(NotBack::Unprinted(refusal)) => Ok(format!(in alloc; "{refusal:?}")?),
+        Err(NotBack::Unread(fault)) => told(alloc, fault),
+    }
+}
+
+/// The same, after an operation of the one context is printed and parsed.
+fn brought_over(
+    alloc: Global,
+    ctx: &mut Ctx,
+    op: Ptr<Operation>,
+    other: &mut Ctx,
+) -> Result<String, Fail>
     requires { other.old.dialects ≡ ctx.old.dialects }
 {
-    let op = make(alloc, ctx)?;
-    if !ctx.contains_operation(op) {
-        return Err(Fail::from("no such operation"));
-    }
+    live(ctx, op)?;
     let layout = State::new(alloc, ());
-    match printed_and_read(ctx, op, &layout, other) {
-        Ok(root) => concrete(alloc, other, root),
-        Err(_) => Err(Fail::from("not read back")),
-    }
+    let answer = printed_and_read(ctx, op, &layout, other);
+    answered(alloc, other, &answer)
 }
 
 /// The text that is parsed, printed and parsed again: an operation in a block of another.
@@ -121,21 +138,42 @@ fn again(alloc: Global) -> Result<(String, String), Fail> {
     registered_again(alloc, &mut ctx, &mut other)
 }
 
-/// The concrete text of the operation that is made and brought over, if the dialect is registered with each context separately.
+/// The result for `lab.d`, if the dialect is registered with each context separately.
 fn registered_apart(alloc: Global, ctx: &mut Ctx, other: &mut Ctx) -> Result<String, Fail>
     requires one { ctx.old.dialects ≡ [] }
     requires two { other.old.dialects ≡ [] }
 {
     register(alloc, ctx)?;
     register(alloc, other)?;
-    brought_over(alloc, ctx, other)
+    let op = make(alloc, ctx)?;
+    brought_over(alloc, ctx, op, other)
 }
 
-/// The same with two contexts that had no dialects before.
-fn apart(alloc: Global) -> Result<String, Fail> {
+/// Makes `lab.d` whether it is registered or not.
+fn make_unregistered(alloc: Global, ctx: &mut Ctx) -> Result<Ptr<Operation>, Fail>
+    ensures { OnOk result (ctx.new.dialects ≡ ctx.old.dialects) }
+{
+    let id = id(alloc)?;
+    Ok(ctx.make_operation(id, AttributeDict::new(alloc), Location::Unknown)?)
+}
+
+/// The result for `lab.d`, if neither context has the dialect.
+fn registered_nowhere(alloc: Global, ctx: &mut Ctx, other: &mut Ctx) -> Result<String, Fail>
+    requires { other.old.dialects ≡ ctx.old.dialects }
+{
+    let op = make_unregistered(alloc, ctx)?;
+    brought_over(alloc, ctx, op, other)
+}
+
+/// One of both results, with two contexts that had no dialects before.
+fn apart(alloc: Global, registered: bool) -> Result<String, Fail> {
     let mut ctx: Ctx = Context::new(alloc);
     let mut other: Ctx = Context::new(alloc);
-    registered_apart(alloc, &mut ctx, &mut other)
+    if registered {
+        registered_apart(alloc, &mut ctx, &mut other)
+    } else {
+        registered_nowhere(alloc, &mut ctx, &mut other)
+    }
 }
 
 #[test]
@@ -151,6 +189,12 @@ fn a_text_is_read_printed_and_read_again(rt: HostRuntime) -> Result<(), Fail> {
 
 #[test]
 fn a_root_comes_back_where_its_dialect_is_registered_apart(rt: HostRuntime) -> Result<(), Fail> {
-    assert_eq!(rt; apart(rt.alloc())?.as_str(), "lab.d here \n{\n  \n}");
+    assert_eq!(rt; apart(rt.alloc(), true)?.as_str(), "lab.d here \n{\n  \n}");
+    Ok(())
+}
+
+#[test]
+fn what_is_not_registered_is_not_brought_over(rt: HostRuntime) -> Result<(), Fail> {
+    assert_eq!(rt; apart(rt.alloc(), false)?.as_str(), "Misfit");
     Ok(())
 }

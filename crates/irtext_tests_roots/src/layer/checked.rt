@@ -1,10 +1,11 @@
 //! Calls that test what other calls require, and the list of all operations in a root, by the names of this layer.
 use irtext_demo::{DemoAttr, DemoType};
 use irtext_tests_common::answers::printed;
-use irtext_tests_common::contexts::{Ctx, named, with_demo};
+use irtext_tests_common::building::id;
+use irtext_tests_common::contexts::{Ctx, with_demo};
 use irtext_tests_common::tables::differing;
 use pliron_text::base::{
-    BasicBlock, ContainsParts, Few, NestedOperations, NewBlock, OpId, Operation, Ptr, TryInsert,
+    BasicBlock, ContainsParts, Few, NestedOperations, NewBlock, Operation, Ptr, TryInsert,
     TryNewOperation, Value,
 };
 use pliron_text::result;
@@ -21,10 +22,7 @@ fn tried(
     name: &str,
     operands: &[Value],
 ) -> Result<Answer<Ptr<Operation>>, Fail> {
-    let id = OpId {
-        dialect: named(alloc, "test")?,
-        name: named(alloc, name)?,
-    };
+    let id = id(alloc, ("test", name))?;
     let types: Few<DemoType> = Few::none();
     Ok(Operation::try_new(ctx, id, types, operands, &[], 0))
 }

@@ -1,12 +1,12 @@
 //! The dialects of a context: how they are registered and looked up, and how their names are parsed and printed.
-use crate::registering::register_operation;
+use crate::registering::register;
 use irtext_demo::{DemoAttr, DemoType};
 use irtext_tests_common::answers::printed;
+use irtext_tests_common::building::{id, live};
 use irtext_tests_common::contexts::{Ctx, named};
 use irtext_tests_common::tables::differing_alone;
-use pliron_text::base::{NewBareOperation, OpId, Operation, Ptr};
+use pliron_text::base::{NewBareOperation, Operation, Ptr};
 use pliron_text::dialect::{Dialect, DialectName};
-use pliron_text::format::OpFormat;
 use pliron_text::parsable::{Parsable, parse_from_str};
 use pliron_text::printable::Disp;
 use pliron_text::result::Result as Answer;
@@ -37,14 +37,6 @@ const STEPS: &[&str] = &[
     "unknown",
 ];
 
-/// The id of an operation of the dialect `test`.
-fn id(alloc: Global, name: &str) -> Result<OpId, Fail> {
-    Ok(OpId {
-        dialect: named(alloc, "test")?,
-        name: named(alloc, name)?,
-    })
-}
-
 /// The name of the dialect `test`.
 fn test_name(alloc: Global) -> Result<DialectName, Fail> {
     Ok(DialectName::from(named(alloc, "test")?))
@@ -52,22 +44,13 @@ fn test_name(alloc: Global) -> Result<DialectName, Fail> {
 
 /// Registers the operation `test.z`, isolated, with the canonical form.
 fn add(alloc: Global, ctx: &mut Ctx) -> Result<String, Fail> {
-    let id = id(alloc, "z")?;
-    let name = test_name(alloc)?;
-    let answer: Answer<(), DemoAttr> = register_operation(
-        ctx,
-        &name,
-        id,
-        OpFormat::Canonical,
-        true,
-    );
-    answer.ok().ok_or("refused")?;
+    register(alloc, ctx, ("test", "z"), "-", true)?;
     Ok(String::from_str(alloc, "added")?)
 }
 
 /// Registers the dialect once more: its name, and whether it has the operation `test.z`.
 fn again(alloc: Global, ctx: &mut Ctx) -> Result<String, Fail> {
-    let id = id(alloc, "z")?;
+    let id = id(alloc, ("test", "z"))?;
     let name = test_name(alloc)?;
     let dialect = Dialect::register(ctx, &name).ok().ok_or("refused")?;
     Ok(format!(in alloc; "{} {}", dialect.name().as_str(), dialect.op(&id).is_some())?)
@@ -75,7 +58,7 @@ fn again(alloc: Global, ctx: &mut Ctx) -> Result<String, Fail> {
 
 /// The entry of an operation of the dialect `test`, as a text.
 fn known(alloc: Global, ctx: &Ctx, name: &str) -> Result<String, Fail> {
-    let id = id(alloc, name)?;
+    let id = id(alloc, ("test", name))?;
     let word = match ctx.op_info(&id) {
         Some(info) => { if info.isolated { "isolated" } else { "open" } }
         None => "unknown",
@@ -112,7 +95,7 @@ fn read(alloc: Global, ctx: &mut Ctx, text: &str) -> Result<String, Fail> {
 
 /// The result of making an operation of this name with two regions: how many it has, or the error.
 fn made(alloc: Global, ctx: &mut Ctx, name: &str) -> Result<String, Fail> {
-    let id = id(alloc, name)?;
+    let id = id(alloc, ("test", name))?;
     let answer: Answer<Ptr<Operation>, DemoAttr> = Operation::new(ctx, id, 2);
     match &answer {
         Ok(op) => regions(alloc, ctx, *op),
@@ -122,9 +105,7 @@ fn made(alloc: Global, ctx: &mut Ctx, name: &str) -> Result<String, Fail> {
 
 /// How many regions an operation has, as a text.
 fn regions(alloc: Global, ctx: &Ctx, op: Ptr<Operation>) -> Result<String, Fail> {
-    if !ctx.contains_operation(op) {
-        return Err(Fail::from("no such operation"));
-    }
+    live(ctx, op)?;
     Ok(format!(in alloc; "{}", op.num_regions(ctx))?)
 }
 

@@ -1,9 +1,11 @@
 //! What `pliron_text` re-exports from the crates below, by its own paths, unless another row names it.
 use crate::reading::root;
 use irtext_demo::DemoAttr;
+use irtext_tests_common::building::{id, live, live_block};
 use irtext_tests_common::contexts::{Ctx, named, with_demo};
 use pliron_text::base::{
-    AttrObj, AttributeDict, Identifier, OpId, Operation, OperationAccess, Ptr, Region,
+    AttrObj, AttributeDict, BasicBlock, BlockAccess, Few, Identifier, NewBlock, NewOperation, OpId,
+    Operation, OperationAccess, Ptr, Region,
 };
 use pliron_text::dialect::OpInfo;
 use pliron_text::format::{FormatFault, OpFormat, check_format};
@@ -85,12 +87,22 @@ fn key(ctx: &mut Ctx, path: &str) -> Option<PathKey> {
     }
 }
 
+/// Whether a module and a block that were just made have no location.
+fn unlocated(alloc: Global, ctx: &mut Ctx) -> Result<bool, Fail> {
+    let id = id(alloc, ("builtin", "module"))?;
+    let made = <Operation as NewOperation>::new(ctx, id, Few::none(), &[], &[], 1);
+    let op = made.ok().ok_or("refused")?;
+    let block = BasicBlock::new(ctx, None, Few::none())
+        .ok()
+        .ok_or("refused")?;
+    live(ctx, op)?;
+    live_block(ctx, block)?;
+    Ok(op.loc(ctx).is_unknown() && block.loc(ctx).is_unknown())
+}
+
 /// Whether modules are isolated.
 fn isolated(alloc: Global, ctx: &Ctx) -> Result<bool, Fail> {
-    let id = OpId {
-        dialect: named(alloc, "builtin")?,
-        name: named(alloc, "module")?,
-    };
+    let id: OpId = id(alloc, ("builtin", "module"))?;
     let info: Option<&OpInfo> = ctx.op_info(&id);
     Ok(matches!(info, Some(info) if info.isolated))
 }
@@ -100,7 +112,7 @@ fn holds(alloc: Global, ctx: &mut Ctx) -> Result<bool, Fail> {
     let op = root(ctx, "builtin.module @m {}").ok_or("refused")?;
     let inside = stands(ctx, op) && isolated(alloc, ctx)? && keeps(alloc)?;
     let kept = key(ctx, "b").is_some() && key(ctx, "b") == key(ctx, "b");
-    Ok(inside && kept && erased(ctx, op))
+    Ok(inside && kept && erased(ctx, op) && unlocated(alloc, ctx)?)
 }
 
 #[test]
@@ -108,6 +120,13 @@ fn objects_by_the_paths_of_this_layer(rt: HostRuntime) -> Result<(), Fail> {
     assert!(rt; with_demo(rt.alloc(), holds)?);
     Ok(())
 }
+
+/// The texts of the small errors.
+const ERRORS: &str = "Use of a not dominated by definition
+Identifier b was not resolved to any definition in the scope
+Regions in a top-level operation must be IsolatedFromAbove
+Basic block \"c\" has no parent operation
+d";
 
 #[test]
 fn readings_and_errors_by_the_paths_of_this_layer(rt: HostRuntime) -> Result<(), Fail> {
@@ -117,13 +136,6 @@ fn readings_and_errors_by_the_paths_of_this_layer(rt: HostRuntime) -> Result<(),
     assert_eq!(rt; OUTLINED_ATTR_MARKER, "!outlined");
     let checked: Result<(), FormatFault> = check_format(&OpFormat::Canonical);
     assert_eq!(rt; checked, Ok(()));
-    assert_eq!(rt;
-        errors(rt.alloc())?.as_str(),
-        "Use of a not dominated by definition
-Identifier b was not resolved to any definition in the scope
-Regions in a top-level operation must be IsolatedFromAbove
-Basic block \"c\" has no parent operation
-d"
-    );
+    assert_eq!(rt; errors(rt.alloc())?.as_str(), ERRORS);
     Ok(())
 }

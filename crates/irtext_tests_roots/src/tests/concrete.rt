@@ -1,6 +1,7 @@
 //! The texts of a root: whole, concrete, without its regions, for debugging, with its location in a file, and of its parts.
-use crate::reading::{concrete, root, whole};
+use crate::reading::{concrete, laid_out, root, whole};
 use irtext_demo::DemoType;
+use irtext_tests_common::building::live;
 use irtext_tests_common::contexts::{Ctx, with_demo};
 use irtext_tests_common::tables::differing;
 use pliron_text::base::{Operation, OperationAccess, Ptr};
@@ -26,9 +27,7 @@ const TEXTS: &[&str] = &[
 
 /// The text that is appended for debugging.
 fn debugged(alloc: Global, ctx: &Ctx, op: Ptr<Operation>) -> Result<String, Fail> {
-    if !ctx.contains_operation(op) {
-        return Err(Fail::from("no such operation"));
-    }
+    live(ctx, op)?;
     let mut text = String::from_str(alloc, "text: ")?;
     print_dbg(ctx, op, &mut text).ok().ok_or("refused")?;
     Ok(text)
@@ -36,19 +35,14 @@ fn debugged(alloc: Global, ctx: &Ctx, op: Ptr<Operation>) -> Result<String, Fail
 
 /// The text if no region is shown.
 fn elided(alloc: Global, ctx: &Ctx, op: Ptr<Operation>) -> Result<String, Fail> {
-    if !ctx.contains_operation(op) {
-        return Err(Fail::from("no such operation"));
-    }
     let mut state = State::new(alloc, ());
     state.set_region_print_depth_limit(RegionPrintDepthLimit::Max(0));
-    Ok(format!(in alloc; "{}", op.print(ctx, &state))?)
+    laid_out(alloc, ctx, op, &state)
 }
 
 /// The header with a type.
 fn typed(alloc: Global, ctx: &Ctx, op: Ptr<Operation>) -> Result<String, Fail> {
-    if !ctx.contains_operation(op) {
-        return Err(Fail::from("no such operation"));
-    }
+    live(ctx, op)?;
     let ty = DemoType::Pointer;
     let mut state = State::new(alloc, ());
     let mut text = String::new(alloc);
@@ -63,18 +57,14 @@ fn typed(alloc: Global, ctx: &Ctx, op: Ptr<Operation>) -> Result<String, Fail> {
 fn in_file(alloc: Global, ctx: &mut Ctx, op: Ptr<Operation>) -> Result<String, Fail> {
     let src = Source::new_from_file(ctx, "é.mlir").ok().ok_or("refused")?;
     let pos = SourcePosition { line: 1, column: 2 };
-    if !ctx.contains_operation(op) {
-        return Err(Fail::from("no such operation"));
-    }
+    live(ctx, op)?;
     op.set_loc(ctx, Location::SrcPos { src, pos });
     whole(alloc, ctx, op)
 }
 
 /// The text of a part.
 fn part(alloc: Global, ctx: &Ctx, op: Ptr<Operation>, number: usize) -> Result<String, Fail> {
-    if !ctx.contains_operation(op) {
-        return Err(Fail::from("no such operation"));
-    }
+    live(ctx, op)?;
     let header = symb_op_header(op);
     let braces = region(op);
     match number {
@@ -87,9 +77,7 @@ fn part(alloc: Global, ctx: &Ctx, op: Ptr<Operation>, number: usize) -> Result<S
 /// The text of a line.
 fn text(alloc: Global, ctx: &mut Ctx, number: usize) -> Result<String, Fail> {
     let op = root(ctx, "builtin.module @bar {}").ok_or("refused")?;
-    if !ctx.contains_operation(op) {
-        return Err(Fail::from("no such operation"));
-    }
+    live(ctx, op)?;
     match number {
         0 => concrete(alloc, ctx, op),
         1 => debugged(alloc, ctx, op),

@@ -1,82 +1,95 @@
 //! Operations that are parsed and printed by the directives of their formats.
-use crate::reading::{concrete, read_root, root, whole};
-use crate::registering::register_operation;
-use irtext_demo::DemoAttr;
-use irtext_tests_common::contexts::{Ctx, named, with_context};
-use irtext_tests_common::formats::format_of;
-use pliron_text::base::{OpId, Operation, Ptr};
-use pliron_text::dialect::DialectName;
-use pliron_text::result::Result as Answer;
+use crate::reading;
+use crate::reading::{concrete, read_root, whole};
+use crate::registering::register;
+use irtext_tests_common::contexts::{Ctx, with_context};
+use pliron_text::base::{Operation, Ptr};
 use std::alloc::Global;
 use std::test::Fail;
 
-/// The format of `lab.d` by its letters, a text, and the concrete text of the root that it is parsed as, or the error.
-const ROWS: &[(&str, &str, &str)] = &[
-    ("", "lab.d", "lab.d"),
-    (
-        "d",
-        "lab.d [a: builtin.integer <1: i8>, a: builtin.string \"s\"]",
-        "lab.d [a: builtin.string \"s\"]",
-    ),
-    ("d", "lab.d [ ]", "lab.d []"),
-    (
-        "d",
-        "lab.d [builtin_given_names: builtin.string \"s\"]",
-        "Compilation error: invalid input program.\nParse error at line: 1, column: 8\nReserved attribute key: builtin_given_names\n",
-    ),
-    ("xx", "lab.d x\nx", "lab.d x x"),
-    ("ab", "lab.d{}{ }", "lab.d \n{\n  \n} \n{\n  \n}"),
-    (
-        "aR",
-        "lab.d {}{} {}",
-        "lab.d \n{\n  \n} \n{\n  \n}\n{\n  \n}",
-    ),
-    ("R:", "lab.d :", "lab.d :"),
-    ("R:", "lab.d {}:", "lab.d \n{\n  \n}:"),
-    (
-        "n",
-        "lab.d builtin.identifier x",
-        "lab.d builtin.identifier x",
-    ),
-    (
-        "hd",
-        "lab.d @s [k:builtin.identifier y , l :builtin.string \"\\u{e9}\"]",
-        "lab.d @s [k: builtin.identifier y, l: builtin.string \"é\"]",
-    ),
-    (
-        "ak",
-        "lab.d {} builtin.string \"s\"",
-        "lab.d \n{\n  \n} builtin.string \"s\"",
-    ),
-    (
-        "x",
-        "lab.d y",
-        "Compilation error: invalid input program.\nParse error at line: 1, column: 7\nUnexpected `y`, expected `x`\n",
-    ),
-];
-
-/// Registers `lab.d`, which is isolated, with the format of these letters.
-fn register(alloc: Global, ctx: &mut Ctx, letters: &str) -> Result<(), Fail> {
-    let id = OpId {
-        dialect: named(alloc, "lab")?,
-        name: named(alloc, "d")?,
-    };
-    let name = DialectName::from(named(alloc, "lab")?);
-    let answer: Answer<(), DemoAttr> = register_operation(
-        ctx,
-        &name,
-        id,
-        format_of(alloc, letters)?,
-        true,
-    );
-    Ok(answer.ok().ok_or("refused")?)
+/// A text with an operation `lab.d` in a format of its own.
+struct Row {
+    /// The format, by its letters.
+    format: &'static str,
+    /// The text.
+    text: &'static str,
+    /// The concrete text of the root that it is parsed as, or the error.
+    said: &'static str,
 }
+
+/// Formats, and what is said of texts in them.
+const ROWS: &[Row] = &[
+    Row {
+        format: "",
+        text: "lab.d",
+        said: "lab.d",
+    },
+    Row {
+        format: "d",
+        text: "lab.d [a: builtin.integer <1: i8>, a: builtin.string \"s\"]",
+        said: "lab.d [a: builtin.string \"s\"]",
+    },
+    Row {
+        format: "d",
+        text: "lab.d [ ]",
+        said: "lab.d []",
+    },
+    Row {
+        format: "d",
+        text: "lab.d [builtin_given_names: builtin.string \"s\"]",
+        said: "Compilation error: invalid input program.\nParse error at line: 1, column: 8\nReserved attribute key: builtin_given_names\n",
+    },
+    Row {
+        format: "xx",
+        text: "lab.d x\nx",
+        said: "lab.d x x",
+    },
+    Row {
+        format: "ab",
+        text: "lab.d{}{ }",
+        said: "lab.d \n{\n  \n} \n{\n  \n}",
+    },
+    Row {
+        format: "aR",
+        text: "lab.d {}{} {}",
+        said: "lab.d \n{\n  \n} \n{\n  \n}\n{\n  \n}",
+    },
+    Row {
+        format: "R:",
+        text: "lab.d :",
+        said: "lab.d :",
+    },
+    Row {
+        format: "R:",
+        text: "lab.d {}:",
+        said: "lab.d \n{\n  \n}:",
+    },
+    Row {
+        format: "n",
+        text: "lab.d builtin.identifier x",
+        said: "lab.d builtin.identifier x",
+    },
+    Row {
+        format: "hd",
+        text: "lab.d @s [k:builtin.identifier y , l :builtin.string \"\\u{e9}\"]",
+        said: "lab.d @s [k: builtin.identifier y, l: builtin.string \"é\"]",
+    },
+    Row {
+        format: "ak",
+        text: "lab.d {} builtin.string \"s\"",
+        said: "lab.d \n{\n  \n} builtin.string \"s\"",
+    },
+    Row {
+        format: "x",
+        text: "lab.d y",
+        said: "Compilation error: invalid input program.\nParse error at line: 1, column: 7\nUnexpected `y`, expected `x`\n",
+    },
+];
 
 /// Whether the root's whole text is parsed back as a root of the same text.
 fn comes_back(alloc: Global, ctx: &mut Ctx, op: Ptr<Operation>) -> Result<bool, Fail> {
     let text = whole(alloc, ctx, op)?;
-    let again = root(ctx, text.as_str()).ok_or("refused")?;
-    Ok(whole(alloc, ctx, again)?.as_str() == text.as_str())
+    Ok(reading::printed(alloc, ctx, text.as_str())?.as_str() == text.as_str())
 }
 
 /// The concrete text of a root whose whole text is parsed back.
@@ -95,20 +108,17 @@ fn answered(alloc: Global, ctx: &mut Ctx, text: &str) -> Result<String, Fail> {
     }
 }
 
-/// The same after `lab.d` is registered with the format of these letters.
-fn formatted(alloc: Global, ctx: &mut Ctx, letters: &str, text: &str) -> Result<String, Fail> {
-    register(alloc, ctx, letters)?;
-    answered(alloc, ctx, text)
+/// The same after `lab.d`, which is isolated, is registered with the format of the row.
+fn formatted(alloc: Global, ctx: &mut Ctx, row: &Row) -> Result<String, Fail> {
+    register(alloc, ctx, ("lab", "d"), row.format, true)?;
+    answered(alloc, ctx, row.text)
 }
 
 #[test]
 fn directives_are_read_and_printed(rt: HostRuntime) -> Result<(), Fail> {
-    for line in ROWS {
-        let said = with_context(
-            rt.alloc(),
-            |alloc, ctx| formatted(alloc, ctx, line.0, line.1),
-        )?;
-        assert_eq!(rt; said.as_str(), line.2);
+    for row in ROWS {
+        let said = with_context(rt.alloc(), |alloc, ctx| formatted(alloc, ctx, row))?;
+        assert_eq!(rt; said.as_str(), row.said);
     }
     Ok(())
 }

@@ -1,58 +1,22 @@
 //! Roots that are parsed, one after the other, and what is left after an error.
-use crate::reading::{root, whole};
-use irtext_demo::{DemoAttr, DemoType};
+use crate::reading::{alone, location, root, two, whole};
+use irtext_demo::DemoAttr;
+use irtext_tests_common::building::live;
 use irtext_tests_common::contexts::{Ctx, Stream, with_demo};
-use pliron_text::base::{Operation, OperationAccess, Ptr};
-use pliron_text::ir::{OperationParserConfig, OperationText};
-use pliron_text::irfmt::parsers::location;
+use irtext_tests_common::tables::{failing, failing_demo};
+use pliron_text::base::{Operation, Ptr};
+use pliron_text::irfmt::parsers;
 use pliron_text::location::{Location, Source};
-use pliron_text::parsable::{
-    Parsable, ParseResult, State, StateStream, StreamLocation, TextStream,
-    state_stream_from_iterator,
-};
-use pliron_text::printable::Disp;
+use pliron_text::parsable::{ParseResult, State, StreamLocation, state_stream_from_iterator};
 use std::alloc::Global;
 use std::test::Fail;
 
-/// Two roots on one stream.
-fn two(s: &mut Stream<'_>) -> Option<(Ptr<Operation>, Ptr<Operation>)> {
-    let first = Operation::top_level_parse(s).ok()?;
-    let second = Operation::top_level_parse(s).ok()?;
-    Some((first, second))
-}
-
-/// The location of the second of two roots, and the number of objects.
-fn located(
-    alloc: Global,
-    ctx: &Ctx,
-    first: Ptr<Operation>,
-    root: Ptr<Operation>,
-) -> Result<String, Fail> {
-    if !ctx.contains_operation(first) || !ctx.contains_operation(root) {
-        return Err(Fail::from("no such operation"));
-    }
-    Ok(format!(in alloc; "{} {}", root.loc(ctx).disp(ctx), ctx.num_live())?)
-}
-
-/// The result for the second of two roots on one stream.
+/// The location of the second of two roots on one stream, and the number of objects.
 fn in_a_row(alloc: Global, ctx: &mut Ctx, text: &str) -> Result<String, Fail> {
-    let stream = TextStream::new(alloc, text)?;
-    let state = State::new(ctx, Source::InMemory, ());
-    let mut s = StateStream { stream, state };
-    let roots = two(&mut s);
-    let ctx = s.into_ctx();
-    match roots {
-        Some((first, second)) => located(alloc, ctx, first, second),
-        None => Err(Fail::from("refused")),
-    }
-}
-
-/// Parses a root without looking for its section.
-fn alone(s: &mut Stream<'_>) -> ParseResult<Ptr<Operation>, DemoAttr> {
-    let alone = OperationParserConfig {
-        look_for_outlined_attrs: false,
-    };
-    <Operation as Parsable<DemoType, DemoAttr, ()>>::parse(s, alone)
+    let (first, second) = two(alloc, ctx, text)?;
+    live(ctx, first)?;
+    let at = location(alloc, ctx, second)?;
+    Ok(format!(in alloc; "{at} {}", ctx.num_live())?)
 }
 
 /// The text of a result that is an error.
@@ -73,7 +37,7 @@ fn with_marks(alloc: Global, s: &mut Stream<'_>) -> Result<String, Fail> {
     let marks = s.state.has_marks();
     let answer = alone(s);
     let places = matches!(s.loc(), Location::SrcPos { .. })
-        && matches!(location(s), Location::SrcPos { .. });
+        && matches!(parsers::location(s), Location::SrcPos { .. });
     refused(alloc, &answer, first && marks && places)
 }
 
@@ -86,34 +50,33 @@ fn marked(alloc: Global, ctx: &mut Ctx, text: &str) -> Result<String, Fail> {
     Ok(format!(in alloc; "{} {live}", said?)?)
 }
 
-/// The result for two roots with a section each.
-fn with_sections(alloc: Global, ctx: &mut Ctx) -> Result<String, Fail> {
-    in_a_row(
-        alloc,
-        ctx,
+/// Two roots on one stream, whether each is parsed with its section, and the result for the second.
+const SECOND: &[(&str, bool, &str)] = &[
+    (
         "builtin.module @m {} !0 outlined_attributes: builtin.module @n {} !0 outlined_attributes:",
-    )
-}
-
-/// The result for two roots with the same mark.
-fn without_sections(alloc: Global, ctx: &mut Ctx) -> Result<String, Fail> {
-    marked(
-        alloc,
-        ctx,
+        true,
+        "<in-memory>: line: 1, column: 46 4",
+    ),
+    (
         "builtin.module @m {} !0 builtin.module @n {} !0",
-    )
+        false,
+        "true line: 1, column: 46: Duplicate outline index: 0 2",
+    ),
+];
+
+/// Whether the result for the second root is as expected.
+fn follows(alloc: Global, ctx: &mut Ctx, row: &(&str, bool, &str)) -> Result<bool, Fail> {
+    let said = if row.1 {
+        in_a_row(alloc, ctx, row.0)?
+    } else {
+        marked(alloc, ctx, row.0)?
+    };
+    Ok(said.as_str() == row.2)
 }
 
 #[test]
 fn roots_follow_each_other_on_one_stream(rt: HostRuntime) -> Result<(), Fail> {
-    assert_eq!(rt;
-        with_demo(rt.alloc(), with_sections)?.as_str(),
-        "<in-memory>: line: 1, column: 46 4"
-    );
-    assert_eq!(rt;
-        with_demo(rt.alloc(), without_sections)?.as_str(),
-        "true line: 1, column: 46: Duplicate outline index: 0 2"
-    );
+    assert_eq!(rt; failing_demo(rt.alloc(), SECOND, follows)?, None);
     Ok(())
 }
 
@@ -137,12 +100,7 @@ fn leaves(alloc: Global, ctx: &mut Ctx, stands: Ptr<Operation>, text: &str) -> R
 /// The number of the first text that is not rejected, or leaves something else.
 fn differing(alloc: Global, ctx: &mut Ctx) -> Result<Option<usize>, Fail> {
     let stands = root(ctx, "builtin.module @m {}").ok_or("refused")?;
-    for (number, text) in REFUSED.iter().enumerate() {
-        if !leaves(alloc, ctx, stands, text)? {
-            return Ok(Some(number));
-        }
-    }
-    Ok(None)
+    failing(REFUSED, ctx, |ctx, text| leaves(alloc, ctx, stands, text))
 }
 
 #[test]

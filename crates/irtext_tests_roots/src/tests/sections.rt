@@ -1,5 +1,5 @@
 //! Sections whose entries give locations of each kind: the parsed location is printed again; and one that ends early is an error there.
-use crate::reading::{read_root, root, whole};
+use crate::reading::{printed, read_root};
 use irtext_demo::DemoAttr;
 use irtext_tests_common::contexts::{Ctx, with_demo};
 use pliron_text::printable::Disp;
@@ -37,18 +37,10 @@ const LOCATIONS: &[(&str, &str)] = &[
     ),
 ];
 
-/// The printed text of a module whose entry gives this location.
-fn printed(alloc: Global, ctx: &mut Ctx, given: &str) -> Result<String, Fail> {
-    let text = format!(in alloc; "{}{}], []", READ, given)?;
-    match root(ctx, text.as_str()) {
-        Some(root) => whole(alloc, ctx, root),
-        None => Err(Fail::from("refused")),
-    }
-}
-
-/// The same in a context of its own.
+/// The printed text of a module whose entry gives this location, in a context of its own.
 fn row(alloc: Global, given: &str) -> Result<String, Fail> {
-    with_demo(alloc, |alloc, ctx| printed(alloc, ctx, given))
+    let text = format!(in alloc; "{}{}], []", READ, given)?;
+    with_demo(alloc, |alloc, ctx| printed(alloc, ctx, text.as_str()))
 }
 
 /// Whether a module whose entry gives this location is printed with this text for it.
@@ -66,12 +58,12 @@ fn each_location_of_an_entry_comes_back(rt: HostRuntime) -> Result<(), Fail> {
     Ok(())
 }
 
+/// The module as it is printed if its entry gives no location.
+const UNMARKED: &str = "builtin.module @m \n{\n  \n}";
+
 #[test]
 fn an_unknown_location_leaves_no_mark(rt: HostRuntime) -> Result<(), Fail> {
-    assert_eq!(rt;
-        row(rt.alloc(), "?")?.as_str(),
-        "builtin.module @m \n{\n  \n}"
-    );
+    assert_eq!(rt; row(rt.alloc(), "?")?.as_str(), UNMARKED);
     Ok(())
 }
 

@@ -100,7 +100,7 @@ fn said<P: Part<DemoAttr>>(alloc: Global, text: &str) -> Result<String, Fail> {
 }
 
 /// The same for the part of this kind.
-fn row(alloc: Global, kind: Kind, text: &str) -> Result<String, Fail> {
+fn said_as(alloc: Global, kind: Kind, text: &str) -> Result<String, Fail> {
     match kind {
         Kind::Signed => said::<Number<i64>>(alloc, text),
         Kind::Byte => said::<Number<u8>>(alloc, text),
@@ -118,129 +118,143 @@ fn row(alloc: Global, kind: Kind, text: &str) -> Result<String, Fail> {
     }
 }
 
-/// A part, a text, and what is said of it.
-const TEXTS: &[(Kind, &str, &str)] = &[
-    (Kind::Signed, "-12;", "-12|Some(';')"),
+/// Texts of each part, and what is said of each.
+const TEXTS: &[(Kind, &[(&str, &str)])] = &[
     (
         Kind::Signed,
-        "9223372036854775808",
-        "line: 1, column: 1: Number out of range: 9223372036854775808!",
+        &[
+            ("-12;", "-12|Some(';')"),
+            (
+                "9223372036854775808",
+                "line: 1, column: 1: Number out of range: 9223372036854775808!",
+            ),
+            (
+                "x",
+                "line: 1, column: 1: Unexpected `x`, expected digit|Some('x')",
+            ),
+        ],
     ),
-    (
-        Kind::Signed,
-        "x",
-        "line: 1, column: 1: Unexpected `x`, expected digit|Some('x')",
-    ),
-    (Kind::Byte, "255", "255|None"),
     (
         Kind::Byte,
-        "256",
-        "line: 1, column: 1: Number out of range: 256!",
-    ),
-    (Kind::Byte, "007", "7|None"),
-    (Kind::Percent, "100%", "100|Some('%')"),
-    (
-        Kind::Percent,
-        "0",
-        "line: 1, column: 1: Number out of range: 0!",
+        &[
+            ("255", "255|None"),
+            ("256", "line: 1, column: 1: Number out of range: 256!"),
+            ("007", "7|None"),
+        ],
     ),
     (
         Kind::Percent,
-        "101",
-        "line: 1, column: 1: Number out of range: 101!",
-    ),
-    (
-        Kind::Percent,
-        "%",
-        "line: 1, column: 1: Unexpected `%`, expected digit|Some('%')",
-    ),
-    (Kind::Quoted, "\"a\\n\\\"b\"", "\"a\\n\\\"b\"|None"),
-    (
-        Kind::Quoted,
-        "\"a",
-        "line: 1, column: 3: Unexpected end of input, expected `\"`!",
+        &[
+            ("100%", "100|Some('%')"),
+            ("0", "line: 1, column: 1: Number out of range: 0!"),
+            ("101", "line: 1, column: 1: Number out of range: 101!"),
+            (
+                "%",
+                "line: 1, column: 1: Unexpected `%`, expected digit|Some('%')",
+            ),
+        ],
     ),
     (
         Kind::Quoted,
-        "a",
-        "line: 1, column: 1: Unexpected `a`, expected `\"`|Some('a')",
+        &[
+            ("\"a\\n\\\"b\"", "\"a\\n\\\"b\"|None"),
+            (
+                "\"a",
+                "line: 1, column: 3: Unexpected end of input, expected `\"`!",
+            ),
+            (
+                "a",
+                "line: 1, column: 1: Unexpected `a`, expected `\"`|Some('a')",
+            ),
+        ],
     ),
-    (Kind::Name, "a_1.b", "a_1|Some('.')"),
     (
         Kind::Name,
-        "1",
-        "line: 1, column: 1: Unexpected `1`, expected identifier|Some('1')",
+        &[
+            ("a_1.b", "a_1|Some('.')"),
+            (
+                "1",
+                "line: 1, column: 1: Unexpected `1`, expected identifier|Some('1')",
+            ),
+        ],
     ),
-    (Kind::Keyword, "to x", "to|Some(' ')"),
     (
         Kind::Keyword,
-        "too",
-        "line: 1, column: 1: Unexpected `t`, expected `to`|Some('t')",
+        &[
+            ("to x", "to|Some(' ')"),
+            (
+                "too",
+                "line: 1, column: 1: Unexpected `t`, expected `to`|Some('t')",
+            ),
+        ],
     ),
-    (Kind::Flag, "to", "to|None"),
-    (Kind::Flag, "too", "|Some('t')"),
+    (Kind::Flag, &[("to", "to|None"), ("too", "|Some('t')")]),
     (
         Kind::Type,
-        "builtin.integer  si64",
-        "builtin.integer si64|None",
-    ),
-    (
-        Kind::Type,
-        "builtin.nothing",
-        "line: 1, column: 1: Unregistered type builtin.nothing!",
-    ),
-    (Kind::Pair, "< 1 :-2 >", "<1: -2>|None"),
-    (
-        Kind::Pair,
-        "<1, 2>",
-        "line: 1, column: 3: Unexpected `,`, expected `:`!",
+        &[
+            ("builtin.integer  si64", "builtin.integer si64|None"),
+            (
+                "builtin.nothing",
+                "line: 1, column: 1: Unregistered type builtin.nothing!",
+            ),
+        ],
     ),
     (
         Kind::Pair,
-        "<1:",
-        "line: 1, column: 4: Unexpected end of input, expected digit!",
-    ),
-    (
-        Kind::Pair,
-        "1",
-        "line: 1, column: 1: Unexpected `1`, expected `<`|Some('1')",
+        &[
+            ("< 1 :-2 >", "<1: -2>|None"),
+            (
+                "<1, 2>",
+                "line: 1, column: 3: Unexpected `,`, expected `:`!",
+            ),
+            (
+                "<1:",
+                "line: 1, column: 4: Unexpected end of input, expected digit!",
+            ),
+            (
+                "1",
+                "line: 1, column: 1: Unexpected `1`, expected `<`|Some('1')",
+            ),
+        ],
     ),
     (
         Kind::Arrow,
-        "a->builtin.integer i1",
-        "a -> builtin.integer i1|None",
+        &[
+            ("a->builtin.integer i1", "a -> builtin.integer i1|None"),
+            ("a b", "line: 1, column: 3: Unexpected `b`, expected `->`!"),
+        ],
     ),
-    (
-        Kind::Arrow,
-        "a b",
-        "line: 1, column: 3: Unexpected `b`, expected `->`!",
-    ),
-    (Kind::Names, "[a, b]", "[a, b]|None"),
-    (Kind::Names, "[]", "[]|None"),
-    (Kind::Nested, "[( 1,2 ),()]", "[(1, 2), ()]|None"),
+    (Kind::Names, &[("[a, b]", "[a, b]|None"), ("[]", "[]|None")]),
     (
         Kind::Nested,
-        "[(1,)]",
-        "line: 1, column: 5: Unexpected `)`, expected digit!",
+        &[
+            ("[( 1,2 ),()]", "[(1, 2), ()]|None"),
+            (
+                "[(1,)]",
+                "line: 1, column: 5: Unexpected `)`, expected digit!",
+            ),
+            (
+                "[(1)",
+                "line: 1, column: 5: Unexpected end of input, expected `]`!",
+            ),
+        ],
     ),
-    (
-        Kind::Nested,
-        "[(1)",
-        "line: 1, column: 5: Unexpected end of input, expected `]`!",
-    ),
-    (Kind::Maybe, "( )", "()|None"),
-    (Kind::Maybe, "({a})", "({ a })|None"),
     (
         Kind::Maybe,
-        "({a)",
-        "line: 1, column: 4: Unexpected `)`, expected `}`!",
+        &[
+            ("( )", "()|None"),
+            ("({a})", "({ a })|None"),
+            ("({a)", "line: 1, column: 4: Unexpected `)`, expected `}`!"),
+        ],
     ),
 ];
 
 #[test]
 fn ready_parts_are_parsed_and_printed(rt: HostRuntime) -> Result<(), Fail> {
-    for line in TEXTS {
-        assert_eq!(rt; row(rt.alloc(), line.0, line.1)?.as_str(), line.2);
+    for part in TEXTS {
+        for row in part.1 {
+            assert_eq!(rt; said_as(rt.alloc(), part.0, row.0)?.as_str(), row.1);
+        }
     }
     Ok(())
 }
