@@ -79,9 +79,12 @@ fn read_text(alloc: Global, input: &mut impl Read) -> Result<String, Fault> {
     String::from_utf8(bytes).map_err(|_| Fault::NotUtf8)
 }
 
+/// A context of the demo types and attributes.
+type Ctx = Context<DemoType, DemoAttr>;
+
 /// Returns the fault for an error: the error's text. It is `Memory` if there is no memory for that text, or if memory ran out before
 /// anything was parsed.
-fn refusal(alloc: Global, ctx: &Context<DemoType, DemoAttr>, error: &Error<DemoAttr>) -> Fault {
+fn refusal(alloc: Global, ctx: &Ctx, error: &Error<DemoAttr>) -> Fault {
     if let (Cause::Memory, ErrorKind::InvalidArgument) = (&error.err, error.kind) {
         return Fault::Memory(AllocError);
     }
@@ -92,12 +95,7 @@ fn refusal(alloc: Global, ctx: &Context<DemoType, DemoAttr>, error: &Error<DemoA
 }
 
 /// Appends the root's text in this form.
-fn write_root(
-    ctx: &Context<DemoType, DemoAttr>,
-    root: Ptr<Operation>,
-    form: Form,
-    printed: &mut String,
-) -> fmt::Result
+fn write_root(ctx: &Ctx, root: Ptr<Operation>, form: Form, printed: &mut String) -> fmt::Result
     requires { IsSome (operation ctx.now root) }
 {
     match form {
@@ -110,12 +108,7 @@ fn write_root(
 }
 
 /// Returns the root's text in this form.
-fn printed(
-    alloc: Global,
-    ctx: &Context<DemoType, DemoAttr>,
-    root: Ptr<Operation>,
-    form: Form,
-) -> Result<String, Fault>
+fn printed(alloc: Global, ctx: &Ctx, root: Ptr<Operation>, form: Form) -> Result<String, Fault>
     requires { IsSome (operation ctx.now root) }
 {
     let mut text = String::new(alloc);
@@ -126,12 +119,7 @@ fn printed(
 }
 
 /// Registers the demo dialects with this context, parses `text`, and returns the root's text in this form.
-fn registered(
-    alloc: Global,
-    ctx: &mut Context<DemoType, DemoAttr>,
-    form: Form,
-    text: &str,
-) -> Result<String, Fault> {
+fn registered(alloc: Global, ctx: &mut Ctx, form: Form, text: &str) -> Result<String, Fault> {
     if let Err(error) = register_demo(ctx) {
         return Err(refusal(alloc, ctx, &error));
     }

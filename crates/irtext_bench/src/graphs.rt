@@ -16,40 +16,20 @@ fn done(
     times: usize,
     calls: &[Call],
 ) -> Result<bool, AllocError> {
-    if word == "rounds" {
-        return named::rounds(alloc, size, times, calls);
+    match word {
+        "rounds" => named::rounds(alloc, size, times, calls),
+        "nested" => Ok(named::nested(alloc, size, calls)),
+        "repeated" => Ok(named::repeated(alloc, size, calls)),
+        "make" => objects::make(alloc, size, times),
+        "replace" => objects::replace(alloc, size, times),
+        "fill" => objects::fill(alloc, size, times, false),
+        "erase" => objects::fill(alloc, size, times, true),
+        "texts" => Ok(names::texts(alloc, size)?.len() == size),
+        "names" => names::new_names(alloc, size),
+        "definitions" => names::definitions(alloc, size, times),
+        "uses" => names::uses(alloc, size, times),
+        _ => names::regions(alloc, size, times),
     }
-    if word == "nested" {
-        return Ok(named::nested(alloc, size, calls));
-    }
-    if word == "repeated" {
-        return Ok(named::repeated(alloc, size, calls));
-    }
-    if word == "make" {
-        return objects::make(alloc, size, times);
-    }
-    if word == "replace" {
-        return objects::replace(alloc, size, times);
-    }
-    if word == "fill" {
-        return objects::fill(alloc, size, times, false);
-    }
-    if word == "erase" {
-        return objects::fill(alloc, size, times, true);
-    }
-    if word == "texts" {
-        return Ok(names::texts(alloc, size)?.len() == size);
-    }
-    if word == "names" {
-        return names::new_names(alloc, size);
-    }
-    if word == "definitions" {
-        return names::definitions(alloc, size, times);
-    }
-    if word == "uses" {
-        return names::uses(alloc, size, times);
-    }
-    names::regions(alloc, size, times)
 }
 
 /// Returns the number that a word denotes.

@@ -6,6 +6,7 @@
 //! operations in given formats. `graphs`: calls on graphs and names, without a text.
 #![tactic(auto)]
 
+mod again;
 mod directives;
 mod erased;
 mod formats;
@@ -24,31 +25,17 @@ use std::{env, io};
 
 /// Does what the word selects so many times, and returns a line with the amount.
 fn measured(alloc: Global, word: &str, times: usize, text: &str) -> Result<String, AllocError> {
-    if word == "numbers" {
-        return lists::numbers(alloc, text);
+    match word {
+        "numbers" => lists::numbers(alloc, text),
+        "strings" => lists::strings(alloc, text),
+        "positions" => positions::positions(alloc, text, times),
+        "quoted" => quoted::quoted(alloc, text, times),
+        "copied" => quoted::copied(alloc, text, times),
+        "erased" => erased::erased(alloc, text, times),
+        "prints" => prints::prints(alloc, text),
+        "formats" => formats::formats(alloc, text),
+        _ => roots::roots(alloc, text, times),
     }
-    if word == "strings" {
-        return lists::strings(alloc, text);
-    }
-    if word == "positions" {
-        return positions::positions(alloc, text, times);
-    }
-    if word == "quoted" {
-        return quoted::quoted(alloc, text, times);
-    }
-    if word == "copied" {
-        return quoted::copied(alloc, text, times);
-    }
-    if word == "erased" {
-        return erased::erased(alloc, text, times);
-    }
-    if word == "prints" {
-        return prints::prints(alloc, text);
-    }
-    if word == "formats" {
-        return formats::formats(alloc, text);
-    }
-    roots::roots(alloc, text, times)
 }
 
 /// Does what the arguments select, and writes the line.

@@ -1,7 +1,8 @@
 //! Texts that are parsed and printed, and whose printed texts are parsed and printed again, each with a new context; and each also with
 //! a context that already contains a root.
 
-use crate::said::{Ctx, Said, erase, print_of, printed, read, refused, said_of};
+use crate::again::fate;
+use crate::said::{Ctx, Said, erase, printed, read, refused, said_of};
 use irtext_demo::dialects::register_demo;
 use pliron_text::base::{Context, Operation, Ptr};
 use std::alloc::{AllocError, Global};
@@ -33,40 +34,10 @@ fn said_alone(alloc: Global, text: &str) -> Result<Said, AllocError> {
     said_with(alloc, &mut ctx, text)
 }
 
-/// Prints a printed text again, with an empty context of the caller.
-fn print_with(alloc: Global, ctx: &mut Ctx, print: &str) -> Result<Option<String>, AllocError> {
-    register(ctx)?;
-    print_of(alloc, ctx, print)
-}
-
-/// Prints a printed text again, with a new context.
-fn print_again(alloc: Global, print: &str) -> Result<Option<String>, AllocError> {
-    let mut ctx = Context::new(alloc);
-    print_with(alloc, &mut ctx, print)
-}
-
-/// Checks a printed text. Returns `same` if it is printed unchanged, `filled` if the print of that is.
-fn fate(alloc: Global, first: &str) -> Result<&'static str, AllocError> {
-    let Some(second) = print_again(alloc, first)? else {
-        return Ok("wrong: its print is not printed");
-    };
-    if second.as_str() == first {
-        return Ok("same");
-    }
-    let Some(third) = print_again(alloc, second.as_str())? else {
-        return Ok("wrong: its second print is not printed");
-    };
-    Ok(if third.as_str() == second.as_str() {
-        "filled"
-    } else {
-        "wrong: its second print is printed otherwise"
-    })
-}
-
 /// Returns the line for a text with this result.
 fn told(alloc: Global, said: &Said) -> Result<String, AllocError> {
     match said {
-        Said::Printed(first) => String::from_str(alloc, fate(alloc, first.as_str())?),
+        Said::Printed(first) => String::from_str(alloc, fate(alloc, None, first.as_str(), "same")?),
         Said::Unprinted => String::from_str(alloc, "not printed"),
         Said::Refused(at, _) => format!(in alloc; "refused {} {}", at.line, at.column),
         Said::Left => String::from_str(alloc, "wrong: something of it is left"),

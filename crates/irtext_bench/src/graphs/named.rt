@@ -48,15 +48,6 @@ pub fn call_of(word: &str) -> Option<Call> {
     }
 }
 
-/// Interns a name.
-fn mention(names: &mut Names, graph: &Measured, text: &str) -> bool
-    requires { MatchesGraph names.old.values names.old.labels graph.now }
-    ensures { MatchesGraph names.new.values names.new.labels graph.now }
-{
-    let _graph = graph;
-    names.intern(text).is_ok()
-}
-
 /// Creates an operation with one result, and checks that the result is live, as a caller has to before it defines a name as that
 /// result.
 fn make(names: &Names, graph: &mut Measured) -> bool
@@ -82,32 +73,16 @@ fn define_number(names: &mut Names, graph: &mut Measured, name: usize) -> bool
         return false;
     };
     let def = Value::Result(made, 0);
-    if !graph.contains_value(def) {
-        return false;
-    }
-    define_name(names, graph, name, def).is_ok()
+    graph.contains_value(def) && define_name(names, graph, name, def).is_ok()
 }
 
-/// Creates an operation with one result, and defines a name as that result.
-fn define(names: &mut Names, graph: &mut Measured, text: &str) -> bool
+/// Uses the name with this number.
+fn use_name(names: &mut Names, graph: &mut Measured, name: usize) -> bool
     requires { MatchesGraph names.old.values names.old.labels graph.old }
     ensures { MatchesGraph names.new.values names.new.labels graph.new }
 {
-    match names.intern(text) {
-        Ok(name) => define_number(names, graph, name),
-        Err(_) => false,
-    }
-}
-
-/// Uses a name.
-fn use_name(names: &mut Names, graph: &mut Measured, text: &str) -> bool
-    requires { MatchesGraph names.old.values names.old.labels graph.old }
-    ensures { MatchesGraph names.new.values names.new.labels graph.new }
-{
-    let Ok(name) = names.intern(text) else {
-        return false;
-    };
-    names.has_value_scope() && uses::use_name::<Value, _, _, _>(names, graph, name, ()).is_ok()
+    let is_known = names.has_value_scope() && name < names.num_names();
+    is_known && uses::use_name::<Value, _, _, _>(names, graph, name, ()).is_ok()
 }
 
 /// Creates an operation that uses the name with this number.
@@ -124,17 +99,6 @@ fn use_number(names: &mut Names, graph: &mut Measured, name: usize) -> bool
     graph
         .make_operation(Some(1), Few::none(), &[value], &[])
         .is_ok()
-}
-
-/// Creates an operation that uses a name.
-fn use_by(names: &mut Names, graph: &mut Measured, text: &str) -> bool
-    requires { MatchesGraph names.old.values names.old.labels graph.old }
-    ensures { MatchesGraph names.new.values names.new.labels graph.new }
-{
-    match names.intern(text) {
-        Ok(name) => use_number(names, graph, name),
-        Err(_) => false,
-    }
 }
 
 /// Creates a block, and checks that it is live.
@@ -160,32 +124,32 @@ fn define_label_number(names: &mut Names, graph: &mut Measured, name: usize) -> 
     let Ok(made) = graph.make_block(5, Few::none()) else {
         return false;
     };
-    if !graph.contains(Object::TheBlock(made)) {
-        return false;
-    }
-    define_name(names, graph, name, made).is_ok()
+    graph.contains(Object::TheBlock(made)) && define_name(names, graph, name, made).is_ok()
 }
 
-/// Creates a block, and defines a label as that block.
-fn define_label(names: &mut Names, graph: &mut Measured, text: &str) -> bool
+/// Uses the label with this number.
+fn use_label(names: &mut Names, graph: &mut Measured, name: usize) -> bool
     requires { MatchesGraph names.old.values names.old.labels graph.old }
     ensures { MatchesGraph names.new.values names.new.labels graph.new }
 {
-    match names.intern(text) {
-        Ok(name) => define_label_number(names, graph, name),
-        Err(_) => false,
-    }
+    let is_known = names.has_label_scope() && name < names.num_names();
+    is_known && uses::use_name::<Ptr<BasicBlock>, _, _, _>(names, graph, name, 0).is_ok()
 }
 
-/// Uses a label.
-fn use_label(names: &mut Names, graph: &mut Measured, text: &str) -> bool
+/// Makes this call for the name with this number.
+fn call_number(names: &mut Names, graph: &mut Measured, call: Call, name: usize) -> bool
     requires { MatchesGraph names.old.values names.old.labels graph.old }
     ensures { MatchesGraph names.new.values names.new.labels graph.new }
 {
-    let Ok(name) = names.intern(text) else {
-        return false;
-    };
-    names.has_label_scope() && uses::use_name::<Ptr<BasicBlock>, _, _, _>(names, graph, name, 0).is_ok()
+    match call {
+        Call::Define => define_number(names, graph, name),
+        Call::Use => use_name(names, graph, name),
+        Call::UseBy => use_number(names, graph, name),
+        Call::DefineLabel => define_label_number(names, graph, name),
+        Call::UseLabel => use_label(names, graph, name),
+        // it is interned
+        _ => true,
+    }
 }
 
 /// Makes this call for one name.
@@ -195,14 +159,12 @@ fn call_one(names: &mut Names, graph: &mut Measured, call: Call, text: &str) -> 
 {
     match call {
         Call::Skip => true,
-        Call::Mention => mention(names, graph, text),
         Call::Make => make(names, graph),
-        Call::Define => define(names, graph, text),
-        Call::Use => use_name(names, graph, text),
-        Call::UseBy => use_by(names, graph, text),
         Call::MakeBlock => make_block(names, graph),
-        Call::DefineLabel => define_label(names, graph, text),
-        Call::UseLabel => use_label(names, graph, text),
+        _ => match names.intern(text) {
+            Ok(name) => call_number(names, graph, call, name),
+            Err(_) => false,
+        },
     }
 }
 
