@@ -103,7 +103,7 @@ fn between(alloc: Global, text: &str, from: usize, to: usize) -> Result<String, 
 }
 
 /// The text that is broken at an offset.
-fn broken(alloc: Global, text: &str, at: usize, way: Break) -> Result<String, Fail> {
+fn broken_at(alloc: Global, text: &str, at: usize, way: Break) -> Result<String, Fail> {
     let mut broken = between(alloc, text, 0, at)?;
     if let Break::Character = way {
         broken.push('#')?;
@@ -162,7 +162,7 @@ fn is_printed(alloc: Global, text: &str, test: &Broken, entries: usize) -> Resul
 
 /// Whether a text that is broken at an offset has the expected result, and an error leaves everything unchanged.
 fn holds(alloc: Global, test: &Broken, from: usize, at: usize, piece: Piece) -> Result<bool, Fail> {
-    let text = broken(alloc, test.text, at, test.way)?;
+    let text = broken_at(alloc, test.text, at, test.way)?;
     let wanted = wanted(alloc, test, from, at, piece)?;
     let said = with_demo(alloc, |alloc, ctx| said(alloc, ctx, text.as_str()))?;
     match piece {
