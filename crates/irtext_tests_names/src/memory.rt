@@ -33,8 +33,10 @@ fn is_used(names: &mut Names, graph: &mut Tested, name: usize, sort: Sort) -> bo
         return false;
     }
     match sort {
-        Sort::Value => names.has_value_scope() && use_name::<Value, _, _, _>(names, graph, name, ()).is_ok(),
-        Sort::Label => names.has_label_scope() && use_name::<Ptr<BasicBlock>, _, _, _>(names, graph, name, 0).is_ok(),
+        Sort::Value => names.has_value_scope()
+            && use_name::<Value, _, _, _>(names, graph, name, ()).is_ok(),
+        Sort::Label => names.has_label_scope()
+            && use_name::<Ptr<BasicBlock>, _, _, _>(names, graph, name, 0).is_ok(),
     }
 }
 
