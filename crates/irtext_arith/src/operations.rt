@@ -1,6 +1,6 @@
 //! The operations of the dialect `arith`, with their formats.
 ghost use Rattle.std.specs.Prelude.{◌≡◌, IfOk, IfErr, IsTrue, OnOk, codes};
-ghost use Rattle.irtext_format_check.specs.Directives.{directive_of, directives_of, format_of};
+ghost use Rattle.irtext_base.specs.FormatViews.{directive_of, directives_of, format_of};
 ghost use Rattle.irtext_base.specs.Format as format;
 ghost use Rattle.irtext_base.specs.Format.{attribute, word};
 ghost use Rattle.irtext_base.specs.Text.{is_identifier};

@@ -6,7 +6,7 @@ use denote.Ref.{Bor}
 use Rattle.indexmap.specs.IndexMap.{insert_entry}
 use Rattle.irtext_base.specs.Text.{Text}
 use Rattle.irtext_base.specs.Format.{Accepted}
-use Rattle.irtext_format_check.specs.Directives.{format_of}
+use Rattle.irtext_base.specs.FormatViews.{format_of}
 use Rattle.irtext_context.specs.Dialects.{Known, Table, AreAccepted, AllAccepted, known_of, known_entries, same_id, with_op}
 use Rattle.irtext_base.specs.declared.base.identifier.OpId.{OpId}
 use Rattle.irtext_context.specs.declared.dialect.OpInfo.{OpInfo}

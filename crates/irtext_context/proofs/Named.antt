@@ -7,7 +7,7 @@ use Rattle.std.specs.Str.{bytes_eq}
 use denote.Ref.{Bor}
 use Rattle.irtext_base.specs.Text.{Text}
 use Rattle.irtext_base.specs.Format.{Accepted}
-use Rattle.irtext_format_check.specs.Directives.{format_of}
+use Rattle.irtext_base.specs.FormatViews.{format_of}
 use Rattle.irtext_context.specs.Dialects.{AreAccepted, known_of, known_entries, same_id}
 use Rattle.irtext_context.specs.Named.{id_of_texts, same_texts}
 use Rattle.irtext_base.specs.declared.base.identifier.OpId.{OpId}

@@ -12,7 +12,7 @@ use Rattle.irtext_base.specs.declared.parsable.names.ParserNameTrackerError.TheV
 use Rattle.irtext_context.specs.Dialects.{Table, IsRefusedBy}
 use Rattle.irtext_context.specs.DialectTable.{dialect_or_new, CanRegister, RefusesOp}
 use Rattle.irtext_context.specs.Named.{id_of_texts}
-use Rattle.irtext_format_check.specs.Directives.{format_of}
+use Rattle.irtext_base.specs.FormatViews.{format_of}
 
 -- whether a fault is one of a text that is to be an identifier
 abbrev is_of_name : Fault → Bool

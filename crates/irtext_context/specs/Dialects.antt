@@ -4,7 +4,8 @@ use Rattle.std.specs.Str.{bytes_eq}
 use Rattle.indexmap.specs.IndexMap.{insert_entry}
 use Rattle.irtext_base.specs.Text.{Text}
 use Rattle.irtext_base.specs.Format.{Format, Accepted, first_fault}
-use Rattle.irtext_format_check.specs.Directives.{format_of, condition_number}
+use Rattle.irtext_base.specs.FormatViews.{format_of}
+use Rattle.irtext_format_check.specs.Directives.{condition_number}
 use Rattle.irtext_base.specs.declared.base.identifier.OpId.{OpId}
 use Rattle.irtext_context.specs.declared.dialect.OpInfo.{OpInfo}
 use Rattle.irtext_base.specs.declared.format.OpFormat.{OpFormat}

@@ -9,7 +9,7 @@ ghost use Rattle.std.specs.Str.{bytes_eq};
 ghost use Rattle.indexmap.specs.IndexMap.{insert_entry};
 ghost use Rattle.std.proofs.Common.{rules, ap};
 ghost use Rattle.irtext_context.specs.Dialects.{same_id, known_of, with_op, IsRefusedBy, AreAccepted};
-ghost use Rattle.irtext_format_check.specs.Directives.{format_of};
+ghost use Rattle.irtext_base.specs.FormatViews.{format_of};
 ghost use Rattle.irtext_base.specs.Faults.{fault_of, name_refused};
 ghost use Rattle.irtext_base.specs.Format.{Accepted};
 ghost use Rattle.irtext_base.specs.Text.{is_identifier};

@@ -12,7 +12,8 @@ use Rattle.irtext_base.specs.declared.result.Cause.{Cause, Memory, Unexpected, F
 use Rattle.irtext_context.specs.Dialects.{Table}
 use Rattle.irtext_context.specs.DialectTable.{dialect_or_new, RefusesOp}
 use Rattle.irtext_context.specs.Named.{id_of_texts}
-use Rattle.irtext_format_check.specs.Directives.{condition_number, format_of}
+use Rattle.irtext_base.specs.FormatViews.{format_of}
+use Rattle.irtext_format_check.specs.Directives.{condition_number}
 use Rattle.irtext_demo.specs.DemoDialects.{demo_op, Refuses}
 use Rattle.irtext_demo.specs.declared.dialects.Demo.{Demo}
 use Rattle.irtext_demo.specs.declared.dialects.Demo.TheVariants as demo

@@ -2,7 +2,7 @@
 ghost use Rattle.std.specs.Prelude.{◌≡◌, ◌⊎◌, IfOk, IfErr, IsTrue, OnOk, codes, map};
 ghost use Rattle.irtext_context.specs.Dialects.{IsRefusedBy};
 ghost use Rattle.irtext_context.specs.DialectTable.{dialect_or_new};
-ghost use Rattle.irtext_format_check.specs.Directives.{directive_of, format_of};
+ghost use Rattle.irtext_base.specs.FormatViews.{directive_of, format_of};
 ghost use Rattle.irtext_base.specs.Format.{word};
 ghost use Rattle.irtext_base.specs.Text.{is_identifier};
 ghost use Rattle.irtext_base.specs.declared.location.Location.{Unknown};

@@ -1,14 +1,9 @@
--- What the code's formats and directives are in the definitions, and the conditions in the order in which the code checks them.
-use Rattle.std.specs.Prelude.{ℕ, Bool, true, false, not, ◌&&◌, ◌||◌, ◌==◌, nat_lt, List, [], ◌∷◌, map, Option, Some, None, string_bytes}
+-- The conditions on a list of directives, in the order in which the code checks them.
+use Rattle.std.specs.Prelude.{ℕ, Bool, true, false, not, ◌&&◌, ◌||◌, ◌==◌, nat_lt, List, [], ◌∷◌, Option, Some, None}
 use Rattle.std.specs.List.{list_all, filter_map}
-use Rattle.std.specs.Str.{chars}
 use Rattle.irtext_base.specs.Format as format
 use Rattle.irtext_base.specs.Format.{Format, Directive, has, is_operands, is_successors, is_regions, is_dictionary, is_header, is_any_region, keys, continuings, followers, disjoint, distinct, same_text, given_names_key}
 use Rattle.irtext_base.specs.Text.{Text}
-use Rattle.irtext_base.specs.declared.format.Directive as code
-use Rattle.irtext_base.specs.declared.format.Directive.TheVariants as step
-use Rattle.irtext_base.specs.declared.format.OpFormat.{OpFormat}
-use Rattle.irtext_base.specs.declared.format.OpFormat.TheVariants.{Canonical, Custom}
 use Rattle.irtext_base.specs.declared.format.FormatFault.{FormatFault}
 use Rattle.irtext_base.specs.declared.format.FormatFault.TheVariants as condition
 use Rattle.irtext_format_check.specs.declared.format.parts.Part.{Part}
@@ -17,29 +12,6 @@ use Rattle.irtext_format_check.specs.declared.format.parts.Sole.{Sole}
 use Rattle.irtext_format_check.specs.declared.format.parts.Sole.TheVariants as sole
 use Rattle.irtext_format_check.specs.declared.format.rules.Rule.{Rule}
 use Rattle.irtext_format_check.specs.declared.format.rules.Rule.TheVariants as rule
-
--- the directive in the definitions: a literal is the list of its characters
-abbrev pub directive_of : code.Directive → Directive
-directive_of (step.Literal s) = format.word (chars (string_bytes s))
-directive_of (step.Operand i) = format.operand i
-directive_of step.Operands = format.operands
-directive_of (step.Successor i) = format.successor i
-directive_of step.Successors = format.successors
-directive_of (step.Attr k) = format.attribute k
-directive_of step.AttrDict = format.dictionary
-directive_of (step.ResultType i) = format.result_type i
-directive_of (step.Region i) = format.region i
-directive_of step.Regions = format.regions
-directive_of step.SymbolHeader = format.header
-
--- the directives in the definitions, in order
-abbrev pub directives_of : List code.Directive → List Directive
-directives_of = map directive_of
-
--- the format in the definitions
-abbrev pub format_of : OpFormat → Format
-format_of Canonical = format.canonical
-format_of (Custom ds) = format.custom (directives_of ds.items)
 
 -- the number of a condition
 abbrev pub condition_number : FormatFault → ℕ

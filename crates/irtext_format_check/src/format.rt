@@ -1,7 +1,8 @@
 //! Which formats of operations can be parsed in one way only.
 ghost use Rattle.std.specs.Prelude.{◌≡◌, MatchResult};
 ghost use Rattle.irtext_base.specs.Format.{first_fault};
-ghost use Rattle.irtext_format_check.specs.Directives.{format_of, condition_number};
+ghost use Rattle.irtext_base.specs.FormatViews.{format_of};
+ghost use Rattle.irtext_format_check.specs.Directives.{condition_number};
 
 mod conditions;
 mod followers;

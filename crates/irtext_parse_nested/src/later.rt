@@ -3,7 +3,7 @@ ghost use Rattle.std.specs.Prelude.{◌≡◌, ◌≤◌, ◌<◌, ◌+◌, ◌�
 ghost use Rattle.irtext_base.specs.Faults.{id_of};
 ghost use Rattle.irtext_base.specs.Format.{sym_name_key};
 ghost use Rattle.irtext_context.specs.Context.{KeepsOlder, operation};
-ghost use Rattle.irtext_format_check.specs.Directives.{format_of};
+ghost use Rattle.irtext_base.specs.FormatViews.{format_of};
 ghost use Rattle.irtext_graph.specs.Graph.{IsNew};
 ghost use Rattle.irtext_graph.specs.declared.object.Object.TheVariants.{TheOperation};
 ghost use Rattle.irtext_tokens.specs.AttrTexts.{attr_at};

@@ -7,7 +7,7 @@ use Rattle.irtext_base.specs.Format.{Directive}
 use Rattle.irtext_base.specs.Answers.{Outcome}
 use Rattle.irtext_base.specs.Locations.{AttrView}
 use Rattle.irtext_base.specs.declared.format.Directive as code
-use Rattle.irtext_format_check.specs.Directives.{directive_of, directives_of}
+use Rattle.irtext_base.specs.FormatViews.{directive_of, directives_of}
 use Rattle.irtext_parse_spec.specs.Heads.{Step, step_of, front_steps, directive_at, piece_at}
 use Rattle.irtext_parse_spec.specs.Resume.{is_flat}
 use Rattle.irtext_parse_spec.proofs.Resume.Front.{in_front, behind_front}

@@ -11,7 +11,7 @@ use Rattle.irtext_base.specs.declared.parsable.fault.ParseFault.{ParseFault}
 use Rattle.irtext_stream.specs.declared.position.Place.{Place}
 use Rattle.irtext_context.specs.DialectTable.{registered}
 use Rattle.irtext_context.specs.Dialects.{Table, known_of}
-use Rattle.irtext_format_check.specs.Directives.{format_of}
+use Rattle.irtext_base.specs.FormatViews.{format_of}
 use Rattle.irtext_context.specs.declared.dialect.OpInfo.{OpInfo}
 use Rattle.irtext_tokens.specs.Tokens.{id_at}
 use Rattle.irtext_grammar.specs.Grammar.Tree.{Name}

@@ -3,7 +3,7 @@ use Rattle.std.specs.Prelude.{List, map}
 use Rattle.irtext_base.specs.Format as format
 use Rattle.irtext_base.specs.declared.format.Directive as code
 use Rattle.irtext_base.specs.Faults.{characters}
-use Rattle.irtext_format_check.specs.Directives.{directive_of, directives_of}
+use Rattle.irtext_base.specs.FormatViews.{directive_of, directives_of}
 use Rattle.irtext_parse_spec.specs.Heads.{Step, flat, types, all, step_of}
 use Rattle.irtext_parse_pieces.specs.declared.steps.FormatStep.{FormatStep}
 use Rattle.irtext_parse_pieces.specs.declared.steps.FormatStep.TheVariants as step

@@ -2,7 +2,7 @@
 ghost use Rattle.std.specs.Prelude.{◌≡◌, ◌+◌, ◌<◌, ◌^◌, Bool, List, false, length, IfOk, MatchBool, Ok};
 ghost use Rattle.irtext_base.specs.Faults.{characters};
 ghost use Rattle.irtext_base.specs.Text.{Text};
-ghost use Rattle.irtext_format_check.specs.Directives.{format_of};
+ghost use Rattle.irtext_base.specs.FormatViews.{format_of};
 ghost use Rattle.irtext_tokens.specs.AttrTexts.{attr_at};
 ghost use Rattle.irtext_parse_spec.specs.Heads.{canonical_steps, steps_of, piece_at};
 ghost use Rattle.irtext_parse_pieces.specs.Fronts.{HasFront, TakesText, MustFront, MustFind};

@@ -14,13 +14,13 @@ use crate::one_region::position_of;
 use crate::outermost::failed_fault;
 use irtext_base::base::Identifier;
 use irtext_base::location::Location;
-use irtext_base::parsable::{CharStream, ParseFault, ParseResult, SourcePosition, TextStream};
+use irtext_base::parsable::{CharStream, ParseFault, ParseResult, TextStream};
 use irtext_base::result::Cause;
 use irtext_base::text::{AttrText, IrText};
 use irtext_context::base::{Operation, Ptr};
 use irtext_graph::held::HasGraph;
 use irtext_parse_state::parsable::{State, StateStream};
-use irtext_tokens::irfmt::faults::{out_of_memory, stands_at};
+use irtext_tokens::irfmt::faults::{fail_at, out_of_memory, stands_at};
 
 /// How many results an operation of the state's context has.
 fn result_count<T: IrText<A>, A: AttrText<A>, U>(
@@ -33,19 +33,6 @@ fn result_count<T: IrText<A>, A: AttrText<A>, U>(
     state.ctx.graph().num_results(op)
 }
 
-/// Returns a committed error with this cause and position. Leaves the stream failed.
-fn fail_with<A>(stream: &mut TextStream, pos: SourcePosition, cause: Cause<A>) -> ParseFault<A>
-    ensures fault { result ≡ record { pos = pos; cause = cause; committed = true } }
-    ensures refused { (fault_of cause ≡ fault.Failed → ⊥) → Refusal stream.old result stream.new }
-{
-    stream.fail();
-    ParseFault {
-        pos,
-        cause,
-        committed: true,
-    }
-}
-
 /// Returns the error for a number of names that differs from the number of an operation's results, at the current position of the stream.
 /// Leaves the stream failed.
 #[cold]
@@ -56,7 +43,7 @@ fn count_fault<A>(stream: &mut TextStream, results: usize, names: usize) -> Pars
     ensures refused { Refusal stream.old result stream.new }
 {
     let pos = stands_at(stream);
-    fail_with(stream, pos, Cause::ResultCount { results, names })
+    fail_at(stream, pos, Cause::ResultCount { results, names })
 }
 
 /// Returns the error for a name that is defined where no scope of names is open, at its location. Leaves the stream failed.
@@ -67,7 +54,7 @@ fn no_scope_error<A>(stream: &mut TextStream, name: &Identifier, loc: &Location<
     ensures refused { Refusal stream.old result stream.new }
 {
     match name.clone() {
-        Ok(name) => fail_with(stream, position_of(loc), Cause::NoActiveScope(name)),
+        Ok(name) => fail_at(stream, position_of(loc), Cause::NoActiveScope(name)),
         Err(_) => out_of_memory(stream),
     }
 }

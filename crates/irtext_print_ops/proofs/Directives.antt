@@ -11,7 +11,7 @@ use Rattle.irtext_base.specs.Own.{Language}
 use Rattle.irtext_base.specs.declared.base.identifier.OpId.{OpId}
 use Rattle.irtext_base.specs.declared.format.Directive as code
 use Rattle.irtext_context.specs.Context.{ContextView, OperationView}
-use Rattle.irtext_format_check.specs.Directives.{directive_of, directives_of}
+use Rattle.irtext_base.specs.FormatViews.{directive_of, directives_of}
 use Rattle.irtext_graph.proofs.Nests.{some_eq}
 use Rattle.irtext_graph.specs.declared.arena.Ptr.{Ptr}
 use Rattle.irtext_graph.specs.declared.object.Operation.{Operation}

@@ -12,7 +12,7 @@ use Rattle.irtext_base.specs.Text.{Text}
 use Rattle.irtext_base.specs.declared.base.attributes.AttrObj.{AttrObj}
 use Rattle.irtext_base.specs.declared.format.Directive as code
 use Rattle.irtext_context.specs.Context.{ContextView, OperationView, operation}
-use Rattle.irtext_format_check.specs.Directives.{directive_of}
+use Rattle.irtext_base.specs.FormatViews.{directive_of}
 use Rattle.irtext_graph.specs.Content.{Typed}
 use Rattle.irtext_graph.specs.Parts.{operands, successors, results, value_at, ValueStands}
 use Rattle.irtext_graph.specs.declared.arena.Ptr.{Ptr}

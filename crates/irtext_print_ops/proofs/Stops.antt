@@ -6,7 +6,7 @@ use Rattle.std.specs.Prelude.{⊤}
 use Rattle.std.specs.Str.{encode_utf8_all}
 use Rattle.irtext_base.specs.Own.{Language}
 use Rattle.irtext_base.specs.declared.format.Directive as code
-use Rattle.irtext_format_check.specs.Directives.{directive_of, directives_of}
+use Rattle.irtext_base.specs.FormatViews.{directive_of, directives_of}
 use Rattle.irtext_grammar.specs.Grammar.Tree.{Part}
 use Rattle.irtext_grammar.specs.Graphs.Graph.{GraphOp, Printing}
 use Rattle.irtext_print_ops.specs.Steps.{custom_directives}

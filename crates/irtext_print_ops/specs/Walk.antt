@@ -9,7 +9,7 @@ use Rattle.irtext_base.specs.Own.{Language}
 use Rattle.irtext_base.specs.Text.{Text}
 use Rattle.irtext_base.specs.declared.format.Directive as code
 use Rattle.irtext_context.specs.Context.{ContextView, operation, block}
-use Rattle.irtext_format_check.specs.Directives.{directives_of}
+use Rattle.irtext_base.specs.FormatViews.{directives_of}
 use Rattle.irtext_graph.specs.declared.arena.Ptr.{Ptr}
 use Rattle.irtext_graph.specs.declared.object.BasicBlock.{BasicBlock}
 use Rattle.irtext_graph.specs.declared.object.Object.TheVariants.{TheBlock, TheRegion}

@@ -2,7 +2,7 @@
 ghost use Rattle.std.specs.Prelude.{◌≡◌, IsSome, option_map};
 ghost use Rattle.irtext_base.specs.Faults.{id_of};
 ghost use Rattle.irtext_context.specs.Context.{operation};
-ghost use Rattle.irtext_format_check.specs.Directives.{directives_of};
+ghost use Rattle.irtext_base.specs.FormatViews.{directives_of};
 ghost use Rattle.irtext_grammar.specs.Contexts.Formats.{format_of};
 ghost use Rattle.irtext_print_ops.specs.Heads as heads;
 ghost use Rattle.irtext_print_ops.specs.Steps as steps;

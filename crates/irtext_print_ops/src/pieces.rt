@@ -3,7 +3,7 @@ ghost use Rattle.std.specs.Prelude.{◌≡◌, ◌<◌, ℕ, is_some, option_map
 ghost use Rattle.irtext_base.specs.Format as format;
 ghost use Rattle.irtext_base.specs.Format.{operand_places, successor_places};
 ghost use Rattle.irtext_context.specs.Context.{operation};
-ghost use Rattle.irtext_format_check.specs.Directives.{directive_of, directives_of};
+ghost use Rattle.irtext_base.specs.FormatViews.{directive_of, directives_of};
 ghost use Rattle.irtext_graph.specs.Graph.{IsLive};
 ghost use Rattle.irtext_graph.specs.Parts.{operands, value_at, ValueStands};
 ghost use Rattle.irtext_graph.specs.declared.object.Value as code;

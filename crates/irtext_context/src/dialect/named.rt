@@ -7,7 +7,7 @@ ghost use Rattle.std.specs.Str.{bytes_eq};
 ghost use Rattle.std.proofs.Common.{ap};
 ghost use Rattle.irtext_context.specs.Dialects.{known_of, same_id};
 ghost use Rattle.irtext_context.specs.DialectTable.{dialect_of};
-ghost use Rattle.irtext_format_check.specs.Directives.{format_of};
+ghost use Rattle.irtext_base.specs.FormatViews.{format_of};
 ghost use Rattle.irtext_context.specs.Named.{id_of_texts, fed_alike, tested_alike};
 ghost use Rattle.irtext_base.specs.Format.{Accepted};
 

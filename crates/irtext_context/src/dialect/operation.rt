@@ -5,7 +5,7 @@ ghost use Rattle.std.specs.Str.{bytes_eq};
 ghost use Rattle.irtext_context.specs.Dialects.{IsRefusedBy};
 ghost use Rattle.irtext_context.specs.DialectTable.{IsKeptAt, dialect_or_new, no_operations, with_operation, CanRegister, RefusesOp};
 ghost use Rattle.irtext_context.specs.Named.{id_of_texts};
-ghost use Rattle.irtext_format_check.specs.Directives.{format_of};
+ghost use Rattle.irtext_base.specs.FormatViews.{format_of};
 ghost use Rattle.irtext_base.specs.Format.{Accepted};
 ghost use Rattle.irtext_base.specs.declared.location.Location.{Unknown};
 

@@ -6,7 +6,7 @@ ghost use Rattle.std.specs.Map.{lookup, values_of};
 ghost use Rattle.std.specs.Str.{bytes_eq};
 ghost use Rattle.irtext_context.specs.Dialects.{known_of, AllAccepted};
 ghost use Rattle.irtext_context.specs.DialectTable.{IsKeptAt, no_operations, dialect_of, dialect_or_new, registered};
-ghost use Rattle.irtext_format_check.specs.Directives.{format_of};
+ghost use Rattle.irtext_base.specs.FormatViews.{format_of};
 ghost use Rattle.irtext_base.specs.Format.{Accepted};
 ghost use Rattle.irtext_context.specs.Made.{IsUnregistered};
 ghost use Rattle.irtext_base.specs.declared.location.Location.{Unknown};

@@ -1,7 +1,8 @@
 //! The eight conditions on directives, in the order in which they are checked.
 ghost use Rattle.std.specs.Prelude.{◌≡◌, ◌&&◌, ◌||◌, not, nat_lt, length, MatchResult};
 ghost use Rattle.std.specs.List.{list_all};
-ghost use Rattle.irtext_format_check.specs.Directives.{directives_of, places_of, condition_number, free_keys};
+ghost use Rattle.irtext_base.specs.FormatViews.{directives_of};
+ghost use Rattle.irtext_format_check.specs.Directives.{places_of, condition_number, free_keys};
 ghost use Rattle.irtext_base.specs.Format.{c1, c2, c3, c4, c5, c6, c7, c8, are_places, ascend, custom, first_fault};
 ghost use Rattle.irtext_base.specs.Format.{same_text, has, keys, count, is_dictionary, is_header, sym_name_key};
 

@@ -1,7 +1,7 @@
 //! Which characters can come after a list, and which can continue it. `_` denotes itself and all letters.
 ghost use Rattle.std.specs.Prelude.{◌≡◌, ◌==◌, not, ◌&&◌, codes};
 ghost use Rattle.std.specs.Str.{chars};
-ghost use Rattle.irtext_format_check.specs.Directives.{directive_of, directives_of};
+ghost use Rattle.irtext_base.specs.FormatViews.{directive_of, directives_of};
 ghost use Rattle.irtext_base.specs.Format.{has, kind, first_kinds, beginnings, continuings, followers, disjoint};
 ghost use Rattle.irtext_base.specs.Text.{begins_word};
 

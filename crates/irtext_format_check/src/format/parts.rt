@@ -3,7 +3,8 @@ ghost use Rattle.std.specs.Prelude.{◌≡◌, ◌==◌, ◌&&◌, nat_lt, lengt
 ghost use Rattle.std.specs.List.{list_all};
 ghost use Rattle.std.specs.Char.{is_ascii_graphic};
 ghost use Rattle.std.specs.Str.{chars};
-ghost use Rattle.irtext_format_check.specs.Directives.{directive_of, directives_of, place_of, places_of, key_of};
+ghost use Rattle.irtext_base.specs.FormatViews.{directive_of, directives_of};
+ghost use Rattle.irtext_format_check.specs.Directives.{place_of, places_of, key_of};
 ghost use Rattle.irtext_format_check.specs.Directives.{is_sole, is_named, is_region, is_value, is_below};
 ghost use Rattle.irtext_base.specs.Stream.{first_of};
 ghost use Rattle.irtext_base.specs.Format.{word_prints, same_text, has, count, keys, is_any_region, is_regions, is_list};

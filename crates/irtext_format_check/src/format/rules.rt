@@ -1,7 +1,8 @@
 //! Rules on a directive and the directives after it.
 ghost use Rattle.std.specs.Prelude.{◌≡◌, ◌==◌, not};
 ghost use Rattle.std.specs.List.{list_all};
-ghost use Rattle.irtext_format_check.specs.Directives.{directive_of, directives_of, place_of, places_of, key_of};
+ghost use Rattle.irtext_base.specs.FormatViews.{directive_of, directives_of};
+ghost use Rattle.irtext_format_check.specs.Directives.{place_of, places_of, key_of};
 ghost use Rattle.irtext_format_check.specs.Directives.{again, keeps, all_keep, is_region, is_named};
 ghost use Rattle.irtext_base.specs.Format.{same_text, keys, distinct, none_behind, is_regions, is_any_region, c8};
 

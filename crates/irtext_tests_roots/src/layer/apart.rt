@@ -2,7 +2,7 @@
 //! printed text of the one is parsed back in the other; if they have no dialects, no root is printed.
 ghost use Rattle.std.specs.Prelude.{◌≡◌, [], IfOk, OnOk, codes};
 ghost use Rattle.irtext_base.specs.Format as format;
-ghost use Rattle.irtext_format_check.specs.Directives.{directive_of, format_of};
+ghost use Rattle.irtext_base.specs.FormatViews.{directive_of, format_of};
 ghost use Rattle.irtext_tests_roots.specs.Apart.{lab_dialects, lab_format, lab_id};
 
 use crate::reading::concrete;

@@ -40,7 +40,11 @@ pub fn stands_at<S: CharStream>(stream: &S) -> SourcePosition
 }
 
 /// Returns a committed error with this cause and position, and marks the stream as failed.
-fn fail_at<S: CharStream, A>(stream: &mut S, pos: SourcePosition, cause: Cause<A>) -> ParseFault<A>
+pub fn fail_at<S: CharStream, A>(
+    stream: &mut S,
+    pos: SourcePosition,
+    cause: Cause<A>,
+) -> ParseFault<A>
     ensures fault { result ≡ record { pos = pos; cause = cause; committed = true } }
     ensures left { stream.new ≡ S.at stream.old (after_failure (S.view stream.old)) }
 {

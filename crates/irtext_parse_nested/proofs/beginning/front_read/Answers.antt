@@ -1,6 +1,6 @@
 use Rattle.std.proofs.Common.{sym, ap, ◌∙◌, subst, length, slice_get, true≢false}
 use Rattle.irtext_tokens.proofs.Exits.{handed_on}
-use Rattle.irtext_format_check.specs.Directives.{format_of}
+use Rattle.irtext_base.specs.FormatViews.{format_of}
 use Rattle.irtext_parse_spec.specs.Heads.{steps_of}
 use Rattle.irtext_parse_pieces.proofs.Meanings.{names_more}
 use Rattle.irtext_parse_pieces.specs.Coming.{IsStep}

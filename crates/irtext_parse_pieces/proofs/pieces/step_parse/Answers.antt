@@ -1,5 +1,5 @@
 use Rattle.std.proofs.Common.{sym, subst}
-use Rattle.irtext_format_check.specs.Directives.{directive_of}
+use Rattle.irtext_base.specs.FormatViews.{directive_of}
 use Rattle.irtext_tokens.specs.AttrTexts.{attr_at}
 use Rattle.irtext_parse_pieces.specs.Pieces.{MustPiece}
 use Rattle.irtext_parse_pieces.proofs.FormatSteps.{step_reads}

@@ -1,6 +1,6 @@
 //! Which of the keys that the directives of a format name have no attribute in the operation.
 ghost use Rattle.std.specs.Prelude.{◌≡◌, option_copied};
-ghost use Rattle.irtext_format_check.specs.Directives.{directive_of, directives_of};
+ghost use Rattle.irtext_base.specs.FormatViews.{directive_of, directives_of};
 ghost use Rattle.irtext_print.specs.Printers.FitFaults as faults;
 ghost use Rattle.irtext_grammar.specs.Contexts.Held.{entries_of};
 

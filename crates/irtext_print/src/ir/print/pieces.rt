@@ -3,7 +3,7 @@ ghost use Rattle.std.specs.Prelude.{◌≡◌, ◌++◌, ◌&&◌, [], Some, OnO
 ghost use Rattle.std.specs.Map.{lookup};
 ghost use Rattle.std.specs.Str.{bytes_eq, chars};
 ghost use Rattle.irtext_print.specs.Printers.Appended.{AppendsText};
-ghost use Rattle.irtext_format_check.specs.Directives.{directive_of, directives_of};
+ghost use Rattle.irtext_base.specs.FormatViews.{directive_of, directives_of};
 ghost use Rattle.irtext_base.specs.Format.{sym_name_key};
 ghost use Rattle.irtext_base.specs.Text.{begins};
 ghost use Rattle.irtext_grammar.specs.Graphs.Graph as graph;

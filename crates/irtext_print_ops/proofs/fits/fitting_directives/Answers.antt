@@ -1,7 +1,7 @@
 use Rattle.std.proofs.Common.{◌∙◌, Some, None, sym, ap, subst, length}
 use Rattle.irtext_base.specs.Format as format
 use Rattle.irtext_base.specs.Format.{Accepted}
-use Rattle.irtext_format_check.specs.Directives.{directives_of, format_of}
+use Rattle.irtext_base.specs.FormatViews.{directives_of, format_of}
 use Rattle.irtext_graph.specs.Parts.{regions}
 use Rattle.irtext_grammar.specs.Contexts.Formats.{isolated}
 use Rattle.irtext_grammar.specs.Contexts.Nested.{seen_own}

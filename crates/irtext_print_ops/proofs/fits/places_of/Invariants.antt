@@ -1,5 +1,5 @@
 use Rattle.std.proofs.Common.{◌≡◌, drop}
-use Rattle.irtext_format_check.specs.Directives.{directives_of}
+use Rattle.irtext_base.specs.FormatViews.{directives_of}
 use Rattle.irtext_print_ops.specs.Fits.{counted_on, places_of}
 use Rattle.irtext_print_ops.proofs.Counting.{AtMost}
 use Rattle.irtext_print_ops.proofs.fits.places_of.Given as goal

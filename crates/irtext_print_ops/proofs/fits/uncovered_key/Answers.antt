@@ -1,5 +1,5 @@
 use Rattle.std.proofs.Common.{◌∙◌, sym}
-use Rattle.irtext_format_check.specs.Directives.{directives_of}
+use Rattle.irtext_base.specs.FormatViews.{directives_of}
 use Rattle.irtext_grammar.specs.Contexts.Held.{entries_of}
 use Rattle.irtext_print_ops.specs.Fits.{first_uncovered}
 use Rattle.irtext_print_ops.proofs.Counting.{none_uncovered, some_uncovered}

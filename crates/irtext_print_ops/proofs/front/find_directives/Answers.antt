@@ -1,5 +1,5 @@
 use Rattle.std.proofs.Common.{◌≡◌, Some, refl, length, option_map}
-use Rattle.irtext_format_check.specs.Directives.{directives_of}
+use Rattle.irtext_base.specs.FormatViews.{directives_of}
 use Rattle.irtext_grammar.specs.Contexts.Formats.{format_of, isolated}
 use Rattle.irtext_graph.specs.Parts.{regions}
 use Rattle.irtext_print_ops.specs.Fits.{FitsOwn, IsFirstReason, format_by}

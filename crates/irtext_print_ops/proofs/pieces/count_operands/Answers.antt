@@ -1,6 +1,6 @@
 use Rattle.std.proofs.Common.{◌≡◌, ◌∙◌, Some, None, is_some, rules}
 use Rattle.std.specs.List.{count_by}
-use Rattle.irtext_format_check.specs.Directives.{directive_of}
+use Rattle.irtext_base.specs.FormatViews.{directive_of}
 use Rattle.irtext_base.specs.Format as format
 use Rattle.irtext_format_check.proofs.Formats.{named_count}
 use Rattle.irtext_print_ops.proofs.pieces.count_operands.Goals as goal

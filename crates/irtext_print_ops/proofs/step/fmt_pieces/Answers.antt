@@ -2,7 +2,7 @@ use Rattle.std.proofs.Common.{rules, ◌≡◌, ◌++◌, ◌∷◌, ◌∙◌, 
 use Rattle.std.proofs.lemmas.List.{drop_more}
 use Rattle.std.specs.Str.{encode_utf8_all}
 use Rattle.irtext_base.specs.Format.{is_any_region}
-use Rattle.irtext_format_check.specs.Directives.{directive_of, directives_of}
+use Rattle.irtext_base.specs.FormatViews.{directive_of, directives_of}
 use Rattle.irtext_grammar.specs.Contexts.Formats.{isolated}
 use Rattle.irtext_grammar.specs.Grammar.Tree as tree
 use Rattle.irtext_grammar.specs.Graphs.Graph.{part_of}

@@ -1,6 +1,6 @@
 use Rattle.std.proofs.Common.{◌≡◌, arith, rules}
 use Rattle.std.proofs.lemmas.Grind.{common_steps}
-use Rattle.irtext_format_check.specs.Directives.{format_of}
+use Rattle.irtext_base.specs.FormatViews.{format_of}
 use Rattle.irtext_base.specs.Format.{Accepted}
 use Rattle.irtext_context.proofs.Dialects.{accepted_put, seen_put}
 use Rattle.irtext_context.proofs.dialect.Dialect.add_op.Goals as goal

@@ -1,5 +1,5 @@
 use Rattle.std.proofs.lemmas.Result.{IfErr-weaker}
-use Rattle.irtext_format_check.specs.Directives.{format_of}
+use Rattle.irtext_base.specs.FormatViews.{format_of}
 use Rattle.irtext_context.proofs.RefusedOps.{refused_name}
 use Rattle.irtext_context.proofs.dialect.operation.checked_id.Goals as goal
 

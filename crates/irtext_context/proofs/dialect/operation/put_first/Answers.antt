@@ -1,6 +1,6 @@
 use Rattle.std.proofs.Common.{◌∙◌, ap}
 use Rattle.irtext_context.specs.Dialects.{with_op}
-use Rattle.irtext_format_check.specs.Directives.{format_of}
+use Rattle.irtext_base.specs.FormatViews.{format_of}
 use Rattle.irtext_context.proofs.DialectTables.{first_op}
 use Rattle.irtext_context.proofs.dialect.operation.put_first.Goals as goal
 

@@ -1,6 +1,7 @@
 use Rattle.std.proofs.Common.{◌∙◌, ap, nat_lt}
 use Rattle.std.specs.List.{list_all}
-use Rattle.irtext_format_check.specs.Directives.{directives_of, places_of}
+use Rattle.irtext_base.specs.FormatViews.{directives_of}
+use Rattle.irtext_format_check.specs.Directives.{places_of}
 use Rattle.irtext_format_check.proofs.format.conditions.below_their_number.Goals as goal
 
 pub returns : goal.returns

@@ -4,7 +4,7 @@ use Rattle.std.proofs.lemmas.Iterator.Search.{all_from_yields_List}
 use Rattle.std.specs.List.{list_all}
 use borrow.Author.Tests.{tests}
 use Rattle.irtext_base.specs.Format.{word_prints}
-use Rattle.irtext_format_check.specs.Directives.{directive_of}
+use Rattle.irtext_base.specs.FormatViews.{directive_of}
 use Rattle.irtext_format_check.proofs.Formats.{all_mapped}
 use Rattle.irtext_format_check.proofs.format.conditions.c1.Goals as goal
 

@@ -1,5 +1,6 @@
 use Rattle.std.proofs.Common.{◌≡◌, ◌+◌, ◌≤◌, length}
-use Rattle.irtext_format_check.specs.Directives.{directives_of, places_of}
+use Rattle.irtext_base.specs.FormatViews.{directives_of}
+use Rattle.irtext_format_check.specs.Directives.{places_of}
 use Rattle.irtext_base.specs.Format.{ascend}
 use Rattle.irtext_format_check.specs.declared.format.parts.Part.TheVariants.{Region}
 use Rattle.irtext_format_check.proofs.format.conditions.regions_ascend.Given as goal

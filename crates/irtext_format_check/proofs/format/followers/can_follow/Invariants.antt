@@ -1,5 +1,5 @@
 use Rattle.std.proofs.Common.{◌≡◌, ◌==◌, length}
-use Rattle.irtext_format_check.specs.Directives.{directives_of}
+use Rattle.irtext_base.specs.FormatViews.{directives_of}
 use Rattle.irtext_base.specs.Format.{has, followers}
 use Rattle.irtext_format_check.proofs.format.followers.can_follow.Given as goal
 

@@ -3,7 +3,8 @@ use Rattle.std.proofs.lemmas.Iterator.{YieldsList-from_slice}
 use Rattle.std.proofs.lemmas.Iterator.Search.{all_from_yields_List}
 use Rattle.std.specs.List.{list_all}
 use borrow.Author.Tests.{tests}
-use Rattle.irtext_format_check.specs.Directives.{directive_of, place_of, is_below}
+use Rattle.irtext_base.specs.FormatViews.{directive_of}
+use Rattle.irtext_format_check.specs.Directives.{place_of, is_below}
 use Rattle.irtext_format_check.proofs.Formats.{below_all}
 use Rattle.irtext_format_check.proofs.format.parts.all_below.Goals as goal
 

@@ -1,6 +1,7 @@
 use Rattle.std.proofs.Common.{◌≡◌, ◌∙◌, is_some, rules}
 use Rattle.std.specs.List.{count_by}
-use Rattle.irtext_format_check.specs.Directives.{directive_of, place_of}
+use Rattle.irtext_base.specs.FormatViews.{directive_of}
+use Rattle.irtext_format_check.specs.Directives.{place_of}
 use Rattle.irtext_format_check.proofs.Formats.{named_count}
 use Rattle.irtext_format_check.proofs.format.parts.count_places.Goals as goal
 

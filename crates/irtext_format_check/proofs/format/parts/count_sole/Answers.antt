@@ -1,6 +1,7 @@
 use Rattle.std.proofs.Common.{◌≡◌, ◌∙◌, rules}
 use Rattle.std.specs.List.{count_by}
-use Rattle.irtext_format_check.specs.Directives.{directive_of, is_sole}
+use Rattle.irtext_base.specs.FormatViews.{directive_of}
+use Rattle.irtext_format_check.specs.Directives.{is_sole}
 use Rattle.irtext_format_check.proofs.Formats.{passing_count}
 use Rattle.irtext_format_check.proofs.format.parts.count_sole.Goals as goal
 

@@ -4,7 +4,8 @@ use Rattle.std.proofs.lemmas.Iterator.Search.{any_from_yields_List}
 use Rattle.std.specs.List.{list_any}
 use borrow.Author.Tests.{tests}
 use Rattle.irtext_base.specs.Format.{same_text}
-use Rattle.irtext_format_check.specs.Directives.{directive_of, key_of, is_value}
+use Rattle.irtext_base.specs.FormatViews.{directive_of}
+use Rattle.irtext_format_check.specs.Directives.{key_of, is_value}
 use Rattle.irtext_format_check.proofs.Formats.{any_has}
 use Rattle.irtext_format_check.proofs.format.parts.has_key.Goals as goal
 

@@ -1,5 +1,6 @@
 use Rattle.std.proofs.Common.{◌≡◌, length}
-use Rattle.irtext_format_check.specs.Directives.{directives_of, all_keep}
+use Rattle.irtext_base.specs.FormatViews.{directives_of}
+use Rattle.irtext_format_check.specs.Directives.{all_keep}
 use Rattle.irtext_format_check.proofs.format.rules.all_keep.Given as goal
 
 abbrev pub invariant-loop-directive : goal.invariant-loop-directive

@@ -3,7 +3,8 @@ use Rattle.std.proofs.lemmas.Iterator.{YieldsList-from_slice}
 use Rattle.std.proofs.lemmas.Iterator.Search.{all_from_yields_List}
 use Rattle.std.specs.List.{list_all}
 use borrow.Author.Tests.{tests}
-use Rattle.irtext_format_check.specs.Directives.{directive_of, is_named}
+use Rattle.irtext_base.specs.FormatViews.{directive_of}
+use Rattle.irtext_format_check.specs.Directives.{is_named}
 use Rattle.irtext_format_check.proofs.Formats.{all_mapped}
 use Rattle.irtext_format_check.proofs.format.rules.no_name.Goals as goal
 

@@ -1,5 +1,5 @@
 use Rattle.std.proofs.Common.{◌∙◌}
-use Rattle.irtext_format_check.specs.Directives.{directives_of}
+use Rattle.irtext_base.specs.FormatViews.{directives_of}
 use Rattle.irtext_format_check.proofs.Formats as formats
 use Rattle.irtext_format_check.proofs.format.rules.places_differ.Goals as goal
 

@@ -6,7 +6,7 @@ use Rattle.irtext_base.specs.Format.{operand_places, successor_places}
 use Rattle.irtext_context.proofs.Parts.{stands_seen}
 use Rattle.irtext_context.specs.Context.{ContextView}
 use Rattle.irtext_graph.specs.Parts.{operands, successors}
-use Rattle.irtext_format_check.specs.Directives.{directives_of}
+use Rattle.irtext_base.specs.FormatViews.{directives_of}
 use Rattle.irtext_grammar.specs.Graphs.Graph.{Printing}
 use Rattle.irtext_base.specs.Own.{Language}
 use Rattle.irtext_print.specs.Printers.PieceText.{spaced, word_text}

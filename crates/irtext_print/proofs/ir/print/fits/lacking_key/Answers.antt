@@ -1,7 +1,7 @@
 use Rattle.std.proofs.Common.{◌∙◌, sym, ap, Some, None, cond, is_some, option_copied}
 use Rattle.std.specs.Map as dictionary
 use Rattle.std.specs.Str.{bytes_eq}
-use Rattle.irtext_format_check.specs.Directives.{directive_of}
+use Rattle.irtext_base.specs.FormatViews.{directive_of}
 use Rattle.irtext_grammar.specs.Contexts.Held.{entries_of}
 use Rattle.irtext_print.specs.Printers.FitFaults.{lacking_key}
 use Rattle.irtext_print.proofs.Printers.PieceTexts.{found_under}

@@ -1,5 +1,5 @@
 use Rattle.std.proofs.Common.{◌≡◌, drop}
-use Rattle.irtext_format_check.specs.Directives.{directives_of}
+use Rattle.irtext_base.specs.FormatViews.{directives_of}
 use Rattle.irtext_grammar.specs.Contexts.Held.{entries_of}
 use Rattle.irtext_print.specs.Printers.FitFaults.{missing_key}
 use Rattle.irtext_print.proofs.ir.print.fits.missing_key.Given as goal

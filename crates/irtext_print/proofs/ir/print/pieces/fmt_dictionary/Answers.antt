@@ -1,5 +1,5 @@
 use Rattle.std.proofs.Common.{codes, refl, string_bytes}
-use Rattle.irtext_format_check.specs.Directives.{directives_of}
+use Rattle.irtext_base.specs.FormatViews.{directives_of}
 use Rattle.irtext_print.specs.Printers.PieceText.{rows_text, dictionary_entries}
 use Rattle.irtext_grammar.specs.Contexts.Held.{entries_of}
 use Rattle.irtext_print.proofs.Printers.Locations.{enclosed}

@@ -3,7 +3,7 @@ use Rattle.std.proofs.lemmas.Iterator.{YieldsList-from_slice}
 use Rattle.std.proofs.lemmas.Iterator.Search.{any_from_yields_List}
 use Rattle.std.specs.List.{list_any}
 use borrow.Author.Tests.{tests}
-use Rattle.irtext_format_check.specs.Directives.{directive_of}
+use Rattle.irtext_base.specs.FormatViews.{directive_of}
 use Rattle.irtext_print.specs.Printers.PieceText.{names_key}
 use Rattle.irtext_print.proofs.Printers.PieceTexts.{any_mapped}
 use Rattle.irtext_print.proofs.ir.print.pieces.is_key_written.Goals as goal

@@ -1,6 +1,6 @@
 use Rattle.std.proofs.Common.{◌∙◌, sym, ap}
 use Rattle.std.specs.Str.{bytes_eq}
-use Rattle.irtext_format_check.specs.Directives.{directive_of}
+use Rattle.irtext_base.specs.FormatViews.{directive_of}
 use Rattle.irtext_base.specs.Format.{sym_name_key}
 use Rattle.irtext_format_check.proofs.Formats.{same_text_bytes}
 use Rattle.irtext_print.specs.Printers.PieceText.{names_key}
