@@ -7,5 +7,6 @@ pub mod InOrder
 pub mod Fresh
 pub mod Numbering
 pub mod Dictionaries
+pub mod Stored
 pub mod Numbers
 pub mod Ascii

@@ -10,7 +10,7 @@ use Rattle.irtext_grammar.specs.Graphs.Build.{put, put_all, read_names}
 use Rattle.irtext_grammar.specs.Names.Acts.{Rule, may_hold, block_may_hold}
 use Rattle.irtext_grammar.proofs.Lists.SameText.{same_text-bytes_eq}
 use Rattle.irtext_names.specs.Rows.{AreNamed}
-use Rattle.irtext_parse_nested.proofs.Stores.{same_text_sym}
+use Rattle.irtext_grammar.proofs.Names.ResolvedScript.{same_text_symmetric}
 use Rattle.irtext_parse_pieces.specs.declared.entries.Key.{Key}
 use Rattle.irtext_parse_pieces.specs.declared.names.ReadName.{ReadName}
 use Rattle.irtext_parse_nested.specs.declared.operation_parts.NotGathered.{NotGathered}
@@ -21,7 +21,7 @@ use Rattle.irtext_parse_nested.specs.Gathered.{MayAllHold, RefusesEntries, AreAl
 -- ---- one entry
 -- the key is that of a label
 pub label_key : (k : Text) (b : Bool) → b ≡ bytes_eq block_label_key k → same_text k block_label_key ≡ b
-label_key k b e = same_text_sym k block_label_key ∙ (same_text-bytes_eq block_label_key k ∙ sym e)
+label_key k b e = same_text_symmetric k block_label_key ∙ (same_text-bytes_eq block_label_key k ∙ sym e)
 
 never_both : (b : Bool) → (b && false) ≡ false
 never_both true = refl

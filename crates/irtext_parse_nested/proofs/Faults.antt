@@ -15,12 +15,12 @@ use Rattle.irtext_tokens.proofs.Steps.{Lens}
 use Rattle.irtext_grammar.specs.Contexts.Held.{whole, StandsAt}
 use Rattle.irtext_grammar.specs.Grammar.Tree.{Name}
 use Rattle.irtext_grammar.specs.Names.Script.{Cause}
-use Rattle.irtext_parse_spec.specs.Promises.Root.{UnlessMemory}
+use Rattle.irtext_parse_spec.specs.Promises.Root.{IsCause, UnlessMemory}
 use Rattle.irtext_names.specs.Rows.{AreNamed}
 use Rattle.irtext_parse_pieces.specs.declared.names.ReadName.{ReadName}
 use Rattle.irtext_parse_pieces.specs.Named.{Leaves, StandsFor, Each}
 use Rattle.irtext_parse_nested.specs.Definitions.{IsFaultOf}
-use Rattle.irtext_parse_nested.specs.Items.{IsNameCause, IsFailure, IsTextFault}
+use Rattle.irtext_parse_nested.specs.Items.{IsFailure, IsTextFault}
 use Rattle.irtext_parse_nested.specs.Read.{Demands}
 
 -- ---- places
@@ -91,7 +91,7 @@ each_there R (w ∷ ys) (z ∷ xs) zero y e f = (z, refl, subst (λ q. R q z) (s
 each_there R (w ∷ ys) (z ∷ xs) (suc i) y e f = each_there R ys xs i y e.1 f
 
 -- a fault that speaks of a name is the failure that does
-pub name_failure : {A : Type 0} {names : List Text} {text : Text} {read : ReadName} {w : Name ℕ} {fault : ParseFault A} (says : Text → Fault) (cause : Text → Cause Text) → ((t : Text) (c : Fault) → c ≡ says t → IsNameCause (cause t) c)
+pub name_failure : {A : Type 0} {names : List Text} {text : Text} {read : ReadName} {w : Name ℕ} {fault : ParseFault A} (says : Text → Fault) (cause : Text → Cause Text) → ((t : Text) (c : Fault) → c ≡ says t → IsCause (cause t) c)
     → StandsFor names text read w → IsFaultOf names text says read fault → IsFailure text (record { cause = cause w.text; at = Some w.place }) fault
 name_failure {names = names} {read = read} {w = w} {fault = fault} says cause on s f =
     let same : f.name ≡ w.text = some_same (sym f.named ∙ s.named) in

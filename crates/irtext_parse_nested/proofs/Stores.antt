@@ -1,5 +1,5 @@
 -- Attributes that are stored under their keys.
-use Rattle.std.proofs.Common.{◌≡◌, ◌∙◌, ◌==◌, inl, inr, ℕ, Bool, true, false, not, ◌&&◌, ◌||◌, List, [], ◌∷◌, Result, Ok, Err, IfErr, OnOk, refl, sym, ap, ap₂, subst, true≢false}
+use Rattle.std.proofs.Common.{◌≡◌, ◌∙◌, inl, inr, Bool, true, false, not, ◌&&◌, ◌||◌, List, [], ◌∷◌, Result, Ok, Err, IfErr, OnOk, refl, sym, ap, subst}
 use Rattle.std.specs.Result.{IsErrAnd}
 use Rattle.std.specs.Str.{bytes_eq}
 use Rattle.irtext_tokens.proofs.Exits.{handed_on}
@@ -13,41 +13,15 @@ use Rattle.irtext_base.specs.declared.base.attributes.Refusal.TheVariants as ent
 use Rattle.irtext_stream.specs.declared.position.Place.{Place}
 use Rattle.irtext_dict.specs.Dictionary.{are_given_names, is_reserved_for, RefusesEntry}
 use Rattle.irtext_grammar.specs.Contexts.Held.{attribute_of, entries_of}
-use Rattle.irtext_grammar.specs.Graphs.Build.{put, put_all}
-use Rattle.irtext_grammar.specs.Grammar.Tree.{Attribute}
+use Rattle.irtext_grammar.specs.Graphs.Build.{put_all}
 use Rattle.irtext_grammar.specs.Names.Acts.{is_given, may_hold}
 use Rattle.irtext_parse_pieces.specs.declared.entries.Key.{Key}
 use Rattle.irtext_parse_nested.specs.declared.operation_parts.NotGathered.{NotGathered}
 use Rattle.irtext_parse_nested.specs.declared.operation_parts.NotGathered.TheVariants as refusal
 use Rattle.irtext_parse_nested.specs.Gathered.{MayAllHold, RefusesEntries, refused_at}
-use Rattle.irtext_grammar.proofs.Lists.SameText.{same_itself, same_character, same_text-bytes_eq, same_text_true}
-
-under : {A : Type 0} (a : Attribute A) (es : List (Text × Attribute A)) (s t : Text) → s ≡ t → (s, a) ∷ es ≡ (t, a) ∷ es
-under a es s t e = ap (λ z. (z, a) ∷ es) e
-
--- an entry that is inserted is put in
-pub put_stored : {A : Type 0} (es : List (Text × AttrObj A)) (k : Text) (a : AttrObj A) → entries_of (insert_entry bytes_eq es k a) ≡ put (k, attribute_of a) (entries_of es)
-put_stored [] k a = refl
-put_stored (d ∷ es) k a = go (same_text k d.0) refl (same_text-bytes_eq k d.0) (put_stored es k a)
-  where
-    go : (b : Bool) → same_text k d.0 ≡ b → same_text k d.0 ≡ bytes_eq k d.0 → entries_of (insert_entry bytes_eq es k a) ≡ put (k, attribute_of a) (entries_of es) → entries_of (insert_entry bytes_eq (d ∷ es) k a) ≡ put (k, attribute_of a) (entries_of (d ∷ es))
-    go true e s h = rw (← s, e) (under (attribute_of a) (entries_of es) d.0 k (sym (same_text_true k d.0 e)))
-    go false e s h = rw (← s, e) (ap (λ z. (d.0, attribute_of d.1) ∷ z) h)
-
-number_sym : (c d : ℕ) → (c == d) ≡ (d == c)
-number_sym c d = go (c == d) refl (d == c) refl
-  where
-    go : (a : Bool) → (c == d) ≡ a → (b : Bool) → (d == c) ≡ b → (c == d) ≡ (d == c)
-    go true e true f = e ∙ sym f
-    go true e false f = absurd (let same = same_character c d e in true≢false (sym (same_itself d) ∙ (ap (λ z. d == z) (sym same) ∙ f)))
-    go false e true f = absurd (let same = same_character d c f in true≢false (sym (same_itself c) ∙ (ap (λ z. c == z) (sym same) ∙ e)))
-    go false e false f = e ∙ sym f
-
-pub same_text_sym : (s t : Text) → same_text s t ≡ same_text t s
-same_text_sym [] [] = refl
-same_text_sym [] (d ∷ t) = refl
-same_text_sym (c ∷ s) [] = refl
-same_text_sym (c ∷ s) (d ∷ t) = ap₂ ◌&&◌ (number_sym c d) (same_text_sym s t)
+use Rattle.irtext_grammar.proofs.Lists.Stored.{put_stored}
+use Rattle.irtext_grammar.proofs.Names.ResolvedScript.{same_text_symmetric}
+use Rattle.irtext_grammar.proofs.Lists.SameText.{same_text-bytes_eq}
 
 given_alike : {A : Type 0} (a : AttrObj A) → is_given (attribute_of a) ≡ are_given_names a
 given_alike (GivenNames ns) = refl
@@ -56,7 +30,7 @@ given_alike (Own a) = refl
 
 -- the attribute is allowed under the key exactly if the dictionary accepts it
 pub holds_or_reserved : {A : Type 0} (k : Text) (a : AttrObj A) → may_hold k (attribute_of a) ≡ not (is_reserved_for k a)
-holds_or_reserved k a = ap (λ b. not b || is_given (attribute_of a)) (same_text_sym k given_names_key ∙ same_text-bytes_eq given_names_key k)
+holds_or_reserved k a = ap (λ b. not b || is_given (attribute_of a)) (same_text_symmetric k given_names_key ∙ same_text-bytes_eq given_names_key k)
     ∙ (ap (λ b. not (bytes_eq given_names_key k) || b) (given_alike a) ∙ either (bytes_eq given_names_key k) (are_given_names a))
   where
     either : (b c : Bool) → (not b || c) ≡ not (b && not c)

@@ -2,7 +2,6 @@
 -- the text.
 use Rattle.std.specs.Prelude.{◌≡◌, ◌<◌, ◌≤◌, true, ℕ, List, [], ◌++◌, None, IsSome, length}
 use Rattle.irtext_base.specs.Text.{Text}
-use Rattle.irtext_base.specs.Faults as fault
 use Rattle.irtext_base.specs.Faults.{Fault, fault_of}
 use Rattle.irtext_base.specs.declared.parsable.fault.ParseFault.{ParseFault}
 use Rattle.irtext_context.specs.Context.{ContextView, operation, block}
@@ -27,14 +26,13 @@ use Rattle.irtext_parse_state.specs.declared.parsable.state.State as code
 use Rattle.irtext_grammar.specs.Contexts.Formats.{format_of}
 use Rattle.irtext_grammar.specs.Contexts.Held.{StandsAt as IsPosition}
 use Rattle.irtext_grammar.specs.Names.History.{State, Outcome, going, failed}
-use Rattle.irtext_grammar.specs.Names.Script as script
-use Rattle.irtext_grammar.specs.Names.Script.{Path, result, Cause}
+use Rattle.irtext_grammar.specs.Names.Script.{Path, result}
 use Rattle.irtext_grammar.specs.Names.TextScopes.{Failure}
 use Rattle.irtext_names.specs.Linked.{Known, StandsAt}
 use Rattle.irtext_names.specs.OfItems.{AreOf}
 use Rattle.irtext_names.specs.Tied.{MatchesGraph, ArePending}
 use Rattle.irtext_parse_spec.specs.Promises.Section.{indices_of}
-use Rattle.irtext_parse_spec.specs.Promises.Root.{IsPlace}
+use Rattle.irtext_parse_spec.specs.Promises.Root.{IsCause, IsPlace}
 use Rattle.irtext_parse_spec.specs.Naming.{naming}
 use Rattle.irtext_parse_spec.specs.Reached.{Actions}
 
@@ -75,22 +73,10 @@ pub record StandsAs {T A U : Type 0} (path : ℕ → Path) (items : Made) (pledg
 abbrev pub BlanksDefine : {T A : Type 0} → ℕ → ContextView T A → Type 0
 BlanksDefine m c = (p : Ptr Operation) → IsSome (get c.graph.operations p) → operation c p ≡ None → IsNew m c.graph (TheOperation p) → (i : ℕ) × IsDefined c.graph (OfValue (Result p i))
 
--- the cause that parsers return for this failure of names
-abbrev pub IsNameCause : Cause Text → Fault → Type 0
-IsNameCause (script.ResultCount types names) cause = cause ≡ fault.ResultCount types names
-IsNameCause (script.NoActiveScope n) cause = cause ≡ fault.NoActiveScope n
-IsNameCause (script.UnresolvedReference n) cause = cause ≡ fault.Unresolved n
-IsNameCause (script.MultipleDefinitions n) cause = cause ≡ fault.MultipleDefinitions n
-IsNameCause script.NotIsolated cause = cause ≡ fault.NotIsolated
-IsNameCause (script.DuplicateIndex i) cause = cause ≡ fault.DuplicateIndex i
-IsNameCause (script.UnknownIndex i) cause = cause ≡ fault.UnknownIndex i
-IsNameCause (script.UnknownPrintOnce i) cause = cause ≡ fault.UnknownPrintOnce i
-IsNameCause (script.ReservedKey k) cause = cause ≡ fault.ReservedKey k
-
 -- the fault is this failure: it has its cause, and is at its place of the text, or at the beginning of the text if the failure has no
 -- place
 pub record IsFailure {A : Type 0} (text : Text) (failure : Failure) (fault : ParseFault A) : Type 0 where
-  pub cause : IsNameCause failure.cause (fault_of fault.cause)
+  pub cause : IsCause failure.cause (fault_of fault.cause)
   pub place : IsPlace text failure.at fault.pos
   pub committed : fault.committed ≡ true
 

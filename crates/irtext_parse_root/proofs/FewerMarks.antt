@@ -1,10 +1,11 @@
 -- A script without entries that comes through where some indices are marked comes through where they are not, to the same but for these.
 use Rattle.std.proofs.Common.{◌≡◌, ◌∙◌, ℕ, Bool, true, false, cond, true≢false, List, [], ◌∷◌, ◌++◌, Some, refl, sym, ap, subst, append_assoc}
-use Rattle.std.specs.Prelude.{nat_eq, ⊤}
+use Rattle.std.specs.Prelude.{⊤}
 use Rattle.irtext_grammar.specs.Names.Script.{use_value, use_label, define_value, define_label, mark, entry, claim, done, does, within, DuplicateIndex}
 use Rattle.irtext_grammar.specs.Names.Scopes.{is_among, fact_of, not_isolated}
 use Rattle.irtext_grammar.specs.Names.TextScopes.{Facts, Failure, Script, act_failures, left_open}
 use Rattle.irtext_grammar.specs.Names.History.{Event, act, enter, leave, events, State, top, scopes_of, after, entered, ending, left, Outcome, going, failed, outcome, step, next, run}
+use Rattle.irtext_grammar.proofs.Lists.Numbers.{among_right}
 use Rattle.irtext_grammar.proofs.Names.ResolvedScript.{Entryless}
 
 -- ---- events without entries
@@ -33,14 +34,6 @@ quiet_events (within iso p body k) h =
     (tt, quiet_both (events body ++ leave iso p ∷ []) (events k) (quiet_both (events body) (leave iso p ∷ []) (quiet_events body h.0) (tt, tt)) (quiet_events k h.1))
 
 -- ---- what has the same outcome but for marks
-among_more : (i : ℕ) (ms ns : List ℕ) → is_among i ns ≡ true → is_among i (ms ++ ns) ≡ true
-among_more i [] ns h = h
-among_more i (m ∷ ms) ns h = go (nat_eq m i) (among_more i ms ns h)
-  where
-    go : (b : Bool) → is_among i (ms ++ ns) ≡ true → cond b true (is_among i (ms ++ ns)) ≡ true
-    go true k = refl
-    go false k = k
-
 module _ (ms : List ℕ) where
   -- these are marked, too
   abbrev with_marks : State → State
@@ -72,7 +65,7 @@ module _ (ms : List ℕ) where
   step_alike (act (define_label w p)) st q = alike_by (act_failures (scopes_of st) (define_label w p)) (after (with_marks st) (fact_of (define_label w p))) (after st (fact_of (define_label w p))) (after_alike st (fact_of (define_label w p)))
   step_alike (act (mark i p)) st q =
       mark_alike (is_among i (ms ++ st.marks)) (is_among i st.marks) (record { cause = DuplicateIndex i; at = Some p }) (after (with_marks st) (fact_of (mark i p))) (after st (fact_of (mark i p)))
-      (among_more i ms st.marks) (after_alike st (fact_of (mark i p)))
+      (among_right i ms st.marks) (after_alike st (fact_of (mark i p)))
   step_alike (act (entry i p)) st q = absurd q
   step_alike (act (claim b x)) st q = alike_by (act_failures (scopes_of st) (claim b x)) (after (with_marks st) (fact_of (claim b x))) (after st (fact_of (claim b x))) (after_alike st (fact_of (claim b x)))
   step_alike (enter true) st q = alike_by (not_isolated true (top st.values)) (entered true (with_marks st)) (entered true st) refl

@@ -2,7 +2,6 @@
 -- recorded.
 use Rattle.std.proofs.Common.{◌≡◌, ◌∙◌, ℕ, true, List, [], ◌++◌, ap, subst, append-nil, inl, inr}
 use Rattle.irtext_base.specs.Text.{Text}
-use Rattle.irtext_base.specs.Faults.{fault_of}
 use Rattle.irtext_base.specs.Locations.{AttrView}
 use Rattle.irtext_base.specs.declared.parsable.fault.ParseFault.{ParseFault}
 use Rattle.irtext_context.specs.Dialects.{Table}
@@ -23,7 +22,6 @@ use Rattle.irtext_parse_nested.specs.Located.{IsLocated}
 use Rattle.irtext_parse_root.specs.Nested as nested
 use Rattle.irtext_parse_root.specs.Nested.{ReadsNested, RefusesNested}
 use Rattle.irtext_parse_root.specs.AnyState.{start_with, LeavesFrom, HasFaultFrom, at_text, by_names}
-use Rattle.irtext_parse_root.proofs.Causes.{same_cause}
 use Rattle.irtext_parse_root.proofs.Fresh.{begun_stands}
 
 module _ {T A U : Type 0} (types_at : Reader T) (attr : Reader (AttrView A)) (before : Names) (old : StateStream T A U)
@@ -65,4 +63,4 @@ module _ {T A U : Type 0} (types_at : Reader T) (attr : Reader (AttrView A)) (be
   has_fault fault (inr (nested.at_text cause place f flag so)) =
       inr (at_text cause place f.because f.placed flag (λ path. so path [] (going (start_with earlier)) (begun_stands before old.state no_names no_values no_labels path)))
   has_fault fault (inr (nested.by_names failure f so)) =
-      inr (by_names failure (same_cause failure.cause (fault_of fault.cause) f.cause, f.place) f.committed (λ path. so path [] (going (start_with earlier)) (begun_stands before old.state no_names no_values no_labels path)))
+      inr (by_names failure (f.cause, f.place) f.committed (λ path. so path [] (going (start_with earlier)) (begun_stands before old.state no_names no_values no_labels path)))

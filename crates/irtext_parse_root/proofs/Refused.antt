@@ -15,7 +15,7 @@ use Rattle.irtext_parse_nested.specs.Items.{Names, doing}
 use Rattle.irtext_parse_root.specs.Nested as nested
 use Rattle.irtext_parse_root.specs.Nested.{RefusesNested}
 use Rattle.irtext_parse_root.proofs.Failing.{operation_never_failed, operation_first}
-use Rattle.irtext_parse_root.proofs.Causes.{no_failure}
+use Rattle.irtext_parse_root.proofs.Causes.{no_cause}
 use Rattle.irtext_parse_root.proofs.Fresh.{begun, begun_stands}
 
 -- The cause does not say that the stream had failed, and where nothing was parsed it is one of a text.
@@ -45,4 +45,4 @@ module _ {T A U : Type 0} (types_at : Reader T) (reading : Reader A) (sincere_ty
         first = λ e. subst (λ z. is_first_fault z ≡ true) (sym f.because)
             (operation_first types_at reading sincere_types sincere ds (doing {T = T} {A = A} ds path) old.stream.rest (going (begun before old.state no_names no_values no_labels)) (going stuck.0) cause place stuck.1 (sym flag ∙ e));
       }
-  says_text fault (inr (nested.by_names failure f so)) = record { not_failed = no_failure failure.cause (fault_of fault.cause) f.cause; first = λ e. absurd (cc (f.committed, e)) }
+  says_text fault (inr (nested.by_names failure f so)) = record { not_failed = no_cause failure.cause (fault_of fault.cause) f.cause; first = λ e. absurd (cc (f.committed, e)) }

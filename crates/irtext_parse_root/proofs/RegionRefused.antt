@@ -52,7 +52,7 @@ use Rattle.irtext_parse_root.specs.AnyState.{start_with}
 use Rattle.irtext_parse_root.specs.Under as under
 use Rattle.irtext_parse_root.specs.Under.{IsolatedAs, ReadsUnder, FaultUnder, RefusesUnder}
 use Rattle.irtext_parse_root.specs.Region.{unisolated, IsReportedAt}
-use Rattle.irtext_parse_root.proofs.Causes.{same_cause, no_failure}
+use Rattle.irtext_parse_root.proofs.Causes.{no_cause}
 use Rattle.irtext_parse_root.proofs.Failing.{region_never_failed}
 use Rattle.irtext_parse_root.proofs.Fresh.{fresh_stands, begun_stands}
 use Rattle.irtext_parse_root.proofs.Refused.{SaysText}
@@ -148,7 +148,7 @@ module _ {T A U : Type 0} (types_at : Reader T) (reading : Reader A) (sincere_ty
         not_failed = λ e. region_never_failed types_at reading sincere_types sincere ds (doing {T = T} {A = A} ds path) iso old.stream.rest (going begun) (going stuck.0) cause place stuck.1 (sym f.because ∙ e);
         first = λ e. absurd (cc (flag, e));
       }
-  says_region fault (inr (under.in_text iso of_it opened (under.by_names begins failure f so))) = record { not_failed = no_failure failure.cause (fault_of fault.cause) f.cause; first = λ e. absurd (cc (f.committed, e)) }
+  says_region fault (inr (under.in_text iso of_it opened (under.by_names begins failure f so))) = record { not_failed = no_cause failure.cause (fault_of fault.cause) f.cause; first = λ e. absurd (cc (f.committed, e)) }
 
 -- ---- on any state
 module _ {T A U : Type 0} (types_at : Reader T) (attr : Reader (AttrView A)) (before : Names) (old : StateStream T A U)
@@ -174,7 +174,7 @@ module _ {T A U : Type 0} (types_at : Reader T) (attr : Reader (AttrView A)) (be
   fault_missed iso is fault (under.no_region begins because flag at) = region.no_brace begins because at flag
   fault_missed iso is fault (under.at_text begins cause place f flag so) = region.at_text begins cause place f.because f.placed flag
       (λ path. subst (λ b. (st : history.State) × (reached b path ≡ Stopped (going st) cause place)) is (so path [] begun (begun_there path)))
-  fault_missed iso is fault (under.by_names begins failure f so) = region.by_names begins failure (same_cause failure.cause (fault_of fault.cause) f.cause, f.place) f.committed
+  fault_missed iso is fault (under.by_names begins failure f so) = region.by_names begins failure (f.cause, f.place) f.committed
       (λ path. subst (λ b. EndsIn (failed failure) (reached b path)) is (so path [] begun (begun_there path)))
 
   -- what is parsed under an operation that is isolated has no fault
@@ -257,4 +257,4 @@ module _ {T A U : Type 0} (types_at : Reader T) (types_written : T → Text) (re
       λ path. subst (λ b. EndsIn (failed failure) (region_at ds types_at (attr_at reading) (doing ds path) b old.stream.rest (going start))) (isolated_there iso of_it)
       (so path [] (going start) (fresh_stands before old.state no_names no_values no_labels fresh.marks path)) in
       inr (first none (λ bs rest r. region_first types_at types_written reading written ds types_split splits words short_types short_owns (whole old.stream) old.stream.rest failure fault
-      (same_cause failure.cause (fault_of fault.cause) f.cause, f.place) ends bs rest r))
+      (f.cause, f.place) ends bs rest r))

@@ -9,9 +9,9 @@ use Rattle.irtext_base.specs.declared.parsable.fault.ParseFault.{ParseFault}
 use Rattle.irtext_grammar.specs.Contexts.Held.{StandsAt}
 use Rattle.irtext_grammar.specs.Names.Script as script
 use Rattle.irtext_grammar.specs.Names.Script.{Cause, Failure}
-use Rattle.irtext_parse_spec.specs.Promises.Root.{IsPlace}
+use Rattle.irtext_parse_spec.specs.Promises.Root.{IsCause, IsPlace}
 use Rattle.irtext_parse_spec.specs.Promises.Supported.{RefusedAs}
-use Rattle.irtext_promises.specs.Promises.{IsCause, IsFirst}
+use Rattle.irtext_promises.specs.Promises.{IsFirst}
 use Rattle.irtext_parse_spec.specs.Agrees.{StopsAt, ReadOrStops}
 use Rattle.irtext_parse_spec.specs.Entries.{fault_for}
 

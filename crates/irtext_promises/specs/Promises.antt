@@ -3,7 +3,6 @@ use Rattle.std.specs.Prelude.{◌≡◌, ℕ, Bool, true, cond, List, [], ◌∷
 use Rattle.irtext_base.specs.Text.{Text}
 use Rattle.irtext_base.specs.Own.{Texts}
 use Rattle.irtext_base.specs.Stream.{StreamView}
-use Rattle.irtext_base.specs.Faults as fault
 use Rattle.irtext_base.specs.Faults.{Fault, fault_of}
 use Rattle.irtext_base.specs.Answers.{Outcome}
 use Rattle.irtext_base.specs.Locations.{AttrView}
@@ -24,10 +23,9 @@ use Rattle.irtext_grammar.specs.Graphs.Build.{build}
 use Rattle.irtext_grammar.specs.Names.Acts.{failures_of, tree_script}
 use Rattle.irtext_grammar.specs.Names.History.{going, failed, start}
 use Rattle.irtext_grammar.specs.Names.History as history
-use Rattle.irtext_grammar.specs.Names.Script as script
-use Rattle.irtext_grammar.specs.Names.Script.{Cause, Failure, Path, done}
+use Rattle.irtext_grammar.specs.Names.Script.{Failure, Path, done}
 use Rattle.irtext_grammar.specs.Names.TextScopes.{facts}
-use Rattle.irtext_parse_spec.specs.Promises.Root.{location_of, IsPlace}
+use Rattle.irtext_parse_spec.specs.Promises.Root.{location_of, IsCause, IsPlace}
 use Rattle.irtext_parse_spec.specs.Promises.Section.{Moves, indices_of}
 use Rattle.irtext_parse_spec.specs.Promises.Supported.{supported, location_standing}
 use Rattle.irtext_parse_spec.specs.Naming.{naming}
@@ -37,18 +35,6 @@ use Rattle.irtext_promises.specs.Held.{held_root, IsWhole}
 use Rattle.irtext_promises.specs.OnlyNew.{OnlyNew}
 
 -- ---- faults
--- the cause that parsers return for this failure
-abbrev pub IsCause : Cause Text → Fault → Type 0
-IsCause (script.ResultCount types names) cause = cause ≡ fault.ResultCount types names
-IsCause (script.NoActiveScope n) cause = cause ≡ fault.NoActiveScope n
-IsCause (script.UnresolvedReference n) cause = cause ≡ fault.Unresolved n
-IsCause (script.MultipleDefinitions n) cause = cause ≡ fault.MultipleDefinitions n
-IsCause script.NotIsolated cause = cause ≡ fault.NotIsolated
-IsCause (script.DuplicateIndex i) cause = cause ≡ fault.DuplicateIndex i
-IsCause (script.UnknownIndex i) cause = cause ≡ fault.UnknownIndex i
-IsCause (script.UnknownPrintOnce i) cause = cause ≡ fault.UnknownPrintOnce i
-IsCause (script.ReservedKey key) cause = cause ≡ fault.ReservedKey key
-
 module _ {A : Type 0} where
   -- the fault is this failure: it has its cause, and is at its place of the text, or at the beginning of the text if it has no place
   abbrev pub IsOf : Text → Failure Text ℕ → ParseFault A → Type 0

@@ -27,6 +27,7 @@ use Rattle.irtext_grammar.proofs.Grammar.PartsOfFormats.{FormedOp, FormedRegions
 use Rattle.irtext_grammar.proofs.Lists.Lists.{or_else}
 use Rattle.irtext_grammar.proofs.Lists.Dictionaries.{last_of, last_both, lookup_put_all}
 use Rattle.irtext_grammar.proofs.Lists.Numbering.{some_inside}
+use Rattle.irtext_grammar.proofs.Lists.Numbers.{among_left, among_right}
 use Rattle.irtext_grammar.proofs.Names.ResolvedScript.{same_text_symmetric}
 use Rattle.irtext_grammar.proofs.Lists.Fresh.{is_not}
 use Rattle.irtext_grammar.proofs.Names.ActsOfTrees.{entries_in}
@@ -214,22 +215,6 @@ module _ {P T A : Type 0} where
   no_names_key format.canonical (tree.custom ps) a i = absurd i
 
 -- ---- item by item
-among_left : (i : ℕ) (xs ys : List ℕ) → is_among i xs ≡ true → is_among i (xs ++ ys) ≡ true
-among_left i [] ys h = absurd (true≢false (sym h))
-among_left i (x ∷ xs) ys h = go (nat_eq x i) h (among_left i xs ys)
-  where
-    go : (b : Bool) → cond b true (is_among i xs) ≡ true → (is_among i xs ≡ true → is_among i (xs ++ ys) ≡ true) → cond b true (is_among i (xs ++ ys)) ≡ true
-    go true h f = refl
-    go false h f = f h
-
-among_right : (i : ℕ) (xs ys : List ℕ) → is_among i ys ≡ true → is_among i (xs ++ ys) ≡ true
-among_right i [] ys h = h
-among_right i (x ∷ xs) ys h = go (nat_eq x i) (among_right i xs ys h)
-  where
-    go : (b : Bool) → is_among i (xs ++ ys) ≡ true → cond b true (is_among i (xs ++ ys)) ≡ true
-    go true r = refl
-    go false r = r
-
 module _ {P T A X : Type 0} (C : Printing T A) (isolated : Id → Bool) (first : P → X) (es : List (Entry P A X)) (B : List ℕ) where
   -- the marks are of blocks
   abbrev Marked : List ℕ → Type 0

@@ -1,5 +1,5 @@
 -- Numbers in a row: joined, counted, and which are among them.
-use Rattle.std.proofs.Common.{◌≡◌, ℕ, zero, suc, ◌+◌, ◌<◌, ◌≤◌, Bool, true, false, cond, nat_eq, ◌∷◌, ◌++◌, refl, ap, ◌∙◌, arith}
+use Rattle.std.proofs.Common.{◌≡◌, ℕ, zero, suc, ◌+◌, ◌<◌, ◌≤◌, Bool, true, false, cond, nat_eq, true≢false, List, [], ◌∷◌, ◌++◌, refl, sym, ap, ◌∙◌, arith}
 use Rattle.std.proofs.lemmas.Bool.Decides.{nat_tests}
 use Rattle.irtext_grammar.specs.Names.Scopes.{is_among}
 use Rattle.irtext_grammar.specs.Spelling.SectionEntries.{numbers}
@@ -31,3 +31,20 @@ among_numbers i n (suc k) h l = go (nat_eq n i) refl (λ q. among_numbers i (suc
 pub beyond_numbers : (i n k : ℕ) → n + k ≤ i → is_among i (numbers n k) ≡ false
 beyond_numbers i n zero h = refl
 beyond_numbers i n (suc k) h = ap (λ b. cond b true (is_among i (numbers (suc n) k))) (differ n i (omega arith)) ∙ beyond_numbers i (suc n) k (omega arith)
+
+-- a number that is among the first of two lists, or the second, is among them joined
+pub among_left : (i : ℕ) (xs ys : List ℕ) → is_among i xs ≡ true → is_among i (xs ++ ys) ≡ true
+among_left i [] ys h = absurd (true≢false (sym h))
+among_left i (x ∷ xs) ys h = go (nat_eq x i) h (among_left i xs ys)
+  where
+    go : (b : Bool) → cond b true (is_among i xs) ≡ true → (is_among i xs ≡ true → is_among i (xs ++ ys) ≡ true) → cond b true (is_among i (xs ++ ys)) ≡ true
+    go true h f = refl
+    go false h f = f h
+
+pub among_right : (i : ℕ) (xs ys : List ℕ) → is_among i ys ≡ true → is_among i (xs ++ ys) ≡ true
+among_right i [] ys h = h
+among_right i (x ∷ xs) ys h = go (nat_eq x i) (among_right i xs ys h)
+  where
+    go : (b : Bool) → is_among i (xs ++ ys) ≡ true → cond b true (is_among i (xs ++ ys)) ≡ true
+    go true r = refl
+    go false r = r

@@ -104,11 +104,11 @@ map_new g x v k h =
     ∙ (entries-append (means (more g x v)) (names g.facts) (name_of x ∷ [])
     ∙ ap (λ xs. xs ++ (name_of x, means (more g x v) (name_of x)) ∷ []) (sym (same_entries (means g) (means (more g x v)) (names g.facts) h)))
 
--- a name that is not among the facts' has no definition there
-unknown : (n : Text) (ns : List Text) (f : List Fact) → among n (names_from ns f) ≡ false → lookup n f ≡ None
-unknown n ns [] h = refl
-unknown n ns (uses m u ∷ f) h = unknown n (add ns m) f h
-unknown n ns (defines m p ∷ f) h = go (same_text m n) refl (unknown n (add ns m) f h)
+-- a name that facts do not mention has no definition there
+pub not_mentioned : (n : Text) (ns : List Text) (f : List Fact) → among n (names_from ns f) ≡ false → lookup n f ≡ None
+not_mentioned n ns [] h = refl
+not_mentioned n ns (uses m u ∷ f) h = not_mentioned n (add ns m) f h
+not_mentioned n ns (defines m p ∷ f) h = go (same_text m n) refl (not_mentioned n (add ns m) f h)
   where
     go : (b : Bool) → same_text m n ≡ b → lookup n f ≡ None → cond b (Some p) (lookup n f) ≡ None
     go true e k = absurd (true≢false (sym (subst (λ z. among z (names_from (add ns m) f) ≡ true) (same_text_true m n e) (among-names m (add ns m) f (among-added m ns))) ∙ h))
@@ -170,7 +170,7 @@ module _ (g : Scope) (gs : List Scope) (b : List (User × Place)) (s : Names) (w
       let g' = more g x numbered in
       let differs : (n : Text) → among n (names g.facts) ≡ true → numbered n ≡ g.number n = λ n h. ap (λ c. cond c s.fresh (g.number n)) (among-differs w.name n (names g.facts) h e) in
       let same : (n : Text) → among n (names g.facts) ≡ true → means g n ≡ means g' n = λ n h. ap (λ o. held_of o (g.number n)) (sym (lookup-use n w.name u g.facts)) ∙ ap (held_of (lookup n g'.facts)) (sym (differs n h)) in
-      let itself : means g' w.name ≡ hole s.fresh = ap (λ o. held_of o (numbered w.name)) (lookup-use w.name w.name u g.facts ∙ unknown w.name [] g.facts e) ∙ ap (λ c. hole (cond c s.fresh (g.number w.name))) (same_text_refl w.name) in
+      let itself : means g' w.name ≡ hole s.fresh = ap (λ o. held_of o (numbered w.name)) (lookup-use w.name w.name u g.facts ∙ not_mentioned w.name [] g.facts e) ∙ ap (λ c. hole (cond c s.fresh (g.number w.name))) (same_text_refl w.name) in
       let old : (m : Text) → among m (names g.facts) ≡ true → Pending g'.facts m → Pending g.facts m = λ m k p. record { there = k; open_yet = sym (lookup-use m w.name u g.facts) ∙ p.open_yet } in
       let last : (m : Text) → w.name ≡ m → numbered m ≡ s.fresh = λ m k. ap (λ c. cond c s.fresh (g.number m)) (same_text_eq w.name m k) in
       let a = l.stacked.0 in
@@ -316,7 +316,7 @@ define_follows (g ∷ gs) b s w p l = go (lookup w.name g.facts) refl (among w.n
 
     go : (o : Option Place) → lookup w.name g.facts ≡ o → (c : Bool) → among w.name (names g.facts) ≡ c → Follows (cond (is_some o) (fail (MultipleDefinitions w.name) w.at) []) ((g.facts ++ defines w.name p ∷ []) ∷ facts_in gs) b (define_name s w p)
     go (Some q) d true e = record { scopes = more g (defines w.name p) g.number ∷ gs; facts_are = refl; agrees = subst (Agrees (fail (MultipleDefinitions w.name) w.at) (more g (defines w.name p) g.number ∷ gs) b) (sym (answer (Some q) true d e)) refl }
-    go (Some q) d false e = absurd (no_none (sym (unknown w.name [] g.facts e) ∙ d))
+    go (Some q) d false e = absurd (no_none (sym (not_mentioned w.name [] g.facts e) ∙ d))
       where
         no_none : None ≡ Some q → ⊥
         no_none k = cc

@@ -69,16 +69,6 @@ used_among n u ns [] h = absurd h
 used_among n u ns (x ∷ fs) (inl e) = among-names n (add ns (name_of x)) fs (subst (λ y. among n (add ns (name_of y)) ≡ true) e (among-added n ns))
 used_among n u ns (x ∷ fs) (inr h) = used_among n u (add ns (name_of x)) fs h
 
--- a name that is not mentioned has no definition
-pub not_mentioned : (n : Text) (ns : List Text) (fs : List Fact) → among n (names_from ns fs) ≡ false → lookup n fs ≡ None
-not_mentioned n ns [] h = refl
-not_mentioned n ns (uses m u ∷ fs) h = not_mentioned n (add ns m) fs h
-not_mentioned n ns (defines m p ∷ fs) h = go (same_text m n) refl (not_mentioned n (add ns m) fs h)
-  where
-    go : (b : Bool) → same_text m n ≡ b → lookup n fs ≡ None → cond b (Some p) (lookup n fs) ≡ None
-    go true e k = absurd (true≢false (sym (subst (λ z. among z (names_from (add ns m) fs) ≡ true) (same_text_true m n e) (among-names m (add ns m) fs (among-added m ns))) ∙ h))
-    go false e k = k
-
 -- what a scope binds as it ends comes from its uses and look-ups
 pub bound_from : (all fs : List Fact) (u : User) (p : Place) → Among (u, p) (bound_in all fs) → (n : Text) × Among (uses n u) fs × (lookup n all ≡ Some p)
 bound_from all [] u p h = absurd h

@@ -10,7 +10,7 @@ use Rattle.irtext_grammar.specs.Names.Scopes.{uses, defines}
 use Rattle.irtext_grammar.specs.Names.TextScopes.{Fact, Failure, lookup, bound_in, unresolved}
 use Rattle.irtext_grammar.proofs.Lists.Lists.{among, or_else, or_else-none, lookup-use, lookup-define, names_from, names-append, name_of}
 use Rattle.irtext_grammar.proofs.Lists.SameText.{same_text_refl, same_text_true, other_text}
-use Rattle.irtext_grammar.proofs.Names.PlaceholderMap.{head, unresolved_name}
+use Rattle.irtext_grammar.proofs.Names.PlaceholderMap.{head, unresolved_name, not_mentioned}
 use Rattle.irtext_scopes.specs.declared.scopes.Entry.{Entry}
 use Rattle.irtext_scopes.specs.declared.scopes.Entry.TheVariants as entries
 use Rattle.irtext_scopes.specs.Bindings.{are_apart}
@@ -18,7 +18,7 @@ use Rattle.irtext_scopes.specs.Names.{AreDistinct, KeepsNames}
 use Rattle.irtext_scopes.specs.Scopes.{Scope, find, mentioned, resolved, defined, defined_from, is_defined, first_pending}
 use Rattle.irtext_scopes.proofs.Maps.{find_mentioned, apart_tail, not_again}
 use Rattle.irtext_names.specs.Linked.{mentioned_in, IsMeant, texts_of, Means}
-use Rattle.irtext_names.proofs.Linked.Mentions.{names_mentioned, Once, once_names, used_among, not_mentioned, bound_from, undefined_of, first_undefined, unresolved_first}
+use Rattle.irtext_names.proofs.Linked.Mentions.{names_mentioned, Once, once_names, used_among, bound_from, undefined_of, first_undefined, unresolved_first}
 
 -- the texts of a scope's names and names from texts have the same first, and the same rest
 texts_cons : {a b : Option Text} {xs ys : List (Option Text)} → a ∷ xs ≡ b ∷ ys → (a ≡ b) × (xs ≡ ys)

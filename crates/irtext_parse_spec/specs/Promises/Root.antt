@@ -1,6 +1,9 @@
--- For callers: the position and the location of a place of a text, the place of a failure, and a state before anything is parsed.
+-- For callers: the position and the location of a place of a text, the cause and the place of a failure, and a state before anything is
+-- parsed.
 use Rattle.std.specs.Prelude.{◌≡◌, ◌⊎◌, ℕ, ◌-◌, false, Option, Some, None, List, [], length, take}
 use Rattle.irtext_base.specs.Text.{Text, line_behind, column_behind}
+use Rattle.irtext_base.specs.Faults as fault
+use Rattle.irtext_base.specs.Faults.{Fault}
 use Rattle.irtext_base.specs.Stream.{cut, IsAt}
 use Rattle.irtext_base.specs.Paths.{Written, path_of}
 use Rattle.irtext_base.specs.Locations.{src_pos}
@@ -11,6 +14,8 @@ use Rattle.irtext_parse_state.specs.States.{marks_of}
 use Rattle.irtext_parse_state.specs.declared.parsable.state.StateStream.{StateStream}
 use Rattle.irtext_parse_spec.specs.Promises.Section.{IsStarved}
 use Rattle.irtext_grammar.specs.Contexts.Held.{StandsAt}
+use Rattle.irtext_grammar.specs.Names.Script as script
+use Rattle.irtext_grammar.specs.Names.Script.{Cause}
 
 -- the position after a text
 abbrev pub position_behind : Text → SourcePosition
@@ -25,6 +30,18 @@ module _ {T A U : Type 0} where
   pub record IsFresh (s : StateStream T A U) : Type 0 where
     pub marks : marks_of s.state ≡ []
     pub fine : s.stream.failed ≡ false
+
+-- the cause that parsers return for this failure
+abbrev pub IsCause : Cause Text → Fault → Type 0
+IsCause (script.ResultCount types names) cause = cause ≡ fault.ResultCount types names
+IsCause (script.NoActiveScope n) cause = cause ≡ fault.NoActiveScope n
+IsCause (script.UnresolvedReference n) cause = cause ≡ fault.Unresolved n
+IsCause (script.MultipleDefinitions n) cause = cause ≡ fault.MultipleDefinitions n
+IsCause script.NotIsolated cause = cause ≡ fault.NotIsolated
+IsCause (script.DuplicateIndex i) cause = cause ≡ fault.DuplicateIndex i
+IsCause (script.UnknownIndex i) cause = cause ≡ fault.UnknownIndex i
+IsCause (script.UnknownPrintOnce i) cause = cause ≡ fault.UnknownPrintOnce i
+IsCause (script.ReservedKey key) cause = cause ≡ fault.ReservedKey key
 
 -- the position is that of the place of the failure, or the beginning of the text if the failure has no place
 abbrev pub IsPlace : Text → Option ℕ → SourcePosition → Type 0

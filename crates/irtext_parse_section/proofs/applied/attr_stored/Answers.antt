@@ -1,6 +1,6 @@
 use Rattle.std.proofs.Common.{ap, ◌∙◌}
 use Rattle.irtext_grammar.specs.Contexts.Held.{entries_of}
-use Rattle.irtext_parse_section.proofs.ApplySteps.{put_stored}
+use Rattle.irtext_grammar.proofs.Lists.Stored.{put_stored}
 use Rattle.irtext_parse_section.proofs.applied.attr_stored.Goals as goal
 
 pub returns : goal.returns
