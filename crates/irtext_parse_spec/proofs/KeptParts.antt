@@ -21,7 +21,7 @@ use Rattle.irtext_base.specs.declared.location.Location.{Location}
 use Rattle.irtext_context.specs.Context.{ContextView, OperationView, BlockView}
 use Rattle.irtext_context.specs.DialectTable.{registered}
 use Rattle.irtext_context.specs.Dialects.{Known, Table, known_of}
-use Rattle.irtext_format_check.specs.Directives as directives
+use Rattle.irtext_base.specs.FormatViews as directives
 use Rattle.irtext_context.specs.declared.dialect.OpInfo.{OpInfo}
 use Rattle.irtext_grammar.specs.Contexts.Formats.{IsAccepted}
 use Rattle.irtext_grammar.specs.Contexts.Held.{attribute_of, entries_of, location_over}
