@@ -11,4 +11,5 @@ mod locations;
 mod made;
 mod nested;
 mod notation;
+mod parts;
 mod unique;

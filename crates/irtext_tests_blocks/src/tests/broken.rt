@@ -2,7 +2,7 @@
 use crate::tests::broken::Piece::{Before, Here, Read};
 use crate::tests::standing::said;
 use irtext_tests_common::contexts::with_demo;
-use irtext_tests_roots::reading::printed;
+use irtext_tests_print::reading::printed;
 use std::alloc::Global;
 use std::test::Fail;
 

@@ -1,7 +1,7 @@
 //! Unambiguous formats: an operation that fits one is parsed in a root and printed, and the printed text is parsed and printed unchanged.
 use irtext_tests_common::contexts::{Ctx, with_demo};
-use irtext_tests_roots::reading::printed;
-use irtext_tests_roots::registering::register;
+use irtext_tests_print::reading::printed;
+use irtext_tests_print::registering::register;
 use std::alloc::Global;
 use std::test::Fail;
 

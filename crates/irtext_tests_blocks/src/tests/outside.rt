@@ -3,7 +3,7 @@ use crate::tests::parts::{Path, at};
 use irtext_demo::DemoAttr;
 use irtext_tests_common::answers::told;
 use irtext_tests_common::contexts::{Ctx, named, with_demo};
-use irtext_tests_roots::reading::root;
+use irtext_tests_print::reading::root;
 use pliron_text::base::{BasicBlock, Identifier, Operation, Ptr, Value};
 use pliron_text::irfmt::parsers::{block_opd_parse, process_parsed_ssa_defs, ssa_opd_parse};
 use pliron_text::location::{Location, Source};

@@ -4,7 +4,7 @@ use irtext_context::base::Item;
 use irtext_tests_common::building::{erase, live};
 use irtext_tests_common::contexts::Ctx;
 use irtext_tests_common::tables::failing_demo;
-use irtext_tests_roots::reading::{appended, concrete, laid_out, root, whole};
+use irtext_tests_print::reading::{appended, concrete, laid_out, root, whole};
 use pliron_text::base::{Operation, Ptr};
 use pliron_text::location::erase_locations;
 use pliron_text::printable::{RegionPrintDepthLimit, State};

@@ -3,7 +3,7 @@ use crate::tests::standing::{STANDS, faulted};
 use irtext_demo::{DemoAttr, DemoType};
 use irtext_tests_common::answers::told;
 use irtext_tests_common::contexts::{Ctx, with_demo};
-use irtext_tests_roots::reading::{root, whole};
+use irtext_tests_print::reading::{root, whole};
 use pliron_text::base::{BasicBlock, Operation, Ptr, Region};
 use pliron_text::location::Source;
 use pliron_text::parsable::{Parsable, ParseResult, State, StateStream, TextStream};

@@ -2,7 +2,7 @@
 use irtext_demo::DemoAttr;
 use irtext_tests_common::answers::told;
 use irtext_tests_common::contexts::{Ctx, Stream};
-use irtext_tests_roots::reading::{root, whole};
+use irtext_tests_print::reading::{root, whole};
 use pliron_text::base::{Operation, Ptr};
 use pliron_text::ir::OperationText;
 use pliron_text::location::Source;

@@ -1,6 +1,6 @@
 //! Roots with blocks that follow each other on one stream.
 use irtext_tests_common::contexts::{Ctx, with_demo};
-use irtext_tests_roots::reading::{two, whole};
+use irtext_tests_print::reading::{two, whole};
 use std::alloc::Global;
 use std::test::Fail;
 

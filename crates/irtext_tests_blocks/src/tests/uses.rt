@@ -3,7 +3,7 @@ use crate::tests::parts::{Path, at, block, num_uses, operand, successor};
 use irtext_graph::held::HasGraph;
 use irtext_tests_common::contexts::{Ctx, with_demo};
 use irtext_tests_common::tables::failing_demo;
-use irtext_tests_roots::reading::root;
+use irtext_tests_print::reading::root;
 use pliron_text::base::{BlockParts, Operation, Ptr, UniqueName, Value};
 use std::alloc::Global;
 use std::test::Fail;

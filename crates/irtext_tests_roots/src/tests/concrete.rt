@@ -1,9 +1,9 @@
 //! The texts of a root: whole, concrete, without its regions, for debugging, with its location in a file, and of its parts.
-use crate::reading::{concrete, laid_out, root, whole};
 use irtext_demo::DemoType;
 use irtext_tests_common::building::live;
 use irtext_tests_common::contexts::{Ctx, with_demo};
 use irtext_tests_common::tables::differing;
+use irtext_tests_print::reading::{concrete, laid_out, root, whole};
 use pliron_text::base::{Operation, OperationAccess, Ptr};
 use pliron_text::ir::{OpDbg, print_dbg};
 use pliron_text::irfmt::printers::op::{region, symb_op_header, typed_symb_op_header};

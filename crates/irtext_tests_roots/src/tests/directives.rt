@@ -1,8 +1,8 @@
 //! Operations that are parsed and printed by the directives of their formats.
-use crate::reading;
-use crate::reading::{concrete, read_root, whole};
-use crate::registering::register;
 use irtext_tests_common::contexts::{Ctx, with_context};
+use irtext_tests_print::reading;
+use irtext_tests_print::reading::{concrete, read_root, whole};
+use irtext_tests_print::registering::register;
 use pliron_text::base::{Operation, Ptr};
 use std::alloc::Global;
 use std::test::Fail;

@@ -2,16 +2,19 @@
 ghost use Rattle.std.specs.Prelude.{IfOk, IfSome, IsSome};
 ghost use Rattle.irtext_context.specs.Context.{operation};
 
+use irtext_base::location::Source;
+use irtext_base::parsable::{ParseResult, TextStream};
+use irtext_base::result::Result as Answer;
+use irtext_context::base::{Operation, OperationAccess, Ptr};
 use irtext_demo::{DemoAttr, DemoType};
+use irtext_parse_root::ir::read::OperationParserConfig;
+use irtext_parse_root::outermost::outermost_parse;
+use irtext_parse_root::parsable;
+use irtext_parse_root::parsable::{Parsable, StateStream, parse_from_str};
+use irtext_print_ir::ir::print::concrete::OpObj;
+use irtext_print_ir::printable::{Disp, Printable, State};
 use irtext_tests_common::building::live;
 use irtext_tests_common::contexts::{Ctx, Stream};
-use pliron_text::base::{Operation, OperationAccess, Ptr};
-use pliron_text::ir::{OperationParserConfig, OperationText};
-use pliron_text::location::Source;
-use pliron_text::parsable;
-use pliron_text::parsable::{Parsable, ParseResult, StateStream, TextStream, parse_from_str};
-use pliron_text::printable::{Disp, Printable, State};
-use pliron_text::result::Result as Answer;
 use std::alloc::Global;
 use std::test::Fail;
 
@@ -19,7 +22,7 @@ use std::test::Fail;
 pub fn read_root(ctx: &mut Ctx, text: &str) -> Answer<Ptr<Operation>, DemoAttr>
     ensures { IfOk result (λ root. IsSome (operation ctx.new root)) }
 {
-    parse_from_str(|s| Operation::top_level_parse(s), ctx, text)
+    parse_from_str(|s| outermost_parse(s, true), ctx, text)
 }
 
 /// The root that a text is parsed as, or `None` on an error.
@@ -34,8 +37,8 @@ pub type Two = (Ptr<Operation>, Ptr<Operation>);
 
 /// Two roots on one stream.
 fn both(s: &mut Stream<'_>) -> Option<Two> {
-    let first = Operation::top_level_parse(s).ok()?;
-    let second = Operation::top_level_parse(s).ok()?;
+    let first = outermost_parse(s, true).ok()?;
+    let second = outermost_parse(s, true).ok()?;
     Some((first, second))
 }
 
@@ -64,7 +67,7 @@ pub fn whole(alloc: Global, ctx: &Ctx, root: Ptr<Operation>) -> Result<String, F
 /// The concrete text of a root, if it is live.
 pub fn concrete(alloc: Global, ctx: &Ctx, root: Ptr<Operation>) -> Result<String, Fail> {
     live(ctx, root)?;
-    Ok(format!(in alloc; "{}", Operation::get_op_dyn(root, ctx).disp(ctx))?)
+    Ok(format!(in alloc; "{}", OpObj { op: root }.disp(ctx))?)
 }
 
 /// The text of an operation with a state of this layout, if it is live.

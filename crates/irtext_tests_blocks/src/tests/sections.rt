@@ -1,7 +1,7 @@
 //! Sections whose entries give locations of each kind: the parsed location is printed again; and one that ends early is an error there.
-use crate::reading::{printed, read_root};
 use irtext_demo::DemoAttr;
 use irtext_tests_common::contexts::{Ctx, with_demo};
+use irtext_tests_print::reading::{printed, read_root};
 use pliron_text::printable::Disp;
 use pliron_text::result::Error;
 use std::alloc::Global;

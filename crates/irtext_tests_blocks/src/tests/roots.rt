@@ -1,9 +1,9 @@
 //! Roots that are parsed, one after the other, and what is left after an error.
-use crate::reading::{alone, location, root, two, whole};
 use irtext_demo::DemoAttr;
 use irtext_tests_common::building::live;
 use irtext_tests_common::contexts::{Ctx, Stream, with_demo};
 use irtext_tests_common::tables::{failing, failing_demo};
+use irtext_tests_print::reading::{alone, location, root, two, whole};
 use pliron_text::base::{Operation, Ptr};
 use pliron_text::irfmt::parsers;
 use pliron_text::location::{Location, Source};

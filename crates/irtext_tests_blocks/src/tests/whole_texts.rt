@@ -1,10 +1,10 @@
 //! Texts that are parsed completely: a root, and nothing but white space after it; and the same while the mark of an earlier operation is
 //! recorded.
-use crate::reading::{alone, location};
 use irtext_demo::DemoAttr;
 use irtext_tests_common::answers::told;
 use irtext_tests_common::contexts::{Ctx, Stream, with_demo};
 use irtext_tests_common::tables::failing_demo;
+use irtext_tests_print::reading::{alone, location};
 use pliron_text::base::{Operation, Ptr};
 use pliron_text::ir::OperationText;
 use pliron_text::location::Source;

@@ -3,6 +3,7 @@ ghost use Rattle.std.specs.Prelude.{codes, refl};
 ghost use Rattle.irtext_syntax.specs.KeywordTexts.{fixed_word};
 ghost use Rattle.irtext_syntax.specs.Ranges.{from_to};
 
+use irtext_base::parsable::{CharStream, ParseResult, TextStream};
 use irtext_demo::{DemoAttr, DemoType};
 use irtext_syntax::characters::Characters;
 use irtext_syntax::keyword::{Flag, Keyword, Word};
@@ -15,7 +16,6 @@ use irtext_syntax::range::{Range, Ranged};
 use irtext_syntax::ready::{Angle, Colon, Comma, Curly, Round, SpacedArrow, Square};
 use irtext_syntax::sequence::{Then, Within};
 use irtext_tests_common::answers::left;
-use pliron_text::parsable::{CharStream, ParseResult, TextStream};
 use std::alloc::Global;
 use std::test::Fail;
 

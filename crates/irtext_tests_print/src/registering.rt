@@ -5,15 +5,16 @@ ghost use Rattle.irtext_context.specs.Dialects.{with_op};
 ghost use Rattle.irtext_context.specs.DialectTable.{dialect_or_new, with_dialect};
 ghost use Rattle.irtext_base.specs.FormatViews.{format_of};
 
+use irtext_base::base::OpId;
+use irtext_base::format::OpFormat;
+use irtext_base::result;
+use irtext_base::text::{AttrText, IrText};
+use irtext_context::base::Context;
+use irtext_context::dialect::{Dialect, DialectName};
 use irtext_demo::DemoAttr;
 use irtext_tests_common::building::id;
 use irtext_tests_common::contexts::{Ctx, named};
 use irtext_tests_common::formats::format_or_canonical;
-use pliron_text::base::{Context, OpId};
-use pliron_text::dialect::{Dialect, DialectName};
-use pliron_text::format::OpFormat;
-use pliron_text::result;
-use pliron_text::text::{AttrText, IrText};
 use std::alloc::Global;
 use std::test::Fail;
 

@@ -1,6 +1,6 @@
 //! The call `keeps_parts`, which changes nothing.
-use crate::reading::{root, whole};
 use irtext_tests_common::contexts::{Ctx, with_demo};
+use irtext_tests_print::reading::{root, whole};
 use pliron_text::ir::keeps_parts;
 use std::alloc::Global;
 use std::test::Fail;
