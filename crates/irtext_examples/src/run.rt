@@ -212,6 +212,3 @@ pub fn run(
     let _ = writeln!(errors, "{fault}");
     1
 }
-
-#[cfg(test)]
-mod tests;
