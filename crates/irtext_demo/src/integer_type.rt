@@ -104,7 +104,8 @@ pub fn integer_type_parse<A>(stream: &mut TextStream) -> ParseResult<IntegerType
 #[inline(always)]
 fn text_there(stream: &mut TextStream, text: &str) -> bool
     ensures { MatchBool result
-        (Gives (λ s. s) (λ s v. v) (unless_failed stream.old.failed (word (characters text.now) stream.old.rest)) stream.old tt stream.new)
+        (Gives (λ s. s) (λ s v. v) (unless_failed stream.old.failed
+        (word (characters text.now) stream.old.rest)) stream.old tt stream.new)
         (stream.new ≡ stream.old) }
 {
     if stream.has_failed() {
@@ -120,7 +121,8 @@ fn text_there(stream: &mut TextStream, text: &str) -> bool
 #[inline(always)]
 fn sign_there(stream: &mut TextStream) -> Option<Signedness>
     ensures { MatchOption result (stream.new ≡ stream.old)
-        (λ k. Gives (λ s. s) (λ s v. v) (unless_failed stream.old.failed (signedness_at stream.old.rest)) stream.old k stream.new) }
+        (λ k. Gives (λ s. s) (λ s v. v) (unless_failed stream.old.failed (signedness_at stream.old.rest))
+        stream.old k stream.new) }
 {
     if next_is(stream, 's') {
         if text_there(stream, "si") {
@@ -146,7 +148,8 @@ fn sign_there(stream: &mut TextStream) -> Option<Signedness>
 #[inline(always)]
 fn width_there(stream: &mut TextStream) -> Option<Width>
     ensures { MatchOption result (stream.new ≡ stream.old)
-        (λ w. Gives (λ s. s) (λ s v. v) (unless_failed stream.old.failed (width_at stream.old.rest)) stream.old w stream.new) }
+        (λ w. Gives (λ s. s) (λ s v. v) (unless_failed stream.old.failed (width_at stream.old.rest))
+        stream.old w stream.new) }
 {
     if stream.has_failed() {
         return None;
@@ -167,7 +170,8 @@ fn width_there(stream: &mut TextStream) -> Option<Width>
 #[inline(always)]
 fn integer_type_there(stream: &mut TextStream) -> Option<IntegerType>
     ensures { MatchOption result (stream.new ≡ stream.old)
-        (λ t. Gives (λ s. s) (λ s v. v) (unless_failed stream.old.failed (integer_type_at stream.old.rest)) stream.old t stream.new) }
+        (λ t. Gives (λ s. s) (λ s v. v) (unless_failed stream.old.failed (integer_type_at stream.old.rest))
+        stream.old t stream.new) }
 {
     let place = stream.position();
     let Some(kind) = sign_there(stream) else {
@@ -196,7 +200,8 @@ fn write_sign(kind: Signedness, f: &mut String) -> fmt::Result
 /// Appends `builtin.integer`, a space and a sign.
 #[inline(always)]
 fn write_front(kind: Signedness, f: &mut String) -> fmt::Result
-    ensures { OnOk result (string_bytes f.new ≡ string_bytes f.old ++ (codes "builtin.integer " ++ signedness_text kind)) }
+    ensures { OnOk result (string_bytes f.new ≡ string_bytes f.old
+        ++ (codes "builtin.integer " ++ signedness_text kind)) }
 {
     match kind {
         Signedness::Signed => f.push_str("builtin.integer si")?,
@@ -233,7 +238,8 @@ fn write_width(bits: u16, f: &mut String) -> fmt::Result
 
 /// Appends an integer type as a type of its dialect: `builtin.integer si32`.
 pub(crate) fn write_integer_type(ty: &IntegerType, f: &mut String) -> fmt::Result
-    ensures { OnOk result (string_bytes f.new ≡ string_bytes f.old ++ (codes "builtin.integer " ++ integer_type_text ty.now)) }
+    ensures { OnOk result (string_bytes f.new ≡ string_bytes f.old
+        ++ (codes "builtin.integer " ++ integer_type_text ty.now)) }
 {
     write_front(ty.kind, f)?;
     write_width(ty.width.bits(), f)

@@ -46,7 +46,8 @@ pub trait OperationParts: Sized {
     fn operand_types<C: HasGraph>(self, ctx: &C) -> Result<Vec<&C::T>, AllocError>
         requires { IsLive (C.graph ctx.now) (TheOperation (pointer self)) }
         ensures { IfOk result (λ all. map (λ t. Some t.now) all.items
-            ≡ map (λ v. option_map (λ t. t.of_type) (value_at (C.graph ctx.now) v)) (operands (C.graph ctx.now) (pointer self))) };
+            ≡ map (λ v. option_map (λ t. t.of_type) (value_at (C.graph ctx.now) v))
+            (operands (C.graph ctx.now) (pointer self))) };
 
     /// Returns the number of successors of the operation.
     fn get_num_successors<C: HasGraph>(self, ctx: &C) -> usize

@@ -54,7 +54,8 @@ pub fn enter_region<O: Drop, B: Drop, T: Drop>(
     ensures names { names.new.names ≡ names.old.names }
     ensures tied { MatchesGraph names.new.values names.new.labels graph.now }
     ensures waiting { (m : ℕ) (own : List (Ptr BasicBlock))
-        → ArePending m own names.old.values names.old.labels graph.now → ArePending m own names.new.values names.new.labels graph.now }
+        → ArePending m own names.old.values names.old.labels graph.now
+        → ArePending m own names.new.values names.new.labels graph.now }
     ensures enters { OnOk result (Takes (enter isolated) (history.entered isolated) names.old names.new
         graph.now) }
     ensures shut { result ≡ Err EnterFault.TopLevelOpRegionNotIsolatedFromAbove
@@ -81,14 +82,16 @@ pub fn exit_region<O: Drop, B: Drop, T: Drop>(
     ensures names { names.new.names ≡ names.old.names }
     ensures tied { MatchesGraph names.new.values names.new.labels graph.now }
     ensures waiting { IfNone result ((m : ℕ) (own : List (Ptr BasicBlock))
-        → ArePending m own names.old.values names.old.labels graph.now → ArePending m own names.new.values names.new.labels graph.now) }
+        → ArePending m own names.old.values names.old.labels graph.now
+        → ArePending m own names.new.values names.new.labels graph.now) }
     ensures none_left { IfNone result ((m : ℕ) (own : List (Ptr BasicBlock)) → ArePending m own
         names.old.values names.old.labels graph.now
         → names.new.values ≡ [] → names.new.labels ≡ [] → NoneIsLeft m own graph.now) }
     ensures leaves { IfNone result ((a : ℕ) → Takes (leave isolated a) (history.left isolated) names.old
         names.new graph.now) }
     ensures unresolved { IfSome result (λ n. (a : ℕ) → (t : Text) × (slice_get names.old.names n ≡ Some t)
-        × FailsBy (leave isolated a) names.old graph.now (record { cause = UnresolvedReference t; at = Some a })) }
+        × FailsBy (leave isolated a) names.old graph.now
+        (record { cause = UnresolvedReference t; at = Some a })) }
 {
     let _graph = graph;
     names.exit_region(isolated)

@@ -74,7 +74,8 @@ pub struct ReadFront<T, A> {
 
 /// Returns the error, committed if `wanted` is set.
 fn commit_if<A>(stream: &mut TextStream, wanted: bool, fault: ParseFault<A>) -> ParseFault<A>
-    ensures { cond wanted (Demands itself replaced fault stream.old result stream.new) ((result ≡ fault) × (stream.new ≡ stream.old)) }
+    ensures { cond wanted (Demands itself replaced fault stream.old result stream.new)
+        ((result ≡ fault) × (stream.new ≡ stream.old)) }
 {
     if wanted { commit(stream, fault) } else { fault }
 }
@@ -101,10 +102,13 @@ fn front_read<T: IrText<A>, A: AttrText<A>>(
     requires fine { stream.old.failed ≡ false }
     ensures stands { IfOk result (λ front. FrontStands T.IrText.reading (attr_at A.IrText.reading)
         ctx.now.dialects true names.new.names stream.old front.names front.id front.pieces stream.new) }
-    ensures lacks { IfErr result (UnlessMemory (LacksFront T.IrText.reading (attr_at A.IrText.reading) ctx.now.dialects true wanted stream.old)) }
+    ensures lacks { IfErr result (UnlessMemory
+        (LacksFront T.IrText.reading (attr_at A.IrText.reading) ctx.now.dialects true wanted stream.old)) }
     ensures key { IfOk result (λ front. IfSome front.key (λ key. key ≡ sym_name_key)) }
-    ensures counted { IfOk result (λ front. front.steps ≡ length (steps_in ctx.now.dialects (id_of front.id))) }
-    ensures coming { IfOk result (λ front. IsStep front.coming (slice_get (steps_in ctx.now.dialects (id_of front.id)) (length front.pieces))) }
+    ensures counted { IfOk result (λ front. front.steps
+        ≡ length (steps_in ctx.now.dialects (id_of front.id))) }
+    ensures coming { IfOk result (λ front. IsStep front.coming
+        (slice_get (steps_in ctx.now.dialects (id_of front.id)) (length front.pieces))) }
     ensures isolated { IfOk result (λ front. front.isolated ≡ isolated ctx.now.dialects (id_of front.id)) }
     ensures unread { IfErr result (λ fault. fault.committed ≡ false → stream.new ≡ stream.old) }
     ensures names { NamesRead names.old names.new }
@@ -160,7 +164,8 @@ fn placed<T: IrText<A>, A: AttrText<A>>(
     requires free { parent ctx.old.graph (TheOperation op) ≡ None }
     requires empty { children ctx.old.graph (TheOperation op) ≡ [] }
     ensures places { OnOk result (PlacedIn block ctx.old ctx.new op) }
-    ensures kept { (m : ℕ) → IfSome block (λ b. IsNew m ctx.old.graph (TheBlock b)) → IsNew m ctx.old.graph (TheOperation op)
+    ensures kept { (m : ℕ) → IfSome block (λ b. IsNew m ctx.old.graph (TheBlock b))
+        → IsNew m ctx.old.graph (TheOperation op)
         → KeepsOlder m ctx.old ctx.new }
 {
     let Some(block) = block else {
@@ -182,19 +187,23 @@ fn pieces_created<T: IrText<A>, A: AttrText<A>, U>(
     pieces: Pieces<T, A>,
 ) -> ParseResult<(Ptr<Operation>, usize), A>
     requires can { CanGather names.old [] [] pieces }
-    requires are { (text : Text) × (parts : List (Part ℕ T A)) × Each (IsPart names.old.names text) pieces parts }
+    requires are { (text : Text) × (parts : List (Part ℕ T A))
+        × Each (IsPart names.old.names text) pieces parts }
     requires tied { MatchesGraph names.old.values names.old.labels s.old.state.ctx.now.graph }
     requires key { IfSome key.now (λ key. key ≡ sym_name_key) }
     ensures lent { s.new.state.ctx.ghost_name ≡ s.old.state.ctx.ghost_name }
     ensures rest { KeepsRest s.old.state s.new.state }
     ensures marks { marks_of s.new.state ≡ marks_of s.old.state }
     ensures stream { OnOk result (s.new.stream ≡ s.old.stream) }
-    ensures creates { IfOk result (λ made. CreatesOf id.now pieces loc names.old s.old.state.ctx.now names.new s.new.state.ctx.now made.0 made.1) }
-    ensures refused { IfErr result (NotGatheredAs pieces names.old s.old.state.ctx.now.graph (whole s.old.stream)) }
+    ensures creates { IfOk result (λ made. CreatesOf id.now pieces loc names.old s.old.state.ctx.now names.new
+        s.new.state.ctx.now made.0 made.1) }
+    ensures refused { IfErr result (NotGatheredAs pieces names.old s.old.state.ctx.now.graph
+        (whole s.old.stream)) }
     ensures names { names.new.names ≡ names.old.names }
     ensures values { length names.new.values ≡ length names.old.values }
     ensures labels { length names.new.labels ≡ length names.old.labels }
-    ensures kept { (m : ℕ) → m ≤ s.old.state.ctx.now.graph.made → KeepsOlder m s.old.state.ctx.now s.new.state.ctx.now }
+    ensures kept { (m : ℕ) → m ≤ s.old.state.ctx.now.graph.made
+        → KeepsOlder m s.old.state.ctx.now s.new.state.ctx.now }
 {
     let alloc = s.stream.allocator();
     let mut gathered = nothing(alloc);
@@ -220,19 +229,23 @@ fn created<T: IrText<A>, A: AttrText<A>, U>(
     pieces: Pieces<T, A>,
 ) -> ParseResult<(Ptr<Operation>, usize), A>
     requires can { CanGather names.old [] [] pieces }
-    requires are { (text : Text) × (parts : List (Part ℕ T A)) × Each (IsPart names.old.names text) pieces parts }
+    requires are { (text : Text) × (parts : List (Part ℕ T A))
+        × Each (IsPart names.old.names text) pieces parts }
     requires tied { MatchesGraph names.old.values names.old.labels s.old.state.ctx.now.graph }
     requires key { IfSome key.now (λ key. key ≡ sym_name_key) }
     ensures lent { s.new.state.ctx.ghost_name ≡ s.old.state.ctx.ghost_name }
     ensures rest { KeepsRest s.old.state s.new.state }
     ensures marks { marks_of s.new.state ≡ marks_of s.old.state }
     ensures stream { OnOk result (s.new.stream ≡ s.old.stream) }
-    ensures creates { IfOk result (λ made. CreatesOf id.now pieces loc names.old s.old.state.ctx.now names.new s.new.state.ctx.now made.0 made.1) }
-    ensures refused { IfErr result (NotGatheredAs pieces names.old s.old.state.ctx.now.graph (whole s.old.stream)) }
+    ensures creates { IfOk result (λ made. CreatesOf id.now pieces loc names.old s.old.state.ctx.now names.new
+        s.new.state.ctx.now made.0 made.1) }
+    ensures refused { IfErr result (NotGatheredAs pieces names.old s.old.state.ctx.now.graph
+        (whole s.old.stream)) }
     ensures names { names.new.names ≡ names.old.names }
     ensures values { length names.new.values ≡ length names.old.values }
     ensures labels { length names.new.labels ≡ length names.old.labels }
-    ensures kept { (m : ℕ) → m ≤ s.old.state.ctx.now.graph.made → KeepsOlder m s.old.state.ctx.now s.new.state.ctx.now }
+    ensures kept { (m : ℕ) → m ≤ s.old.state.ctx.now.graph.made
+        → KeepsOlder m s.old.state.ctx.now s.new.state.ctx.now }
 {
     if pieces.len() != 0 {
         return pieces_created(s, names, id, key, loc, pieces);
@@ -253,7 +266,8 @@ fn begin_read<T: IrText<A>, A: AttrText<A>, U>(
     front: ReadFront<T, A>,
 ) -> ParseResult<BegunOperation, A>
     requires can { CanGather names.old [] [] front.pieces }
-    requires are { (text : Text) × (parts : List (Part ℕ T A)) × Each (IsPart names.old.names text) front.pieces parts }
+    requires are { (text : Text) × (parts : List (Part ℕ T A))
+        × Each (IsPart names.old.names text) front.pieces parts }
     requires tied { MatchesGraph names.old.values names.old.labels s.old.state.ctx.now.graph }
     requires key { IfSome front.key (λ key. key ≡ sym_name_key) }
     requires block { IfSome block (λ b. IsThere s.old.state.ctx.now (TheBlock b)) }
@@ -261,12 +275,15 @@ fn begin_read<T: IrText<A>, A: AttrText<A>, U>(
     ensures rest { KeepsRest s.old.state s.new.state }
     ensures marks { marks_of s.new.state ≡ marks_of s.old.state }
     ensures stream { OnOk result (s.new.stream ≡ s.old.stream) }
-    ensures makes { IfOk result (MakesOf block front at loc names.old s.old.state.ctx.now names.new s.new.state.ctx.now) }
-    ensures refused { IfErr result (NotGatheredAs front.pieces names.old s.old.state.ctx.now.graph (whole s.old.stream)) }
+    ensures makes { IfOk result (MakesOf block front at loc names.old s.old.state.ctx.now names.new
+        s.new.state.ctx.now) }
+    ensures refused { IfErr result (NotGatheredAs front.pieces names.old s.old.state.ctx.now.graph
+        (whole s.old.stream)) }
     ensures names { names.new.names ≡ names.old.names }
     ensures values { length names.new.values ≡ length names.old.values }
     ensures labels { length names.new.labels ≡ length names.old.labels }
-    ensures kept { (m : ℕ) → m ≤ s.old.state.ctx.now.graph.made → IfSome block (λ b. IsNew m s.old.state.ctx.now.graph (TheBlock b))
+    ensures kept { (m : ℕ) → m ≤ s.old.state.ctx.now.graph.made
+        → IfSome block (λ b. IsNew m s.old.state.ctx.now.graph (TheBlock b))
         → KeepsOlder m s.old.state.ctx.now s.new.state.ctx.now }
 {
     let ReadFront {
@@ -317,20 +334,27 @@ pub fn operation_begin<T: IrText<A>, A: AttrText<A>, U>(
     ensures lent { s.new.state.ctx.ghost_name ≡ s.old.state.ctx.ghost_name }
     ensures rest { KeepsRest s.old.state s.new.state }
     ensures marks { marks_of s.new.state ≡ marks_of s.old.state }
-    ensures begins { IfOk result (λ b. BeginsOperation T.IrText.reading (attr_at A.IrText.reading) true names.old s.old b names.new s.new) }
-    ensures refused { IfErr result (UnlessMemory (RefusesOperation T.IrText.reading (attr_at A.IrText.reading) true (is_some block) names.old s.old)) }
+    ensures begins { IfOk result (λ b. BeginsOperation T.IrText.reading (attr_at A.IrText.reading) true
+        names.old s.old b names.new s.new) }
+    ensures refused { IfErr result (UnlessMemory
+        (RefusesOperation T.IrText.reading (attr_at A.IrText.reading) true (is_some block) names.old s.old)) }
     ensures unread { IfErr result (λ fault. fault.committed ≡ false → s.new.stream ≡ s.old.stream) }
     ensures came { IfOk result (λ b. (read : ReadsFront T.IrText.reading (attr_at A.IrText.reading) true s.old
         s.new.stream.rest) → (own : OwnSoFar T A)
-        × HasBegun (format_of s.old.state.ctx.now.dialects) (begun_by T.IrText.reading (attr_at A.IrText.reading) true s.old s.new.stream.rest read) own
-        × ComesInto (IsLocated s.old.state.src (whole s.old.stream)) s.old.state.ctx.now s.new.state.ctx.now b.op own block) }
+        × HasBegun (format_of s.old.state.ctx.now.dialects)
+        (begun_by T.IrText.reading (attr_at A.IrText.reading) true s.old s.new.stream.rest read) own
+        × ComesInto (IsLocated s.old.state.src (whole s.old.stream)) s.old.state.ctx.now s.new.state.ctx.now
+        b.op own block) }
     ensures lasts { OnOk result (KeepsLive s.old.state.ctx.now s.new.state.ctx.now) }
     ensures names { KeepsNames names.old.names names.new.names }
     ensures values { length names.new.values ≡ length names.old.values }
     ensures labels { length names.new.labels ≡ length names.old.labels }
-    ensures sound { OnOk result ((m : ℕ) → m ≤ s.old.state.ctx.now.graph.made → IsSound m names.old s.old.state → IsSound m names.new s.new.state) }
-    ensures new { IfOk result (λ b. (m : ℕ) → m ≤ s.old.state.ctx.now.graph.made → IsNew m s.new.state.ctx.now.graph (TheOperation b.op)) }
-    ensures kept { (m : ℕ) → m ≤ s.old.state.ctx.now.graph.made → IfSome block (λ b. IsNew m s.old.state.ctx.now.graph (TheBlock b))
+    ensures sound { OnOk result ((m : ℕ) → m ≤ s.old.state.ctx.now.graph.made
+        → IsSound m names.old s.old.state → IsSound m names.new s.new.state) }
+    ensures new { IfOk result (λ b. (m : ℕ) → m ≤ s.old.state.ctx.now.graph.made
+        → IsNew m s.new.state.ctx.now.graph (TheOperation b.op)) }
+    ensures kept { (m : ℕ) → m ≤ s.old.state.ctx.now.graph.made
+        → IfSome block (λ b. IsNew m s.old.state.ctx.now.graph (TheBlock b))
         → KeepsOlder m s.old.state.ctx.now s.new.state.ctx.now }
 {
     let at = s.stream.position();

@@ -69,7 +69,8 @@ fn head_parse<T: IrText<A>, A: AttrText<A>>(
     stream: &mut TextStream,
     names: &mut Names,
 ) -> ParseResult<BlockHead<T, A>, A>
-    ensures read { MustHead itself replaced names.new.names T.IrText.reading (attr_at A.IrText.reading) stream.old result stream.new }
+    ensures read { MustHead itself replaced names.new.names T.IrText.reading (attr_at A.IrText.reading)
+        stream.old result stream.new }
     ensures names { NamesRead names.old names.new }
     ensures distinct { AreDistinct names.new.names }
 {
@@ -117,8 +118,10 @@ fn block_made<T: IrText<A>, A: AttrText<A>>(
 ) -> Result<Ptr<BasicBlock>, AllocError>
     requires region { IsLive ctx.old.graph (TheRegion region) }
     requires known { label.name < length names.now.names }
-    ensures places { IfOk result (PlacesLabelled names.now.names label loc attributes types ctx.old ctx.new region) }
-    ensures kept { (m : ℕ) → m ≤ ctx.old.graph.made → IsNew m ctx.old.graph (TheRegion region) → KeepsOlder m ctx.old ctx.new }
+    ensures places { IfOk result (PlacesLabelled names.now.names label loc attributes types ctx.old
+        ctx.new region) }
+    ensures kept { (m : ℕ) → m ≤ ctx.old.graph.made → IsNew m ctx.old.graph (TheRegion region)
+        → KeepsOlder m ctx.old ctx.new }
 {
     let Some(name) = keys.label(alloc, label.name, names.name(label.name)) else {
         return Err(AllocError);
@@ -144,11 +147,13 @@ fn head_made<T: IrText<A>, A: AttrText<A>, U>(
     ensures rest { KeepsRest s.old.state s.new.state }
     ensures marks { marks_of s.new.state ≡ marks_of s.old.state }
     ensures stream { s.new.stream ≡ s.old.stream }
-    ensures makes { IfOk result (λ made. MakesHead names.now.names s.old.state.src (whole s.old.stream) label arguments (entries_in entries)
+    ensures makes { IfOk result (λ made. MakesHead names.now.names s.old.state.src (whole s.old.stream) label
+        arguments (entries_in entries)
         s.old.state.ctx.now s.new.state.ctx.now region made.0) }
     ensures names { IfOk result (λ made. made.1 ≡ map (λ a. a.0) arguments) }
     ensures refused { IfErr result (Forbids block_may_hold (entries_in entries)) }
-    ensures kept { (m : ℕ) → m ≤ s.old.state.ctx.now.graph.made → IsNew m s.old.state.ctx.now.graph (TheRegion region)
+    ensures kept { (m : ℕ) → m ≤ s.old.state.ctx.now.graph.made
+        → IsNew m s.old.state.ctx.now.graph (TheRegion region)
         → KeepsOlder m s.old.state.ctx.now s.new.state.ctx.now }
 {
     let alloc = s.stream.allocator();
@@ -177,14 +182,17 @@ fn arguments_defined<T: IrText<A>, A: AttrText<A>, U>(
     requires open { is_open names.old.values ≡ true }
     requires known { AreKnown (length names.old.names) (numbers_of arguments.now) }
     requires tied { MatchesGraph names.old.values names.old.labels s.old.state.ctx.now.graph }
-    requires ready { ValuesReady (Argument block) (length arguments.now) names.old.values s.old.state.ctx.now.graph }
+    requires ready { ValuesReady (Argument block) (length arguments.now) names.old.values
+        s.old.state.ctx.now.graph }
     ensures lent { s.new.state.ctx.ghost_name ≡ s.old.state.ctx.ghost_name }
     ensures rest { KeepsRest s.old.state s.new.state }
     ensures marks { marks_of s.new.state ≡ marks_of s.old.state }
     ensures ctx { s.new.state.ctx.now ≡ with_graph s.old.state.ctx.now s.new.state.ctx.now.graph }
     ensures stream { OnOk result (s.new.stream ≡ s.old.stream) }
-    ensures defines { OnOk result (DefinesArguments block arguments.now names.old s.old.state names.new s.new.state.ctx.now.graph) }
-    ensures refused { IfErr result (UnlessMemory (RefusesArguments block arguments.now names.old s.old.state.ctx.now.graph (whole s.old.stream))) }
+    ensures defines { OnOk result (DefinesArguments block arguments.now names.old s.old.state names.new
+        s.new.state.ctx.now.graph) }
+    ensures refused { IfErr result (UnlessMemory
+        (RefusesArguments block arguments.now names.old s.old.state.ctx.now.graph (whole s.old.stream))) }
     ensures committed { IfErr result (λ f. f.committed ≡ true) }
     ensures loses { LosesPlaceholders s.old.state.ctx.now.graph s.new.state.ctx.now.graph }
     ensures values { length names.new.values ≡ length names.old.values }
@@ -218,9 +226,12 @@ fn label_defined<T: IrText<A>, A: AttrText<A>, U>(
     ensures marks { marks_of s.new.state ≡ marks_of s.old.state }
     ensures ctx { s.new.state.ctx.now ≡ with_graph s.old.state.ctx.now s.new.state.ctx.now.graph }
     ensures stream { OnOk result (s.new.stream ≡ s.old.stream) }
-    ensures follows { OnOk result ((w : Word) (p : script.Place) → slice_get names.old.names label.name ≡ Some w.name
-        → TakesDefinition (define_label w p) names.old names.new s.old.state.ctx.now.graph s.new.state.ctx.now.graph p (OfBlock block)) }
-    ensures refused { IfErr result (UnlessMemory (RefusesLabel names.old s.old.state.ctx.now.graph (whole s.old.stream) label)) }
+    ensures follows { OnOk result ((w : Word) (p : script.Place) → slice_get names.old.names label.name
+        ≡ Some w.name
+        → TakesDefinition (define_label w p) names.old names.new s.old.state.ctx.now.graph
+        s.new.state.ctx.now.graph p (OfBlock block)) }
+    ensures refused { IfErr result (UnlessMemory
+        (RefusesLabel names.old s.old.state.ctx.now.graph (whole s.old.stream) label)) }
     ensures committed { IfErr result (λ f. f.committed ≡ true) }
     ensures loses { LosesPlaceholders s.old.state.ctx.now.graph s.new.state.ctx.now.graph }
     ensures labels { length names.new.labels ≡ length names.old.labels }
@@ -248,15 +259,18 @@ fn head_named<T: IrText<A>, A: AttrText<A>, U>(
     requires known { AreKnown (length names.old.names) (numbers_of arguments.now) }
     requires label { label.name < length names.old.names }
     requires tied { MatchesGraph names.old.values names.old.labels s.old.state.ctx.now.graph }
-    requires ready { ValuesReady (Argument block) (length arguments.now) names.old.values s.old.state.ctx.now.graph }
+    requires ready { ValuesReady (Argument block) (length arguments.now) names.old.values
+        s.old.state.ctx.now.graph }
     requires inside { IsSome (parent s.old.state.ctx.now.graph (TheBlock block)) }
     requires there { IsLive s.old.state.ctx.now.graph (TheBlock block) }
     ensures lent { s.new.state.ctx.ghost_name ≡ s.old.state.ctx.ghost_name }
     ensures rest { KeepsRest s.old.state s.new.state }
-    ensures names { OnOk result (NamesHead block label arguments.now mark names.old s.old.state names.new s.new.state) }
+    ensures names { OnOk result (NamesHead block label arguments.now mark names.old s.old.state names.new
+        s.new.state) }
     ensures stream { OnOk result (s.new.stream ≡ s.old.stream) }
     ensures unnoted { OnErr result (GainsMarks (marks_of s.old.state) (marks_of s.new.state)) }
-    ensures refused { IfErr result (UnlessMemory (RefusesHead block label arguments.now mark names.old s.old.state (whole s.old.stream))) }
+    ensures refused { IfErr result (UnlessMemory
+        (RefusesHead block label arguments.now mark names.old s.old.state (whole s.old.stream))) }
     ensures committed { IfErr result (λ f. f.committed ≡ true) }
     ensures loses { LosesPlaceholders s.old.state.ctx.now.graph s.new.state.ctx.now.graph }
     ensures dialects { s.new.state.ctx.now.dialects ≡ s.old.state.ctx.now.dialects }
@@ -290,27 +304,35 @@ pub fn block_begin<T: IrText<A>, A: AttrText<A>, U>(
     requires tied { MatchesGraph names.old.values names.old.labels s.old.state.ctx.now.graph }
     ensures lent { s.new.state.ctx.ghost_name ≡ s.old.state.ctx.ghost_name }
     ensures rest { KeepsRest s.old.state s.new.state }
-    ensures begins { IfOk result (λ b. BeginsBlock T.IrText.reading (attr_at A.IrText.reading) b names.old s.old names.new s.new) }
+    ensures begins { IfOk result (λ b. BeginsBlock T.IrText.reading (attr_at A.IrText.reading) b names.old
+        s.old names.new s.new) }
     ensures came { IfOk result (λ b. (h : Head ℕ T A) (taken : Text) → head_at T.IrText.reading
         (attr_at A.IrText.reading) s.old.stream.rest ≡ Read h taken s.new.stream.rest
-        → BlockCame s.old.state.ctx.now s.new.state.ctx.now (IsLocated s.old.state.src (whole s.old.stream)) b.block h) }
+        → BlockCame s.old.state.ctx.now s.new.state.ctx.now
+        (IsLocated s.old.state.src (whole s.old.stream)) b.block h) }
     ensures gains { IfOk result (λ b. RegionGains s.old.state.ctx.now s.new.state.ctx.now region b.block) }
-    ensures spares { IfOk result (λ b. ModifiesOnly (TheBlock b.block ∷ TheRegion region ∷ []) s.old.state.ctx.now s.new.state.ctx.now) }
-    ensures new { IfOk result (λ b. (m : ℕ) → m ≤ s.old.state.ctx.now.graph.made → IsNew m s.new.state.ctx.now.graph (TheBlock b.block)) }
+    ensures spares { IfOk result (λ b. ModifiesOnly (TheBlock b.block ∷ TheRegion region ∷ [])
+        s.old.state.ctx.now s.new.state.ctx.now) }
+    ensures new { IfOk result (λ b. (m : ℕ) → m ≤ s.old.state.ctx.now.graph.made
+        → IsNew m s.new.state.ctx.now.graph (TheBlock b.block)) }
     ensures noted { IfOk result (λ b. (h : Head ℕ T A) (taken : Text) → head_at T.IrText.reading
         (attr_at A.IrText.reading) s.old.stream.rest ≡ Read h taken s.new.stream.rest
         → marks_of s.new.state ≡ marks_of s.old.state ++ noted_as h.mark (item.Block b.block)) }
     ensures unnoted { OnErr result (GainsMarks (marks_of s.old.state) (marks_of s.new.state)) }
-    ensures refused { IfErr result (UnlessMemory (RefusesBlock T.IrText.reading (attr_at A.IrText.reading) names.old s.old)) }
+    ensures refused { IfErr result (UnlessMemory
+        (RefusesBlock T.IrText.reading (attr_at A.IrText.reading) names.old s.old)) }
     ensures committed { IfErr result (λ fault. fault.committed ≡ true) }
     ensures lasts { OnOk result (KeepsLive s.old.state.ctx.now s.new.state.ctx.now) }
     ensures names { KeepsNames names.old.names names.new.names }
     ensures words { AreWords names.old.names → AreWords names.new.names }
     ensures values { length names.new.values ≡ length names.old.values }
     ensures labels { length names.new.labels ≡ length names.old.labels }
-    ensures sound { OnOk result ((m : ℕ) → m ≤ s.old.state.ctx.now.graph.made → IsSound m names.old s.old.state → IsSound m names.new s.new.state) }
-    ensures kept { (m : ℕ) → m ≤ s.old.state.ctx.now.graph.made → IsClosedBelow m s.old.state.ctx.now.graph → IsSound m names.old s.old.state
-        → IsNew m s.old.state.ctx.now.graph (TheRegion region) → KeepsOlder m s.old.state.ctx.now s.new.state.ctx.now }
+    ensures sound { OnOk result ((m : ℕ) → m ≤ s.old.state.ctx.now.graph.made
+        → IsSound m names.old s.old.state → IsSound m names.new s.new.state) }
+    ensures kept { (m : ℕ) → m ≤ s.old.state.ctx.now.graph.made → IsClosedBelow m s.old.state.ctx.now.graph
+        → IsSound m names.old s.old.state
+        → IsNew m s.old.state.ctx.now.graph (TheRegion region)
+        → KeepsOlder m s.old.state.ctx.now s.new.state.ctx.now }
 {
     let BlockHead {
         label,

@@ -50,7 +50,8 @@ fn block_entry_stored<A: Drop>(
     attributes: &mut AttributeDict<A>,
     entry: ReadEntry<A>,
 ) -> Result<(), NotGathered>
-    ensures stored { OnOk result (entries_of attributes.new ≡ put_all (entries_of attributes.old) (entry_read entry ∷ [])) }
+    ensures stored { OnOk result (entries_of attributes.new
+        ≡ put_all (entries_of attributes.old) (entry_read entry ∷ [])) }
     ensures allowed { OnOk result (AreAllowed block_may_hold (entry ∷ [])) }
     ensures refused { IfErr result (Forbids block_may_hold (entry ∷ [])) }
 {
@@ -67,7 +68,8 @@ fn held_entry_stored<A: Drop>(
     holder: Holder,
     entry: ReadEntry<A>,
 ) -> Result<(), NotGathered>
-    ensures stored { OnOk result (entries_of attributes.new ≡ put_all (entries_of attributes.old) (entry_read entry ∷ [])) }
+    ensures stored { OnOk result (entries_of attributes.new
+        ≡ put_all (entries_of attributes.old) (entry_read entry ∷ [])) }
     ensures allowed { OnOk result (AreAllowed (rule_of holder) (entry ∷ [])) }
     ensures refused { IfErr result (Forbids (rule_of holder) (entry ∷ [])) }
 {
@@ -84,7 +86,8 @@ pub(crate) fn entries_stored<A: Drop>(
     holder: Holder,
     entries: Vec<ReadEntry<A>>,
 ) -> Result<(), NotGathered>
-    ensures stored { OnOk result (entries_of attributes.new ≡ put_all (entries_of attributes.old) (map entry_read entries.items)) }
+    ensures stored { OnOk result (entries_of attributes.new
+        ≡ put_all (entries_of attributes.old) (map entry_read entries.items)) }
     ensures allowed { OnOk result (AreAllowed (rule_of holder) entries.items) }
     ensures refused { IfErr result (Forbids (rule_of holder) entries.items) }
 {
@@ -99,7 +102,8 @@ fn dictionary_stored<A: Drop>(
     attributes: &mut AttributeDict<A>,
     entries: Option<Vec<ReadEntry<A>>>,
 ) -> Result<(), NotGathered>
-    ensures stored { OnOk result (entries_of attributes.new ≡ put_all (entries_of attributes.old) (map entry_read (entries_in entries))) }
+    ensures stored { OnOk result (entries_of attributes.new
+        ≡ put_all (entries_of attributes.old) (map entry_read (entries_in entries))) }
     ensures allowed { OnOk result (AreAllowed block_may_hold (entries_in entries)) }
     ensures refused { IfErr result (Forbids block_may_hold (entries_in entries)) }
 {
@@ -117,8 +121,10 @@ pub(crate) fn block_attributes<A: Drop>(
     arguments: &Few<ReadName>,
 ) -> Result<AttributeDict<A>, NotGathered>
     requires { AreKnown (length names.now.names) (numbers_of arguments.now) }
-    ensures stored { IfOk result (λ d. (ws : List (Name ℕ)) → AreNamed names.now.names (numbers_of arguments.now) ws
-        → entries_of d ≡ put_all [] (map entry_read (entries_in entries) ++ read_names (map (λ w. w.text) ws))) }
+    ensures stored { IfOk result (λ d. (ws : List (Name ℕ))
+        → AreNamed names.now.names (numbers_of arguments.now) ws
+        → entries_of d ≡ put_all [] (map entry_read (entries_in entries)
+        ++ read_names (map (λ w. w.text) ws))) }
     ensures allowed { OnOk result (AreAllowed block_may_hold (entries_in entries)) }
     ensures refused { IfErr result (Forbids block_may_hold (entries_in entries)) }
 {
@@ -135,7 +141,8 @@ fn many_split<T: Drop>(
     alloc: Global,
     arguments: Vec<(ReadName, T)>,
 ) -> Result<(Few<ReadName>, Few<T>), AllocError>
-    ensures { IfOk result (λ parts. (parts.0 ≡ map (λ a. a.0) arguments.items) × (parts.1 ≡ map (λ a. a.1) arguments.items)) }
+    ensures { IfOk result (λ parts. (parts.0 ≡ map (λ a. a.0) arguments.items)
+        × (parts.1 ≡ map (λ a. a.1) arguments.items)) }
 {
     let mut names = Vec::new(alloc);
     let mut types = Vec::new(alloc);
@@ -151,7 +158,8 @@ pub(crate) fn arguments_split<T: Drop>(
     alloc: Global,
     arguments: Few<(ReadName, T)>,
 ) -> Result<(Few<ReadName>, Few<T>), AllocError>
-    ensures { IfOk result (λ parts. (parts.0 ≡ map (λ a. a.0) arguments) × (parts.1 ≡ map (λ a. a.1) arguments)) }
+    ensures { IfOk result (λ parts. (parts.0 ≡ map (λ a. a.0) arguments)
+        × (parts.1 ≡ map (λ a. a.1) arguments)) }
 {
     match arguments.into_items() {
         Items::Nothing => Ok((Few::none(), Few::none())),

@@ -70,7 +70,8 @@ fn attr_stored<A: Drop>(
     key: Identifier,
     attr: Option<AttrObj<A>>,
 ) -> Result<(), NotGathered>
-    ensures stored { OnOk result (entries_of attributes.new ≡ put_all (entries_of attributes.old) (given_by key attr)) }
+    ensures stored { OnOk result (entries_of attributes.new
+        ≡ put_all (entries_of attributes.old) (given_by key attr)) }
     ensures refused { IfErr result (λ why. why ≡ Memory) }
 {
     match attr {
@@ -85,7 +86,8 @@ fn symbol_stored<A: Drop>(
     attributes: &mut AttributeDict<A>,
     symbol: Symbol,
 ) -> Result<(), NotGathered>
-    ensures stored { OnOk result (entries_of attributes.new ≡ put_all (entries_of attributes.old) ((sym_name_key, ident symbol.name) ∷ [])) }
+    ensures stored { OnOk result (entries_of attributes.new
+        ≡ put_all (entries_of attributes.old) ((sym_name_key, ident symbol.name) ∷ [])) }
     ensures refused { IfErr result (λ why. why ≡ Memory) }
 {
     let Ok(key) = symbol_key(alloc, &None) else {
@@ -100,7 +102,8 @@ fn piece_stored<T: Drop, A: Drop>(
     attributes: &mut AttributeDict<A>,
     piece: ReadPiece<T, A>,
 ) -> Result<(), NotGathered>
-    ensures stored { OnOk result (entries_of attributes.new ≡ put_all (entries_of attributes.old) (stored_of piece)) }
+    ensures stored { OnOk result (entries_of attributes.new
+        ≡ put_all (entries_of attributes.old) (stored_of piece)) }
     ensures may { OnOk result (MayStore piece) }
     ensures refused { IfErr result (RefusesStored piece) }
 {
@@ -124,7 +127,8 @@ fn piece_read<T: IrText<A>, A: AttrText<A>>(
     requires step { IsFlatNext (slice_get (steps_in ctx.now.dialects (id_of begun.old.id)) begun.old.step) }
     ensures read { (step : Step) → slice_get (steps_in ctx.now.dialects (id_of begun.old.id))
         begun.old.step ≡ Some step → MustPiece itself replaced names.new.names
-        (space_at ▷ piece_at T.IrText.reading (attr_at A.IrText.reading) begun.old.inside step) stream.old result stream.new }
+        (space_at ▷ piece_at T.IrText.reading (attr_at A.IrText.reading) begun.old.inside step) stream.old
+        result stream.new }
     ensures names { NamesRead names.old names.new }
     ensures behind { begun.new ≡ record begun.old { coming = None; step = begun.old.step + 1 } }
 {
@@ -191,23 +195,29 @@ pub fn operation_piece<T: IrText<A>, A: AttrText<A>, U>(
     requires fine { s.old.stream.failed ≡ false }
     requires tied { MatchesGraph names.old.values names.old.labels s.old.state.ctx.now.graph }
     requires stands { IsSome (operation s.old.state.ctx.now begun.old.op) }
-    requires step { IsFlatNext (slice_get (steps_in s.old.state.ctx.now.dialects (id_of begun.old.id)) begun.old.step) }
+    requires step { IsFlatNext (slice_get (steps_in s.old.state.ctx.now.dialects (id_of begun.old.id))
+        begun.old.step) }
     ensures lent { s.new.state.ctx.ghost_name ≡ s.old.state.ctx.ghost_name }
     ensures rest { KeepsRest s.old.state s.new.state }
     ensures marks { marks_of s.new.state ≡ marks_of s.old.state }
     ensures moves { OnOk result (Moves s.old.stream s.new.stream) }
-    ensures goes_on { OnOk result (GoesOn T.IrText.reading (attr_at A.IrText.reading) names.old s.old begun.old begun.new names.new s.new) }
+    ensures goes_on { OnOk result (GoesOn T.IrText.reading (attr_at A.IrText.reading) names.old s.old
+        begun.old begun.new names.new s.new) }
     ensures refused { IfErr result (λ fault. (o : OpenOperation T A) (step : Step) (ss : List Step) →
         IsBegun names.old.names (whole s.old.stream) s.old.state.ctx.now begun.old o → o.steps ≡ step ∷ ss
-        → UnlessMemory (RefusesPiece T.IrText.reading (attr_at A.IrText.reading) o step names.old s.old) fault) }
+        → UnlessMemory (RefusesPiece T.IrText.reading (attr_at A.IrText.reading) o step names.old s.old)
+        fault) }
     ensures committed { IfErr result (λ fault. fault.committed ≡ true) }
-    ensures spares { OnOk result (ModifiesOnly (TheOperation begun.old.op ∷ []) s.old.state.ctx.now s.new.state.ctx.now) }
+    ensures spares { OnOk result (ModifiesOnly (TheOperation begun.old.op ∷ []) s.old.state.ctx.now
+        s.new.state.ctx.now) }
     ensures lasts { OnOk result (KeepsLive s.old.state.ctx.now s.new.state.ctx.now) }
     ensures names { KeepsNames names.old.names names.new.names }
     ensures values { length names.new.values ≡ length names.old.values }
     ensures labels { length names.new.labels ≡ length names.old.labels }
-    ensures sound { OnOk result ((m : ℕ) → m ≤ s.old.state.ctx.now.graph.made → IsSound m names.old s.old.state → IsSound m names.new s.new.state) }
-    ensures kept { (m : ℕ) → m ≤ s.old.state.ctx.now.graph.made → IsNew m s.old.state.ctx.now.graph (TheOperation begun.old.op)
+    ensures sound { OnOk result ((m : ℕ) → m ≤ s.old.state.ctx.now.graph.made
+        → IsSound m names.old s.old.state → IsSound m names.new s.new.state) }
+    ensures kept { (m : ℕ) → m ≤ s.old.state.ctx.now.graph.made
+        → IsNew m s.old.state.ctx.now.graph (TheOperation begun.old.op)
         → KeepsOlder m s.old.state.ctx.now s.new.state.ctx.now }
 {
     let ctx = &mut *s.state.ctx;

@@ -27,7 +27,8 @@ fn index_of<X>(items: &Vec<(usize, X)>, place: usize) -> Option<usize>
 /// Removes and returns the first item with this place, if there is one.
 fn taken<X: Drop>(items: &mut Vec<(usize, X)>, place: usize) -> Option<X>
     ensures value { result ≡ at_place place items.old.items }
-    ensures others { (other : ℕ) → (other ≡ place → ⊥) → at_place other items.new.items ≡ at_place other items.old.items }
+    ensures others { (other : ℕ) → (other ≡ place → ⊥) → at_place other items.new.items
+        ≡ at_place other items.old.items }
 {
     let index = index_of(items, place)?;
     let (_, item) = items.remove(index);
@@ -115,8 +116,10 @@ pub(crate) fn make_gathered<T: IrText<A>, A: AttrText<A>>(
 ) -> Result<(Ptr<Operation>, usize), AllocError>
     requires { AllStand ctx.old.graph gathered }
     ensures makes { IfOk result (λ made. MakesOperation ctx.old ctx.new made.0
-        (record { id = id.now; attributes = gathered.attributes; loc = loc }) (types_made gathered.types.items gathered.listed)
-        (in_order gathered.operands.single.items ++ gathered.operands.list.items) (in_order gathered.successors.single.items ++ gathered.successors.list.items)) }
+        (record { id = id.now; attributes = gathered.attributes; loc = loc })
+        (types_made gathered.types.items gathered.listed)
+        (in_order gathered.operands.single.items ++ gathered.operands.list.items)
+        (in_order gathered.successors.single.items ++ gathered.successors.list.items)) }
     ensures counts { IfOk result (λ made. made.1 ≡ length (types_made gathered.types.items gathered.listed)) }
     ensures err { OnErr result (ctx.new ≡ ctx.old) }
     ensures kept { (m : ℕ) → m ≤ ctx.old.graph.made → KeepsOlder m ctx.old ctx.new }

@@ -63,7 +63,8 @@ use std::alloc::{AllocError, Global};
 fn count_fault<A>(stream: &mut TextStream, begun: &BegunOperation) -> ParseFault<A>
     ensures cause { fault_of result.cause ≡ fault.ResultCount begun.now.results (length begun.now.names) }
     ensures flag { result.committed ≡ true }
-    ensures place { AtOffset begun.now.at.offset (whole stream.old) (λ passed rest. IsAt result.pos.line result.pos.column passed) }
+    ensures place { AtOffset begun.now.at.offset (whole stream.old)
+        (λ passed rest. IsAt result.pos.line result.pos.column passed) }
 {
     refuse_at(
         stream,
@@ -88,17 +89,21 @@ fn define_results<O: Drop, B: Drop, T: Drop, A>(
     requires ready { ValuesReady (λ i. Result begun.now.op i) begun.now.results names.old.values graph.old }
     ensures stream { OnOk result (stream.new ≡ stream.old) }
     ensures counts { OnOk result (length begun.now.names ≡ begun.now.results) }
-    ensures defines { OnOk result (DefinesRow (λ i. Result begun.now.op i) (numbers_of begun.now.names) names.old names.new graph.old graph.new) }
-    ensures refused { IfErr result (UnlessMemory (RefusesResults begun.now names.old graph.old (whole stream.old))) }
+    ensures defines { OnOk result (DefinesRow (λ i. Result begun.now.op i) (numbers_of begun.now.names)
+        names.old names.new graph.old graph.new) }
+    ensures refused { IfErr result (UnlessMemory
+        (RefusesResults begun.now names.old graph.old (whole stream.old))) }
     ensures committed { IfErr result (λ f. f.committed ≡ true) }
     ensures loses { LosesPlaceholders graph.old graph.new }
     ensures values { length names.new.values ≡ length names.old.values }
     ensures rest { (names.new.names ≡ names.old.names) × (names.new.labels ≡ names.old.labels) }
     ensures tied { MatchesGraph names.new.values names.new.labels graph.new }
     ensures waiting { (m : ℕ) (own : List (Ptr BasicBlock))
-        → ArePending m own names.old.values names.old.labels graph.old → ArePending m own names.new.values names.new.labels graph.new }
+        → ArePending m own names.old.values names.old.labels graph.old
+        → ArePending m own names.new.values names.new.labels graph.new }
     ensures kept { (m : ℕ) (own : List (Ptr BasicBlock)) → IsClosedBelow m graph.old
-        → ArePending m own names.old.values names.old.labels graph.old → graphs.KeepsOlder m graph.old graph.new }
+        → ArePending m own names.old.values names.old.labels graph.old
+        → graphs.KeepsOlder m graph.old graph.new }
 {
     if begun.names.len() != begun.results {
         return Err(count_fault(stream, begun));
@@ -129,11 +134,14 @@ fn results_defined<T: IrText<A>, A: AttrText<A>, U>(
     ensures rest { KeepsRest s.old.state s.new.state }
     ensures marks { marks_of s.new.state ≡ marks_of s.old.state }
     ensures stream { OnOk result (s.new.stream ≡ s.old.stream) }
-    ensures closes { OnOk result ((o : OpenOperation T A) → IsBegun names.old.names (whole s.old.stream) s.old.state.ctx.now begun.now o
-        → Acts (closes_at o s.old.state) names.old s.old.state (pledge_of begun.now o.place ∷ []) names.new s.new.state []) }
+    ensures closes { OnOk result ((o : OpenOperation T A)
+        → IsBegun names.old.names (whole s.old.stream) s.old.state.ctx.now begun.now o
+        → Acts (closes_at o s.old.state) names.old s.old.state (pledge_of begun.now o.place ∷ []) names.new
+        s.new.state []) }
     ensures refused { IfErr result (UnlessMemory (λ f. (o : OpenOperation T A) →
         IsBegun names.old.names (whole s.old.stream) s.old.state.ctx.now begun.now o
-        → ActFails (whole s.old.stream) (closes_at o s.old.state) names.old s.old.state (pledge_of begun.now o.place ∷ []) f)) }
+        → ActFails (whole s.old.stream) (closes_at o s.old.state) names.old s.old.state
+        (pledge_of begun.now o.place ∷ []) f)) }
     ensures committed { IfErr result (λ f. f.committed ≡ true) }
     ensures lasts { KeepsLive s.old.state.ctx.now s.new.state.ctx.now }
     ensures spares { ModifiesOnly [] s.old.state.ctx.now s.new.state.ctx.now }
@@ -182,14 +190,18 @@ fn close<T: IrText<A>, A: AttrText<A>, U>(
     ensures rest { KeepsRest s.old.state s.new.state }
     ensures marks { marks_of s.new.state ≡ marks_of s.old.state }
     ensures stream { OnOk result (s.new.stream ≡ s.old.stream) }
-    ensures closes { OnOk result ((o : OpenOperation T A) → IsBegun names.old.names (whole s.old.stream) s.old.state.ctx.now begun.now o
-        → Acts (closes_at o s.old.state) names.old s.old.state (pledge_of begun.now o.place ∷ []) names.new s.new.state []) }
+    ensures closes { OnOk result ((o : OpenOperation T A)
+        → IsBegun names.old.names (whole s.old.stream) s.old.state.ctx.now begun.now o
+        → Acts (closes_at o s.old.state) names.old s.old.state (pledge_of begun.now o.place ∷ []) names.new
+        s.new.state []) }
     ensures refused { IfErr result (UnlessMemory (λ f. (o : OpenOperation T A) →
         IsBegun names.old.names (whole s.old.stream) s.old.state.ctx.now begun.now o
-        → ActFails (whole s.old.stream) (closes_at o s.old.state) names.old s.old.state (pledge_of begun.now o.place ∷ []) f)) }
+        → ActFails (whole s.old.stream) (closes_at o s.old.state) names.old s.old.state
+        (pledge_of begun.now o.place ∷ []) f)) }
     ensures committed { IfErr result (λ f. f.committed ≡ true) }
     ensures lasts { KeepsLive s.old.state.ctx.now s.new.state.ctx.now }
-    ensures own { OnOk result (BecomesNamed (IsLocated s.old.state.src (whole s.old.stream)) names.old.names (whole s.old.stream) begun.now.names
+    ensures own { OnOk result (BecomesNamed (IsLocated s.old.state.src (whole s.old.stream)) names.old.names
+        (whole s.old.stream) begun.now.names
         s.old.state.ctx.now s.new.state.ctx.now begun.now.op) }
     ensures spares { ModifiesOnly (TheOperation begun.now.op ∷ []) s.old.state.ctx.now s.new.state.ctx.now }
     ensures values { length names.new.values ≡ length names.old.values }
@@ -197,7 +209,8 @@ fn close<T: IrText<A>, A: AttrText<A>, U>(
     ensures labels { names.new.labels ≡ names.old.labels }
     ensures sound { (m : ℕ) → IsSound m names.old s.old.state → IsSound m names.new s.new.state }
     ensures kept { (m : ℕ) → IsClosedBelow m s.old.state.ctx.now.graph → IsSound m names.old s.old.state
-        → IsNew m s.old.state.ctx.now.graph (TheOperation begun.now.op) → KeepsOlder m s.old.state.ctx.now s.new.state.ctx.now }
+        → IsNew m s.old.state.ctx.now.graph (TheOperation begun.now.op)
+        → KeepsOlder m s.old.state.ctx.now s.new.state.ctx.now }
 {
     results_defined(s, names, begun)?;
     let alloc = s.stream.allocator();
@@ -209,7 +222,8 @@ fn close<T: IrText<A>, A: AttrText<A>, U>(
 /// Parses white space, and a mark if one comes next. Every error is committed.
 fn end_parse<A>(stream: &mut TextStream) -> ParseResult<Option<ReadMark>, A>
     requires fine { stream.old.failed ≡ false }
-    ensures { MustMean itself replaced (IsMarkIf (whole stream.old)) (space_at ▷ mark_if_at) stream.old result stream.new }
+    ensures { MustMean itself replaced (IsMarkIf (whole stream.old)) (space_at ▷ mark_if_at) stream.old
+        result stream.new }
 {
     skip_white_space(stream);
     mark_parse(stream)
@@ -229,7 +243,8 @@ pub(crate) fn note_mark<T: IrText<A>, A: AttrText<A>, U>(
     ensures stream { OnOk result (s.new.stream ≡ s.old.stream) }
     ensures notes { OnOk result (NotesMark mark item (marks_of s.old.state) (marks_of s.new.state)) }
     ensures unnoted { OnErr result (marks_of s.new.state ≡ marks_of s.old.state) }
-    ensures refused { IfErr result (UnlessMemory (RefusesMark (whole s.old.stream) mark (marks_of s.old.state))) }
+    ensures refused { IfErr result (UnlessMemory
+        (RefusesMark (whole s.old.stream) mark (marks_of s.old.state))) }
     ensures committed { IfErr result (λ f. f.committed ≡ true) }
 {
     let Some(read) = mark else {
@@ -262,15 +277,20 @@ pub fn operation_end<T: IrText<A>, A: AttrText<A>, U>(
     requires tied { MatchesGraph names.old.values names.old.labels s.old.state.ctx.now.graph }
     ensures lent { s.new.state.ctx.ghost_name ≡ s.old.state.ctx.ghost_name }
     ensures rest { KeepsRest s.old.state s.new.state }
-    ensures ends { OnOk result ((o : OpenOperation T A) → IsBegun names.old.names (whole s.old.stream) s.old.state.ctx.now begun.now o
-        → EndsOperation T.IrText.reading (attr_at A.IrText.reading) o begun.now names.old s.old names.new s.new) }
+    ensures ends { OnOk result ((o : OpenOperation T A)
+        → IsBegun names.old.names (whole s.old.stream) s.old.state.ctx.now begun.now o
+        → EndsOperation T.IrText.reading (attr_at A.IrText.reading) o begun.now names.old s.old
+        names.new s.new) }
     ensures refused { IfErr result (λ fault. (o : OpenOperation T A) →
         IsBegun names.old.names (whole s.old.stream) s.old.state.ctx.now begun.now o
-        → UnlessMemory (RefusesEnd T.IrText.reading (attr_at A.IrText.reading) o begun.now names.old s.old) fault) }
+        → UnlessMemory (RefusesEnd T.IrText.reading (attr_at A.IrText.reading) o begun.now names.old s.old)
+        fault) }
     ensures committed { IfErr result (λ fault. fault.committed ≡ true) }
-    ensures own { OnOk result (BecomesNamed (IsLocated s.old.state.src (whole s.old.stream)) names.old.names (whole s.old.stream) begun.now.names
+    ensures own { OnOk result (BecomesNamed (IsLocated s.old.state.src (whole s.old.stream)) names.old.names
+        (whole s.old.stream) begun.now.names
         s.old.state.ctx.now s.new.state.ctx.now begun.now.op) }
-    ensures spares { OnOk result (ModifiesOnly (TheOperation begun.now.op ∷ []) s.old.state.ctx.now s.new.state.ctx.now) }
+    ensures spares { OnOk result (ModifiesOnly (TheOperation begun.now.op ∷ []) s.old.state.ctx.now
+        s.new.state.ctx.now) }
     ensures noted { OnOk result ((mark : Option (Mark ℕ)) (taken : Text) → (space_at ▷ mark_if_at)
         s.old.stream.rest ≡ Read mark taken s.new.stream.rest
         → marks_of s.new.state ≡ marks_of s.old.state ++ noted_as mark (item.Operation begun.now.op)) }
@@ -279,9 +299,12 @@ pub fn operation_end<T: IrText<A>, A: AttrText<A>, U>(
     ensures names { KeepsNames names.old.names names.new.names }
     ensures values { length names.new.values ≡ length names.old.values }
     ensures labels { length names.new.labels ≡ length names.old.labels }
-    ensures sound { OnOk result ((m : ℕ) → m ≤ s.old.state.ctx.now.graph.made → IsSound m names.old s.old.state → IsSound m names.new s.new.state) }
-    ensures kept { (m : ℕ) → m ≤ s.old.state.ctx.now.graph.made → IsClosedBelow m s.old.state.ctx.now.graph → IsSound m names.old s.old.state
-        → IsNew m s.old.state.ctx.now.graph (TheOperation begun.now.op) → KeepsOlder m s.old.state.ctx.now s.new.state.ctx.now }
+    ensures sound { OnOk result ((m : ℕ) → m ≤ s.old.state.ctx.now.graph.made
+        → IsSound m names.old s.old.state → IsSound m names.new s.new.state) }
+    ensures kept { (m : ℕ) → m ≤ s.old.state.ctx.now.graph.made → IsClosedBelow m s.old.state.ctx.now.graph
+        → IsSound m names.old s.old.state
+        → IsNew m s.old.state.ctx.now.graph (TheOperation begun.now.op)
+        → KeepsOlder m s.old.state.ctx.now s.new.state.ctx.now }
 {
     close(s, names, begun)?;
     let mark = end_parse(&mut s.stream)?;

@@ -82,7 +82,8 @@ pub(crate) fn stored<A: Drop>(
     key: Identifier,
     attr: AttrObj<A>,
 ) -> Result<(), Refusal>
-    ensures stored { OnOk result (entries_of attributes.new ≡ put_all (entries_of attributes.old) ((key, attribute_of attr) ∷ [])) }
+    ensures stored { OnOk result (entries_of attributes.new
+        ≡ put_all (entries_of attributes.old) ((key, attribute_of attr) ∷ [])) }
     ensures holds { OnOk result (may_hold key (attribute_of attr) ≡ true) }
     ensures refused { IfErr result (RefusesEntry key attr) }
 {
@@ -104,7 +105,8 @@ pub(crate) fn entry_stored<A: Drop>(
     attributes: &mut AttributeDict<A>,
     entry: ReadEntry<A>,
 ) -> Result<(), NotGathered>
-    ensures stored { OnOk result (entries_of attributes.new ≡ put_all (entries_of attributes.old) (entry_read entry ∷ [])) }
+    ensures stored { OnOk result (entries_of attributes.new
+        ≡ put_all (entries_of attributes.old) (entry_read entry ∷ [])) }
     ensures holds { OnOk result (MayAllHold (entry ∷ [])) }
     ensures refused { IfErr result (RefusesEntries (entry ∷ [])) }
 {
@@ -126,8 +128,10 @@ fn operand_gathered<T: Drop, A: Drop>(
     requires can { CanGather {T = T} {A = A} names.old gathered.old.operands.list.items
         gathered.old.successors.list.items (read.Operand index name ∷ []) }
     requires tied { MatchesGraph names.old.values names.old.labels graph.old }
-    ensures gathers { OnOk result (Gathers (read.Operand index name ∷ []) names.old graph.old gathered.old names.new graph.new gathered.new) }
-    ensures refused { IfErr result (RefusesGathering {T = T} {A = A} (read.Operand index name ∷ []) names.old graph.old) }
+    ensures gathers { OnOk result (Gathers (read.Operand index name ∷ []) names.old graph.old gathered.old
+        names.new graph.new gathered.new) }
+    ensures refused { IfErr result (RefusesGathering {T = T} {A = A} (read.Operand index name ∷ [])
+        names.old graph.old) }
     ensures steady { KeepsScopes names.old names.new graph.old graph.new }
 {
     if !names.has_value_scope() {
@@ -151,8 +155,10 @@ fn successor_gathered<T: Drop, A: Drop>(
     requires can { CanGather {T = T} {A = A} names.old gathered.old.operands.list.items
         gathered.old.successors.list.items (read.Successor index name ∷ []) }
     requires tied { MatchesGraph names.old.values names.old.labels graph.old }
-    ensures gathers { OnOk result (Gathers (read.Successor index name ∷ []) names.old graph.old gathered.old names.new graph.new gathered.new) }
-    ensures refused { IfErr result (RefusesGathering {T = T} {A = A} (read.Successor index name ∷ []) names.old graph.old) }
+    ensures gathers { OnOk result (Gathers (read.Successor index name ∷ []) names.old graph.old gathered.old
+        names.new graph.new gathered.new) }
+    ensures refused { IfErr result (RefusesGathering {T = T} {A = A} (read.Successor index name ∷ [])
+        names.old graph.old) }
     ensures steady { KeepsScopes names.old names.new graph.old graph.new }
 {
     if !names.has_label_scope() {
@@ -172,10 +178,13 @@ fn operands_gathered<T: Drop, A: Drop>(
     gathered: &mut Gathered<T, A>,
     used: Few<ReadName>,
 ) -> Result<(), NotGathered>
-    requires can { CanGather {T = T} {A = A} names.old gathered.old.operands.list.items gathered.old.successors.list.items (read.Operands used ∷ []) }
+    requires can { CanGather {T = T} {A = A} names.old gathered.old.operands.list.items
+        gathered.old.successors.list.items (read.Operands used ∷ []) }
     requires tied { MatchesGraph names.old.values names.old.labels graph.old }
-    ensures gathers { OnOk result (Gathers (read.Operands used ∷ []) names.old graph.old gathered.old names.new graph.new gathered.new) }
-    ensures refused { IfErr result (RefusesGathering {T = T} {A = A} (read.Operands used ∷ []) names.old graph.old) }
+    ensures gathers { OnOk result (Gathers (read.Operands used ∷ []) names.old graph.old gathered.old
+        names.new graph.new gathered.new) }
+    ensures refused { IfErr result (RefusesGathering {T = T} {A = A} (read.Operands used ∷ [])
+        names.old graph.old) }
     ensures steady { KeepsScopes names.old names.new graph.old graph.new }
 {
     if used.len() == 0 {
@@ -200,8 +209,10 @@ fn successors_gathered<T: Drop, A: Drop>(
     requires can { CanGather {T = T} {A = A} names.old gathered.old.operands.list.items
         gathered.old.successors.list.items (read.Successors used ∷ []) }
     requires tied { MatchesGraph names.old.values names.old.labels graph.old }
-    ensures gathers { OnOk result (Gathers (read.Successors used ∷ []) names.old graph.old gathered.old names.new graph.new gathered.new) }
-    ensures refused { IfErr result (RefusesGathering {T = T} {A = A} (read.Successors used ∷ []) names.old graph.old) }
+    ensures gathers { OnOk result (Gathers (read.Successors used ∷ []) names.old graph.old gathered.old
+        names.new graph.new gathered.new) }
+    ensures refused { IfErr result (RefusesGathering {T = T} {A = A} (read.Successors used ∷ [])
+        names.old graph.old) }
     ensures steady { KeepsScopes names.old names.new graph.old graph.new }
 {
     if used.len() == 0 {
@@ -222,7 +233,8 @@ pub(crate) fn kept<A: Drop>(
     key: Identifier,
     attr: AttrObj<A>,
 ) -> Result<(), NotGathered>
-    ensures stored { OnOk result (entries_of attributes.new ≡ put_all (entries_of attributes.old) ((key, attribute_of attr) ∷ [])) }
+    ensures stored { OnOk result (entries_of attributes.new
+        ≡ put_all (entries_of attributes.old) ((key, attribute_of attr) ∷ [])) }
     ensures refused { IfErr result (λ refusal. refusal ≡ Memory) }
 {
     match stored(attributes, key, attr) {
@@ -291,7 +303,8 @@ fn type_gathered<T: Drop, A: Drop>(
     index: usize,
     of_type: T,
 ) -> Result<(), NotGathered>
-    ensures gathers { OnOk result (GathersAlone (read.ResultType index of_type ∷ []) gathered.old gathered.new) }
+    ensures gathers { OnOk result (GathersAlone (read.ResultType index of_type ∷ []) gathered.old
+        gathered.new) }
     ensures refused { IfErr result (RefusesAlone {T = T} {A = A} (read.ResultType index of_type ∷ [])) }
 {
     let Ok(()) = gathered.types.push((index, of_type)) else {
@@ -316,10 +329,12 @@ fn piece_gathered<T: Drop, A: Drop>(
     key: &Option<Identifier>,
     piece: ReadPiece<T, A>,
 ) -> Result<(), NotGathered>
-    requires can { CanGather names.old gathered.old.operands.list.items gathered.old.successors.list.items (piece ∷ []) }
+    requires can { CanGather names.old gathered.old.operands.list.items gathered.old.successors.list.items
+        (piece ∷ []) }
     requires tied { MatchesGraph names.old.values names.old.labels graph.old }
     requires key { IfSome key.now (λ k. k ≡ sym_name_key) }
-    ensures gathers { OnOk result (Gathers (piece ∷ []) names.old graph.old gathered.old names.new graph.new gathered.new) }
+    ensures gathers { OnOk result (Gathers (piece ∷ []) names.old graph.old gathered.old names.new graph.new
+        gathered.new) }
     ensures refused { IfErr result (RefusesGathering (piece ∷ []) names.old graph.old) }
     ensures steady { KeepsScopes names.old names.new graph.old graph.new }
 {
@@ -351,10 +366,12 @@ fn custom_gathered<T: Drop, A: Drop>(
     key: &Option<Identifier>,
     pieces: CustomPieces<T, A>,
 ) -> Result<(), NotGathered>
-    requires can { CanGather names.old gathered.old.operands.list.items gathered.old.successors.list.items pieces }
+    requires can { CanGather names.old gathered.old.operands.list.items
+        gathered.old.successors.list.items pieces }
     requires tied { MatchesGraph names.old.values names.old.labels graph.old }
     requires key { IfSome key.now (λ k. k ≡ sym_name_key) }
-    ensures gathers { OnOk result (Gathers pieces names.old graph.old gathered.old names.new graph.new gathered.new) }
+    ensures gathers { OnOk result (Gathers pieces names.old graph.old gathered.old names.new graph.new
+        gathered.new) }
     ensures refused { IfErr result (RefusesGathering pieces names.old graph.old) }
     ensures steady { KeepsScopes names.old names.new graph.old graph.new }
 {
@@ -372,9 +389,11 @@ fn canonical_gathered<T: Drop, A: Drop>(
     gathered: &mut Gathered<T, A>,
     pieces: CanonicalPieces<T, A>,
 ) -> Result<(), NotGathered>
-    requires can { CanGather names.old gathered.old.operands.list.items gathered.old.successors.list.items (pieces_of pieces) }
+    requires can { CanGather names.old gathered.old.operands.list.items gathered.old.successors.list.items
+        (pieces_of pieces) }
     requires tied { MatchesGraph names.old.values names.old.labels graph.old }
-    ensures gathers { OnOk result (Gathers (pieces_of pieces) names.old graph.old gathered.old names.new graph.new gathered.new) }
+    ensures gathers { OnOk result (Gathers (pieces_of pieces) names.old graph.old gathered.old names.new
+        graph.new gathered.new) }
     ensures refused { IfErr result (RefusesGathering (pieces_of pieces) names.old graph.old) }
     ensures steady { KeepsScopes names.old names.new graph.old graph.new }
 {
@@ -404,10 +423,12 @@ pub fn gather<T: Drop, A: Drop>(
     key: &Option<Identifier>,
     pieces: Pieces<T, A>,
 ) -> Result<(), NotGathered>
-    requires can { CanGather names.old gathered.old.operands.list.items gathered.old.successors.list.items pieces }
+    requires can { CanGather names.old gathered.old.operands.list.items
+        gathered.old.successors.list.items pieces }
     requires tied { MatchesGraph names.old.values names.old.labels graph.old }
     requires key { IfSome key.now (λ k. k ≡ sym_name_key) }
-    ensures gathers { OnOk result (Gathers pieces names.old graph.old gathered.old names.new graph.new gathered.new) }
+    ensures gathers { OnOk result (Gathers pieces names.old graph.old gathered.old names.new graph.new
+        gathered.new) }
     ensures refused { IfErr result (RefusesGathering pieces names.old graph.old) }
     ensures steady { KeepsScopes names.old names.new graph.old graph.new }
 {

@@ -28,7 +28,8 @@ pub(crate) fn place_block<T: IrText<A>, A: AttrText<A>>(
     requires region { IsLive ctx.old.graph (TheRegion region) }
     ensures places { IfOk result (λ b. PlacesBlock ctx.old ctx.new region b
         (record { label = label; attributes = attributes; loc = loc }) types) }
-    ensures kept { (m : ℕ) → m ≤ ctx.old.graph.made → IsNew m ctx.old.graph (TheRegion region) → KeepsOlder m ctx.old ctx.new }
+    ensures kept { (m : ℕ) → m ≤ ctx.old.graph.made → IsNew m ctx.old.graph (TheRegion region)
+        → KeepsOlder m ctx.old ctx.new }
 {
     let block = ctx.make_block(label, attributes, loc, types)?;
     ctx.graph().keeps_nesting();

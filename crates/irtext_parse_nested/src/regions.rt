@@ -98,13 +98,16 @@ pub fn enter_here<T: IrText<A>, A: AttrText<A>, U>(
     ensures labels { OnOk result (names.new.labels ≡ [] ∷ names.old.labels) }
     ensures names { names.new.names ≡ names.old.names }
     ensures tied { MatchesGraph names.new.values names.new.labels s.old.state.ctx.now.graph }
-    ensures waiting { (m : ℕ) (own : List (Ptr BasicBlock)) → ArePending m own names.old.values names.old.labels s.old.state.ctx.now.graph
+    ensures waiting { (m : ℕ) (own : List (Ptr BasicBlock))
+        → ArePending m own names.old.values names.old.labels s.old.state.ctx.now.graph
         → ArePending m own names.new.values names.new.labels s.old.state.ctx.now.graph }
-    ensures takes { OnOk result (Takes (enter isolated) (history.entered isolated) names.old names.new s.old.state.ctx.now.graph) }
+    ensures takes { OnOk result (Takes (enter isolated) (history.entered isolated) names.old names.new
+        s.old.state.ctx.now.graph) }
     ensures open { OnOk result (is_open names.new.values ≡ true) }
     ensures refused { IfErr result (λ f. IsStarved f ⊎ ((fault_of f.cause ≡ fault.NotIsolated)
         × (f.committed ≡ true) × IsAt f.pos.line f.pos.column []
-        × FailsBy (enter isolated) names.old s.old.state.ctx.now.graph (record { cause = NotIsolated; at = None }))) }
+        × FailsBy (enter isolated) names.old s.old.state.ctx.now.graph
+        (record { cause = NotIsolated; at = None }))) }
 {
     match enter_region(names, graph_of(&s.state), isolated) {
         Ok(()) => Ok(()),
@@ -124,7 +127,8 @@ fn add<T: IrText<A>, A: AttrText<A>, U>(
     ensures marks { marks_of s.new.state ≡ marks_of s.old.state }
     ensures stream { s.new.stream ≡ s.old.stream }
     ensures adds { IfOk result (λ r. AddsRegion s.old.state.ctx.now s.new.state.ctx.now op r) }
-    ensures kept { (m : ℕ) → m ≤ s.old.state.ctx.now.graph.made → IsNew m s.old.state.ctx.now.graph (TheOperation op)
+    ensures kept { (m : ℕ) → m ≤ s.old.state.ctx.now.graph.made
+        → IsNew m s.old.state.ctx.now.graph (TheOperation op)
         → KeepsOlder m s.old.state.ctx.now s.new.state.ctx.now }
 {
     let ctx = &mut *s.state.ctx;
@@ -155,20 +159,26 @@ pub fn region_begin<T: IrText<A>, A: AttrText<A>, U>(
     ensures lent { s.new.state.ctx.ghost_name ≡ s.old.state.ctx.ghost_name }
     ensures rest { KeepsRest s.old.state s.new.state }
     ensures marks { marks_of s.new.state ≡ marks_of s.old.state }
-    ensures begins { IfOk result (λ r. BeginsRegion T.IrText.reading (attr_at A.IrText.reading) isolated r names.old s.old names.new s.new) }
-    ensures refused { IfErr result (UnlessMemory (RefusesRegion T.IrText.reading (attr_at A.IrText.reading) isolated names.old s.old)) }
+    ensures begins { IfOk result (λ r. BeginsRegion T.IrText.reading (attr_at A.IrText.reading) isolated r
+        names.old s.old names.new s.new) }
+    ensures refused { IfErr result (UnlessMemory
+        (RefusesRegion T.IrText.reading (attr_at A.IrText.reading) isolated names.old s.old)) }
     ensures committed { IfErr result (λ fault. fault.committed ≡ true) }
     ensures names { names.new.names ≡ names.old.names }
     ensures values { OnOk result (names.new.values ≡ entered isolated names.old.values) }
     ensures labels { OnOk result (names.new.labels ≡ [] ∷ names.old.labels) }
     ensures open { OnOk result (is_open names.new.values ≡ true) }
-    ensures new { IfOk result (λ r. (m : ℕ) → m ≤ s.old.state.ctx.now.graph.made → IsNew m s.new.state.ctx.now.graph (TheRegion r.region)) }
+    ensures new { IfOk result (λ r. (m : ℕ) → m ≤ s.old.state.ctx.now.graph.made
+        → IsNew m s.new.state.ctx.now.graph (TheRegion r.region)) }
     ensures came { IfOk result (λ r. RegionCame s.old.state.ctx.now s.new.state.ctx.now r.region) }
     ensures gains { IfOk result (λ r. OperationGains s.old.state.ctx.now s.new.state.ctx.now op r.region) }
-    ensures spares { IfOk result (λ r. ModifiesOnly (TheRegion r.region ∷ TheOperation op ∷ []) s.old.state.ctx.now s.new.state.ctx.now) }
+    ensures spares { IfOk result (λ r. ModifiesOnly (TheRegion r.region ∷ TheOperation op ∷ [])
+        s.old.state.ctx.now s.new.state.ctx.now) }
     ensures lasts { OnOk result (KeepsLive s.old.state.ctx.now s.new.state.ctx.now) }
-    ensures sound { OnOk result ((m : ℕ) → m ≤ s.old.state.ctx.now.graph.made → IsSound m names.old s.old.state → IsSound m names.new s.new.state) }
-    ensures kept { (m : ℕ) → m ≤ s.old.state.ctx.now.graph.made → IsNew m s.old.state.ctx.now.graph (TheOperation op)
+    ensures sound { OnOk result ((m : ℕ) → m ≤ s.old.state.ctx.now.graph.made
+        → IsSound m names.old s.old.state → IsSound m names.new s.new.state) }
+    ensures kept { (m : ℕ) → m ≤ s.old.state.ctx.now.graph.made
+        → IsNew m s.old.state.ctx.now.graph (TheOperation op)
         → KeepsOlder m s.old.state.ctx.now s.new.state.ctx.now }
 {
     let at = s.stream.position();
@@ -199,8 +209,10 @@ fn leave<O: Drop, B: Drop, T: Drop, A>(
     ensures names { names.new.names ≡ names.old.names }
     ensures tied { MatchesGraph names.new.values names.new.labels graph.now }
     ensures waiting { OnOk result ((m : ℕ) (own : List (Ptr BasicBlock))
-        → ArePending m own names.old.values names.old.labels graph.now → ArePending m own names.new.values names.new.labels graph.now) }
-    ensures takes { OnOk result ((a : ℕ) → Takes (leave region.isolated a) (history.left region.isolated) names.old names.new graph.now) }
+        → ArePending m own names.old.values names.old.labels graph.now
+        → ArePending m own names.new.values names.new.labels graph.now) }
+    ensures takes { OnOk result ((a : ℕ) → Takes (leave region.isolated a) (history.left region.isolated)
+        names.old names.new graph.now) }
     ensures refused { IfErr result (UnlessMemory (IsUnresolved names.old graph.now (whole stream.old) region)) }
     ensures committed { IfErr result (λ fault. fault.committed ≡ true) }
 {
@@ -225,16 +237,20 @@ pub fn region_end<T: IrText<A>, A: AttrText<A>, U>(
     requires tied { MatchesGraph names.old.values names.old.labels s.old.state.ctx.now.graph }
     ensures lent { s.new.state.ctx.ghost_name ≡ s.old.state.ctx.ghost_name }
     ensures state { s.new.state ≡ s.old.state }
-    ensures ends { OnOk result ((place : ℕ) → IsRegion names.old.names (whole s.old.stream) s.old.state.ctx.now region region.isolated place
-        → EndsRegion T.IrText.reading (attr_at A.IrText.reading) region.isolated place names.old s.old names.new s.new) }
+    ensures ends { OnOk result ((place : ℕ) → IsRegion names.old.names (whole s.old.stream)
+        s.old.state.ctx.now region region.isolated place
+        → EndsRegion T.IrText.reading (attr_at A.IrText.reading) region.isolated place names.old s.old
+        names.new s.new) }
     ensures refused { IfErr result (λ fault. (place : ℕ) → IsRegion names.old.names (whole s.old.stream)
         s.old.state.ctx.now region region.isolated place
-        → UnlessMemory (RefusesRegionEnd T.IrText.reading (attr_at A.IrText.reading) region.isolated place names.old s.old) fault) }
+        → UnlessMemory (RefusesRegionEnd T.IrText.reading (attr_at A.IrText.reading) region.isolated place
+        names.old s.old) fault) }
     ensures committed { IfErr result (λ fault. fault.committed ≡ true) }
     ensures names { names.new.names ≡ names.old.names }
     ensures values { OnOk result (names.new.values ≡ left region.isolated names.old.values) }
     ensures labels { OnOk result (names.new.labels ≡ outer names.old.labels) }
-    ensures sound { OnOk result ((m : ℕ) → IsSound m names.old s.old.state → IsSound m names.new s.new.state) }
+    ensures sound { OnOk result ((m : ℕ) → IsSound m names.old s.old.state
+        → IsSound m names.new s.new.state) }
 {
     text_demanded(&mut s.stream, "}")?;
     leave(&mut s.stream, names, graph_of(&s.state), region)

@@ -60,7 +60,8 @@ pub fn arguments_parse<S: OwnStream, V: Copy, B: Copy, T: IrText<A>, A: AttrText
     names: &mut NameTracker<V, B>,
 ) -> ParseResult<Few<(ReadName, T)>, A>
     ensures read { MustArguments S.CharStream.view S.CharStream.at names.new.names
-        (separated_at 44 (argument_at T.IrText.reading (attr_at A.IrText.reading))) stream.old result stream.new }
+        (separated_at 44 (argument_at T.IrText.reading (attr_at A.IrText.reading))) stream.old
+        result stream.new }
     ensures names { NamesRead names.old names.new }
 {
     if none_named(stream, NameKind::Value) {

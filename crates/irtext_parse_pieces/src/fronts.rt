@@ -74,7 +74,8 @@ fn step_found<S: OwnStream, V: Copy, B: Copy, T: IrText<A>, A: AttrText<A>>(
 ) -> ParseResult<(), A>
     requires { length found.old + 1 < 2 ^ 64 }
     ensures read { MustFind S.CharStream.view S.CharStream.at names.new.names
-        (piece_at T.IrText.reading (attr_at A.IrText.reading) inside (seen_step step.entry)) found.old found.new stream.old result stream.new }
+        (piece_at T.IrText.reading (attr_at A.IrText.reading) inside (seen_step step.entry)) found.old
+        found.new stream.old result stream.new }
     ensures names { NamesRead names.old names.new }
 {
     if let Some(word) = word_of(step) {
@@ -99,7 +100,8 @@ fn pieces_parse<S: OwnStream, V: Copy, B: Copy, T: IrText<A>, A: AttrText<A>>(
 ) -> ParseResult<CustomPieces<T, A>, A>
     ensures read { (S.CharStream.view stream.old).failed ≡ false → MustFront S.CharStream.view S.CharStream.at
         names.new.names
-        T.IrText.reading (attr_at A.IrText.reading) inside (custom_steps directives.now) stream.old result stream.new }
+        T.IrText.reading (attr_at A.IrText.reading) inside (custom_steps directives.now) stream.old
+        result stream.new }
     ensures count { IfOk result (HasFront (custom_steps directives.now)) }
     ensures names { NamesRead names.old names.new }
 {
@@ -147,7 +149,8 @@ pub fn front_parse<S: OwnStream, V: Copy, B: Copy, T: IrText<A>, A: AttrText<A>>
     keys: &mut Keys,
 ) -> ParseResult<Pieces<T, A>, A>
     ensures read { MustFront S.CharStream.view S.CharStream.at names.new.names
-        T.IrText.reading (attr_at A.IrText.reading) inside (steps_of (format_of format.now)) stream.old result stream.new }
+        T.IrText.reading (attr_at A.IrText.reading) inside (steps_of (format_of format.now)) stream.old
+        result stream.new }
     ensures count { IfOk result (HasFront (steps_of (format_of format.now))) }
     ensures names { NamesRead names.old names.new }
 {

@@ -213,7 +213,8 @@ fn piece_parse<S: OwnStream, V: Copy, B: Copy, T: IrText<A>, A: AttrText<A>>(
     keys: &mut Keys,
 ) -> PieceResult<T, A>
     ensures read { MustPiece S.CharStream.view S.CharStream.at names.new.names
-        (directive_at T.IrText.reading (attr_at A.IrText.reading) inside (directive_of directive.now)) stream.old result stream.new }
+        (directive_at T.IrText.reading (attr_at A.IrText.reading) inside (directive_of directive.now))
+        stream.old result stream.new }
     ensures names { NamesRead names.old names.new }
 {
     match directive {
@@ -244,7 +245,8 @@ pub fn step_parse<S: OwnStream, V: Copy, B: Copy, T: IrText<A>, A: AttrText<A>>(
     keys: &mut Keys,
 ) -> PieceResult<T, A>
     ensures read { MustPiece S.CharStream.view S.CharStream.at names.new.names
-        (piece_at T.IrText.reading (attr_at A.IrText.reading) inside (seen_step step.entry)) stream.old result stream.new }
+        (piece_at T.IrText.reading (attr_at A.IrText.reading) inside (seen_step step.entry)) stream.old
+        result stream.new }
     ensures names { NamesRead names.old names.new }
 {
     match step {

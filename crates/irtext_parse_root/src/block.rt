@@ -189,7 +189,8 @@ pub fn block_parse<T: IrText<A>, A: AttrText<A>, U>(
     ensures failed { RefusesFailed s.old.stream result s.new.stream }
     ensures none { OnOk result ⊥ }
     ensures missed { s.old.stream.failed ≡ false →
-        IfErr result (UnlessMemory (MissesBlock T.reading (attr_at A.reading) (indices_of (marks_of s.old.state)) s.old.stream s.new.stream)) }
+        IfErr result (UnlessMemory (MissesBlock T.reading (attr_at A.reading)
+        (indices_of (marks_of s.old.state)) s.old.stream s.new.stream)) }
     ensures unresolved { IsFresh s.old → IfErr result
         (UnlessMemory (RefusesBlock T.reading (attr_at A.reading) s.old.stream)) }
 {

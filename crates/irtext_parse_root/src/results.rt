@@ -76,7 +76,8 @@ pub fn process_parsed_ssa_defs<T: IrText<A>, A: AttrText<A>, U>(
     ensures defines { OnOk result ((results.now ≡ [])
         × (length (parts.results s.old.state.ctx.now.graph op) ≡ 0) × (s.new.stream ≡ s.old.stream)) }
     ensures missed { s.old.stream.failed ≡ false →
-        IfErr result (UnlessMemory (RefusesResults (length (parts.results s.old.state.ctx.now.graph op)) results.now s.old.stream)) }
+        IfErr result (UnlessMemory (RefusesResults (length (parts.results s.old.state.ctx.now.graph op))
+        results.now s.old.stream)) }
 {
     if s.stream.has_failed() {
         return Err(failed_fault(&s.stream));

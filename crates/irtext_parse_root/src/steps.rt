@@ -62,7 +62,8 @@ fn piece_step<T: IrText<A>, A: AttrText<A>, U>(
     requires ready { AreReady (framed.Operation begun) frames.old names.old s.old }
     requires next { IsNext s.old.state.ctx.now.dialects begun comes.Piece }
     ensures lent { s.new.state.ctx.ghost_name ≡ s.old.state.ctx.ghost_name }
-    ensures steps { Steps T.IrText.reading (attr_at A.IrText.reading) (framed.Operation begun) frames.old names.old
+    ensures steps { Steps T.IrText.reading (attr_at A.IrText.reading) (framed.Operation begun)
+        frames.old names.old
         s.old result names.new s.new frames.new }
 {
     let mut begun = begun;
@@ -84,7 +85,8 @@ fn region_step<T: IrText<A>, A: AttrText<A>, U>(
     requires isolated { isolated ≡ formats.isolated s.old.state.ctx.now.dialects (id_of begun.id) }
     requires behind { behind ≡ begun.step + 1 }
     ensures lent { s.new.state.ctx.ghost_name ≡ s.old.state.ctx.ghost_name }
-    ensures steps { Steps T.IrText.reading (attr_at A.IrText.reading) (framed.Operation begun) frames.old names.old
+    ensures steps { Steps T.IrText.reading (attr_at A.IrText.reading) (framed.Operation begun)
+        frames.old names.old
         s.old result names.new s.new frames.new }
 {
     let op = begun.op;
@@ -111,7 +113,8 @@ fn regions_step<T: IrText<A>, A: AttrText<A>, U>(
     requires isolated { isolated ≡ formats.isolated s.old.state.ctx.now.dialects (id_of begun.id) }
     requires behind { behind ≡ begun.step + 1 }
     ensures lent { s.new.state.ctx.ghost_name ≡ s.old.state.ctx.ghost_name }
-    ensures steps { Steps T.IrText.reading (attr_at A.IrText.reading) (framed.Operation begun) frames.old names.old
+    ensures steps { Steps T.IrText.reading (attr_at A.IrText.reading) (framed.Operation begun)
+        frames.old names.old
         s.old result names.new s.new frames.new }
 {
     space_parse(&mut s.stream);
@@ -135,7 +138,8 @@ fn end_step<T: IrText<A>, A: AttrText<A>, U>(
     requires ready { AreReady (framed.Operation begun) frames.old names.old s.old }
     requires next { IsNext s.old.state.ctx.now.dialects begun comes.End }
     ensures lent { s.new.state.ctx.ghost_name ≡ s.old.state.ctx.ghost_name }
-    ensures steps { Steps T.IrText.reading (attr_at A.IrText.reading) (framed.Operation begun) frames.old names.old
+    ensures steps { Steps T.IrText.reading (attr_at A.IrText.reading) (framed.Operation begun)
+        frames.old names.old
         s.old result names.new s.new frames.new }
 {
     end(s, names, &begun)?;
@@ -151,7 +155,8 @@ fn operation_step<T: IrText<A>, A: AttrText<A>, U>(
 ) -> ParseResult<Option<Frame>, A>
     requires ready { AreReady (framed.Operation begun) frames.old names.old s.old }
     ensures lent { s.new.state.ctx.ghost_name ≡ s.old.state.ctx.ghost_name }
-    ensures steps { Steps T.IrText.reading (attr_at A.IrText.reading) (framed.Operation begun) frames.old names.old
+    ensures steps { Steps T.IrText.reading (attr_at A.IrText.reading) (framed.Operation begun)
+        frames.old names.old
         s.old result names.new s.new frames.new }
 {
     let next = coming_here(&s.state, &begun);
@@ -173,7 +178,8 @@ fn blocks_step<T: IrText<A>, A: AttrText<A>, U>(
 ) -> ParseResult<Option<Frame>, A>
     requires ready { AreReady (framed.Region region) frames.old names.old s.old }
     ensures lent { s.new.state.ctx.ghost_name ≡ s.old.state.ctx.ghost_name }
-    ensures steps { Steps T.IrText.reading (attr_at A.IrText.reading) (framed.Region region) frames.old names.old
+    ensures steps { Steps T.IrText.reading (attr_at A.IrText.reading) (framed.Region region)
+        frames.old names.old
         s.old result names.new s.new frames.new }
 {
     space_parse(&mut s.stream);
@@ -198,7 +204,8 @@ fn block_step<T: IrText<A>, A: AttrText<A>, U>(
 ) -> ParseResult<Option<Frame>, A>
     requires ready { AreReady (framed.Block block) frames.old names.old s.old }
     ensures lent { s.new.state.ctx.ghost_name ≡ s.old.state.ctx.ghost_name }
-    ensures steps { Steps T.IrText.reading (attr_at A.IrText.reading) (framed.Block block) frames.old names.old
+    ensures steps { Steps T.IrText.reading (attr_at A.IrText.reading) (framed.Block block)
+        frames.old names.old
         s.old result names.new s.new frames.new }
 {
     if !another_stands(&mut s.stream, block.first) {

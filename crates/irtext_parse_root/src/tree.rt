@@ -69,7 +69,8 @@ pub fn tree_parse<T: IrText<A>, A: AttrText<A>, U>(
     ensures older { AllOlder s.old.state.ctx.now.graph.made s.old.state.ctx.now.graph }
     ensures moves { OnOk result (Moves s.old.stream s.new.stream) }
     ensures at_fault { IsFresh s.old →
-        IfErr result (UnlessMemory (HasFault {T = T} T.IrText.reading (attr_at A.IrText.reading) s.old.state.ctx.now.dialects
+        IfErr result (UnlessMemory (HasFault {T = T} T.IrText.reading (attr_at A.IrText.reading)
+        s.old.state.ctx.now.dialects
         (whole s.old.stream) s.old.stream.rest)) }
     ensures noted { (more : List (ℕ × Item)) × (marks_of s.new.state ≡ marks_of s.old.state ++ more) }
     ensures kept { KeepsOlder s.old.state.ctx.now.graph.made s.old.state.ctx.now s.new.state.ctx.now }

@@ -48,7 +48,8 @@ pub(crate) fn begin<T: IrText<A>, A: AttrText<A>, U>(
         true (is_some block)
         names.old s.old)) }
     ensures unread { IfErr result (λ fault. fault.committed ≡ false → s.new.stream ≡ s.old.stream) }
-    ensures spares { Spares (λ m. IfSome block (λ b. IsNew m s.old.state.ctx.now.graph (TheBlock b))) names.old s.old.state
+    ensures spares { Spares (λ m. IfSome block (λ b. IsNew m s.old.state.ctx.now.graph (TheBlock b)))
+        names.old s.old.state
         result names.new s.new.state }
 {
     operation_begin(s, names, keys, block)
@@ -73,9 +74,11 @@ pub(crate) fn go_on<T: IrText<A>, A: AttrText<A>, U>(
         names.new s.new) }
     ensures refused { IfErr result (λ fault. (o : OpenOperation T A) (step : Step) (ss : List Step) →
         IsBegun names.old.names (whole s.old.stream) s.old.state.ctx.now begun.old o → o.steps ≡ step ∷ ss
-        → UnlessMemory (RefusesPiece T.IrText.reading (attr_at A.IrText.reading) o step names.old s.old) fault) }
+        → UnlessMemory (RefusesPiece T.IrText.reading (attr_at A.IrText.reading) o step names.old s.old)
+        fault) }
     ensures committed { IfErr result (λ fault. fault.committed ≡ true) }
-    ensures spares { Spares (λ m. IsNew m s.old.state.ctx.now.graph (TheOperation begun.old.op)) names.old s.old.state
+    ensures spares { Spares (λ m. IsNew m s.old.state.ctx.now.graph (TheOperation begun.old.op))
+        names.old s.old.state
         result names.new s.new.state }
 {
     operation_piece(s, names, begun)
@@ -99,9 +102,11 @@ pub(crate) fn end<T: IrText<A>, A: AttrText<A>, U>(
         names.new s.new) }
     ensures refused { IfErr result (λ fault. (o : OpenOperation T A) →
         IsBegun names.old.names (whole s.old.stream) s.old.state.ctx.now begun.now o
-        → UnlessMemory (RefusesEnd T.IrText.reading (attr_at A.IrText.reading) o begun.now names.old s.old) fault) }
+        → UnlessMemory (RefusesEnd T.IrText.reading (attr_at A.IrText.reading) o begun.now names.old s.old)
+        fault) }
     ensures committed { IfErr result (λ fault. fault.committed ≡ true) }
-    ensures spares { Spares (λ m. IsNew m s.old.state.ctx.now.graph (TheOperation begun.now.op)) names.old s.old.state
+    ensures spares { Spares (λ m. IsNew m s.old.state.ctx.now.graph (TheOperation begun.now.op))
+        names.old s.old.state
         result names.new s.new.state }
 {
     operation_end(s, names, begun)
@@ -145,9 +150,11 @@ pub(crate) fn leave<T: IrText<A>, A: AttrText<A>, U>(
     ensures refused { IfErr result (λ fault. (place : ℕ) → IsRegion names.old.names (whole s.old.stream)
         s.old.state.ctx.now region
         region.isolated place
-        → UnlessMemory (RefusesRegionEnd T.IrText.reading (attr_at A.IrText.reading) region.isolated place names.old s.old) fault) }
+        → UnlessMemory (RefusesRegionEnd T.IrText.reading (attr_at A.IrText.reading) region.isolated place
+        names.old s.old) fault) }
     ensures committed { IfErr result (λ fault. fault.committed ≡ true) }
-    ensures spares { Spares (λ m. IsNew m s.old.state.ctx.now.graph (TheRegion region.region)) names.old s.old.state
+    ensures spares { Spares (λ m. IsNew m s.old.state.ctx.now.graph (TheRegion region.region))
+        names.old s.old.state
         result names.new s.new.state }
 {
     region_end(s, names, region)

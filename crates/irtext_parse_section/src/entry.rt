@@ -156,7 +156,8 @@ fn head_parse<T: IrText<A>, A: AttrText<A>, U>(
 ) -> ParseResult<EntryHead, A>
     ensures state { s.new.state ≡ s.old.state }
     ensures read { MustMean itself replaced (IsHead (whole s.old.stream))
-        (λ t. tested (may_follow (marks_of s.old.state) (earlier_indices (option_copied seen.entry))) (entry_head_at t))
+        (λ t. tested (may_follow (marks_of s.old.state) (earlier_indices (option_copied seen.entry)))
+        (entry_head_at t))
         s.old.stream result s.new.stream }
     ensures on { IfOk result (GoesOn (marks_of s.old.state) s.new.stream.rest) }
 {
@@ -184,7 +185,8 @@ pub(crate) fn entry_parse<T: IrText<A>, A: AttrText<A>, U>(
     ensures only { AddsOnlyPaths s.old.state s.new.state }
     ensures read { MustMean itself replaced (IsEntry (marks_of s.old.state) s.new.state.ctx.now.paths
         (whole s.old.stream))
-        (entry_at (attr_at A.IrText.reading) (may_follow (marks_of s.old.state) (earlier_indices (option_copied seen.entry)))
+        (entry_at (attr_at A.IrText.reading) (may_follow (marks_of s.old.state)
+        (earlier_indices (option_copied seen.entry)))
         (rules_of (marks_of s.old.state)))
         s.old.stream result s.new.stream }
     ensures paths { IfOk result (λ e. s.new.state.ctx.now.paths ≡ entry_kept s.old.state.ctx.now.paths

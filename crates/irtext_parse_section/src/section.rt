@@ -115,7 +115,8 @@ pub fn section_parse<T: IrText<A>, A: AttrText<A>, U>(
     ensures lent { s.new.state.ctx.ghost_name ≡ s.old.state.ctx.ghost_name }
     ensures rest { KeepsRest s.old.state s.new.state }
     ensures missed { s.old.stream.failed ≡ false → IfErr result (λ fault. Faults true (RefusedAs
-        (section_at (attr_at A.IrText.reading) (indices_of (marks_of s.old.state)) (rules_of (marks_of s.old.state)) s.old.stream.rest))
+        (section_at (attr_at A.IrText.reading) (indices_of (marks_of s.old.state))
+        (rules_of (marks_of s.old.state)) s.old.stream.rest))
         s.old.stream fault) }
     ensures refused { IfErr result (λ fault. CommittedRefusal s.old.stream fault s.new.stream) }
     ensures marks { OnErr result (marks_of s.new.state ≡ marks_of s.old.state) }

@@ -23,17 +23,23 @@ use irtext_base::text::{AttrText, IrText};
 pub fn what_is_built_is_the_tree<T: IrText<A>, A: AttrText<A>>()
     ensures read { (dialects : List (Text × Table)) (text rest : Text) (b : Building T A)
         → ((id : Id) → IsAccepted dialects id) →
-        operation_at dialects T.reading (attr_at A.reading) (building (format_of dialects)) true text nothing_open ≡ Advanced tt b rest →
-        (x : Tree ℕ T A) × reads (language (texts_of T.reading T.written) (texts_of A.reading A.written) (format_of dialects)) x text rest × (b ≡ finished x) }
+        operation_at dialects T.reading (attr_at A.reading) (building (format_of dialects)) true text
+        nothing_open ≡ Advanced tt b rest →
+        (x : Tree ℕ T A) × reads (language (texts_of T.reading T.written) (texts_of A.reading A.written)
+        (format_of dialects)) x text rest × (b ≡ finished x) }
     ensures found { (dialects : List (Text × Table)) (x : Tree ℕ T A) (text rest : Text) →
-        reads (language (texts_of T.reading T.written) (texts_of A.reading A.written) (format_of dialects)) x text rest →
-        operation_at dialects T.reading (attr_at A.reading) (building (format_of dialects)) true text nothing_open ≡ Advanced tt (finished x) rest }
+        reads (language (texts_of T.reading T.written) (texts_of A.reading A.written) (format_of dialects))
+        x text rest →
+        operation_at dialects T.reading (attr_at A.reading) (building (format_of dialects)) true text
+        nothing_open ≡ Advanced tt (finished x) rest }
     ensures added { (dialects : List (Text × Table)) (x : Tree ℕ T A) (text rest : Text) (b : Building T A) →
-        reads (language (texts_of T.reading T.written) (texts_of A.reading A.written) (format_of dialects)) x text rest →
+        reads (language (texts_of T.reading T.written) (texts_of A.reading A.written) (format_of dialects))
+        x text rest →
         operation_at dialects T.reading (attr_at A.reading) (building (format_of dialects)) true text b
         ≡ Advanced tt (operation_added x.own x.regions b.unfinished b.tree) rest }
     ensures done { (dialects : List (Text × Table)) (x : Tree ℕ T A) (text rest : Text) →
-        reads (language (texts_of T.reading T.written) (texts_of A.reading A.written) (format_of dialects)) x text rest →
+        reads (language (texts_of T.reading T.written) (texts_of A.reading A.written) (format_of dialects))
+        x text rest →
         do_tree (isolated dialects) (building (format_of dialects)) x nothing_open ≡ finished x }
 {}
 
@@ -46,14 +52,17 @@ pub fn two_doings_stand_beside<T: IrText<A>, A: AttrText<A>, U, V>()
         do_tree isolated (both d e) x (s, t) ≡ (do_tree isolated d x s, do_tree isolated e x t) }
     ensures operation { (dialects : List (Text × Table)) (d : Actions T A U) (e : Actions T A V)
         (inside : Bool) (text : Text) (s : U) (t : V) →
-        AreBeside (operation_at dialects T.reading (attr_at A.reading) d inside text s) (operation_at dialects T.reading (attr_at A.reading) e inside text t)
+        AreBeside (operation_at dialects T.reading (attr_at A.reading) d inside text s)
+        (operation_at dialects T.reading (attr_at A.reading) e inside text t)
         (operation_at dialects T.reading (attr_at A.reading) (both d e) inside text (s, t)) }
     ensures rest { (dialects : List (Text × Table)) (d : Actions T A U) (e : Actions T A V) (o : Open T A)
         (text : Text) (s : U) (t : V) →
-        AreBeside (rest_of dialects T.reading (attr_at A.reading) d o text s) (rest_of dialects T.reading (attr_at A.reading) e o text t)
+        AreBeside (rest_of dialects T.reading (attr_at A.reading) d o text s)
+        (rest_of dialects T.reading (attr_at A.reading) e o text t)
         (rest_of dialects T.reading (attr_at A.reading) (both d e) o text (s, t)) }
     ensures whole { (dialects : List (Text × Table)) (d : Actions T A U) (e : Actions T A V)
         (next : Option (Open T A)) (frames : List (Open T A)) (s : U) (t : V) (text : Text) →
-        AreBeside (whole dialects T.reading (attr_at A.reading) d next frames s text) (whole dialects T.reading (attr_at A.reading) e next frames t text)
+        AreBeside (whole dialects T.reading (attr_at A.reading) d next frames s text)
+        (whole dialects T.reading (attr_at A.reading) e next frames t text)
         (whole dialects T.reading (attr_at A.reading) (both d e) next frames (s, t) text) }
 {}

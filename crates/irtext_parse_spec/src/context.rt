@@ -124,7 +124,8 @@ fn all_kept<T: IrText<A>, A: AttrText<A>>(ctx: &Context<T, A>)
 pub fn keeps_parts<T: IrText<A>, A: AttrText<A>>(ctx: &Context<T, A>)
     ensures all { KeepsAll ctx.now }
     ensures kept { (p : Ptr Operation) (g : seen.Graph T A) → seen_root A.written ctx.now p ≡ Some g →
-        KeptRoot (attr_at A.reading) A.written (printing_over ctx.now A.outlined A.print_once A.eq) (isolated ctx.now.dialects) g }
+        KeptRoot (attr_at A.reading) A.written (printing_over ctx.now A.outlined A.print_once A.eq)
+        (isolated ctx.now.dialects) g }
 {
     all_kept(ctx);
 }

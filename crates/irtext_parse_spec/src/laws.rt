@@ -45,7 +45,8 @@ pub fn closed_root_comes_back<T: IrText<A>, A: AttrText<A>>()
         ((p : ℕ) → (locations A.written).is_position (first p) ≡ true) → C.same_own ≡ A.eq →
         IsTextOf types owns (attr_at A.reading) C isolated g width n None t → ClosedRoot C isolated g →
         (tree : Tree ℕ T A) × (entries : List (Entry ℕ A (Written A))) × (rest : List ℕ) ×
-        reads_root (language types owns C.format_of) (location_standing (attr_at A.reading)) tree entries t rest × (failures_of isolated tree entries ≡ []) }
+        reads_root (language types owns C.format_of) (location_standing (attr_at A.reading)) tree entries t
+        rest × (failures_of isolated tree entries ≡ []) }
 {}
 
 /// If each block of the root has a label, and each operation with results and each block with arguments has given names, nothing is
@@ -57,7 +58,8 @@ pub fn named_root_is_held<T: IrText<A>, A: AttrText<A>>()
         let types = texts_of T.reading T.written in
         let owns = texts_of A.reading A.written in
         ((p : ℕ) → (locations A.written).is_position (first p) ≡ true) → C.same_own ≡ A.eq →
-        IsTextOf types owns (attr_at A.reading) C isolated g width n None t → ClosedRoot C isolated g → Named C g →
+        IsTextOf types owns (attr_at A.reading) C isolated g width n None t → ClosedRoot C isolated g
+        → Named C g →
         ReadsAs types owns (attr_at A.reading) C isolated first t rest held →
         HeldWhole types owns (attr_at A.reading) C isolated g rest held }
 {}
@@ -69,8 +71,10 @@ pub fn limited_root_is_refused<T: IrText<A>, A: AttrText<A>>()
         (tree : Tree ℕ T A) (entries : List (Entry ℕ A (Written A))) →
         let types = texts_of T.reading T.written in
         let owns = texts_of A.reading A.written in
-        IsTextOf types owns (attr_at A.reading) C isolated g width n limit t → (AllShown (written C limit g) → ⊥) →
-        reads_root (language types owns C.format_of) (location_standing (attr_at A.reading)) tree entries t rest → ⊥ }
+        IsTextOf types owns (attr_at A.reading) C isolated g width n limit t
+        → (AllShown (written C limit g) → ⊥) →
+        reads_root (language types owns C.format_of) (location_standing (attr_at A.reading)) tree
+        entries t rest → ⊥ }
 {}
 
 /// If fewer than 2 ^ 64 bytes in memory encode the printed text of a root that meets `KeptRoot` and fits its formats, their characters
@@ -80,7 +84,8 @@ pub fn bytes_are_text<T: IrText<A>, A: AttrText<A>>()
         (bytes : List ℕ) →
         let types = texts_of T.reading T.written in
         let owns = texts_of A.reading A.written in
-        KeptRoot (attr_at A.reading) A.written C isolated g → Fit C isolated g → IsUtf8 bytes → length bytes < 2 ^ 64 →
+        KeptRoot (attr_at A.reading) A.written C isolated g → Fit C isolated g → IsUtf8 bytes
+        → length bytes < 2 ^ 64 →
         bytes ≡ encode_utf8_all (text (unplaced types owns C.format_of) C g n width limit) →
         IsTextOf types owns (attr_at A.reading) C isolated g width n limit (chars bytes) }
 {}
@@ -95,11 +100,13 @@ pub fn read_root_is_closed<T: IrText<A>, A: AttrText<A>>()
         let types = texts_of T.reading T.written in
         let owns = texts_of A.reading A.written in
         reads (language types owns C.format_of) tree source rest → failures_of isolated tree entries ≡ [] →
-        StandsFor (stood C isolated g) (build isolated before entries tree) → Distinct C isolated g → Fit C isolated g →
+        StandsFor (stood C isolated g) (build isolated before entries tree) → Distinct C isolated g
+        → Fit C isolated g →
         ClosedRoot C isolated g × Named C g }
     ensures again { (C : Printing T A) (isolated : Id → Bool) (before first : ℕ → Written A)
         (tree : Tree ℕ T A) (entries : List (Entry ℕ A (Written A)))
-        (source behind : List ℕ) (g : Graph T A) (width n : ℕ) (t rest : List ℕ) (held : Option (Built T A (Written A))) →
+        (source behind : List ℕ) (g : Graph T A) (width n : ℕ) (t rest : List ℕ)
+        (held : Option (Built T A (Written A))) →
         let types = texts_of T.reading T.written in
         let owns = texts_of A.reading A.written in
         reads (language types owns C.format_of) tree source behind → failures_of isolated tree entries ≡ [] →

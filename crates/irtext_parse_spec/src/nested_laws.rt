@@ -25,12 +25,15 @@ pub fn nested_text_is_a_tree<T: IrText<A>, A: AttrText<A>, U>()
     ensures read { (dialects : List (Text × Table)) (does : Actions T A U) (text rest : Text) (s t : U) →
         ((id : Id) → IsAccepted dialects id) →
         operation_at dialects T.reading (attr_at A.reading) does true text s ≡ Advanced tt t rest →
-        (x : Tree ℕ T A) × reads (language (texts_of T.reading T.written) (texts_of A.reading A.written) (format_of dialects)) x text rest
+        (x : Tree ℕ T A) × reads (language (texts_of T.reading T.written) (texts_of A.reading A.written)
+        (format_of dialects)) x text rest
         × (t ≡ do_tree (isolated dialects) does x s) }
     ensures found { (dialects : List (Text × Table)) (does : Actions T A U) (x : Tree ℕ T A)
         (text rest : Text) (s : U) →
-        reads (language (texts_of T.reading T.written) (texts_of A.reading A.written) (format_of dialects)) x text rest →
-        operation_at dialects T.reading (attr_at A.reading) does true text s ≡ Advanced tt (do_tree (isolated dialects) does x s) rest }
+        reads (language (texts_of T.reading T.written) (texts_of A.reading A.written) (format_of dialects))
+        x text rest →
+        operation_at dialects T.reading (attr_at A.reading) does true text s
+        ≡ Advanced tt (do_tree (isolated dialects) does x s) rest }
 {}
 
 /// What is done with names while nested text is parsed, act by act, is what the two passes over the tree say: each operation and block of
@@ -38,7 +41,8 @@ pub fn nested_text_is_a_tree<T: IrText<A>, A: AttrText<A>, U>()
 /// outcome as the machine that processes the script of the tree.
 pub fn names_run_the_machine<T: IrText<A>, A: AttrText<A>>()
     ensures { (dialects : List (Text × Table)) (x : Tree ℕ T A) (text rest : Text) →
-        reads (language (texts_of T.reading T.written) (texts_of A.reading A.written) (format_of dialects)) x text rest →
+        reads (language (texts_of T.reading T.written) (texts_of A.reading A.written) (format_of dialects))
+        x text rest →
         (path : ℕ → Path) × Names path x × ((o : history.Outcome) →
         operation_at dialects T.reading (attr_at A.reading) (naming (format_of dialects) path) true text o
         ≡ Advanced tt (run o (events (tree_script (isolated dialects) x done))) rest) }

@@ -23,10 +23,12 @@ pub fn section_text_is_a_section<T: IrText<A>, A: AttrText<A>>()
     ensures read { (dialects : List (Text × Table)) (marks : List ℕ) (rules : ℕ → Rule A)
         (es : List (Entry ℕ A (Written A))) (text taken rest : Text) →
         section_at (attr_at A.reading) marks rules text ≡ Read es taken rest →
-        section (language (texts_of T.reading T.written) (texts_of A.reading A.written) (format_of dialects)) (location_standing (attr_at A.reading)) es text rest
+        section (language (texts_of T.reading T.written) (texts_of A.reading A.written) (format_of dialects))
+        (location_standing (attr_at A.reading)) es text rest
         × (refused marks rules es ≡ []) }
     ensures found { (dialects : List (Text × Table)) (marks : List ℕ) (rules : ℕ → Rule A)
         (es : List (Entry ℕ A (Written A))) (text rest : Text) →
-        section (language (texts_of T.reading T.written) (texts_of A.reading A.written) (format_of dialects)) (location_standing (attr_at A.reading)) es text rest →
+        section (language (texts_of T.reading T.written) (texts_of A.reading A.written) (format_of dialects))
+        (location_standing (attr_at A.reading)) es text rest →
         ReadOrStops text (section_at (attr_at A.reading) marks rules text) es rest (refused marks rules es) }
 {}

@@ -14,7 +14,8 @@ use irtext_base::text::{AttrText, IrText};
 /// numbers from 0 on, without a gap.
 pub fn indices_follow<T, A>()
     ensures kept { (C : Printing T A) (gs : List (Option (Entry C))) →
-        map index_of (given_section C gs) ≡ places_there C 0 gs ++ numbers (length gs) (length (shared_by C gs)) }
+        map index_of (given_section C gs) ≡ places_there C 0 gs
+        ++ numbers (length gs) (length (shared_by C gs)) }
     ensures without_gap { (C : Printing T A) (es : List (Entry C)) →
         map index_of (given_section C (map (λ e. Some e) es)) ≡ numbers 0 (length es + length (shared C es)) }
 {}
@@ -25,7 +26,8 @@ pub fn section_is_its_entries<T: IrText<A>, A: AttrText<A>>()
     ensures spelled { (C : Printing T A) (formats : Id → Option Format) (g : Option (Entry C))
         (gs : List (Option (Entry C))) →
         let L = unplaced (texts_of T.reading T.written) (texts_of A.reading A.written) formats in
-        section_of C L (g ∷ gs) ≡ codes "\n\noutlined_attributes:\n" ++ flat_map (entry_spelled C L) (given_section C (g ∷ gs)) }
+        section_of C L (g ∷ gs) ≡ codes "\n\noutlined_attributes:\n"
+        ++ flat_map (entry_spelled C L) (given_section C (g ∷ gs)) }
     ensures whole { (C : Printing T A) (formats : Id → Option Format) (es : List (Entry C)) →
         let L = unplaced (texts_of T.reading T.written) (texts_of A.reading A.written) formats in
         section_of C L (map (λ e. Some e) es) ≡ section L C es }

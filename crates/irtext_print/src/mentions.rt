@@ -22,7 +22,8 @@ impl<'c, A: AttrText<A>> Mentions<'c, A> {
     pub(crate) fn note(&mut self, attr: &'c A) -> Result<usize, fmt::Error>
         ensures items { OnOk result (self.new.items ≡ self.old.items) }
         ensures known { OnOk result (mentions.known_in self.new.known ≡
-            mentions.with_mention (mentions.asking A.print_once A.eq) (mentions.known_in self.old.known) attr.now) }
+            mentions.with_mention (mentions.asking A.print_once A.eq)
+            (mentions.known_in self.old.known) attr.now) }
         ensures place { IfOk result (λ place. (more : List A) → place ≡
             place_in (mentions.asking A.print_once A.eq) (mentions.known_in self.new.known ++ more) attr.now) }
         ensures small { IfOk result (λ place. place < 2 ^ 63) }

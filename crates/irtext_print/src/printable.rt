@@ -89,7 +89,8 @@ fn fmt_indented(indent: u16, line: &str, end: usize, f: &mut String) -> fmt::Res
 /// Appends a newline, after a space unless what follows joins what is before it.
 #[inline(always)]
 fn fmt_line_end(joins: bool, f: &mut String) -> fmt::Result
-    ensures { OnOk result (string_bytes f.new ≡ string_bytes f.old ++ (cond joins [] (codes " ") ++ codes "\n")) }
+    ensures { OnOk result (string_bytes f.new ≡ string_bytes f.old
+        ++ (cond joins [] (codes " ") ++ codes "\n")) }
 {
     if joins {
         f.push_str("\n")?;

@@ -138,7 +138,8 @@ fn fmt_located<T: IrText<A>, A: AttrText<A>>(
     f: &mut String,
 ) -> fmt::Result
     ensures { OnOk result (string_bytes f.new ≡ string_bytes f.old
-        ++ framed (codes " !0\n\noutlined_attributes:\n!0 = @[") (codes "], []\n") (known_text A.written ctx.now.paths location.now)) }
+        ++ framed (codes " !0\n\noutlined_attributes:\n!0 = @[") (codes "], []\n")
+        (known_text A.written ctx.now.paths location.now)) }
 {
     if let Location::SrcPos { src, pos } = location {
         if is_in_memory(*src) {

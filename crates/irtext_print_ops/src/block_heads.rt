@@ -50,7 +50,8 @@ impl<'c, T: IrText<A>, A: AttrText<A>> Printer<'c, T, A> {
     fn fmt_arguments(self, block: Ptr<BasicBlock>, f: &mut String) -> fmt::Result
         requires { IsLive self.ctx.now.graph (TheBlock block) }
         ensures { OnOk result (AppendsText f.old
-            (codes "(" ++ (list_text T.IrText.written self.entry.ctx.now (Arguments block) 0 ++ codes ")")) f.new) }
+            (codes "(" ++ (list_text T.IrText.written self.entry.ctx.now (Arguments block) 0 ++ codes ")"))
+            f.new) }
     {
         self.fmt_enclosed(Listed::Arguments(block), "(", ")", "()", f)
     }

@@ -312,9 +312,11 @@ pub fn fitting_directives<'c, T: IrText<A>, A: AttrText<A>>(
 ) -> Result<Option<&'c [Directive]>, FitFault<'c>>
     requires live { IsSome (operation ctx.now op) }
     ensures format { IfOk result (λ found. IfSome (seen_own A.IrText.written ctx.now op) (λ o.
-        format_of ctx.now.dialects o.id ≡ Some (fits.format_by (option_map (λ ds. directives_of ds.now) found)))) }
+        format_of ctx.now.dialects o.id ≡ Some (fits.format_by
+        (option_map (λ ds. directives_of ds.now) found)))) }
     ensures fits { OnOk result (IfSome (seen_own A.IrText.written ctx.now op) (λ o.
-        fits.FitsOwn (printing_by A.AttrText.own A.eq ctx.now) (isolated ctx.now.dialects) o (length (regions ctx.now.graph op)))) }
+        fits.FitsOwn (printing_by A.AttrText.own A.eq ctx.now) (isolated ctx.now.dialects) o
+        (length (regions ctx.now.graph op)))) }
     ensures fault { IfErr result (λ reason. IfSome (seen_own A.IrText.written ctx.now op) (λ o.
         fits.IsFirstReason (printing_by A.AttrText.own A.eq ctx.now) (isolated ctx.now.dialects) o
         (length (regions ctx.now.graph op)) reason)) }
@@ -344,7 +346,8 @@ pub fn check_fits<'c, T: IrText<A>, A: AttrText<A>>(
 ) -> Result<(), FitFault<'c>>
     requires live { IsSome (operation ctx.now op) }
     ensures fits { OnOk result (IfSome (seen_own A.IrText.written ctx.now op) (λ o.
-        fits.FitsOwn (printing_by A.AttrText.own A.eq ctx.now) (isolated ctx.now.dialects) o (length (regions ctx.now.graph op)))) }
+        fits.FitsOwn (printing_by A.AttrText.own A.eq ctx.now) (isolated ctx.now.dialects) o
+        (length (regions ctx.now.graph op)))) }
     ensures fault { IfErr result (λ reason. IfSome (seen_own A.IrText.written ctx.now op) (λ o.
         fits.IsFirstReason (printing_by A.AttrText.own A.eq ctx.now) (isolated ctx.now.dialects) o
         (length (regions ctx.now.graph op)) reason)) }

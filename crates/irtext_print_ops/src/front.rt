@@ -25,7 +25,8 @@ fn fmt_front<T: IrText<A>, A: AttrText<A>>(
     requires form { canonical ≡ heads.is_canonical_at T.IrText.own A.IrText.own A.AttrText.own A.eq
         ctx.now op }
     ensures text { OnOk result
-        (AppendsText f.old (heads.operation_front_at T.IrText.own A.IrText.own A.AttrText.own A.eq ctx.now op) f.new) }
+        (AppendsText f.old (heads.operation_front_at T.IrText.own A.IrText.own A.AttrText.own A.eq ctx.now op)
+        f.new) }
     ensures refused { IfErr result (λ e. e ≡ refusal.Memory) }
 {
     fmt_results(ctx, op, f)?;
@@ -67,7 +68,8 @@ pub fn begin_front<'c, T: IrText<A>, A: AttrText<A>>(
 ) -> Result<Option<&'c [Directive]>, Refusal>
     requires live { IsSome (operation ctx.now op) }
     ensures text { OnOk result
-        (AppendsText f.old (heads.operation_front_at T.IrText.own A.IrText.own A.AttrText.own A.eq ctx.now op) f.new) }
+        (AppendsText f.old (heads.operation_front_at T.IrText.own A.IrText.own A.AttrText.own A.eq ctx.now op)
+        f.new) }
     ensures found { IfOk result (λ found. heads.AreDirectivesAt T.IrText.own A.IrText.own A.AttrText.own A.eq
         ctx.now op found) }
     ensures fits { OnOk result (heads.FitsAt T.IrText.own A.IrText.own A.AttrText.own A.eq ctx.now op) }

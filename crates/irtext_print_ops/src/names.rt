@@ -51,7 +51,8 @@ fn fmt_numbered(given: Option<&Identifier>, number: u64, f: &mut String) -> fmt:
 /// Appends `^` and what comes before the place in the name of a block with this label or none: `^a_block` or `^block`.
 #[inline(always)]
 fn fmt_block_front(label: Option<&Identifier>, f: &mut String) -> fmt::Result
-    ensures { OnOk result (AppendsText f.old (codes "^" ++ printed.prefixed (option_copied label.entry) (codes "block")) f.new) }
+    ensures { OnOk result (AppendsText f.old
+        (codes "^" ++ printed.prefixed (option_copied label.entry) (codes "block")) f.new) }
 {
     match label {
         Some(label) => {
@@ -75,7 +76,8 @@ fn fmt_placed(
     generation: u32,
     f: &mut String,
 ) -> fmt::Result
-    ensures { OnOk result (AppendsText f.old (codes "^" ++ printed.block_name (option_copied label.entry) (place, generation)) f.new) }
+    ensures { OnOk result (AppendsText f.old
+        (codes "^" ++ printed.block_name (option_copied label.entry) (place, generation)) f.new) }
 {
     fmt_block_front(label, f)?;
     fmt_number(place, f)?;

@@ -82,7 +82,8 @@ pub fn print_nested_block<T: IrText<A>, A: AttrText<A>, U>(
     ensures items { OnOk result (items.new.items ≡ items.old.items ++
         heads.block_items_under T.IrText.own A.IrText.own A.AttrText.own A.eq ctx.now block state.now) }
     ensures fits { OnOk result (
-        heads.BlockFaultUnder T.IrText.own A.IrText.own A.AttrText.own A.eq ctx.now block state.now refusal.Misfit → ⊥) }
+        heads.BlockFaultUnder T.IrText.own A.IrText.own A.AttrText.own A.eq ctx.now block state.now
+        refusal.Misfit → ⊥) }
     ensures refused { IfErr result (heads.RefusesBlockUnder T.IrText.own A.IrText.own A.AttrText.own A.eq
         ctx.now block state.now) }
 {
@@ -124,7 +125,8 @@ pub fn print_nested_region<T: IrText<A>, A: AttrText<A>, U>(
     ensures items { OnOk result (items.new.items ≡ items.old.items ++
         heads.region_items_under T.IrText.own A.IrText.own A.AttrText.own A.eq ctx.now region state.now) }
     ensures fits { OnOk result (
-        heads.RegionFaultUnder T.IrText.own A.IrText.own A.AttrText.own A.eq ctx.now region state.now refusal.Misfit → ⊥) }
+        heads.RegionFaultUnder T.IrText.own A.IrText.own A.AttrText.own A.eq ctx.now region state.now
+        refusal.Misfit → ⊥) }
     ensures refused { IfErr result (heads.RefusesRegionUnder T.IrText.own A.IrText.own A.AttrText.own A.eq
         ctx.now region state.now) }
 {

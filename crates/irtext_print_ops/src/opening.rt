@@ -127,7 +127,8 @@ fn fmt_elided(joins: bool, f: &mut String) -> Result<(), Refusal>
 
 /// Appends what comes before a region's blocks, after a space unless the region joins what is before it.
 fn fmt_begun(joins: bool, indent: u16, inner: u16, f: &mut String) -> Result<(), Refusal>
-    ensures text { OnOk result (AppendsText f.old (cond joins [] (codes " ") ++ (newline indent ++ (codes "{" ++ newline inner))) f.new) }
+    ensures text { OnOk result (AppendsText f.old
+        (cond joins [] (codes " ") ++ (newline indent ++ (codes "{" ++ newline inner))) f.new) }
     ensures refused { IfErr result (λ e. e ≡ refusal.Memory) }
 {
     match fmt_opening(joins, indent, inner, f) {
@@ -147,7 +148,8 @@ pub(crate) fn begin_region(
     limit: RegionPrintDepthLimit,
     f: &mut String,
 ) -> Result<Option<RegionFrame>, Refusal>
-    ensures text { OnOk result (AppendsText f.old (cond joins [] (codes " ") ++ region_front width indent limit) f.new) }
+    ensures text { OnOk result (AppendsText f.old
+        (cond joins [] (codes " ") ++ region_front width indent limit) f.new) }
     ensures opens { IfOk result (λ begun. begun_frames begun ≡ region_frames region indent limit) }
     ensures refused { IfErr result (λ e. e ≢ refusal.Memory → (e ≡ refusal.Depth)
         × IsTooDeep width indent limit) }

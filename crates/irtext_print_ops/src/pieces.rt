@@ -75,7 +75,8 @@ impl<'c, T: IrText<A>, A: AttrText<A>> Printer<'c, T, A> {
     fn fmt_result_type_at(self, op: Ptr<Operation>, index: usize, f: &mut String) -> fmt::Result
         requires { IsLive self.ctx.now.graph (TheOperation op) }
         ensures { OnOk result (AppendsText f.old (spaced_if (slice_get
-            (known_types (texts.texts_of T.IrText.written self.entry.ctx.now (listed.ResultTypes op))) index)) f.new) }
+            (known_types (texts.texts_of T.IrText.written self.entry.ctx.now (listed.ResultTypes op))) index))
+            f.new) }
     {
         let mut left = index;
         for place in 0..self.count(Listed::ResultTypes(op)) {
@@ -180,7 +181,8 @@ pub fn fmt_piece<T: IrText<A>, A: AttrText<A>>(
     requires live { IsSome (operation ctx.now op) }
     ensures text { OnOk result (IfSome (seen_own A.IrText.written ctx.now op) (λ o. AppendsText f.old
         (part_text (language_in T.IrText.own A.IrText.own ctx.now)
-        (part_of (printing_by A.AttrText.own A.eq ctx.now) (directives_of directives.now) o (directive_of directive.now)))
+        (part_of (printing_by A.AttrText.own A.eq ctx.now) (directives_of directives.now) o
+        (directive_of directive.now)))
         f.new)) }
     ensures refused { IfErr result (λ e. e ≡ refusal.Memory) }
 {

@@ -47,7 +47,8 @@ pub fn fmt_results<T: IrText<A>, A: AttrText<A>>(
 ) -> Result<(), Refusal>
     requires live { IsSome (operation ctx.now op) }
     ensures text { OnOk result (IfSome (seen_own A.IrText.written ctx.now op) (λ o. AppendsText f.old
-        (results (language_in T.IrText.own A.IrText.own ctx.now) (map (λ r. value (printing_by A.AttrText.own A.eq ctx.now) r.0) o.results))
+        (results (language_in T.IrText.own A.IrText.own ctx.now)
+        (map (λ r. value (printing_by A.AttrText.own A.eq ctx.now) r.0) o.results))
         f.new)) }
     ensures refused { IfErr result (λ e. e ≡ refusal.Memory) }
 {

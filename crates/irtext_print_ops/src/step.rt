@@ -82,9 +82,11 @@ pub(crate) fn begin_operation<'c, T: IrText<A>, A: AttrText<A>>(
 ) -> Result<OperationFrame<'c>, Refusal>
     requires live { IsSome (operation ctx.now op) }
     ensures text { OnOk result
-        (AppendsText f.old (heads.operation_front_at T.IrText.own A.IrText.own A.AttrText.own A.eq ctx.now op) f.new) }
+        (AppendsText f.old (heads.operation_front_at T.IrText.own A.IrText.own A.AttrText.own A.eq ctx.now op)
+        f.new) }
     ensures begun { IfOk result (λ begun. begun ≡
-        heads.begun_at T.IrText.own A.IrText.own A.AttrText.own A.eq ctx.now op begun.directives marked indent limit) }
+        heads.begun_at T.IrText.own A.IrText.own A.AttrText.own A.eq ctx.now op begun.directives marked
+        indent limit) }
     ensures found { IfOk result (λ begun. heads.AreDirectivesAt T.IrText.own A.IrText.own A.AttrText.own A.eq
         ctx.now op begun.directives) }
     ensures fits { OnOk result (heads.FitsAt T.IrText.own A.IrText.own A.AttrText.own A.eq ctx.now op) }
@@ -286,8 +288,10 @@ fn operation_step<'c, T: IrText<A>, A: AttrText<A>>(
     requires fits { heads.FrameFitsAt T.IrText.own A.IrText.own A.AttrText.own A.eq ctx.now
         (framed.Operation frame) }
     ensures steps { IfOk result (λ inside.
-        heads.LeadsAt T.IrText.own A.IrText.own A.AttrText.own A.eq ctx.now width (framed.Operation frame.entry)
-        (option_map framed.Region inside) items.old.items items.new.items frames.old.items frames.new.items f.old f.new) }
+        heads.LeadsAt T.IrText.own A.IrText.own A.AttrText.own A.eq ctx.now width
+        (framed.Operation frame.entry)
+        (option_map framed.Region inside) items.old.items items.new.items frames.old.items frames.new.items
+        f.old f.new) }
     ensures refused { IfErr result (heads.RefusesFrame T.IrText.own A.IrText.own A.AttrText.own A.eq
         ctx.now width
         (framed.Operation frame.entry)) }
@@ -314,7 +318,8 @@ fn region_step<'c, T: IrText<A>, A: AttrText<A>>(
         (framed.Region frame) }
     ensures steps { IfOk result (λ inner.
         heads.LeadsAt T.IrText.own A.IrText.own A.AttrText.own A.eq ctx.now width (framed.Region frame)
-        (option_map framed.Block inner) items.old.items items.new.items frames.old.items frames.new.items f.old f.new) }
+        (option_map framed.Block inner) items.old.items items.new.items frames.old.items frames.new.items
+        f.old f.new) }
     ensures refused { IfErr result (heads.RefusesFrame T.IrText.own A.IrText.own A.AttrText.own A.eq ctx.now
         width (framed.Region frame)) }
 {
@@ -408,7 +413,8 @@ fn next_block<'c, T: IrText<A>, A: AttrText<A>>(
         (framed.Block frame) }
     ensures steps { IfOk result (λ inner.
         heads.LeadsAt T.IrText.own A.IrText.own A.AttrText.own A.eq ctx.now width (framed.Block frame)
-        (option_map framed.Block inner) items.old.items items.new.items frames.old.items frames.new.items f.old f.new) }
+        (option_map framed.Block inner) items.old.items items.new.items frames.old.items frames.new.items
+        f.old f.new) }
     ensures refused { IfErr result (heads.RefusesFrame T.IrText.own A.IrText.own A.AttrText.own A.eq ctx.now
         width (framed.Block frame)) }
 {
@@ -458,7 +464,8 @@ fn innermost_block<'c, T: IrText<A>, A: AttrText<A>>(
     requires fits { heads.FrameFitsAt T.IrText.own A.IrText.own A.AttrText.own A.eq ctx.now frame }
     ensures steps { IfOk result (λ inner.
         heads.ReachesAt T.IrText.own A.IrText.own A.AttrText.own A.eq ctx.now width frame.entry
-        (option_map framed.Block inner) items.old.items items.new.items frames.old.items frames.new.items f.old f.new) }
+        (option_map framed.Block inner) items.old.items items.new.items frames.old.items frames.new.items
+        f.old f.new) }
     ensures refused { IfErr result (heads.RefusesFrame T.IrText.own A.IrText.own A.AttrText.own A.eq ctx.now
         width frame.entry) }
 {

@@ -50,12 +50,14 @@ pub(crate) fn print_frames<'c, T: IrText<A>, A: AttrText<A>>(
         (heads.frames_text_at T.IrText.own A.IrText.own A.AttrText.own A.eq ctx.now width
         (frames.old.items ++ listed first.entry) (length items.old.items)) f.new) }
     ensures items { OnOk result (items.new.items ≡ items.old.items ++
-        heads.frames_items_at T.IrText.own A.IrText.own A.AttrText.own A.eq ctx.now (frames.old.items ++ listed first.entry)) }
+        heads.frames_items_at T.IrText.own A.IrText.own A.AttrText.own A.eq ctx.now
+        (frames.old.items ++ listed first.entry)) }
     ensures fits { OnOk result (
         heads.FramesFault T.IrText.own A.IrText.own A.AttrText.own A.eq ctx.now width
         refusal.Misfit (frames.old.items ++ listed first.entry) → ⊥) }
     ensures refused { IfErr result (λ e. e ≢ refusal.Memory →
-        heads.FramesFault T.IrText.own A.IrText.own A.AttrText.own A.eq ctx.now width e (frames.old.items ++ listed first.entry)) }
+        heads.FramesFault T.IrText.own A.IrText.own A.AttrText.own A.eq ctx.now width e
+        (frames.old.items ++ listed first.entry)) }
 {
     open_first(first, frames)?;
     while let Some(frame) = close(frames) {
@@ -79,12 +81,14 @@ pub(crate) fn print_operation<'c, T: IrText<A>, A: AttrText<A>>(
         (heads.frames_text_at T.IrText.own A.IrText.own A.AttrText.own A.eq ctx.now width
         (framed.Operation frame.entry ∷ []) (length items.old.items)) f.new) }
     ensures items { OnOk result (items.new.items ≡ items.old.items ++
-        heads.frames_items_at T.IrText.own A.IrText.own A.AttrText.own A.eq ctx.now (framed.Operation frame.entry ∷ [])) }
+        heads.frames_items_at T.IrText.own A.IrText.own A.AttrText.own A.eq ctx.now
+        (framed.Operation frame.entry ∷ [])) }
     ensures fits { OnOk result (
         heads.FramesFault T.IrText.own A.IrText.own A.AttrText.own A.eq ctx.now width
         refusal.Misfit (framed.Operation frame.entry ∷ []) → ⊥) }
     ensures refused { IfErr result (λ e. e ≢ refusal.Memory →
-        heads.FramesFault T.IrText.own A.IrText.own A.AttrText.own A.eq ctx.now width e (framed.Operation frame.entry ∷ [])) }
+        heads.FramesFault T.IrText.own A.IrText.own A.AttrText.own A.eq ctx.now width e
+        (framed.Operation frame.entry ∷ [])) }
 {
     let mut left = frame;
     let Some(inside) = operation_turns(ctx, width, &mut left, items, f)? else {

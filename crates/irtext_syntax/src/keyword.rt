@@ -159,7 +159,8 @@ impl<W> Hash for Flag<W> {
 /// Consumes the word that comes next, if it is this one. Otherwise the stream is unchanged.
 fn take_word(stream: &mut TextStream, word: &str) -> bool
     ensures { MatchBool result
-        ((bytes_eq (front in_word stream.old.rest) word.now ≡ true) × TakesFront (λ s. s) (λ s v. v) in_word stream.old stream.new)
+        ((bytes_eq (front in_word stream.old.rest) word.now ≡ true)
+        × TakesFront (λ s. s) (λ s v. v) in_word stream.old stream.new)
         ((bytes_eq (front in_word stream.old.rest) word.now ≡ false) × (stream.new ≡ stream.old)) }
 {
     let place = stream.position();
@@ -173,7 +174,8 @@ fn take_word(stream: &mut TextStream, word: &str) -> bool
 
 /// Parses the word. If it does not come next, fails with `Unexpected`, uncommitted, and the stream is unchanged.
 fn word_parse<W: Word, A>(stream: &mut TextStream) -> ParseResult<(), A>
-    ensures { MayRead (λ s. s) (λ s v. v) (λ u. u) (keyword_at W.word.characters) stream.old result stream.new }
+    ensures { MayRead (λ s. s) (λ s v. v) (λ u. u) (keyword_at W.word.characters) stream.old
+        result stream.new }
 {
     if stream.has_failed() {
         return Err(refuse(stream, Cause::StreamFailed));

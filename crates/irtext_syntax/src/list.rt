@@ -127,7 +127,8 @@ fn separated_parse<P: Part<A>, A: Drop>(
     stream: &mut TextStream,
     separator: char,
 ) -> ParseResult<Vec<P>, A>
-    ensures { MayRead (λ s. s) (λ s v. v) (λ items. items.items) (separated_at separator P.text.reading) stream.old
+    ensures { MayRead (λ s. s) (λ s v. v) (λ items. items.items)
+        (separated_at separator P.text.reading) stream.old
         result stream.new }
 {
     list_parser(stream, separator, |s: &mut TextStream| {
@@ -172,7 +173,8 @@ fn write_joined<P: Part<A>, A>(separator: char, items: &[P], f: &mut String) -> 
 /// Appends the items in brackets.
 fn write_list<B: Separated, P: Part<A>, A>(items: &[P], f: &mut String) -> fmt::Result
     ensures { OnOk result (string_bytes f.new ≡
-        string_bytes f.old ++ encode_utf8_all (list_text B.opener_printed B.separator P.text.written B.closer_printed items.now)) }
+        string_bytes f.old ++ encode_utf8_all (list_text B.opener_printed B.separator P.text.written
+        B.closer_printed items.now)) }
 {
     f.push_str(B::printed_opening())?;
     write_joined(B::separator(), items, f)?;

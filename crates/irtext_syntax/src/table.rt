@@ -135,7 +135,8 @@ pub fn behind_word<P: Part<A>, A>(stream: &mut TextStream) -> ParseResult<P, A>
 #[inline(always)]
 pub fn behind_known<P: Part<A>, A>(stream: &mut TextStream) -> Option<P>
     ensures { MatchOption result (stream.new ≡ stream.old)
-        (λ x. MustRead {A = A} (λ s. s) (λ s v. v) (λ x. x) (space_at ▷ P.text.reading) stream.old (Ok x) stream.new) }
+        (λ x. MustRead {A = A} (λ s. s) (λ s v. v) (λ x. x) (space_at ▷ P.text.reading) stream.old (Ok x)
+        stream.new) }
 {
     if stream.has_failed() {
         return None;

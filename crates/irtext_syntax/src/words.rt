@@ -50,7 +50,8 @@ fn take_dotted<W: Table<E, A>, E, A>(stream: &mut TextStream) -> Option<W>
 pub(crate) fn dotted_there<W: Table<E, A>, E, A>(stream: &mut TextStream) -> Option<W>
     ensures { MatchOption result (stream.new ≡ stream.old)
         (λ w. (refusal : List ℕ) (demand : Demand) → Gives (λ s. s) (λ s v. v)
-        (unless_failed stream.old.failed (dotted_at W.word refusal demand stream.old.rest)) stream.old w stream.new) }
+        (unless_failed stream.old.failed (dotted_at W.word refusal demand stream.old.rest)) stream.old w
+        stream.new) }
 {
     if stream.has_failed() {
         return None;

@@ -42,8 +42,10 @@ pub fn a_label_first()
 
 /// An entry's label replaces the parsed one, and is printed. Without an entry the parsed one stays.
 pub fn a_label_of_an_entry()
-    ensures resolves { failures_of isolated marked_block (for_item 56 0 (label_is 62 (direct (ident (codes "z"))) ∷ []) ∷ []) ≡ [] }
-    ensures label { built marked_block (for_item 56 0 (label_is 62 (direct (ident (codes "z"))) ∷ []) ∷ []) ≡ built_block (codes "z") [] [] }
+    ensures resolves { failures_of isolated marked_block
+        (for_item 56 0 (label_is 62 (direct (ident (codes "z"))) ∷ []) ∷ []) ≡ [] }
+    ensures label { built marked_block (for_item 56 0 (label_is 62 (direct (ident (codes "z"))) ∷ []) ∷ [])
+        ≡ built_block (codes "z") [] [] }
     ensures without_entry { built marked_block [] ≡ built_block (codes "a") [] [] }
     ensures is_printed { text demo z_alone block_z 0 2 None
         ≡ codes "builtin.module @m \n{\n  ^z_block1v1() !0:\n    test.nop !1\n} !2\n\noutlined_attributes:\n!0 = @[<in-memory>: line: 1, column: 21], [builtin_block_label = builtin.identifier z]\n!1 = @[<in-memory>: line: 1, column: 30], []\n!2 = @[<in-memory>: line: 1, column: 1], []\n" }
@@ -51,23 +53,40 @@ pub fn a_label_of_an_entry()
 
 /// A label is given by a reference too; the later of two counts; other attributes are stored, and the label is not.
 pub fn labels_of_entries()
-    ensures by_reference { built marked_block (for_item 56 0 (label_is 62 (reference (marked 84 7)) ∷ []) ∷ of_once (marked 90 7) (ident (codes "z")) ∷ []) ≡ built_block (codes "z") [] [] }
-    ensures later { built marked_block (for_item 56 0 (label_is 62 (direct (ident (codes "y"))) ∷ (at 70 (codes "k"), direct (own (codes "s"))) ∷ label_is 75 (direct (ident (codes "z"))) ∷ []) ∷ [])
+    ensures by_reference { built marked_block
+        (for_item 56 0 (label_is 62 (reference (marked 84 7)) ∷ [])
+        ∷ of_once (marked 90 7) (ident (codes "z")) ∷ []) ≡ built_block (codes "z") [] [] }
+    ensures later { built marked_block (for_item 56 0
+        (label_is 62 (direct (ident (codes "y"))) ∷ (at 70 (codes "k"), direct (own (codes "s")))
+        ∷ label_is 75 (direct (ident (codes "z"))) ∷ []) ∷ [])
         ≡ built_block (codes "z") ((codes "k", own (codes "s")) ∷ []) [] }
-    ensures of_an_operation { built marked_nop (for_item 56 0 (label_is 62 (direct (own (codes "s"))) ∷ []) ∷ []) ≡ built_block (codes "a") [] ((codes "builtin_block_label", own (codes "s")) ∷ []) }
-    ensures is_ordinary_there { failures_of isolated marked_nop (for_item 56 0 (label_is 62 (direct (own (codes "s"))) ∷ []) ∷ []) ≡ [] }
+    ensures of_an_operation { built marked_nop
+        (for_item 56 0 (label_is 62 (direct (own (codes "s"))) ∷ []) ∷ [])
+        ≡ built_block (codes "a") [] ((codes "builtin_block_label", own (codes "s")) ∷ []) }
+    ensures is_ordinary_there { failures_of isolated marked_nop
+        (for_item 56 0 (label_is 62 (direct (own (codes "s"))) ∷ []) ∷ []) ≡ [] }
 {}
 
 /// In a block's entry a label that is no identifier is an error at its key, also by a reference; in its dictionary any label is an error.
 pub fn refused_labels()
-    ensures in_an_entry { failures_of isolated (block_a None (Some (marked 26 0)) no_operations) (for_item 53 0 (label_is 59 (direct (own (codes "s"))) ∷ []) ∷ []) ≡ label_refused 59 }
-    ensures by_reference { failures_of isolated marked_block (for_item 56 0 (label_is 62 (reference (marked 84 7)) ∷ []) ∷ of_once (marked 90 7) (own (codes "s")) ∷ []) ≡ label_refused 62 }
-    ensures in_a_dictionary { failures_of {X = List ℕ} isolated (block_a (Some ((at 27 (codes "builtin_block_label"), ident (codes "z")) ∷ [])) None no_operations) [] ≡ label_refused 27 }
+    ensures in_an_entry { failures_of isolated (block_a None (Some (marked 26 0)) no_operations)
+        (for_item 53 0 (label_is 59 (direct (own (codes "s"))) ∷ []) ∷ []) ≡ label_refused 59 }
+    ensures by_reference { failures_of isolated marked_block
+        (for_item 56 0 (label_is 62 (reference (marked 84 7)) ∷ []) ∷ of_once (marked 90 7) (own (codes "s"))
+        ∷ []) ≡ label_refused 62 }
+    ensures in_a_dictionary { failures_of {X = List ℕ} isolated
+        (block_a (Some ((at 27 (codes "builtin_block_label"), ident (codes "z")) ∷ [])) None no_operations) []
+        ≡ label_refused 27 }
 {}
 
 /// A root that meets every premise of the law that names and labels are parsed back, and that corresponds to what its text builds.
 pub fn premises_of_labels()
-    ensures premises { HasIdentifiers a_and_b two_branches × Fit a_and_b isolated two_branches × SmallGraph a_and_b isolated two_branches × GraphKeepsKeys two_branches
-        × GraphHeld up_to_bracket text_locations two_branches × Closed a_and_b isolated two_branches × SmallSection a_and_b two_branches × Named a_and_b two_branches }
-    ensures stands { (failures_of {X = List ℕ} isolated branches_as_read [] ≡ []) × StandsFor (stood a_and_b isolated two_branches) (build {X = List ℕ} isolated (λ (place : ℕ). codes "first") [] branches_as_read) × Distinct a_and_b isolated two_branches }
+    ensures premises { HasIdentifiers a_and_b two_branches × Fit a_and_b isolated two_branches
+        × SmallGraph a_and_b isolated two_branches × GraphKeepsKeys two_branches
+        × GraphHeld up_to_bracket text_locations two_branches × Closed a_and_b isolated two_branches
+        × SmallSection a_and_b two_branches × Named a_and_b two_branches }
+    ensures stands { (failures_of {X = List ℕ} isolated branches_as_read [] ≡ [])
+        × StandsFor (stood a_and_b isolated two_branches)
+        (build {X = List ℕ} isolated (λ (place : ℕ). codes "first") [] branches_as_read)
+        × Distinct a_and_b isolated two_branches }
 {}

@@ -155,18 +155,21 @@ fn there_and_back<T: IrText<A>, A: AttrText<A>>(
         → seen_root A.written ctx.now op ≡ Some g →
         let C = printing_over ctx.now A.outlined A.print_once A.eq in
         (Fit C (isolated ctx.now.dialects) g → ClosedRoot C (isolated ctx.now.dialects) g) →
-        IfOk result (λ q. ComesBack (texts_of T.reading T.written) (texts_of A.reading A.written) (attr_at A.reading) C
+        IfOk result (λ q. ComesBack (texts_of T.reading T.written) (texts_of A.reading A.written)
+        (attr_at A.reading) C
         ctx.now.dialects g q other.new) }
     ensures whole { levels layout.now.limit ≡ None → block_round ctx.now op ≡ None → (g : Graph T A)
         → seen_root A.written ctx.now op ≡ Some g →
         let C = printing_over ctx.now A.outlined A.print_once A.eq in
         (Fit C (isolated ctx.now.dialects) g → ClosedRoot C (isolated ctx.now.dialects) g × Named C g) →
-        IfOk result (λ q. ComesBackWhole (texts_of T.reading T.written) (texts_of A.reading A.written) (attr_at A.reading) C
+        IfOk result (λ q. ComesBackWhole (texts_of T.reading T.written) (texts_of A.reading A.written)
+        (attr_at A.reading) C
         ctx.now.dialects g q other.new) }
     ensures limited { block_round ctx.now op ≡ None → (g : Graph T A) → seen_root A.written ctx.now
         op ≡ Some g →
         let C = printing_over ctx.now A.outlined A.print_once A.eq in
-        Fit C (isolated ctx.now.dialects) g → (AllShown (written C (levels layout.now.limit) g) → ⊥) → IfOk result (λ q. ⊥) }
+        Fit C (isolated ctx.now.dialects) g → (AllShown (written C (levels layout.now.limit) g) → ⊥)
+        → IfOk result (λ q. ⊥) }
     ensures only { IfOk result (λ q. OnlyNew q other.old other.new) }
     ensures refused { levels layout.now.limit ≡ None → block_round ctx.now op ≡ None → (g : Graph T A)
         → seen_root A.written ctx.now op ≡ Some g →
@@ -210,12 +213,14 @@ pub fn printed_and_read<T: IrText<A>, A: AttrText<A>>(
     ensures back { levels layout.now.limit ≡ None → (g : Graph T A) →
         let C = printing_over ctx.now A.outlined A.print_once A.eq in
         IsClosed A.written C ctx.now op g →
-        IfOk result (λ q. ComesBack (texts_of T.reading T.written) (texts_of A.reading A.written) (attr_at A.reading) C
+        IfOk result (λ q. ComesBack (texts_of T.reading T.written) (texts_of A.reading A.written)
+        (attr_at A.reading) C
         ctx.now.dialects g q other.new) }
     ensures whole { levels layout.now.limit ≡ None → (g : Graph T A) →
         let C = printing_over ctx.now A.outlined A.print_once A.eq in
         IsClosed A.written C ctx.now op g → Named C g →
-        IfOk result (λ q. ComesBackWhole (texts_of T.reading T.written) (texts_of A.reading A.written) (attr_at A.reading) C
+        IfOk result (λ q. ComesBackWhole (texts_of T.reading T.written) (texts_of A.reading A.written)
+        (attr_at A.reading) C
         ctx.now.dialects g q other.new) }
     ensures limited { (g : Graph T A) →
         let C = printing_over ctx.now A.outlined A.print_once A.eq in
@@ -247,7 +252,8 @@ pub fn read_printed_and_read<T: IrText<A>, A: AttrText<A>>(
     requires dialects { other.old.dialects ≡ ctx.old.dialects }
     ensures again { IfOk result (λ r. IsAgain (texts_of T.reading T.written) (texts_of A.reading A.written)
         (attr_at A.reading)
-        (printing_over ctx.new A.outlined A.print_once A.eq) text.now ctx.old r.0 ctx.new other.old r.1 other.new) }
+        (printing_over ctx.new A.outlined A.print_once A.eq) text.now ctx.old r.0 ctx.new other.old
+        r.1 other.new) }
     ensures refused { IfErr result (IsExcusedAgain T.IrText.own A.IrText.own A.AttrText.own A.eq text.now
         ctx.old ctx.new
         (fresh layout.now.width layout.now.indent layout.now.limit)) }

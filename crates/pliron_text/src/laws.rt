@@ -129,7 +129,8 @@ pub fn round_trip<T: IrText<A>, A: AttrText<A>, X>()
         reads (language types owns C.format_of) t
         (spelled (unplaced types owns C.format_of) width n (written C None g) ++ f) u
         × (after_space u ≡ after_space f) × (bare t ≡ written C None g)
-        × (failures same_text no_scope (tree_script isolated t done) ≡ []) × SameShapes (stood C isolated g) (build isolated first es t) }
+        × (failures same_text no_scope (tree_script isolated t done) ≡ [])
+        × SameShapes (stood C isolated g) (build isolated first es t) }
 {}
 
 /// The printed text of a tree also parses back to that tree if a section follows.
@@ -150,9 +151,12 @@ pub fn root_before_section<T: IrText<A>, A: AttrText<A>>()
         let types = texts_of T.reading T.written in
         let owns = texts_of A.reading A.written in
         let l = unplaced types owns C.format_of in
-        HasIdentifiers C g → Fit C isolated g → SmallGraph C isolated g → Behind (written C None g).own.mark f →
-        (t : Tree ℕ T A) × (u : List ℕ) × reads (language types owns C.format_of) t (text l C g n width None ++ f) u
-        × (bare t ≡ written C None g) × (after_space u ≡ after_space (section l C (entries_of C None g) ++ f)) }
+        HasIdentifiers C g → Fit C isolated g → SmallGraph C isolated g
+        → Behind (written C None g).own.mark f →
+        (t : Tree ℕ T A) × (u : List ℕ) × reads (language types owns C.format_of) t
+        (text l C g n width None ++ f) u
+        × (bare t ≡ written C None g) × (after_space u
+        ≡ after_space (section l C (entries_of C None g) ++ f)) }
 {}
 
 /// If a root is printed under a limit that leaves a region out, its text parses as no tree, whatever follows it in printed IR.
@@ -163,7 +167,8 @@ pub fn left_out_is_refused<T: IrText<A>, A: AttrText<A>>()
         let owns = texts_of A.reading A.written in
         HasIdentifiers C g → Fit C isolated g → SmallGraph C isolated g →
         Behind (written C limit g).own.mark f → (AllShown (written C limit g) → ⊥) →
-        reads (language types owns C.format_of) t (text (unplaced types owns C.format_of) C g n width limit ++ f) u → ⊥ }
+        reads (language types owns C.format_of) t
+        (text (unplaced types owns C.format_of) C g n width limit ++ f) u → ⊥ }
 {}
 
 /// A root that a text parses as, with its section, has no failure exactly if it resolves. That means: each operation has as many names

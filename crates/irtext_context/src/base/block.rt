@@ -59,7 +59,8 @@ impl<T: IrText<A>, A: AttrText<A>> Context<T, A> {
         ensures* lends { sem 𝓛 (LendsBlockAttributes T.row A.row self.entry p result) }
         ensures value { option_map (λ b. b.attributes) (block self.old p) ≡ Some result.now }
         ensures edits { (left : List (Text × AttrObj A)) →
-            EditsBlock self.old (with_changed_block self.old p (with_block_attributes left)) p (with_block_attributes left) }
+            EditsBlock self.old (with_changed_block self.old p (with_block_attributes left)) p
+            (with_block_attributes left) }
         ensures kept { (left : List (Text × AttrObj A)) (mark : ℕ)
             → before mark self.old.graph.blocks p ≡ None →
             KeepsOlder mark self.old (with_changed_block self.old p (with_block_attributes left)) }

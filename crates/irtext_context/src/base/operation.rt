@@ -66,7 +66,8 @@ impl<T: IrText<A>, A: AttrText<A>> Context<T, A> {
         ensures* lends { sem 𝓛 (LendsAttributes T.row A.row self.entry p result) }
         ensures value { option_map (λ op. op.attributes) (operation self.old p) ≡ Some result.now }
         ensures edits { (left : List (Text × AttrObj A)) →
-            EditsOperation self.old (with_changed_operation self.old p (with_attributes left)) p (with_attributes left) }
+            EditsOperation self.old (with_changed_operation self.old p (with_attributes left)) p
+            (with_attributes left) }
         ensures kept { (left : List (Text × AttrObj A)) (mark : ℕ)
             → before mark self.old.graph.operations p ≡ None →
             KeepsOlder mark self.old (with_changed_operation self.old p (with_attributes left)) }

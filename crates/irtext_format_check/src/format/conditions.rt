@@ -85,7 +85,8 @@ fn keys_are_free(directives: &[Directive]) -> bool
 /// The same, and whether there are at most one dictionary and at most one header.
 fn entries_stand_once(directives: &[Directive]) -> bool
     ensures { result ≡ (free_keys (directives_of directives.now)
-        && nat_lt (count is_dictionary (directives_of directives.now)) 2 && nat_lt (count is_header (directives_of directives.now)) 2) }
+        && nat_lt (count is_dictionary (directives_of directives.now)) 2 && nat_lt
+        (count is_header (directives_of directives.now)) 2) }
 {
     keys_are_free(directives)
         && parts::count_sole(Sole::Dictionary, directives) < 2

@@ -63,7 +63,8 @@ fn fmt_front<T: IrText<A>, A: AttrText<A>>(
     ctx: &Context<T, A>,
     f: &mut String,
 ) -> fmt::Result
-    ensures { OnOk result (AppendsText f.old (source_text (path_of ctx.now.paths src) ++ codes ": line: ") f.new) }
+    ensures { OnOk result (AppendsText f.old
+        (source_text (path_of ctx.now.paths src) ++ codes ": line: ") f.new) }
 {
     match path_of(src, ctx) {
         Some(path) => {
@@ -110,7 +111,8 @@ pub(crate) fn fmt_place<T: IrText<A>, A: AttrText<A>>(
     ctx: &Context<T, A>,
     f: &mut String,
 ) -> fmt::Result
-    ensures { OnOk result (AppendsText f.old (source_text (path_of ctx.now.paths src) ++ (codes ": " ++ position_text pos.now)) f.new) }
+    ensures { OnOk result (AppendsText f.old
+        (source_text (path_of ctx.now.paths src) ++ (codes ": " ++ position_text pos.now)) f.new) }
 {
     fmt_front(src, ctx, f)?;
     fmt_numbers(pos, f)

@@ -51,7 +51,8 @@ impl<U> DerefMut for IndentGuard<'_, U> {
     fn deref_mut(&mut self) -> &mut State<U>
         ensures* writes_back { sem 𝓛 (follows (indent_guard.the_row (record { mir = named 1; lft = [] })
             U.row) (the_row U.row)
-            self.entry.ghost_name result.ghost_name (λ s. record self.old { state = record self.old.state { now = s } })) }
+            self.entry.ghost_name result.ghost_name (λ s. record self.old
+            { state = record self.old.state { now = s } })) }
         ensures value { result.now ≡ self.old.state.now }
     {
         self.state
@@ -85,7 +86,8 @@ impl<U> DerefMut for RegionDepthGuard<'_, U> {
     fn deref_mut(&mut self) -> &mut State<U>
         ensures* writes_back { sem 𝓛 (follows (depth_guard.the_row (record { mir = named 1; lft = [] }) U.row)
             (the_row U.row)
-            self.entry.ghost_name result.ghost_name (λ s. record self.old { state = record self.old.state { now = s } })) }
+            self.entry.ghost_name result.ghost_name (λ s. record self.old
+            { state = record self.old.state { now = s } })) }
         ensures value { result.now ≡ self.old.state.now }
     {
         self.state

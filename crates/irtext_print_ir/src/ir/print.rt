@@ -32,7 +32,8 @@ fn fmt_end<T: IrText<A>, A: AttrText<A>, U>(
 ) -> Result<(), Refusal>
     requires live { IsSome (operation ctx.now op) }
     ensures text { OnOk result (AppendsText f.old
-        (printed.end_text T.IrText.own A.IrText.own A.AttrText.own A.eq ctx.now op (gathered_of state.old)) f.new) }
+        (printed.end_text T.IrText.own A.IrText.own A.AttrText.own A.eq ctx.now op (gathered_of state.old))
+        f.new) }
     ensures state { OnOk result (state.new ≡ with_gathered state.old []) }
     ensures refused { IfErr result (λ e. e ≡ refusal.Memory) }
     ensures rest { state.new ≡ with_gathered state.old (gathered_of state.new) }

@@ -31,7 +31,8 @@ pub fn lack(stream: &TextStream, expected: NotationPart) -> NotationFault
 /// If `word` comes next, consumes it and returns true. Otherwise returns false and leaves the stream unchanged.
 pub fn past(stream: &mut TextStream, word: &str) -> bool
     ensures { MatchBool result
-        ((past (characters word.now) stream.old.rest ≡ Some stream.new.rest) × (whole stream.new ≡ whole stream.old))
+        ((past (characters word.now) stream.old.rest ≡ Some stream.new.rest)
+        × (whole stream.new ≡ whole stream.old))
         ((past (characters word.now) stream.old.rest ≡ None) × (stream.new ≡ stream.old)) }
 {
     stream.accept(word)

@@ -40,7 +40,8 @@ pub trait OperationText {
         stream: &mut StateStream<'_, T, A, U>,
     ) -> ParseResult<Ptr<Operation>, A>
         ensures lent { stream.new.state.ctx.ghost_name ≡ stream.old.state.ctx.ghost_name }
-        ensures parses { Parses (AnswersOperation T.IrText.own A.IrText.own true) stream.old result stream.new };
+        ensures parses { Parses (AnswersOperation T.IrText.own A.IrText.own true) stream.old result
+            stream.new };
 
     /// Parses an operation as `top_level_parse` does; only white space may follow it, or the section after it, up to the end of the text.
     /// If something else follows, the error is committed and its position is there: ``Unexpected `b`, expected end of input``. The end is

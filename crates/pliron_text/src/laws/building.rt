@@ -31,9 +31,12 @@ use irtext_base::text::{AttrText, IrText};
 pub fn equal_up_to_fillings<T: IrText<A>, A: AttrText<A>, X>()
     ensures { (C : Printing T A) (isolated : Id → Bool) (K : Locations X) (first : ℕ → X)
         (es : List (Entry ℕ A X)) (g : Graph T A) (t : Tree ℕ T A) (text rest : List ℕ) →
-        ((p : ℕ) → K.is_position (first p) ≡ true) → Fit C isolated g → SmallGraph C isolated g → GraphKeepsKeys g → GraphKeysDiffer g →
-        bare t ≡ written C None g → reads (language (texts_of T.reading T.written) (texts_of A.reading A.written) C.format_of) t text rest →
-        failures_of isolated t es ≡ [] → Contents C K.text es g t → UpToFillings K (stood C isolated g) (build isolated first es t) }
+        ((p : ℕ) → K.is_position (first p) ≡ true) → Fit C isolated g → SmallGraph C isolated g
+        → GraphKeepsKeys g → GraphKeysDiffer g →
+        bare t ≡ written C None g → reads (language (texts_of T.reading T.written)
+        (texts_of A.reading A.written) C.format_of) t text rest →
+        failures_of isolated t es ≡ [] → Contents C K.text es g t
+        → UpToFillings K (stood C isolated g) (build isolated first es t) }
 {}
 
 /// The printed text of a closed root whose operations fit accepted formats, with its section, parses as a tree and entries that
@@ -45,7 +48,8 @@ pub fn text_comes_back<T: IrText<A>, A: AttrText<A>, X>()
         ((p : ℕ) → K.is_position (first p) ≡ true) → C.same_own ≡ A.eq →
         HasIdentifiers C g → Fit C isolated g → SmallGraph C isolated g → GraphKeepsKeys g →
         GraphHeld location_at K g → Closed C isolated g → SmallSection C g →
-        ComesBack (texts_of T.reading T.written) (texts_of A.reading A.written) location_at K first C isolated g width n }
+        ComesBack (texts_of T.reading T.written) (texts_of A.reading A.written) location_at K first C
+        isolated g width n }
 {}
 
 /// Every way to parse the printed text of such a root with its section takes all of the text except white space, resolves, and builds a
@@ -59,8 +63,10 @@ pub fn each_reading_comes_back<T: IrText<A>, A: AttrText<A>, X>()
         HasIdentifiers C g → Fit C isolated g → SmallGraph C isolated g → GraphKeepsKeys g →
         GraphHeld location_at K g → Closed C isolated g → SmallSection C g →
         (t : Tree ℕ T A) (es : List (Entry ℕ A X)) (rest : List ℕ) →
-        reads_root (language types owns C.format_of) location_at t es (text (unplaced types owns C.format_of) C g n width None) rest →
-        (after_space rest ≡ []) × (failures_of isolated t es ≡ []) × UpToFillings K (stood C isolated g) (build isolated first es t) }
+        reads_root (language types owns C.format_of) location_at t es
+        (text (unplaced types owns C.format_of) C g n width None) rest →
+        (after_space rest ≡ []) × (failures_of isolated t es ≡ [])
+        × UpToFillings K (stood C isolated g) (build isolated first es t) }
 {}
 
 /// If each block of such a root has a label, and everything that has results or arguments holds given names, nothing is filled in but
@@ -71,7 +77,8 @@ pub fn named_root_comes_back<T: IrText<A>, A: AttrText<A>, X>()
         ((p : ℕ) → K.is_position (first p) ≡ true) → C.same_own ≡ A.eq →
         HasIdentifiers C g → Fit C isolated g → SmallGraph C isolated g → GraphKeepsKeys g →
         GraphHeld location_at K g → Closed C isolated g → SmallSection C g → Named C g →
-        ComesBackWhole (texts_of T.reading T.written) (texts_of A.reading A.written) location_at K first C isolated g width n }
+        ComesBackWhole (texts_of T.reading T.written) (texts_of A.reading A.written) location_at K first C
+        isolated g width n }
 {}
 
 /// Take a root in a context's arenas that agrees with what a parsed and resolved tree and its section build. It is closed; its blocks
@@ -98,8 +105,10 @@ pub fn read_root_comes_back<T: IrText<A>, A: AttrText<A>, X>()
         reads (language (texts_of T.reading T.written) (texts_of A.reading A.written) C.format_of) t source
         rest → failures_of isolated t es ≡ [] →
         StandsFor (stood C isolated g) (build isolated before es t) → Distinct C isolated g →
-        HasIdentifiers C g → Fit C isolated g → SmallGraph C isolated g → GraphHeld location_at K g → SmallSection C g →
-        ComesBackWhole (texts_of T.reading T.written) (texts_of A.reading A.written) location_at K first C isolated g width n }
+        HasIdentifiers C g → Fit C isolated g → SmallGraph C isolated g → GraphHeld location_at K g
+        → SmallSection C g →
+        ComesBackWhole (texts_of T.reading T.written) (texts_of A.reading A.written) location_at K first C
+        isolated g width n }
 {}
 
 /// A text parses as at most one root with its section, with one rest.
@@ -107,5 +116,6 @@ pub fn one_root<T: IrText<A>, A: AttrText<A>, X>()
     ensures { (location_at : List ℕ → Standing X) (formats : Id → Option Format) (x y : Tree ℕ T A)
         (es fs : List (Entry ℕ A X)) (t u v : List ℕ) →
         let l = language (texts_of T.reading T.written) (texts_of A.reading A.written) formats in
-        reads_root l location_at x es t u → reads_root l location_at y fs t v → (x ≡ y) × (es ≡ fs) × (u ≡ v) }
+        reads_root l location_at x es t u → reads_root l location_at y fs t v → (x ≡ y)
+        × (es ≡ fs) × (u ≡ v) }
 {}

@@ -18,10 +18,12 @@ ghost use Rattle.irtext_parse_spec.specs.Promises.LocationsBack.{AllFit, AllRead
 pub fn location_comes_back<A>()
     ensures reads { (attr : List ℕ → Outcome (AttrView A)) (text_of : A → List ℕ) (l : Written A)
         (rest : List ℕ) → AllRead attr text_of l → AllFit l → EndsLocation rest →
-        let text = written_text text_of l ++ rest in GivesBack (location_at attr text) l text (left_behind l rest) }
+        let text = written_text text_of l ++ rest in GivesBack (location_at attr text) l text
+        (left_behind l rest) }
     ensures within { (attr : List ℕ → Outcome (AttrView A)) (text_of : A → List ℕ) (l : Written A)
         (rest : List ℕ) (n : ℕ) → AllRead attr text_of l → AllFit l → EndsLocation rest →
-        let text = written_text text_of l ++ rest in length text ≤ n → GivesBack (location_within attr n text) l text (left_behind l rest) }
+        let text = written_text text_of l ++ rest in length text ≤ n
+        → GivesBack (location_within attr n text) l text (left_behind l rest) }
     ensures leaves { (l : Written A) (rest : List ℕ) → after_space (left_behind l rest) ≡ after_space rest }
     ensures leaves_all { (l : Written A) (rest : List ℕ) → begins is_whitespace rest ≡ false
         → left_behind l rest ≡ rest }

@@ -22,11 +22,13 @@ pub fn used_labels<T, A>()
     ensures at_name { (types : Texts T) (owns : Texts A) (formats : Id → Option Format) (n : Name ℕ)
         (text rest : List ℕ) →
         target (language types owns formats) n text rest →
-        (name : List ℕ) × (text ≡ codes "^" ++ name) × (n.place ≡ length name) × (n.text ≡ front in_word name) }
+        (name : List ℕ) × (text ≡ codes "^" ++ name) × (n.place ≡ length name)
+        × (n.text ≡ front in_word name) }
     ensures no_scope { (types : Texts T) (owns : Texts A) (formats : Id → Option Format) (n : Name ℕ)
         (name rest : List ℕ) (scopes : Scopes) (user : User) →
         target (language types owns formats) n (codes "^" ++ name) rest → scopes.labels ≡ None →
-        Fails scopes (use_label (word_of n) user) (record { cause = NoActiveScope n.text; at = Some (length name) }) }
+        Fails scopes (use_label (word_of n) user)
+        (record { cause = NoActiveScope n.text; at = Some (length name) }) }
     ensures in_scope { (n : Name ℕ) (scopes : Scopes) (user : User) (scope : List Fact) →
         scopes.labels ≡ Some scope → Passes scopes (use_label (word_of n) user) }
 {}
@@ -37,11 +39,13 @@ pub fn labels_left_open<T, A>()
     ensures at_brace { (types : Texts T) (owns : Texts A) (formats : Id → Option Format) (place : ℕ)
         (blocks : Blocks (Op ℕ T A) (Head ℕ T A) (Brace ℕ)) (text rest : List ℕ) →
         let l = language types owns formats in
-        region_read l (shown place) (block_readings l blocks) text rest → (begins (the 123) text ≡ true) × (place ≡ length text) }
+        region_read l (shown place) (block_readings l blocks) text rest → (begins (the 123) text ≡ true)
+        × (place ≡ length text) }
     ensures reported { (place : ℕ) (scopes : Scopes) (isolated : Bool) (body behind : Script) (name : List ℕ)
         (user : User) →
         In (uses name user) (facts body).labels → (IsDefined name (facts body).labels → ⊥) →
-        In (record { cause = UnresolvedReference name; at = Some place }) (failures scopes (within isolated place body behind)) }
+        In (record { cause = UnresolvedReference name; at = Some place })
+        (failures scopes (within isolated place body behind)) }
     ensures nowhere_else { (place : ℕ) (isolated : Bool) (body : Script) (failure : Failure) →
         In failure (left_open place isolated (facts body)) → failure.at ≡ Some place }
 {}
@@ -51,11 +55,14 @@ pub fn labels_left_open<T, A>()
 pub fn block_labels<T, A>()
     ensures at_caret { (types : Texts T) (owns : Texts A) (formats : Id → Option Format) (n : Name ℕ)
         (text rest : List ℕ) →
-        label (language types owns formats) n text rest → (begins (the 94) text ≡ true) × (n.place ≡ length text) }
+        label (language types owns formats) n text rest → (begins (the 94) text ≡ true)
+        × (n.place ≡ length text) }
     ensures again { (types : Texts T) (owns : Texts A) (formats : Id → Option Format) (n : Name ℕ)
         (text rest : List ℕ) (scopes : Scopes) (place : Place) (scope : List Fact) →
-        label (language types owns formats) n text rest → scopes.labels ≡ Some scope → IsDefined n.text scope →
-        Fails scopes (define_label (word_of n) place) (record { cause = MultipleDefinitions n.text; at = Some (length text) }) }
+        label (language types owns formats) n text rest → scopes.labels ≡ Some scope
+        → IsDefined n.text scope →
+        Fails scopes (define_label (word_of n) place)
+        (record { cause = MultipleDefinitions n.text; at = Some (length text) }) }
     ensures first { (n : Name ℕ) (scopes : Scopes) (place : Place) (scope : List Fact) →
         scopes.labels ≡ Some scope → (IsDefined n.text scope → ⊥) →
         Passes scopes (define_label (word_of n) place) }
@@ -67,5 +74,6 @@ pub fn one_character_apart<T, A>()
     ensures { (types : Texts T) (owns : Texts A) (formats : Id → Option Format) (block used : Name ℕ)
         (text t u : List ℕ) →
         let l = language types owns formats in
-        label l block text t → target l used text u → (block.text ≡ used.text) × (block.place ≡ suc used.place) }
+        label l block text t → target l used text u → (block.text ≡ used.text)
+        × (block.place ≡ suc used.place) }
 {}

@@ -37,7 +37,8 @@ pub fn section_comes_back<T: IrText<A>, A: AttrText<A>, X>()
         (t : Tree ℕ T A) × (es : List (Entry ℕ A X)) × (u : List ℕ) ×
         reads_root (language types owns C.format_of) location_at t es (text printing C g n width None) u
         × (bare t ≡ written C None g) × (bare_section K.text es ≡ written_section C (entries_of C None g))
-        × (failures_of isolated t es ≡ []) × Contents C K.text es g t × SameShapes (stood C isolated g) (build isolated first es t) }
+        × (failures_of isolated t es ≡ []) × Contents C K.text es g t
+        × SameShapes (stood C isolated g) (build isolated first es t) }
 {}
 
 /// The marks in the printed tree of a graph are 0, 1 and so on in the order of the text, however deep its regions are nested; there are
@@ -46,9 +47,11 @@ pub fn section_comes_back<T: IrText<A>, A: AttrText<A>, X>()
 pub fn indices_in_order<T, A>()
     ensures marks { (C : Printing T A) (isolated : Id → Bool) (l : Option ℕ) (g : Graph T A)
         → HasIdentifiers C g → Fit C isolated g →
-        (facts same_text (tree_script isolated (written C l g) done)).marks ≡ numbers 0 (length (entries_of C l g)) }
+        (facts same_text (tree_script isolated (written C l g) done)).marks
+        ≡ numbers 0 (length (entries_of C l g)) }
     ensures entries { (C : Printing T A) (l : Option ℕ) (g : Graph T A) →
-        map index_of (written_section C (entries_of C l g)) ≡ numbers 0 (length (entries_of C l g) + length (shared C (entries_of C l g))) }
+        map index_of (written_section C (entries_of C l g))
+        ≡ numbers 0 (length (entries_of C l g) + length (shared C (entries_of C l g))) }
     ensures once { (C : Printing T A) (l : Option ℕ) (g : Graph T A) →
         ((a b : A) → C.same_own a b ≡ true → a ≡ b) → ((a : A) → C.same_own a a ≡ true) →
         distinct C.same_own (shared C (entries_of C l g)) ≡ true }

@@ -192,7 +192,8 @@ pub fn fmt_entries<A: AttrText<A>>(
     f: &mut String,
 ) -> fmt::Result
     ensures { OnOk result (AppendsText f.old
-        (pieces.listed_text A.IrText.written A.outlined (directives_of directives.now) (entries_of attributes.now)) f.new) }
+        (pieces.listed_text A.IrText.written A.outlined (directives_of directives.now)
+        (entries_of attributes.now)) f.new) }
 {
     let mut first = true;
     for (key, attr) in attributes.iter() {
@@ -211,7 +212,8 @@ pub fn fmt_dictionary<A: AttrText<A>>(
     f: &mut String,
 ) -> fmt::Result
     ensures { OnOk result (AppendsText f.old
-        (pieces.dictionary_text A.IrText.written A.outlined (directives_of directives.now) (entries_of attributes.now)) f.new) }
+        (pieces.dictionary_text A.IrText.written A.outlined (directives_of directives.now)
+        (entries_of attributes.now)) f.new) }
 {
     f.push_str(" [")?;
     fmt_entries(attributes, directives, f)?;

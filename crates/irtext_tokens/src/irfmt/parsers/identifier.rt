@@ -46,7 +46,8 @@ pub fn identifier_parse<S: CharStream, A>(stream: &mut S) -> ParseResult<Identif
 /// allocates nothing, and works on a failed stream too.
 pub fn skip_identifier<S: CharStream>(stream: &mut S) -> bool
     ensures { MatchBool result
-        ((begins begins_word (S.view stream.old).rest ≡ true) × TakesFront S.view S.at in_word stream.old stream.new)
+        ((begins begins_word (S.view stream.old).rest ≡ true)
+        × TakesFront S.view S.at in_word stream.old stream.new)
         (stream.new ≡ stream.old) }
 {
     if begins(stream, Class::Beginning) {

@@ -20,7 +20,8 @@ use irtext_base::result::{Cause, Expected};
 fn append_plain<S: CharStream, A>(stream: &mut S, text: &mut String) -> ParseResult<(), A>
     requires { (S.view stream.old).failed ≡ false }
     ensures value { IfOk result (λ _.
-        string_bytes text.new ≡ string_bytes text.old ++ encode_utf8_all (front is_plain (S.view stream.old).rest)) }
+        string_bytes text.new ≡ string_bytes text.old
+        ++ encode_utf8_all (front is_plain (S.view stream.old).rest)) }
     ensures stream { MatchResult result
         (λ _. TakesFront S.view S.at is_plain stream.old stream.new)
         (λ fault. Starves S.view S.at stream.old fault stream.new) }
@@ -53,7 +54,8 @@ fn no_character<S: CharStream, A>(stream: &mut S, escape: Place, digits: Place) 
     requires { HasPassed digits (S.view stream.old) }
     ensures { AtPlace escape (S.view stream.old) (λ before rest. SincePlace digits (S.view stream.old)
         (λ passed taken.
-        StarvesOrFails S.view S.at (BadUnicodeEscape (encode_utf8_all taken)) before stream.old result stream.new)) }
+        StarvesOrFails S.view S.at (BadUnicodeEscape (encode_utf8_all taken)) before stream.old result
+        stream.new)) }
 {
     match String::from_str(stream.allocator(), stream.text_since(digits)) {
         Ok(text) => refuse_at(stream, escape, Cause::BadUnicodeEscape(text)),
@@ -133,7 +135,8 @@ fn unit_parse<S: CharStream, A>(stream: &mut S) -> ParseResult<char, A>
 fn units_parse<S: CharStream, A>(stream: &mut S) -> ParseResult<String, A>
     requires { (S.view stream.old).failed ≡ false }
     ensures { Answers S.view S.at (λ s. string_bytes s)
-        (mapped encode_utf8_all (demanded (units_at [] (S.view stream.old).rest))) stream.old result stream.new }
+        (mapped encode_utf8_all (demanded (units_at [] (S.view stream.old).rest))) stream.old
+        result stream.new }
 {
     let mut text = String::new(stream.allocator());
     append_plain(stream, &mut text)?;
