@@ -60,6 +60,10 @@ module _ {O B T : Type 0} where
     pub labels : (b : Ptr BasicBlock) → IsDefined g (OfBlock b) → IsBlank g (OfBlock b) → IsNew m g (owner (OfBlock b))
         → (Among b own → ⊥) → ⊥
 
+  -- whichever count is taken: what was pending is still pending, with these names and this graph
+  abbrev pub StaysPending : NameTracker Value (Ptr BasicBlock) → NameTracker Value (Ptr BasicBlock) → GraphView (Option O) B T → GraphView (Option O) B T → Type 0
+  StaysPending old new g k = (m : ℕ) (own : List (Ptr BasicBlock)) → ArePending m own old.values old.labels g → ArePending m own new.values new.labels k
+
   -- what calls that use names keep: names match the graph, placeholders wait for names as before, and what is older is unchanged
   pub record KeepsTies (old new : NameTracker Value (Ptr BasicBlock)) (g k : GraphView (Option O) B T) : Type 0 where
     pub tied : MatchesGraph new.values new.labels k
@@ -69,5 +73,5 @@ module _ {O B T : Type 0} where
   -- what calls that define names keep: the same, where what is older than a parse uses nothing newer and is no placeholder
   pub record SettlesTies (old new : NameTracker Value (Ptr BasicBlock)) (g k : GraphView (Option O) B T) : Type 0 where
     pub tied : MatchesGraph new.values new.labels k
-    pub waiting : (m : ℕ) (own : List (Ptr BasicBlock)) → ArePending m own old.values old.labels g → ArePending m own new.values new.labels k
+    pub waiting : StaysPending old new g k
     pub kept : (m : ℕ) (own : List (Ptr BasicBlock)) → IsClosedBelow m g → ArePending m own old.values old.labels g → KeepsOlder m g k

@@ -11,7 +11,7 @@ ghost use Rattle.irtext_scopes.specs.Scopes.{is_open, outer};
 ghost use Rattle.irtext_scopes.specs.Tracker.{entered, left, unresolved};
 ghost use Rattle.irtext_scopes.specs.declared.tracker.EnterFault.{EnterFault};
 ghost use Rattle.irtext_names.specs.Linked.{StandsAt, Takes, FailsBy, nothing_made};
-ghost use Rattle.irtext_names.specs.Tied.{MatchesGraph, ArePending, NoneIsLeft};
+ghost use Rattle.irtext_names.specs.Tied.{MatchesGraph, ArePending, NoneIsLeft, StaysPending};
 
 use irtext_graph::arena::Ptr;
 use irtext_graph::graph::Graph;
@@ -53,9 +53,7 @@ pub fn enter_region<O: Drop, B: Drop, T: Drop>(
     ensures err_labels { OnErr result (names.new.labels ≡ names.old.labels) }
     ensures names { names.new.names ≡ names.old.names }
     ensures tied { MatchesGraph names.new.values names.new.labels graph.now }
-    ensures waiting { (m : ℕ) (own : List (Ptr BasicBlock))
-        → ArePending m own names.old.values names.old.labels graph.now
-        → ArePending m own names.new.values names.new.labels graph.now }
+    ensures waiting { StaysPending names.old names.new graph.now graph.now }
     ensures enters { OnOk result (Takes (enter isolated) (history.entered isolated) names.old names.new
         graph.now) }
     ensures shut { result ≡ Err EnterFault.TopLevelOpRegionNotIsolatedFromAbove
@@ -81,9 +79,7 @@ pub fn exit_region<O: Drop, B: Drop, T: Drop>(
     ensures labels { names.new.labels ≡ outer names.old.labels }
     ensures names { names.new.names ≡ names.old.names }
     ensures tied { MatchesGraph names.new.values names.new.labels graph.now }
-    ensures waiting { IfNone result ((m : ℕ) (own : List (Ptr BasicBlock))
-        → ArePending m own names.old.values names.old.labels graph.now
-        → ArePending m own names.new.values names.new.labels graph.now) }
+    ensures waiting { IfNone result (StaysPending names.old names.new graph.now graph.now) }
     ensures none_left { IfNone result ((m : ℕ) (own : List (Ptr BasicBlock)) → ArePending m own
         names.old.values names.old.labels graph.now
         → names.new.values ≡ [] → names.new.labels ≡ [] → NoneIsLeft m own graph.now) }

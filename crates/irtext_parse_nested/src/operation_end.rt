@@ -21,7 +21,7 @@ ghost use Rattle.irtext_tokens.specs.Infix.{◌▷◌};
 ghost use Rattle.irtext_tokens.specs.Tokens.{space_at};
 ghost use Rattle.irtext_parse_state.specs.States.{marks_of};
 ghost use Rattle.irtext_scopes.specs.Names.{KeepsNames};
-ghost use Rattle.irtext_names.specs.Tied.{MatchesGraph, ArePending};
+ghost use Rattle.irtext_names.specs.Tied.{MatchesGraph, ArePending, StaysPending};
 ghost use Rattle.irtext_grammar.specs.Contexts.Held.{whole};
 ghost use Rattle.irtext_parse_spec.specs.Readers.Streams.{itself, replaced, KeepsRest};
 ghost use Rattle.irtext_parse_spec.specs.Promises.Root.{UnlessMemory};
@@ -98,9 +98,7 @@ fn define_results<O: Drop, B: Drop, T: Drop, A>(
     ensures values { length names.new.values ≡ length names.old.values }
     ensures rest { (names.new.names ≡ names.old.names) × (names.new.labels ≡ names.old.labels) }
     ensures tied { MatchesGraph names.new.values names.new.labels graph.new }
-    ensures waiting { (m : ℕ) (own : List (Ptr BasicBlock))
-        → ArePending m own names.old.values names.old.labels graph.old
-        → ArePending m own names.new.values names.new.labels graph.new }
+    ensures waiting { StaysPending names.old names.new graph.old graph.new }
     ensures kept { (m : ℕ) (own : List (Ptr BasicBlock)) → IsClosedBelow m graph.old
         → ArePending m own names.old.values names.old.labels graph.old
         → graphs.KeepsOlder m graph.old graph.new }

@@ -1,5 +1,5 @@
 //! The beginning and the end of a region.
-ghost use Rattle.std.specs.Prelude.{◌≡◌, ◌≤◌, ◌⊎◌, ℕ, List, true, false, codes, [], ◌∷◌, None, IfOk, IfErr, OnOk, IsSome};
+ghost use Rattle.std.specs.Prelude.{◌≡◌, ◌≤◌, ◌⊎◌, ℕ, true, false, codes, [], ◌∷◌, None, IfOk, IfErr, OnOk, IsSome};
 ghost use Rattle.irtext_base.specs.Faults as fault;
 ghost use Rattle.irtext_base.specs.Faults.{fault_of};
 ghost use Rattle.irtext_base.specs.Stream.{IsAt};
@@ -7,7 +7,6 @@ ghost use Rattle.irtext_context.specs.Context.{operation, AddsRegion, KeepsOlder
 ghost use Rattle.irtext_graph.specs.Graph.{IsNew};
 ghost use Rattle.irtext_graph.specs.declared.object.Object.TheVariants.{TheOperation, TheRegion};
 ghost use Rattle.irtext_graph.specs.declared.arena.Ptr.{Ptr};
-ghost use Rattle.irtext_graph.specs.declared.object.BasicBlock.{BasicBlock};
 ghost use Rattle.irtext_tokens.specs.Infix.{◌▷◌};
 ghost use Rattle.irtext_tokens.specs.MustRead.{MustRead};
 ghost use Rattle.irtext_tokens.specs.Tokens.{space_at, word};
@@ -20,7 +19,7 @@ ghost use Rattle.irtext_grammar.specs.Names.History.{enter, leave};
 ghost use Rattle.irtext_grammar.specs.Names.History as history;
 ghost use Rattle.irtext_grammar.specs.Names.Script.{NotIsolated};
 ghost use Rattle.irtext_names.specs.Linked.{Takes, FailsBy};
-ghost use Rattle.irtext_names.specs.Tied.{MatchesGraph, ArePending};
+ghost use Rattle.irtext_names.specs.Tied.{MatchesGraph, StaysPending};
 ghost use Rattle.irtext_parse_spec.specs.Readers.Streams.{itself, replaced, KeepsRest};
 ghost use Rattle.irtext_parse_spec.specs.Promises.Root.{UnlessMemory};
 ghost use Rattle.irtext_parse_spec.specs.Promises.Section.{IsStarved};
@@ -98,9 +97,7 @@ pub fn enter_here<T: IrText<A>, A: AttrText<A>, U>(
     ensures labels { OnOk result (names.new.labels ≡ [] ∷ names.old.labels) }
     ensures names { names.new.names ≡ names.old.names }
     ensures tied { MatchesGraph names.new.values names.new.labels s.old.state.ctx.now.graph }
-    ensures waiting { (m : ℕ) (own : List (Ptr BasicBlock))
-        → ArePending m own names.old.values names.old.labels s.old.state.ctx.now.graph
-        → ArePending m own names.new.values names.new.labels s.old.state.ctx.now.graph }
+    ensures waiting { StaysPending names.old names.new s.old.state.ctx.now.graph s.old.state.ctx.now.graph }
     ensures takes { OnOk result (Takes (enter isolated) (history.entered isolated) names.old names.new
         s.old.state.ctx.now.graph) }
     ensures open { OnOk result (is_open names.new.values ≡ true) }
@@ -208,9 +205,7 @@ fn leave<O: Drop, B: Drop, T: Drop, A>(
     ensures labels { names.new.labels ≡ outer names.old.labels }
     ensures names { names.new.names ≡ names.old.names }
     ensures tied { MatchesGraph names.new.values names.new.labels graph.now }
-    ensures waiting { OnOk result ((m : ℕ) (own : List (Ptr BasicBlock))
-        → ArePending m own names.old.values names.old.labels graph.now
-        → ArePending m own names.new.values names.new.labels graph.now) }
+    ensures waiting { OnOk result (StaysPending names.old names.new graph.now graph.now) }
     ensures takes { OnOk result ((a : ℕ) → Takes (leave region.isolated a) (history.left region.isolated)
         names.old names.new graph.now) }
     ensures refused { IfErr result (UnlessMemory (IsUnresolved names.old graph.now (whole stream.old) region)) }
