@@ -1,4 +1,4 @@
-//! The context: operations, blocks and regions, dialects with the formats of their operations, and the check of formats.
+//! The context: operations, blocks and regions, and dialects with the formats of their operations.
 #![tactic(auto)]
 
 pub mod base;
