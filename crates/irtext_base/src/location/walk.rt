@@ -72,10 +72,8 @@ impl<'m, M: NewSources> Walk<'m, M> {
         row: Row<'a, A>,
         frames: &mut Vec<Frame<'a, A>>,
     ) -> Result<Turn<'a, A>, AllocError>
-        ensures on { IfOk result (λ t. Continues (M.rule self.now.sources.now) (row_rest row.entry) frames.old
-            t frames.new) }
-        ensures less { IfOk result (λ t. work frames.new.items t
-            ≡ stack_turns frames.old.items + row_turns row.entry) }
+        ensures on { IfOk result (λ t. Continues (M.rule self.now.sources.now) (row_rest row.entry) frames.old t frames.new) }
+        ensures less { IfOk result (λ t. work frames.new.items t ≡ stack_turns frames.old.items + row_turns row.entry) }
     {
         let Row {
             metadata,
@@ -103,11 +101,9 @@ impl<'m, M: NewSources> Walk<'m, M> {
         frames: &mut Vec<Frame<'a, A>>,
     ) -> Result<Turn<'a, A>, AllocError>
         requires { IsTrue (taken (M.rule self.now.sources.now) state.old (location_view location.now)).known }
-        ensures on { IfOk result (λ t. Opens (M.rule self.now.sources.now) location.now state.old frames.old t
-            state.new frames.new) }
+        ensures on { IfOk result (λ t. Opens (M.rule self.now.sources.now) location.now state.old frames.old t state.new frames.new) }
         ensures reached { Reached (M.rule self.now.sources.now) state.old state.new }
-        ensures less { IfOk result (λ t. work frames.new.items t < stack_turns frames.old.items + turns
-            (location_view location.now)) }
+        ensures less { IfOk result (λ t. work frames.new.items t < stack_turns frames.old.items + turns (location_view location.now)) }
     {
         match location {
             Location::SrcPos { src, pos } => {
@@ -144,10 +140,8 @@ impl<'m, M: NewSources> Walk<'m, M> {
         copy: Location<A>,
         frames: &mut Vec<Frame<'a, A>>,
     ) -> Result<Turn<'a, A>, AllocError>
-        ensures on { IfOk result (λ t. Continues (M.rule self.now.sources.now) (closing frame.entry copy)
-            frames.old t frames.new) }
-        ensures less { IfOk result (λ t. work frames.new.items t < stack_turns frames.old.items + frame_turns
-            frame.entry) }
+        ensures on { IfOk result (λ t. Continues (M.rule self.now.sources.now) (closing frame.entry copy) frames.old t frames.new) }
+        ensures less { IfOk result (λ t. work frames.new.items t < stack_turns frames.old.items + frame_turns frame.entry) }
     {
         match frame {
             Frame::Named(name) => Ok(Turn::Done(named(self.alloc, name, copy)?)),
@@ -170,8 +164,7 @@ impl<'m, M: NewSources> Walk<'m, M> {
         state: &mut M::State,
     ) -> Result<Location<A>, AllocError>
         requires { IsTrue (taken (M.rule self.now.sources.now) state.old (location_view location.now)).known }
-        ensures ok { IfOk result (λ l. Copies (M.rule self.now.sources.now) location.now state.old
-            l state.new) }
+        ensures ok { IfOk result (λ l. Copies (M.rule self.now.sources.now) location.now state.old l state.new) }
         ensures reached { Reached (M.rule self.now.sources.now) state.old state.new }
     {
         let mut frames = Vec::new(self.alloc);
