@@ -224,6 +224,49 @@ const ROWS: &[(&str, &str)] = &[
     ),
 ];
 
+/// Texts with a syntax error or an unregistered attribute after a name that is used outside of every region,
+/// after a reserved key or after an argument that is defined twice, and the error of each. The parts of an
+/// operation before its first region, and the header of a block, are parsed before their names and reserved keys
+/// are looked at.
+const PARSED_FIRST: &[(&str, &str)] = &[
+    (
+        "test.global (x) [] #",
+        "line: 1, column: 20: Unexpected `#`, expected `[`!",
+    ),
+    (
+        "test.global (x) []",
+        "line: 1, column: 19: Unexpected end of input, expected `[`!",
+    ),
+    (
+        "test.return x, #",
+        "line: 1, column: 16: Unexpected `#`, expected identifier!",
+    ),
+    (
+        "test.return x #",
+        "line: 1, column: 13: No active scope for identifier x!",
+    ),
+    (
+        "test.global (x) [^y] [k: foo.bar]",
+        "line: 1, column: 26: Unregistered attribute foo.bar!",
+    ),
+    (
+        "test.global (x) [^y] []: <() -> ()>",
+        "line: 1, column: 14: No active scope for identifier x!",
+    ),
+    (
+        "builtin.module @m { ^a(): test.global () [] [builtin_given_names: builtin.integer <0: si64>] # }",
+        "line: 1, column: 94: Unexpected `#`, expected `:`!",
+    ),
+    (
+        "builtin.module @m { ^a() [builtin_given_names: builtin.integer <0: si64>] # }",
+        "line: 1, column: 75: Unexpected `#`, expected `:`!",
+    ),
+    (
+        "builtin.module @m { ^a(x: test.ptr, x: test.ptr) # }",
+        "line: 1, column: 50: Unexpected `#`, expected `:`!",
+    ),
+];
+
 /// The result for a text in a context of its own.
 fn answered(alloc: Global, text: &str) -> Result<String, Fail> {
     with_demo(alloc, |alloc, ctx| said(alloc, ctx, text))
@@ -232,6 +275,14 @@ fn answered(alloc: Global, text: &str) -> Result<String, Fail> {
 #[test]
 fn a_refused_text_leaves_what_stood(rt: HostRuntime) -> Result<(), Fail> {
     for row in ROWS {
+        assert_eq!(rt; answered(rt.alloc(), row.0)?.as_str(), row.1);
+    }
+    Ok(())
+}
+
+#[test]
+fn parts_are_parsed_before_their_names_are_looked_up(rt: HostRuntime) -> Result<(), Fail> {
+    for row in PARSED_FIRST {
         assert_eq!(rt; answered(rt.alloc(), row.0)?.as_str(), row.1);
     }
     Ok(())

@@ -49,6 +49,11 @@ const LISTS: &[(Reader, &str, &str)] = &[
         "line: 1, column: 1: Unexpected `x`, expected `[`|Some('x')",
     ),
     (
+        Reader::Brackets,
+        "[1 2]",
+        "line: 1, column: 4: Unexpected `2`, expected `]`!",
+    ),
+    (
         Reader::Items,
         "  1 2  3 x",
         "[1, 2, 3], line: 1, column: 10: Some('x')",

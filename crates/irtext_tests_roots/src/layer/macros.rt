@@ -92,3 +92,18 @@ fn what_the_macros_make(rt: HostRuntime) -> Result<(), Fail> {
     }
     Ok(())
 }
+
+/// The `Display` of an error that a macro makes from a format and its arguments.
+fn displayed(alloc: Global) -> Result<String, Fail> {
+    let error: Error<DemoAttr> = pliron_text::input_error_noloc!(in alloc; "Some formatted {}", 0);
+    Ok(format!(in alloc; "{error}")?)
+}
+
+#[test]
+fn what_an_error_displays(rt: HostRuntime) -> Result<(), Fail> {
+    assert_eq!(rt;
+        displayed(rt.alloc())?.as_str(),
+        "Compilation error: invalid input program.\nSome formatted 0",
+    );
+    Ok(())
+}

@@ -31,6 +31,11 @@ const ROWS: &[Row] = &[
     },
     Row {
         format: "d",
+        text: "lab.d []",
+        said: "lab.d []",
+    },
+    Row {
+        format: "d",
         text: "lab.d [ ]",
         said: "lab.d []",
     },
