@@ -3,3 +3,4 @@ pub mod Drops
 pub mod KeptKeys
 pub mod Spliced
 pub mod FewEntries
+pub mod Copies

@@ -1,5 +1,5 @@
 -- What a contract sees of a dictionary: its entries in order. The given names are kept apart from the others.
-use Rattle.std.specs.Prelude.{◌≡◌, IsTrue, ℕ, zero, suc, ◌≤◌, Bool, true, false, not, ◌&&◌, List, [], ◌∷◌, length, Option, Some, None}
+use Rattle.std.specs.Prelude.{◌≡◌, IsTrue, ℕ, zero, suc, ◌≤◌, Bool, true, false, not, ◌&&◌, List, [], ◌∷◌, length, filter, Option, Some, None}
 use Rattle.std.specs.Str.{bytes_eq}
 use Rattle.irtext_base.specs.Text.{Text}
 use Rattle.irtext_base.specs.Format.{given_names_key}
@@ -68,3 +68,14 @@ module _ {A : Type 0} where
   abbrev pub moved_up : Option (Given A) → ℕ → Option (Given A)
   moved_up None gone = None
   moved_up (Some g) gone = Some (record g { at = closed_up gone g.at })
+
+module _ {A : Type 0} (is_own_outlined : A → Bool) where
+  -- the attribute is outlined: it is a list of given names, or one of the caller's own that is outlined
+  abbrev pub is_outlined : AttrObj A → Bool
+  is_outlined (GivenNames _) = true
+  is_outlined (Ident _) = false
+  is_outlined (Own a) = is_own_outlined a
+
+  -- the entries whose attributes are not outlined, in their order
+  abbrev pub without_outlined : List (Text × AttrObj A) → List (Text × AttrObj A)
+  without_outlined es = filter (λ e. not (is_outlined e.1)) es

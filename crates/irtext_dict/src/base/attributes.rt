@@ -11,6 +11,7 @@ ghost use Rattle.irtext_dict.specs.Dictionary.{are_given_names, placed, moved_up
 ghost use Rattle.irtext_dict.specs.Entries.{entries_left};
 ghost use Rattle.irtext_base.specs.declared.base.attributes.Refusal.TheVariants.{Memory};
 
+mod copy;
 mod kept;
 mod others;
 

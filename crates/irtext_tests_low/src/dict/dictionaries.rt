@@ -1,9 +1,11 @@
 //! A dictionary of up to twenty keys and given names: they are inserted, replaced and removed, and are in the order in which
-//! they were inserted.
+//! they were inserted. A copy without the outlined attributes keeps that order.
 use crate::dict::pairs::{differing_step, put};
 use irtext_base::base::{AttrObj, GIVEN_NAMES_KEY, Identifier};
+use irtext_demo::DemoAttr;
 use irtext_dict::base::AttributeDict;
 use irtext_tests_common::answers::named;
+use irtext_tests_common::building::attribute;
 use std::alloc::Global;
 use std::test::Fail;
 
@@ -114,5 +116,55 @@ fn step(alloc: Global, dictionary: &mut AttributeDict<()>, number: usize) -> Res
 #[test]
 fn keys_keep_their_order(rt: HostRuntime) -> Result<(), Fail> {
     assert_eq!(rt; differing_step(rt.alloc(), LISTED, step)?, None);
+    Ok(())
+}
+
+/// Attributes in the order in which they are inserted, and those that are copied: `g` for given names, `n` for a debug note, `t` for a
+/// string and `i` for an identifier.
+const COPIED: &[(&str, &str)] = &[
+    ("", ""),
+    ("gn", ""),
+    ("nitg", "it"),
+    ("tingnit", "tiit"),
+    ("iiiitniiiitg", "iiiitiiiit"),
+];
+
+/// A dictionary of these attributes.
+fn filled(alloc: Global, letters: &str) -> Result<AttributeDict<DemoAttr>, Fail> {
+    let mut dictionary = AttributeDict::new(alloc);
+    for letter in letters.chars() {
+        let mut key = format!(in alloc; "key_{}", dictionary.len())?;
+        if letter == 'g' {
+            key = String::from_str(alloc, GIVEN_NAMES_KEY)?;
+        }
+        let put = dictionary.insert(named(alloc, key.as_str())?, attribute(alloc, letter)?);
+        put.ok().ok_or("refused")?;
+    }
+    Ok(dictionary)
+}
+
+/// The letters of a dictionary's attributes.
+fn letters(alloc: Global, dictionary: &AttributeDict<DemoAttr>) -> Result<String, Fail> {
+    let mut text = String::new(alloc);
+    for (_key, attr) in dictionary.iter() {
+        let letter = match attr {
+            AttrObj::GivenNames(_) => "g",
+            AttrObj::Ident(_) => "i",
+            AttrObj::Own(DemoAttr::Debug(_)) => "n",
+            AttrObj::Own(_) => "t",
+        };
+        text.push_str(letter)?;
+    }
+    Ok(text)
+}
+
+#[test]
+fn outlined_attributes_are_not_copied(rt: HostRuntime) -> Result<(), Fail> {
+    for row in COPIED {
+        let dictionary = filled(rt.alloc(), row.0)?;
+        let copy = dictionary.clone_skip_outlined()?;
+        assert_eq!(rt; letters(rt.alloc(), &copy)?.as_str(), row.1);
+        assert_eq!(rt; letters(rt.alloc(), &dictionary)?.as_str(), row.0);
+    }
     Ok(())
 }
