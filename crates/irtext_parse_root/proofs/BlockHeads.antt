@@ -44,15 +44,15 @@ use Rattle.irtext_parse_pieces.specs.Headers.{IsHead}
 use Rattle.irtext_parse_pieces.specs.Marks.{IsMark, IsMarkIf}
 use Rattle.irtext_parse_pieces.specs.Named.{StandsFor, Each, MayMean, MustMean}
 use Rattle.irtext_parse_pieces.proofs.Meanings.{may_whole}
-use Rattle.irtext_promises.specs.Alone.{RefusesBlock}
-use Rattle.irtext_promises.specs.Promises.{IsOf, IsFirst}
+use Rattle.irtext_promises.specs.Alone.{FailsOutside, RefusesBlock}
+use Rattle.irtext_promises.specs.Promises.{outside_with, IsOf, IsFirst}
 use Rattle.irtext_parse_nested.specs.Blocks.{entries_in, IsKeyFault}
 use Rattle.irtext_parse_nested.specs.Definitions.{IsFaultOf}
 use Rattle.irtext_parse_nested.proofs.Faults.{stands_there, some_same}
 use Rattle.irtext_parse_nested.proofs.Headers.{keys_each}
 use Rattle.irtext_parse_nested.proofs.Marking.{not_noted, noted_before}
 use Rattle.irtext_parse_root.proofs.Failing.{head_honest}
-use Rattle.irtext_parse_root.specs.Block.{outside_with, FailsOutside, MissesBlock, no_header, by_header, first_reserved, noted_twice}
+use Rattle.irtext_parse_root.specs.Block.{MissesBlock, no_header, by_header, first_reserved, noted_twice}
 use Rattle.irtext_parse_root.proofs.Causes.{no_cause}
 
 -- ---- where the text does not begin with `^`, and where it does
@@ -337,13 +337,12 @@ module _ {T A : Type 0} (types_at : Text → Outcome T) (attr : Text → Outcome
   -- if no mark was recorded, that is what is promised on a fresh state
   pub misses_fresh : (marks : List ℕ) → marks ≡ [] → UnlessMemory (MissesBlock types_at attr marks old new) fault → UnlessMemory (RefusesBlock types_at attr old) fault
   misses_fresh marks none (inl starved) = inl starved
-  misses_fresh marks none (inr (no_header r)) = inr (record { first = λ head taken rest e. absurd (subst (λ o. Refuses itself replaced o old fault new) e r) })
+  misses_fresh marks none (inr (no_header r)) = inr (record { fails = λ head taken rest e. absurd (subst (λ o. Refuses itself replaced o old fault new) e r) })
   misses_fresh marks none (inr (by_header h t r e n f)) =
       inr (record {
-        first = λ head taken rest g.
+        fails = λ head taken rest g.
             let same : h ≡ head = cc (e, g) in
-            subst (λ z. IsFirst (whole old) (failures same_text (outside_with []) (does_all (header_acts [] z) done)) fault) same
-            (subst (λ ms. IsFirst (whole old) (failures same_text (outside_with ms) (does_all (header_acts [] h) done)) fault) none f.first);
+            subst (λ z. FailsOutside [] (whole old) z fault) same (subst (λ ms. FailsOutside ms (whole old) h fault) none f);
       })
 
 -- the fault of a header that is not parsed, where types and attributes say of a text what is of it

@@ -13,9 +13,9 @@ use Rattle.irtext_parse_spec.specs.Promises.Section.{indices_of}
 use Rattle.irtext_names.specs.Linked.{nothing_made}
 use Rattle.irtext_names.proofs.Added.{no_ties, no_waits}
 use Rattle.irtext_names.proofs.Linked.Kept.{stands_by}
+use Rattle.irtext_promises.specs.Promises.{start_with}
 use Rattle.irtext_parse_nested.specs.Items.{Names, StandsAs, BlanksDefine, IsSound}
 use Rattle.irtext_parse_nested.proofs.OfItems.{nothing_of}
-use Rattle.irtext_parse_root.specs.AnyState.{start_with}
 use Rattle.irtext_parse_root.specs.Turned.{IsSoundOnce}
 
 -- no name has two numbers

@@ -8,7 +8,6 @@ pub mod Chains
 pub mod Closed
 pub mod Failing
 pub mod Faulting
-pub mod FewerMarks
 pub mod Fresh
 pub mod Handing
 pub mod Labels
@@ -20,7 +19,6 @@ pub mod Nearer
 pub mod NestedWhole
 pub mod Nesting
 pub mod Newer
-pub mod NoMarks
 pub mod Outer
 pub mod Owns
 pub mod Proceeding

@@ -17,11 +17,12 @@ use Rattle.irtext_names.specs.OfItems.{AreOf}
 use Rattle.irtext_parse_spec.specs.Reached.{Advanced, operation_at}
 use Rattle.irtext_parse_spec.specs.Promises.Root.{UnlessMemory}
 use Rattle.irtext_parse_spec.specs.Promises.Section.{indices_of}
+use Rattle.irtext_promises.specs.Leaves.{LeavesTree}
+use Rattle.irtext_promises.specs.Promises.{start_with, HasFault, at_text, by_names}
 use Rattle.irtext_parse_nested.specs.Items.{Names, StandsAs, doing}
 use Rattle.irtext_parse_nested.specs.Located.{IsLocated}
 use Rattle.irtext_parse_root.specs.Nested as nested
 use Rattle.irtext_parse_root.specs.Nested.{ReadsNested, RefusesNested}
-use Rattle.irtext_parse_root.specs.AnyState.{start_with, LeavesFrom, HasFaultFrom, at_text, by_names}
 use Rattle.irtext_parse_root.proofs.Fresh.{begun_stands}
 
 module _ {T A U : Type 0} (types_at : Reader T) (attr : Reader (AttrView A)) (before : Names) (old : StateStream T A U)
@@ -39,7 +40,7 @@ module _ {T A U : Type 0} (types_at : Reader T) (attr : Reader (AttrView A)) (be
         × (operation_at dialects types_at attr (doing dialects path) true old.stream.rest (going (start_with earlier)) ≡ Advanced tt z new.stream.rest)
     at_end path = r.runs path [] (going (start_with earlier)) (begun_stands before old.state no_names no_values no_labels path)
 
-    abbrev pub leaves_tree : LeavesFrom types_at attr dialects earlier (IsLocated old.state.src (whole old.stream)) op (indices_of (marks_of new.state)) old.state.ctx.now new.state.ctx.now old.stream.rest new.stream.rest
+    abbrev pub leaves_tree : LeavesTree types_at attr dialects earlier (IsLocated old.state.src (whole old.stream)) op (indices_of (marks_of new.state)) old.state.ctx.now new.state.ctx.now old.stream.rest new.stream.rest
     leaves_tree = record {
       tree = r.tree;
       built = r.builds;
@@ -58,7 +59,7 @@ module _ {T A U : Type 0} (types_at : Reader T) (attr : Reader (AttrView A)) (be
     }
 
   -- ---- it was an error
-  pub has_fault : (fault : ParseFault A) → UnlessMemory (RefusesNested types_at attr before old) fault → UnlessMemory (HasFaultFrom types_at attr dialects earlier (whole old.stream) old.stream.rest) fault
+  pub has_fault : (fault : ParseFault A) → UnlessMemory (RefusesNested types_at attr before old) fault → UnlessMemory (HasFault types_at attr dialects earlier (whole old.stream) old.stream.rest) fault
   has_fault fault (inl starved) = inl starved
   has_fault fault (inr (nested.at_text cause place f flag so)) =
       inr (at_text cause place f.because f.placed flag (λ path. so path [] (going (start_with earlier)) (begun_stands before old.state no_names no_values no_labels path)))

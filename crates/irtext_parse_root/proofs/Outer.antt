@@ -1,5 +1,5 @@
 -- The outermost parser's promise, with the section where it is looked for.
-use Rattle.std.proofs.Common.{◌≡◌, ◌∙◌, ◌⊎◌, ◌↔◌, Bool, true, false, true≢false, cond, ◌&&◌, List, [], ◌∷◌, refl, sym, inl, inr}
+use Rattle.std.proofs.Common.{◌≡◌, ◌∙◌, ◌⊎◌, ◌↔◌, ℕ, Bool, true, false, true≢false, cond, ◌&&◌, List, [], ◌∷◌, refl, sym, subst, inl, inr}
 use Rattle.std.specs.Prelude.{IsTrue}
 use Rattle.irtext_base.specs.Text.{Text}
 use Rattle.irtext_base.specs.Answers.{Outcome}
@@ -76,10 +76,12 @@ module _ {T A : Type 0} (types : Texts T) (owns : Texts A) (types_at : Text → 
   refused_with false old fault e h = absurd (true≢false (sym e))
 
 module _ {T A : Type 0} {types : ir_text.Ghosts T A} {owns : ir_text.Ghosts A A} (laws : Laws types owns) (dialects : List (Text × Table)) where
-  -- a fault of the operation
-  pub fault_with : (look : Bool) (old : StreamView) (fault : ParseFault A) → UnlessMemory (HasFault {T = T} types.reading (attr owns) dialects (whole old) old.rest) fault
+  -- a fault of the operation, where no mark was recorded
+  pub fault_with : (look : Bool) (old : StreamView) (fault : ParseFault A) (earlier : List ℕ) → earlier ≡ [] → UnlessMemory (HasFault {T = T} types.reading (attr owns) dialects earlier (whole old) old.rest) fault
       → UnlessMemory (RefusesWith (texts types) (texts owns) types.reading (attr owns) dialects look old) fault
-  fault_with true old fault (inl s) = inl s
-  fault_with true old fault (inr h) = inr (root_refused types.reading types.written owns.reading owns.written dialects laws.types_split laws.splits laws.words laws.short_types laws.short_owns old fault h)
-  fault_with false old fault (inl s) = inl s
-  fault_with false old fault (inr h) = inr (refuses_tree types.reading types.written owns.reading owns.written dialects laws.types_split laws.splits laws.words laws.short_types laws.short_owns old fault h)
+  fault_with look old fault earlier none (inl s) = inl s
+  fault_with look old fault earlier none (inr h) = inr (go look (subst (λ ms. HasFault {T = T} types.reading (attr owns) dialects ms (whole old) old.rest fault) none h))
+    where
+      go : (look : Bool) → HasFault {T = T} types.reading (attr owns) dialects [] (whole old) old.rest fault → RefusesWith (texts types) (texts owns) types.reading (attr owns) dialects look old fault
+      go true h = root_refused types.reading types.written owns.reading owns.written dialects laws.types_split laws.splits laws.words laws.short_types laws.short_owns old fault h
+      go false h = refuses_tree types.reading types.written owns.reading owns.written dialects laws.types_split laws.splits laws.words laws.short_types laws.short_owns old fault h

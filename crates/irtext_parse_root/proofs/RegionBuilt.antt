@@ -1,12 +1,12 @@
 -- A region that was parsed alone satisfies its promise: its contents are what its blocks build, and only the region and what is nested in
 -- it are new.
-use Rattle.std.proofs.Common.{◌≡◌, ◌⊎◌, ℕ, Bool, true, List, [], ◌∷◌, Option, Some, None, IsSome, option_map, refl, sym, subst, inl, inr}
-use Rattle.std.specs.Prelude.{IfSome, ⊤}
+use Rattle.std.proofs.Common.{◌≡◌, ◌∙◌, ◌⊎◌, ℕ, Bool, true, List, [], ◌∷◌, Some, None, IsSome, option_map, refl, sym, ap, subst, inl, inr}
+use Rattle.std.specs.Prelude.{⊤}
 use Rattle.irtext_base.specs.Text.{Text}
-use Rattle.irtext_base.specs.Format.{Format, Id, Accepted}
-use Rattle.irtext_base.specs.Paths.{Written}
+use Rattle.irtext_base.specs.Format.{Id}
+use Rattle.irtext_base.specs.Paths.{Written, KeepsPaths}
 use Rattle.irtext_base.specs.declared.location.Location.{Location}
-use Rattle.irtext_context.specs.Context.{ContextView, operation, region_of, KeepsOlder}
+use Rattle.irtext_context.specs.Context.{ContextView, operation, region_of, with_graph, KeepsOlder}
 use Rattle.irtext_context.specs.Dialects.{Table}
 use Rattle.irtext_graph.specs.declared.arena.Ptr.{Ptr}
 use Rattle.irtext_graph.specs.declared.object.Operation.{Operation}
@@ -19,7 +19,8 @@ use Rattle.irtext_graph.specs.Back.{AllOlder}
 use Rattle.irtext_graph.specs.Chained.{Among}
 use Rattle.irtext_graph.specs.Graph.{children, parent, IsLive, Appends}
 use Rattle.irtext_graph.specs.Nested as graphs
-use Rattle.irtext_graph.specs.Store.{get}
+use Rattle.irtext_graph.specs.Regions.{with_child}
+use Rattle.irtext_graph.specs.Store.{get, object_of}
 use Rattle.irtext_grammar.specs.Contexts.Formats.{format_of, IsAccepted}
 use Rattle.irtext_grammar.specs.Contexts.Held.{location_over}
 use Rattle.irtext_grammar.specs.Grammar.Forest as forest
@@ -44,15 +45,13 @@ use Rattle.irtext_names.specs.OfItems.{AreOf}
 use Rattle.irtext_names.specs.Tied.{NoneIsLeft}
 use Rattle.irtext_promises.specs.Alone.{OnlyNewIn, held_region}
 use Rattle.irtext_promises.specs.OnlyNew.{BlanksDefine}
+use Rattle.irtext_promises.proofs.Ages.{operation_stays, block_stays, region_stays}
 use Rattle.irtext_promises.proofs.AloneBuilds as builds
+use Rattle.irtext_promises.proofs.Kept.{accepts}
 use Rattle.irtext_promises.proofs.News as news
 use Rattle.irtext_parse_root.specs.Built.{RegionTracks}
-use Rattle.irtext_parse_root.specs.Region.{GainsRegion}
+use Rattle.irtext_parse_root.proofs.RegionGains.{gains_child, other_operation, each_block, other_region, there_in}
 use Rattle.irtext_parse_root.proofs.RegionMoved as moved
-
-accepts : (o : Option Format) (f : Format) → IfSome o Accepted → o ≡ Some f → Accepted f
-accepts None f h e = absurd (cc)
-accepts (Some g) f h e = let same : g ≡ f = cc in subst Accepted same h
 
 -- each operation that a text parses as has a body of an accepted format
 module _ {T A : Type 0} (dialects : List (Text × Table)) (accepted : (id : Id) → IsAccepted dialects id) where
@@ -100,20 +99,22 @@ module _ {T A : Type 0} (L : ℕ → Location A → Type 0) (start mid now : Con
   linked_now = subst (λ z. AllRegions OpLinked (λ b. ⊤) (λ q. ⊤) z) (sym builds_now) (builds.region_linked first isolated id id_closed place bs formed st ran)
 
   -- and only the region and what is nested in it are new
-  pub only_now : GainsRegion op r start now → OnlyNewIn op r start now
-  only_now gains = record {
+  pub only_now : now ≡ with_graph mid now.graph → OnlyNewIn op r start now
+  only_now is = record {
     live = news.region_live L start mid now items whole op r a there tracks.came tracks.all tracks.known hold.0 inside_now nest m older kept none blanks holders;
     is_new = news.region_is_new L start mid now items whole op r a there tracks.came tracks.all tracks.known hold.0 inside_now nest m older kept none blanks holders;
-    gains = gains.gains;
-    operations = gains.operations;
-    blocks = gains.blocks;
-    regions = λ q was. gains.regions q was (λ e. tracks.came (TheRegion r) hold.0 (region_seen (get start.graph.regions r) (subst (λ z. IsSome (get start.graph.regions z)) e was)));
+    gains = gains_child mid.graph now.graph op r a ∙ ap (option_map (object_of (with_child r))) (operation_stays m start.graph mid.graph older kept.graph op (there_in start op here));
+    operations = λ p was apart. other_operation mid.graph now.graph op r a p apart ∙ operation_stays m start.graph mid.graph older kept.graph p was;
+    blocks = λ b was. each_block mid.graph now.graph op r a b ∙ block_stays m start.graph mid.graph older kept.graph b was;
+    regions = λ q was.
+        other_region mid.graph now.graph op r a q (λ e. tracks.came (TheRegion r) hold.0 (region_seen (get start.graph.regions r) (subst (λ z. IsSome (get start.graph.regions z)) e was)))
+        ∙ region_stays m start.graph mid.graph older kept.graph q was;
     uses = news.region_uses L start mid now items whole op r a there tracks.came tracks.all tracks.known hold.0 inside_now nest m older kept none blanks holders rs
         (builds.is_region L now items whole r place bs hold_now tracks.known tracks.once inside_now nest path said) linked_now path
         (builds.placed L now items whole r place bs hold_now tracks.known tracks.once inside_now nest path said)
         (builds.occurs_whole L now items whole r place bs hold_now tracks.known tracks.once inside_now nest path said);
-    paths = gains.paths;
-    dialects = gains.dialects;
+    paths = subst (λ (c : ContextView T A). KeepsPaths start.paths c.paths) (sym is) kept.paths;
+    dialects = ap (λ (c : ContextView T A). c.dialects) is ∙ kept.dialects;
   }
     where
       region_seen : (x : moved.OfRegion) → IsSome x → IsSome (option_map region_of x)

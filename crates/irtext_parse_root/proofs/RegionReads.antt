@@ -41,7 +41,6 @@ use Rattle.irtext_parse_spec.proofs.Built.{blocks_after, last_after, whole_after
 use Rattle.irtext_parse_spec.proofs.Seen.{shows_blocks}
 use Rattle.irtext_parse_spec.proofs.Whole.{WholeRegions, WholeBlocks, WholeOperations, blocks_read}
 use Rattle.irtext_names.proofs.Linked.Passes.{ran_through}
-use Rattle.irtext_promises.specs.Alone.{region_alone}
 use Rattle.irtext_parse_nested.specs.Items.{Names, StandsAs, doing}
 use Rattle.irtext_parse_root.specs.Carried.{marks_in_blocks, AreCarried}
 use Rattle.irtext_parse_root.specs.Told.{Did, did_enter, did_leave, told, all_done}
@@ -61,18 +60,14 @@ use Rattle.irtext_grammar.proofs.Grammar.PartsOfFormats.{FormedBlocks}
 use Rattle.irtext_parse_spec.specs.Promises.Root.{location_of}
 use Rattle.irtext_names.specs.OfItems.{AreOf}
 use Rattle.irtext_names.specs.Tied.{NoneIsLeft}
-use Rattle.irtext_promises.specs.Alone.{BuildsRegion}
-use Rattle.irtext_promises.proofs.Behind.{values_shut, labels_shut, none_left}
+use Rattle.irtext_promises.specs.Alone.{region_alone, BuildsRegion}
+use Rattle.irtext_promises.proofs.Behind.{values_shut, labels_shut, none_left, place_told}
+use Rattle.irtext_promises.proofs.Kept.{came_same}
 use Rattle.irtext_parse_nested.specs.Items.{IsSound}
 use Rattle.irtext_parse_nested.specs.Located.{IsLocated}
 use Rattle.irtext_parse_root.proofs.RegionBuilt as built
-use Rattle.irtext_promises.proofs.Behind.{place_told}
-use Rattle.irtext_parse_root.specs.Region.{GainsRegion}
 use Rattle.irtext_parse_root.proofs.RegionPlaces.{paths_exist}
 use Rattle.irtext_parse_root.proofs.RegionRuns.{region_runs}
-
-came_same : {X S : Type 0} (x y : X) (s t : S) (a b : Text) → Advanced x s a ≡ Advanced y t b → s ≡ t
-came_same x y s t a b e = cc
 
 -- ---- what is known of blocks that a text parses as
 module _ {T A : Type 0} (types : Texts T) (owns : Texts A) (formats : Id → Option Format) where
@@ -217,8 +212,7 @@ module _ {T A U : Type 0} (types_at : Reader T) (types_written : T → Text) (re
   -- ---- what it built
   module _ (id : Id) (id_closed : isolated ds id ≡ true) (here : IsSome (context.operation old.state.ctx.now op)) (older : AllOlder old.state.ctx.now.graph.made old.state.ctx.now.graph)
       (kept : KeepsOlder old.state.ctx.now.graph.made old.state.ctx.now u.mid.state.ctx.now) (sound : IsSound old.state.ctx.now.graph.made names u.mid.state)
-      (nest : graphs.Nested (children new.state.ctx.now.graph) (parent new.state.ctx.now.graph)) (holders : (c k : Object) → parent old.state.ctx.now.graph c ≡ Some k → IsLive old.state.ctx.now.graph k)
-      (gains : GainsRegion op r old.state.ctx.now new.state.ctx.now) where
+      (nest : graphs.Nested (children new.state.ctx.now.graph) (parent new.state.ctx.now.graph)) (holders : (c k : Object) → parent old.state.ctx.now.graph c ≡ Some k → IsLive old.state.ctx.now.graph k) where
     values_none : names.values ≡ []
     values_none = values_shut names u.mid.state.ctx.now.graph at_end.1.known [] at_end.1.state at_end.1.stands (ap (λ (z : history.State). z.values) region_says)
 
@@ -247,5 +241,5 @@ module _ {T A U : Type 0} (types_at : Reader T) (types_written : T → Text) (re
       marks = region_marks;
       only = built.only_now (IsLocated old.state.src (whole old.stream)) old.state.ctx.now u.mid.state.ctx.now new.state.ctx.now u.made u.holds.whole op r place blocks u.holds.holds u.holds.there u.holds.tracks u.places here
           old.state.ctx.now.graph.made older kept none sound.blanks holders nest named.0 named.1 (isolated ds) id id_closed formed names at_end.1.known are at_end.1.state at_end.1.stands ran
-          (location_of new.state.ctx.now.paths old.state.src (whole old.stream)) (λ n l e. place_told new.state.ctx.now.paths old.state.src (whole old.stream) n l e) gains;
+          (location_of new.state.ctx.now.paths old.state.src (whole old.stream)) (λ n l e. place_told new.state.ctx.now.paths old.state.src (whole old.stream) n l e) u.with_it;
     }

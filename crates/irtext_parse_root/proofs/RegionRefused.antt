@@ -4,7 +4,7 @@ use Rattle.std.proofs.Common.{◌≡◌, ◌∙◌, ℕ, Bool, true, false, cond
 use Rattle.irtext_base.specs.Text.{Text}
 use Rattle.irtext_base.specs.Format.{Id}
 use Rattle.irtext_base.specs.Faults.{Fault, NotIsolated, fault_of, id_of}
-use Rattle.irtext_base.specs.Own.{Sincere, Texts, is_first_fault, texts_of}
+use Rattle.irtext_base.specs.Own.{Sincere, is_first_fault, texts_of}
 use Rattle.irtext_base.specs.declared.base.identifier.OpId.{OpId}
 use Rattle.irtext_base.specs.Answers.{Outcome}
 use Rattle.irtext_base.specs.Stream.{StreamView}
@@ -44,17 +44,17 @@ use Rattle.irtext_parse_spec.proofs.Naming.Shorter.{Shortens}
 use Rattle.irtext_names.proofs.Linked.Passes.{ran_into}
 use Rattle.irtext_promises.specs.Alone as alone
 use Rattle.irtext_promises.specs.Alone.{region_alone, RefusesRegion, first}
-use Rattle.irtext_promises.specs.Promises.{IsOf, IsFirst}
+use Rattle.irtext_promises.specs.Promises.{start_with, IsOf, IsFirst}
+use Rattle.irtext_promises.proofs.Refuses.{first_is}
 use Rattle.irtext_parse_nested.specs.Items.{Names, StandsAs, doing}
 use Rattle.irtext_parse_root.specs.AnyRegion as region
 use Rattle.irtext_parse_root.specs.AnyRegion.{ReadsRegion, HasRegionFault, MissesRegion}
-use Rattle.irtext_parse_root.specs.AnyState.{start_with}
 use Rattle.irtext_parse_root.specs.Under as under
 use Rattle.irtext_parse_root.specs.Under.{IsolatedAs, ReadsUnder, FaultUnder, RefusesUnder}
 use Rattle.irtext_parse_root.specs.Region.{unisolated, IsReportedAt}
 use Rattle.irtext_parse_root.proofs.Causes.{no_cause}
 use Rattle.irtext_parse_root.proofs.Failing.{region_never_failed}
-use Rattle.irtext_parse_root.proofs.Fresh.{fresh_stands, begun_stands}
+use Rattle.irtext_parse_root.proofs.Fresh.{begun_stands}
 use Rattle.irtext_parse_root.proofs.Refused.{SaysText}
 use Rattle.irtext_parse_root.proofs.RegionPlaces.{paths_exist}
 use Rattle.irtext_parse_root.proofs.RegionRuns.{region_runs}
@@ -80,10 +80,10 @@ closed_id {T} {A} c op here none = go (operation c op) here none
     go None h n = absurd (cc)
     go (Some view) h n = (id_of view.id, is_closed (isolated c.dialects (id_of view.id)) view.loc n)
 
--- if a position is reported, the operation has a location, and is not isolated
-pub reported : {A : Type 0} (loc : Option (Location A)) (pos : SourcePosition) → IsReportedAt loc (Some pos) → (l : Location A) × (loc ≡ Some l) × alone.IsOutermost l pos
-reported None pos h = absurd h
-reported (Some l) pos h = (l, refl, h)
+-- if a position is reported, the operation has a location, and is not isolated; an error at that position says so
+pub reported : {A : Type 0} (loc : Option (Location A)) (pos : SourcePosition) → IsReportedAt loc (Some pos) → (fault : ParseFault A) → fault_of fault.cause ≡ NotIsolated → fault.committed ≡ true → fault.pos ≡ pos → alone.IsUnisolated loc fault
+reported None pos h fault because flag at = absurd h
+reported (Some l) pos h fault because flag at = record { loc = l; is = refl; because = because; flag = flag; at = subst (alone.IsOutermost l) (sym at) h }
 
 -- if none is reported, it is isolated
 pub unreported : {A : Type 0} (loc : Option (Location A)) → IsReportedAt loc None → loc ≡ None
@@ -124,14 +124,6 @@ refused_unisolated old new fault because flag fails = record {
   failed = λ e. absurd (cc (because, e));
 }
 
-pub unisolated_missed : {T A U : Type 0} {types_at : Reader T} {attr : Reader (AttrView A)} {op : Ptr Operation} {old : StateStream T A U} (loc : Location A) → unisolated old.state.ctx.now op ≡ Some loc → (fault : ParseFault A) → fault_of fault.cause ≡ NotIsolated
-    → fault.committed ≡ true → alone.IsOutermost loc fault.pos → UnlessMemory (MissesRegion types_at attr op old) fault
-unisolated_missed loc is fault because flag at = inr (region.not_isolated loc is because flag at)
-
-pub unisolated_refused : {T A : Type 0} {types : Texts T} {owns : Texts A} {dialects : List (Text × Table)} {iso : Option (Location A)} {old : StreamView} (loc : Location A) → iso ≡ Some loc → (fault : ParseFault A) → fault_of fault.cause ≡ NotIsolated → alone.IsOutermost loc fault.pos
-    → UnlessMemory (RefusesRegion types owns dialects iso old) fault
-unisolated_refused loc is fault because at = inr (alone.not_isolated loc is because at)
-
 -- ---- what an error says of its cause
 module _ {T A U : Type 0} (types_at : Reader T) (reading : Reader A) (sincere_types : Sincere types_at) (sincere : Sincere reading) (before : Names) (old : StateStream T A U)
     (no_names : before.names ≡ []) (no_values : before.values ≡ []) (no_labels : before.labels ≡ []) (op : Ptr Operation) where
@@ -142,7 +134,7 @@ module _ {T A U : Type 0} (types_at : Reader T) (reading : Reader A) (sincere_ty
   says_region fault (inr (under.in_text iso of_it opened (under.at_text begins cause place f flag so))) =
       let ds = old.state.ctx.now.dialects in
       let path : ℕ → Path = λ n. [] in
-      let begun : history.State = record { values = []; labels = []; marks = indices_of (marks_of old.state); entries = []; bound = [] } in
+      let begun = start_with (indices_of (marks_of old.state)) in
       let stuck = so path [] (going begun) (begun_stands before old.state no_names no_values no_labels path) in
       record {
         not_failed = λ e. region_never_failed types_at reading sincere_types sincere ds (doing {T = T} {A = A} ds path) iso old.stream.rest (going begun) (going stuck.0) cause place stuck.1 (sym f.because ∙ e);
@@ -194,9 +186,6 @@ module _ {T A U : Type 0} (types_at : Reader T) (attr : Reader (AttrView A)) (be
   misses_region fault (inr (under.in_text iso of_it opened f)) = inr (region.in_text none (fault_missed iso (closed_as old.state.ctx.now op here none iso of_it) fault f))
 
 -- ---- that it is the first failure
-first_is : {A : Type 0} (text : Text) (f : Failure Text ℕ) (fs gs : List (Failure Text ℕ)) (fault : ParseFault A) → fs ≡ f ∷ gs → IsOf text f fault → IsFirst text fs fault
-first_is text f fs gs fault e h = subst (λ z. IsFirst text z fault) (sym e) h
-
 -- a text that begins with a brace begins a region
 begins_so : (text m : Text) → text ≡ codes "{" ++ m → begins_region text ≡ true
 begins_so text m e = ap begins_region e
@@ -228,33 +217,25 @@ module _ {T A : Type 0} (types_at : Text → Outcome T) (types_written : T → T
       let all = ran_into (region_alone dialects (length rest) bs) f ran in
       first_is text f (failures no_scope (region_alone dialects (length rest) bs)) all.0 fault all.1 is
 
-module _ {T A U : Type 0} (types_at : Reader T) (types_written : T → Text) (reading : Reader A) (written : A → Text) (types_split : Splits types_at) (splits : Splits reading) (words : NeedsWord reading)
-    (short_types : Shortens (texts_of types_at types_written)) (short_owns : Shortens (texts_of reading written)) (before : Names) (old : StateStream T A U)
-    (no_names : before.names ≡ []) (no_values : before.values ≡ []) (no_labels : before.labels ≡ []) (fresh : IsFresh old) (op : Ptr Operation)
-    (here : IsSome (operation old.state.ctx.now op)) (none : unisolated old.state.ctx.now op ≡ None) where
-  abbrev Refused : ParseFault A → Type 0
-  Refused = RefusesRegion (texts_of types_at types_written) (texts_of reading written) old.state.ctx.now.dialects (unisolated old.state.ctx.now op) old.stream
+  -- so the promise of an error is kept, where no mark was recorded
+  in_text_refused : (old : StreamView) (fault : ParseFault A) (iso : Option (Location A)) → iso ≡ None → HasRegionFault types_at (attr_at reading) dialects [] old fault → RefusesRegion (texts_of types_at types_written) (texts_of reading written) dialects iso old fault
+  in_text_refused old fault iso none (region.no_brace begins because at flag) = first none (λ bs rest r. let b = begins_there bs old.rest rest r in absurd (cc (begins, b)))
+  in_text_refused old fault iso none (region.at_text begins cause place because at flag so) =
+      let path : ℕ → Path = λ n. [] in
+      let stuck = so path in
+      first none (λ bs rest r. absurd (stuck_unread old.rest (going start) (going stuck.0) cause place path stuck.1 bs rest r))
+  in_text_refused old fault iso none (region.by_names begins f is flag ends) =
+      first none (λ bs rest r. record { first = region_first (whole old) old.rest f fault is ends bs rest r; flag = flag })
 
+module _ {T A U : Type 0} (types_at : Reader T) (types_written : T → Text) (reading : Reader A) (written : A → Text) (types_split : Splits types_at) (splits : Splits reading) (words : NeedsWord reading)
+    (short_types : Shortens (texts_of types_at types_written)) (short_owns : Shortens (texts_of reading written)) (op : Ptr Operation) (old : StateStream T A U) (fresh : IsFresh old) (fault : ParseFault A) where
   abbrev ds : List (Text × Table)
   ds = old.state.ctx.now.dialects
 
-  isolated_there : (iso : Bool) → IsolatedAs old.state.ctx.now op iso → iso ≡ true
-  isolated_there iso of_it = closed_as old.state.ctx.now op here none iso of_it
-
-  -- so the promise of an error is kept, if the operation is isolated
-  pub refuses_region : (fault : ParseFault A) → UnlessMemory (RefusesUnder types_at (attr_at reading) op before old) fault → UnlessMemory Refused fault
-  refuses_region fault (inl starved) = inl starved
-  refuses_region fault (inr (under.not_isolated of_it shared because flag at)) = let e = isolated_there false of_it in absurd (cc)
-  refuses_region fault (inr (under.in_text iso of_it opened (under.no_region begins because flag at))) =
-      inr (first none (λ bs rest r. let b = begins_there types_at types_written reading written ds types_split splits words short_types short_owns bs old.stream.rest rest r in absurd (cc (begins, b))))
-  refuses_region fault (inr (under.in_text iso of_it opened (under.at_text begins cause place f flag so))) =
-      let path : ℕ → Path = λ n. [] in
-      let stuck = so path [] (going start) (fresh_stands before old.state no_names no_values no_labels fresh.marks path) in
-      let e = subst (λ b. region_at ds types_at (attr_at reading) (doing ds path) b old.stream.rest (going start) ≡ Stopped (going stuck.0) cause place) (isolated_there iso of_it) stuck.1 in
-      inr (first none (λ bs rest r. absurd (stuck_unread types_at types_written reading written ds types_split splits words short_types short_owns old.stream.rest (going start) (going stuck.0) cause place path e bs rest r)))
-  refuses_region fault (inr (under.in_text iso of_it opened (under.by_names begins failure f so))) =
-      let ends : (path : ℕ → Path) → EndsIn (failed failure) (region_at ds types_at (attr_at reading) (doing ds path) true old.stream.rest (going start)) =
-      λ path. subst (λ b. EndsIn (failed failure) (region_at ds types_at (attr_at reading) (doing ds path) b old.stream.rest (going start))) (isolated_there iso of_it)
-      (so path [] (going start) (fresh_stands before old.state no_names no_values no_labels fresh.marks path)) in
-      inr (first none (λ bs rest r. region_first types_at types_written reading written ds types_split splits words short_types short_owns (whole old.stream) old.stream.rest failure fault
-      (f.cause, f.place) ends bs rest r))
+  -- what an error says on any state is what is promised of it on a fresh one
+  pub refuses_region : UnlessMemory (MissesRegion types_at (attr_at reading) op old) fault → UnlessMemory (RefusesRegion (texts_of types_at types_written) (texts_of reading written) ds (unisolated old.state.ctx.now op) old.stream) fault
+  refuses_region (inl starved) = inl starved
+  refuses_region (inr (region.not_isolated u)) = inr (alone.not_isolated u)
+  refuses_region (inr (region.in_text none f)) =
+      let here = subst (λ ms. HasRegionFault types_at (attr_at reading) ds ms old.stream fault) (ap indices_of fresh.marks) f in
+      inr (in_text_refused types_at types_written reading written ds types_split splits words short_types short_owns old.stream fault (unisolated old.state.ctx.now op) none here)

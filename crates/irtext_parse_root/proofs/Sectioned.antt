@@ -27,34 +27,28 @@ use Rattle.irtext_grammar.specs.Grammar.Section.{Entry, section}
 use Rattle.irtext_grammar.specs.Grammar.Tree.{Mark, Tree}
 use Rattle.irtext_grammar.specs.Graphs.Build.{build}
 use Rattle.irtext_grammar.specs.Graphs.Links.{links}
-use Rattle.irtext_grammar.specs.Names.Acts.{tree_script, failures_of, rule_of}
-use Rattle.irtext_grammar.specs.Names.History.{going, start, run, events}
+use Rattle.irtext_grammar.specs.Names.Acts.{failures_of, rule_of}
 use Rattle.irtext_grammar.specs.Names.Resolves as resolves
-use Rattle.irtext_grammar.specs.Names.Script.{Path, done}
+use Rattle.irtext_grammar.specs.Names.Script.{done}
 use Rattle.irtext_grammar.proofs.Grammar.PartsOfFormats.{Formed}
 use Rattle.irtext_grammar.proofs.Grammar.WholeTree as trees
 use Rattle.irtext_grammar.proofs.Graphs.Links.{all_there}
 use Rattle.irtext_grammar.proofs.Names.ResolvedRoot as resolved
 use Rattle.irtext_parse_spec.specs.Promises.Root.{location_of}
-use Rattle.irtext_parse_spec.specs.Promises.Section.{indices_of, is_noted, Faults}
-use Rattle.irtext_parse_spec.specs.Promises.Supported.{location_standing, RefusedAs}
+use Rattle.irtext_parse_spec.specs.Promises.Section.{indices_of, is_noted}
+use Rattle.irtext_parse_spec.specs.Promises.Supported.{location_standing}
 use Rattle.irtext_parse_spec.specs.Promises.Root.{UnlessMemory}
 use Rattle.irtext_parse_spec.proofs.Readers.Answered.{moves_more}
-use Rattle.irtext_parse_spec.specs.Naming.{naming}
-use Rattle.irtext_parse_spec.specs.Naming as paths
 use Rattle.irtext_parse_spec.proofs.Knot.Whole as knot
 use Rattle.irtext_parse_spec.proofs.Naming.Places.{places_fall}
-use Rattle.irtext_parse_spec.proofs.Naming.Scripts.{read_runs}
 use Rattle.irtext_promises.specs.Given.{RootHas}
 use Rattle.irtext_promises.specs.Held.{held_root, placed_under, IsWhole}
-use Rattle.irtext_promises.specs.Leaves.{StandsBehind}
 use Rattle.irtext_promises.specs.OnlyNew.{OnlyNew}
 use Rattle.irtext_promises.specs.Placed.{RootIs}
 use Rattle.irtext_promises.specs.Promises.{BuildsTree, BuildsRoot, RefusesRoot}
 use Rattle.irtext_promises.specs.WithSection.{SameShape}
 use Rattle.irtext_promises.proofs.Ages.{operation_stays, block_stays, region_stays}
 use Rattle.irtext_promises.proofs.Behind.{place_told}
-use Rattle.irtext_promises.proofs.Builds as builds
 use Rattle.irtext_promises.proofs.Equal.{Keeps}
 use Rattle.irtext_promises.proofs.Kept as kept
 use Rattle.irtext_promises.proofs.Root as root
@@ -64,7 +58,8 @@ use Rattle.irtext_promises.proofs.Given.{root_has}
 use Rattle.irtext_parse_spec.specs.Agrees.{refused, ReadOrStops}
 use Rattle.irtext_parse_spec.specs.Entries.{section_at}
 use Rattle.irtext_parse_spec.proofs.Lawful.{section_read, section_found}
-use Rattle.irtext_parse_root.specs.Carried.{marks_in, object_of}
+use Rattle.irtext_parse_root.specs.AnyState.{MissesSection, ReadsTree}
+use Rattle.irtext_parse_root.specs.Carried.{marks_in, object_of, AreCarried}
 use Rattle.irtext_parse_root.proofs.Carrying.{marks_are}
 use Rattle.irtext_parse_pieces.proofs.Meanings.{takes_whole}
 use Rattle.irtext_tokens.proofs.Steps.{alone}
@@ -72,8 +67,6 @@ use Rattle.irtext_parse_nested.specs.Located.{IsLocated}
 use Rattle.irtext_parse_section.specs.Applied.{AreNewer}
 use Rattle.irtext_parse_section.specs.Said.{rules_of}
 use Rattle.irtext_parse_section.specs.Section.{ReadsSection}
-use Rattle.irtext_parse_root.specs.Marked.{LeavesMarked}
-use Rattle.irtext_parse_root.proofs.Closed.{came_to}
 use Rattle.irtext_parse_root.proofs.Laws.{Laws}
 use Rattle.irtext_parse_root.proofs.Marks.{CarriesOnly, marked_items, carries_only}
 use Rattle.irtext_parse_root.proofs.Newer.{all_newer}
@@ -82,7 +75,7 @@ use Rattle.irtext_parse_root.proofs.Rules.{rules_are}
 use Rattle.irtext_parse_root.proofs.SectionFirst.{first_wrong}
 use Rattle.irtext_parse_root.proofs.SectionGives as gives
 
-module _ {T A U : Type 0} {types : ir_text.Ghosts T A} {owns : ir_text.Ghosts A A} (laws : Laws types owns) (op : Ptr Operation) (old mid : StateStream T A U) (m : LeavesMarked types.reading (attr_at owns.reading) op old mid) where
+module _ {T A U : Type 0} {types : ir_text.Ghosts T A} {owns : ir_text.Ghosts A A} (laws : Laws types owns) (op : Ptr Operation) (old mid : StateStream T A U) (m : ReadsTree types.reading (attr_at owns.reading) op old mid) (none : marks_of old.state ≡ []) where
   -- what is parsed of a type and of an attribute, and what is printed
   abbrev types_at : Text → Outcome T
   types_at = types.reading
@@ -102,6 +95,12 @@ module _ {T A U : Type 0} {types : ir_text.Ghosts T A} {owns : ir_text.Ghosts A 
   abbrev L : ℕ → Location A → Type 0
   L = IsLocated old.state.src (whole old.stream)
 
+  abbrev earlier : List ℕ
+  earlier = indices_of (marks_of old.state)
+
+  none_earlier : earlier ≡ []
+  none_earlier = ap indices_of none
+
   abbrev noted : List ℕ
   noted = indices_of (marks_of mid.state)
 
@@ -114,52 +113,43 @@ module _ {T A U : Type 0} {types : ir_text.Ghosts T A} {owns : ir_text.Ghosts A 
   abbrev first_of : ContextView T A → ℕ → Written A
   first_of c = location_of c.paths old.state.src (whole old.stream)
 
+  -- the recorded marks are those of the tree
+  same_marks : marks ≡ m.marks
+  same_marks = m.noted ∙ ap (λ (ms : List (ℕ × Item)). ms ++ m.marks) none
+
+  carried : AreCarried m.leaves.items (marks_in t) marks
+  carried = subst (AreCarried m.leaves.items (marks_in t)) (sym same_marks) m.carried
+
   -- the items of the recorded marks are newer than what was there before
   pub marks_newer : AreNewer old.state.ctx.now.graph.made mid.state.ctx.now marks
-  marks_newer = all_newer old.state.ctx.now.graph.made old.state.ctx.now mid.state.ctx.now m.older m.kept L m.leaves.items m.leaves.whole op t m.leaves.held marks m.carried
+  marks_newer = all_newer old.state.ctx.now.graph.made old.state.ctx.now mid.state.ctx.now m.closed.older m.closed.kept L m.leaves.items m.leaves.whole op t m.leaves.held marks carried
 
   -- ---- no section
-  -- an operation that was parsed with no section keeps its promise
-  pub tree_built : BuildsTree (texts_of types_at types_written) (texts_of reading written) (attr_at reading) op old mid
-  tree_built = kept.builds_tree types_at types_written reading written laws.types_split laws.splits laws.words laws.short_types laws.short_owns L op old mid m.accepted m.leaves m.closed
-      (λ n l e. place_told mid.state.ctx.now.paths old.state.src (whole old.stream) n l e) m.moves
-
   is_marked : is_noted noted ≡ marked t
-  is_marked = root.marked_noted types_at types_written reading written dialects laws.types_split laws.splits laws.words laws.short_types laws.short_owns m.accepted L op noted old.state.ctx.now mid.state.ctx.now old.stream.rest mid.stream.rest m.leaves
+  is_marked = root.marked_noted types_at types_written reading written dialects laws.types_split laws.splits laws.words laws.short_types laws.short_owns m.accepted L op earlier noted old.state.ctx.now mid.state.ctx.now old.stream.rest mid.stream.rest m.leaves none_earlier
 
   reads_it : grammar.reads (knot.L types_at types_written reading written dialects) t old.stream.rest mid.stream.rest
-  reads_it = kept.reads_tree types_at types_written reading written dialects laws.types_split laws.splits laws.words laws.short_types laws.short_owns m.accepted L op noted old.state.ctx.now mid.state.ctx.now old.stream.rest mid.stream.rest m.leaves
+  reads_it = kept.reads_tree types_at types_written reading written dialects laws.types_split laws.splits laws.words laws.short_types laws.short_owns m.accepted L op earlier noted old.state.ctx.now mid.state.ctx.now old.stream.rest mid.stream.rest m.leaves
 
   tree_resolves : failures_of {X = Written A} (isolated dialects) t [] ≡ []
-  tree_resolves = kept.tree_resolves types_at types_written reading written dialects laws.types_split laws.splits laws.words laws.short_types laws.short_owns m.accepted L op noted old.state.ctx.now mid.state.ctx.now old.stream.rest mid.stream.rest m.leaves
+  tree_resolves = kept.tree_resolves types_at types_written reading written dialects laws.types_split laws.splits laws.words laws.short_types laws.short_owns m.accepted L op earlier noted old.state.ctx.now mid.state.ctx.now old.stream.rest mid.stream.rest m.leaves
 
-  named : (path : ℕ → Path) × paths.Names path t
-  named = kept.named types_at types_written reading written dialects laws.types_split laws.splits laws.words laws.short_types laws.short_owns m.accepted L op noted old.state.ctx.now mid.state.ctx.now old.stream.rest mid.stream.rest m.leaves
-
-  behind : StandsBehind types_at (attr_at reading) dialects m.leaves.items noted mid.state.ctx.now old.stream.rest mid.stream.rest named.0
-  behind = m.leaves.machine named.0
+  -- an operation that was parsed with no section keeps its promise
+  pub tree_built : BuildsTree (texts_of types_at types_written) (texts_of reading written) (attr_at reading) op old mid
+  tree_built = record { tree = t; reads = reads_it; resolves = tree_resolves; moves = m.moves; builds = m.builds; marks = ap indices_of same_marks ∙ m.marked; only = m.only }
 
   formed : Formed t
-  formed = kept.formed types_at types_written reading written dialects laws.types_split laws.splits laws.words laws.short_types laws.short_owns m.accepted L op noted old.state.ctx.now mid.state.ctx.now old.stream.rest mid.stream.rest m.leaves
-
-  ran : run (going start) (events (tree_script (isolated dialects) t done)) ≡ going behind.state
-  ran =
-      let found = knot.tree_found types_at types_written reading written dialects laws.types_split laws.splits (naming (format_of dialects) named.0) laws.words t old.stream.rest mid.stream.rest (going start) reads_it in
-      let runs = read_runs (texts_of types_at types_written) (texts_of reading written) (format_of dialects) named.0 (isolated dialects) t old.stream.rest mid.stream.rest named.1 reads_it (going start) in
-      sym runs ∙ came_to tt tt _ _ mid.stream.rest mid.stream.rest (sym found ∙ behind.came)
+  formed = kept.formed types_at types_written reading written dialects laws.types_split laws.splits laws.words laws.short_types laws.short_owns m.accepted L op earlier noted old.state.ctx.now mid.state.ctx.now old.stream.rest mid.stream.rest m.leaves
 
   module _ (first : ℕ → Written A) where
     is_tree : RootIs L mid.state.ctx.now m.leaves.items (pointers mid.state.ctx.now.graph op) t
-    is_tree = builds.is_tree L old.state.ctx.now mid.state.ctx.now m.leaves.items m.leaves.whole op t m.leaves.held m.closed.nest named.0 named.1 first (isolated dialects) formed behind.names behind.known behind.are behind.state behind.stands ran
+    is_tree = kept.is_tree types_at types_written reading written dialects laws.types_split laws.splits laws.words laws.short_types laws.short_owns m.accepted L op earlier noted old.state.ctx.now mid.state.ctx.now old.stream.rest mid.stream.rest m.leaves m.closed first
 
     keeps_links : (es : List (Entry ℕ A (Written A))) → Keeps mid.state.ctx.now first es (isolated dialects) (placed_under (pointers mid.state.ctx.now.graph op)) (links (build (isolated dialects) first es t))
-    keeps_links = builds.keeps L old.state.ctx.now mid.state.ctx.now m.leaves.items m.leaves.whole op t m.leaves.held m.closed.nest named.0 named.1 first (isolated dialects) formed behind.names behind.known behind.are behind.state behind.stands ran
+    keeps_links = kept.keeps types_at types_written reading written dialects laws.types_split laws.splits laws.words laws.short_types laws.short_owns m.accepted L op earlier noted old.state.ctx.now mid.state.ctx.now old.stream.rest mid.stream.rest m.leaves m.closed first
 
   tells_first : (n : ℕ) (l : Location A) → L n l → location_over mid.state.ctx.now.paths l ≡ first_of mid.state.ctx.now n
   tells_first n l e = place_told mid.state.ctx.now.paths old.state.src (whole old.stream) n l e
-
-  tree_only : OnlyNew op old.state.ctx.now mid.state.ctx.now
-  tree_only = kept.tree_only types_at types_written reading written dialects laws.types_split laws.splits laws.words laws.short_types laws.short_owns m.accepted L op noted old.state.ctx.now mid.state.ctx.now old.stream.rest mid.stream.rest m.leaves m.closed (first_of mid.state.ctx.now) tells_first
 
   whole_without : IsWhole mid.state.ctx.now op
   whole_without = root_whole mid.state.ctx.now (first_of mid.state.ctx.now) [] op t
@@ -167,18 +157,18 @@ module _ {T A U : Type 0} {types : ir_text.Ghosts T A} {owns : ir_text.Ghosts A 
 
   -- so does a root without a mark, after which no section is looked for
   pub root_unmarked : marks_of mid.state ≡ [] → BuildsRoot (texts_of types_at types_written) (texts_of reading written) (attr_at reading) op old mid
-  root_unmarked none =
-      let bare : marked t ≡ false = sym is_marked ∙ ap (λ (ms : List (ℕ × Item)). is_noted (indices_of ms)) none in
+  root_unmarked bare =
+      let unmarked : marked t ≡ false = sym is_marked ∙ ap (λ (ms : List (ℕ × Item)). is_noted (indices_of ms)) bare in
       record {
         tree = t;
         entries = [];
-        reads = (mid.stream.rest, reads_it, subst (λ z. section_if (knot.L types_at types_written reading written dialects) (location_standing (attr_at reading)) z [] mid.stream.rest mid.stream.rest) (sym bare) refl);
+        reads = (mid.stream.rest, reads_it, subst (λ z. section_if (knot.L types_at types_written reading written dialects) (location_standing (attr_at reading)) z [] mid.stream.rest mid.stream.rest) (sym unmarked) refl);
         resolves = tree_resolves;
         moves = m.moves;
-        builds = kept.tree_builds types_at types_written reading written dialects laws.types_split laws.splits laws.words laws.short_types laws.short_owns m.accepted L op noted old.state.ctx.now mid.state.ctx.now old.stream.rest mid.stream.rest m.leaves m.closed (first_of mid.state.ctx.now) tells_first;
+        builds = m.builds;
         is_whole = whole_without;
-        fresh = none;
-        only = tree_only;
+        fresh = bare;
+        only = m.only;
       }
 
   -- ---- a section
@@ -199,11 +189,11 @@ module _ {T A U : Type 0} {types : ir_text.Ghosts T A} {owns : ir_text.Ghosts A 
 
     -- what is allowed in the entry of an item by its mark is what is allowed by the tree
     same_rules : rules_of marks ≡ rule_of t
-    same_rules = rules_are L mid.state.ctx.now m.leaves.items (pointers mid.state.ctx.now.graph op) t (is_tree (first_of mid.state.ctx.now)) marks m.carried (length old.stream.rest) (length mid.stream.rest) m.falls apart
+    same_rules = rules_are L mid.state.ctx.now m.leaves.items (pointers mid.state.ctx.now.graph op) t (is_tree (first_of mid.state.ctx.now)) marks carried (length old.stream.rest) (length mid.stream.rest) m.falls apart
 
     carries : (n : ℕ) (x : Item) (mark : Option (Mark ℕ)) → Among (n, object_of x) m.leaves.items → Among (n, mark) (marked_items t) → CarriesOnly marks x mark
     carries = carries_only t (suc (length old.stream.rest)) (suc (length mid.stream.rest)) (places_fall (texts_of types_at types_written) (texts_of reading written) (format_of dialects) laws.short_types laws.short_owns t old.stream.rest mid.stream.rest reads_it)
-        m.leaves.items marks m.carried (length old.stream.rest) (length mid.stream.rest) m.falls m.leaves.held.tracks.once apart
+        m.leaves.items marks carried (length old.stream.rest) (length mid.stream.rest) m.falls m.leaves.held.tracks.once apart
 
     -- ---- it was parsed
     -- what the text is then, whatever the items have
@@ -219,7 +209,7 @@ module _ {T A U : Type 0} {types : ir_text.Ghosts T A} {owns : ir_text.Ghosts A 
       reads_marked = (mid.stream.rest, reads_it, subst (λ b. section_if (knot.L types_at types_written reading written dialects) (location_standing (attr_at reading)) b entries mid.stream.rest rest) (sym has_mark) read.0)
 
       pub resolves_marked : failures_of (isolated dialects) t entries ≡ []
-      resolves_marked = root.section_failures types_at types_written reading written dialects laws.types_split laws.splits laws.words laws.short_types laws.short_owns m.accepted L op noted old.state.ctx.now mid.state.ctx.now old.stream.rest mid.stream.rest m.leaves entries ∙ none_wrong
+      resolves_marked = root.section_failures types_at types_written reading written dialects laws.types_split laws.splits laws.words laws.short_types laws.short_owns m.accepted L op earlier noted old.state.ctx.now mid.state.ctx.now old.stream.rest mid.stream.rest m.leaves none_earlier entries ∙ none_wrong
 
     module _ (new : StateStream T A U) (r : ReadsSection (attr_at reading) mid new) (later : KeepsOlder old.state.ctx.now.graph.made mid.state.ctx.now new.state.ctx.now) where
       abbrev first : ℕ → Written A
@@ -244,16 +234,16 @@ module _ {T A U : Type 0} {types : ir_text.Ghosts T A} {owns : ir_text.Ghosts A 
       held = builds_given mid.state.ctx.now new.state.ctx.now shape first (isolated dialects) op t r.entries (all_there (isolated dialects) first r.entries t formed done tree_resolves) (keeps_links first r.entries) has
 
       all_kept : KeepsOlder old.state.ctx.now.graph.made old.state.ctx.now new.state.ctx.now
-      all_kept = kept_trans m.kept later
+      all_kept = kept_trans m.closed.kept later
 
       abbrev mark : ℕ
       mark = old.state.ctx.now.graph.made
 
       only : OnlyNew op old.state.ctx.now new.state.ctx.now
-      only = only_still op old.state.ctx.now mid.state.ctx.now new.state.ctx.now tree_only shape
-          (λ p h. operation_stays mark old.state.ctx.now.graph new.state.ctx.now.graph m.older all_kept.graph p h ∙ sym (operation_stays mark old.state.ctx.now.graph mid.state.ctx.now.graph m.older m.kept.graph p h))
-          (λ b h. block_stays mark old.state.ctx.now.graph new.state.ctx.now.graph m.older all_kept.graph b h ∙ sym (block_stays mark old.state.ctx.now.graph mid.state.ctx.now.graph m.older m.kept.graph b h))
-          (λ q h. region_stays mark old.state.ctx.now.graph new.state.ctx.now.graph m.older all_kept.graph q h ∙ sym (region_stays mark old.state.ctx.now.graph mid.state.ctx.now.graph m.older m.kept.graph q h))
+      only = only_still op old.state.ctx.now mid.state.ctx.now new.state.ctx.now m.only shape
+          (λ p h. operation_stays mark old.state.ctx.now.graph new.state.ctx.now.graph m.closed.older all_kept.graph p h ∙ sym (operation_stays mark old.state.ctx.now.graph mid.state.ctx.now.graph m.closed.older m.closed.kept.graph p h))
+          (λ b h. block_stays mark old.state.ctx.now.graph new.state.ctx.now.graph m.closed.older all_kept.graph b h ∙ sym (block_stays mark old.state.ctx.now.graph mid.state.ctx.now.graph m.closed.older m.closed.kept.graph b h))
+          (λ q h. region_stays mark old.state.ctx.now.graph new.state.ctx.now.graph m.closed.older all_kept.graph q h ∙ sym (region_stays mark old.state.ctx.now.graph mid.state.ctx.now.graph m.closed.older m.closed.kept.graph q h))
           all_kept.paths later.dialects
 
       -- the root keeps its promise
@@ -271,10 +261,9 @@ module _ {T A U : Type 0} {types : ir_text.Ghosts T A} {owns : ir_text.Ghosts A 
       }
 
     -- ---- it was an error
-    pub section_refused : (fault : ParseFault A) → Faults true (RefusedAs (section_at (attr_at reading) noted (rules_of marks) mid.stream.rest)) mid.stream fault
-        → UnlessMemory (RefusesRoot (texts_of types_at types_written) (texts_of reading written) types_at (attr_at reading) dialects old.stream) fault
+    pub section_refused : (fault : ParseFault A) → MissesSection (attr_at reading) mid fault → UnlessMemory (RefusesRoot (texts_of types_at types_written) (texts_of reading written) types_at (attr_at reading) dialects old.stream) fault
     section_refused fault (inl starved) = inl starved
-    section_refused fault (inr (cause, upto, h, at)) = inr (root.root_refused_behind types_at types_written reading written dialects laws.types_split laws.splits laws.words laws.short_types laws.short_owns m.accepted L op noted old.state.ctx.now mid.state.ctx.now old.stream mid.stream.rest m.leaves fault
+    section_refused fault (inr (cause, upto, h, at)) = inr (root.root_refused_behind types_at types_written reading written dialects laws.types_split laws.splits laws.words laws.short_types laws.short_owns m.accepted L op earlier noted old.state.ctx.now mid.state.ctx.now old.stream mid.stream.rest m.leaves none_earlier fault
         (λ es left s.
         let k = subst (λ b. section_if (knot.L types_at types_written reading written dialects) (location_standing (attr_at reading)) b es mid.stream.rest left) has_mark s in
         let found = section_found (texts_of types_at types_written) reading written (format_of dialects) laws.sincere laws.lawful noted (rules_of marks) mid.stream.rest es left k in

@@ -19,8 +19,8 @@ use Rattle.irtext_promises.specs.Promises.{BuildsRoot}
 use Rattle.irtext_parse_pieces.proofs.Meanings.{takes_whole}
 use Rattle.irtext_tokens.proofs.Steps.{alone}
 use Rattle.irtext_parse_section.specs.Section.{ReadsSection}
+use Rattle.irtext_parse_root.specs.AnyState.{ReadsTree}
 use Rattle.irtext_parse_root.specs.Ended.{EndsAny, MissesEnd, wrong_section, not_ended}
-use Rattle.irtext_parse_root.specs.Marked.{LeavesMarked}
 use Rattle.irtext_parse_root.specs.Parses.{attr, texts}
 use Rattle.irtext_parse_root.specs.Whole.{ExpectsEnd, BuildsWhole, LeavesMore, RefusesWhole}
 use Rattle.irtext_parse_root.specs.WholeAny.{HasSection}
@@ -32,7 +32,7 @@ use Rattle.irtext_parse_root.proofs.WholeSteps.{whole_refused}
 some_noted : {X : Type 0} (marks : List X) → is_noted marks ≡ true → marks ≡ [] → ⊥
 some_noted marks e none = true≢false (sym e ∙ ap is_noted none)
 
-module _ {T A U : Type 0} {types : ir_text.Ghosts T A} {owns : ir_text.Ghosts A A} (laws : Laws types owns) (op : Ptr Operation) (old mid : StateStream T A U) (m : LeavesMarked types.reading (attr owns) op old mid) where
+module _ {T A U : Type 0} {types : ir_text.Ghosts T A} {owns : ir_text.Ghosts A A} (laws : Laws types owns) (op : Ptr Operation) (old mid : StateStream T A U) (m : ReadsTree types.reading (attr owns) op old mid) (none : marks_of old.state ≡ []) where
   -- the text of the operation is that of the whole
   same_whole : whole mid.stream ≡ whole old.stream
   same_whole = takes_whole alone old.stream mid.stream m.moves.taken mid.stream.rest m.moves.takes
@@ -40,8 +40,8 @@ module _ {T A U : Type 0} {types : ir_text.Ghosts T A} {owns : ir_text.Ghosts A 
   module _ (new : StateStream T A U) (e : EndsAny (attr owns) mid new) (later : KeepsOlder old.state.ctx.now.graph.made mid.state.ctx.now new.state.ctx.now) where
     root_built : (marks : List (ℕ × Item)) → marks_of mid.state ≡ marks → cond (is_noted marks) (ReadsSection (attr owns) mid e.end) (e.end ≡ mid) → BuildsRoot (texts types) (texts owns) (attr owns) op old e.end
     root_built [] n s = subst (λ z. BuildsRoot (texts types) (texts owns) (attr owns) op old z) (sym s)
-        (root_unmarked laws op old mid m n)
-    root_built (x ∷ marks) n s = root_marked laws op old mid m (some_noted (marks_of mid.state) (ap is_noted n))
+        (root_unmarked laws op old mid m none n)
+    root_built (x ∷ marks) n s = root_marked laws op old mid m none (some_noted (marks_of mid.state) (ap is_noted n))
         e.end s (subst (λ (z : code.State T A U). KeepsOlder old.state.ctx.now.graph.made mid.state.ctx.now z.ctx.now) e.state later)
 
     -- a root, and nothing but white space after it
@@ -53,7 +53,7 @@ module _ {T A U : Type 0} {types : ir_text.Ghosts T A} {owns : ir_text.Ghosts A 
     more_there : (rest : Text) → ExpectsEnd (whole mid.stream) rest fault → (marks : List (ℕ × Item)) → marks_of mid.state ≡ marks → cond (is_noted marks) (HasSection (attr owns) mid rest) (rest ≡ mid.stream.rest)
         → LeavesMore (texts types) (texts owns) types.reading (attr owns) old fault
     more_there rest x [] n s =
-        let b = root_unmarked laws op old mid m n in
+        let b = root_unmarked laws op old mid m none n in
         record {
           tree = b.tree;
           entries = b.entries;
@@ -68,8 +68,8 @@ module _ {T A U : Type 0} {types : ir_text.Ghosts T A} {owns : ir_text.Ghosts A 
           tree = m.leaves.tree;
           entries = entries;
           rest = rest;
-          reads = reads_marked laws op old mid m some entries taken rest reads;
-          resolves = resolves_marked laws op old mid m some entries taken rest reads;
+          reads = reads_marked laws op old mid m none some entries taken rest reads;
+          resolves = resolves_marked laws op old mid m none some entries taken rest reads;
           more = subst (λ text. ExpectsEnd text rest fault) same_whole x;
         }
 
@@ -77,5 +77,5 @@ module _ {T A U : Type 0} {types : ir_text.Ghosts T A} {owns : ir_text.Ghosts A 
     pub rest_refused : UnlessMemory (MissesEnd (attr owns) mid) fault → UnlessMemory (RefusesWhole (texts types) (texts owns) types.reading (attr owns) old) fault
     rest_refused (inl starved) = inl starved
     rest_refused (inr (wrong_section noted f)) = whole_refused (texts types) (texts owns) types.reading (attr owns)
-        (section_refused laws op old mid m (some_noted (marks_of mid.state) noted) fault f)
+        (section_refused laws op old mid m none (some_noted (marks_of mid.state) noted) fault f)
     rest_refused (inr (not_ended rest is x)) = inr (inr (more_there rest x (marks_of mid.state) refl is))

@@ -1,11 +1,10 @@
 -- For callers: what parsing a region promises on any state, in which marks of earlier roots may be recorded.
-use Rattle.std.specs.Prelude.{◌≡◌, ℕ, true, false, List, Some, None, codes}
+use Rattle.std.specs.Prelude.{◌≡◌, ℕ, true, false, List, None, codes}
 use Rattle.irtext_base.specs.Text.{Text}
-use Rattle.irtext_base.specs.Faults.{Fault, NotIsolated, Unexpected, Word, fault_of}
+use Rattle.irtext_base.specs.Faults.{Fault, Unexpected, Word, fault_of}
 use Rattle.irtext_base.specs.Answers.{Outcome}
 use Rattle.irtext_base.specs.Stream.{StreamView, IsAt, first_of}
 use Rattle.irtext_base.specs.Locations.{AttrView}
-use Rattle.irtext_base.specs.declared.location.Location.{Location}
 use Rattle.irtext_base.specs.declared.parsable.fault.ParseFault.{ParseFault}
 use Rattle.irtext_context.specs.Dialects.{Table}
 use Rattle.irtext_graph.specs.declared.arena.Ptr.{Ptr}
@@ -20,9 +19,8 @@ use Rattle.irtext_parse_spec.specs.Promises.Section.{Moves, indices_of}
 use Rattle.irtext_parse_spec.specs.Naming.{naming}
 use Rattle.irtext_parse_spec.specs.Reached.{Advanced, Stopped, begins_region, region_at}
 use Rattle.irtext_parse_spec.specs.Resume.{EndsIn}
-use Rattle.irtext_promises.specs.Alone.{IsOutermost}
-use Rattle.irtext_promises.specs.Promises.{IsOf}
-use Rattle.irtext_parse_root.specs.AnyState.{start_with}
+use Rattle.irtext_promises.specs.Alone.{IsUnisolated}
+use Rattle.irtext_promises.specs.Promises.{start_with, IsOf}
 use Rattle.irtext_parse_root.specs.Region.{unisolated}
 
 module _ {T A : Type 0} (types_at : Text → Outcome T) (attr : Text → Outcome (AttrView A)) (dialects : List (Text × Table)) (earlier : List ℕ) where
@@ -48,8 +46,8 @@ module _ {T A U : Type 0} (types_at : Text → Outcome T) (attr : Text → Outco
     pub moves : Moves old.stream new.stream
     pub came : IsRegionText types_at attr old.state.ctx.now.dialects (indices_of (marks_of old.state)) old.stream.rest new.stream.rest
 
-  -- No region was parsed. If the operation is not isolated from above, the fault says so, committed, at the operation's position, whatever
-  -- the text is. If it is isolated, the fault is that of the text.
+  -- No region was parsed. If the operation is not isolated from above, the fault says so, whatever the text is. If it is isolated, the
+  -- fault is that of the text.
   pub data MissesRegion (op : Ptr Operation) (old : StateStream T A U) (fault : ParseFault A) : Type 0 where
-    not_isolated : (loc : Location A) → unisolated old.state.ctx.now op ≡ Some loc → fault_of fault.cause ≡ NotIsolated → fault.committed ≡ true → IsOutermost loc fault.pos → MissesRegion op old fault
+    not_isolated : IsUnisolated (unisolated old.state.ctx.now op) fault → MissesRegion op old fault
     in_text : unisolated old.state.ctx.now op ≡ None → HasRegionFault types_at attr old.state.ctx.now.dialects (indices_of (marks_of old.state)) old.stream fault → MissesRegion op old fault

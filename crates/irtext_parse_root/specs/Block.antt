@@ -1,8 +1,7 @@
 -- For callers: how a block is rejected where no region is open. Between functions: properties of a parsed header.
-use Rattle.std.specs.Prelude.{◌≡◌, ℕ, true, cond, List, [], ◌∷◌, Option, Some, None, is_some}
+use Rattle.std.specs.Prelude.{◌≡◌, ℕ, cond, List, [], ◌∷◌, Option, Some, None, is_some}
 use Rattle.std.specs.Map.{lookup}
 use Rattle.irtext_base.specs.Text.{Text}
-use Rattle.irtext_base.specs.Format.{same_text}
 use Rattle.irtext_base.specs.Answers.{Outcome, Read, Refuses}
 use Rattle.irtext_base.specs.Stream.{StreamView, behind, after_failure}
 use Rattle.irtext_base.specs.Locations.{AttrView}
@@ -11,25 +10,14 @@ use Rattle.irtext_base.specs.declared.parsable.fault.ParseFault.{ParseFault}
 use Rattle.irtext_parse_state.specs.States.{same_index}
 use Rattle.irtext_grammar.specs.Contexts.Held.{whole, attribute_of}
 use Rattle.irtext_grammar.specs.Grammar.Tree.{Head}
-use Rattle.irtext_grammar.specs.Names.Acts.{block_may_hold, header_acts}
-use Rattle.irtext_grammar.specs.Names.Scopes.{Scopes, no_scope, failures}
-use Rattle.irtext_grammar.specs.Names.Script.{done, does_all}
+use Rattle.irtext_grammar.specs.Names.Acts.{block_may_hold}
 use Rattle.irtext_parse_spec.specs.Readers.Streams.{itself, replaced}
 use Rattle.irtext_parse_spec.specs.Heads.{head_at}
 use Rattle.irtext_parse_pieces.specs.declared.entries.Key.{Key}
 use Rattle.irtext_parse_pieces.specs.declared.headers.BlockHead.{BlockHead}
 use Rattle.irtext_parse_pieces.specs.declared.marks.ReadMark.{ReadMark}
 use Rattle.irtext_parse_pieces.specs.Headers.{IsHead}
-use Rattle.irtext_promises.specs.Promises.{IsFirst}
-
--- no scope is open, and these indices are marked
-abbrev pub outside_with : List ℕ → Scopes Text
-outside_with marks = record no_scope { marks = marks }
-
--- the fault is committed, and is the first failure of the header when no scope is open and these indices are marked
-pub record FailsOutside {T A : Type 0} (marks : List ℕ) (text : Text) (head : Head ℕ T A) (fault : ParseFault A) : Type 0 where
-  pub first : IsFirst text (failures same_text (outside_with marks) (does_all (header_acts [] head) done)) fault
-  pub flag : fault.committed ≡ true
+use Rattle.irtext_promises.specs.Alone.{FailsOutside}
 
 module _ {T A : Type 0} (types_at : Text → Outcome T) (attr : Text → Outcome (AttrView A)) (marks : List ℕ) where
   -- A block outside of every region was rejected. Either its header does not parse, and the fault is that of the text, uncommitted if `^`

@@ -6,7 +6,6 @@ pub mod Carried
 pub mod Ended
 pub mod Here
 pub mod Levels
-pub mod Marked
 pub mod Nested
 pub mod Parses
 pub mod Region

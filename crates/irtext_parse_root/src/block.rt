@@ -16,10 +16,10 @@ ghost use Rattle.irtext_parse_spec.specs.Readers.Streams.{itself, replaced};
 ghost use Rattle.irtext_parse_spec.specs.Heads.{head_at};
 ghost use Rattle.irtext_parse_pieces.specs.Headers.{IsHead};
 ghost use Rattle.irtext_parse_pieces.specs.Named.{AreWords, NamesRead, MayMean};
-ghost use Rattle.irtext_promises.specs.Alone.{RefusesBlock};
+ghost use Rattle.irtext_promises.specs.Alone.{FailsOutside, RefusesBlock};
 ghost use Rattle.irtext_parse_nested.specs.Blocks.{entries_in, IsKeyFault};
 ghost use Rattle.irtext_parse_nested.specs.Definitions.{IsFaultOf};
-ghost use Rattle.irtext_parse_root.specs.Block.{FailsOutside, MissesBlock, first_reserved, noted_twice, IsRead};
+ghost use Rattle.irtext_parse_root.specs.Block.{MissesBlock, first_reserved, noted_twice, IsRead};
 
 use crate::outermost::failed_fault;
 use irtext_base::base::{AttrObj, Identifier};

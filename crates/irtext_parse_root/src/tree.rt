@@ -11,11 +11,10 @@ ghost use Rattle.irtext_tokens.specs.AttrTexts.{attr_at};
 ghost use Rattle.irtext_parse_state.specs.States.{marks_of};
 ghost use Rattle.irtext_grammar.specs.Contexts.Formats.{IsAccepted};
 ghost use Rattle.irtext_grammar.specs.Contexts.Held.{whole};
-ghost use Rattle.irtext_parse_spec.specs.Promises.Root.{IsFresh, UnlessMemory};
+ghost use Rattle.irtext_parse_spec.specs.Promises.Root.{UnlessMemory};
 ghost use Rattle.irtext_parse_spec.specs.Promises.Section.{Moves, indices_of};
 ghost use Rattle.irtext_promises.specs.Promises.{HasFault};
-ghost use Rattle.irtext_parse_root.specs.AnyState.{HasFaultFrom, ReadsTree};
-ghost use Rattle.irtext_parse_root.specs.Marked.{LeavesMarked};
+ghost use Rattle.irtext_parse_root.specs.AnyState.{ReadsTree};
 ghost use Rattle.irtext_parse_root.specs.Parses.{CanUndo};
 
 use crate::nested::nested_parse;
@@ -60,18 +59,12 @@ pub fn tree_parse<T: IrText<A>, A: AttrText<A>, U>(
     ensures lent { s.new.state.ctx.ghost_name ≡ s.old.state.ctx.ghost_name }
     ensures undone { CanUndo s.old result s.new }
     ensures read { IfOk result (λ op. ReadsTree T.IrText.reading (attr_at A.IrText.reading) op s.old s.new) }
-    ensures missed { IfErr result (UnlessMemory (HasFaultFrom {T = T} T.IrText.reading
+    ensures missed { IfErr result (UnlessMemory (HasFault {T = T} T.IrText.reading
         (attr_at A.IrText.reading) s.old.state.ctx.now.dialects
         (indices_of (marks_of s.old.state)) (whole s.old.stream) s.old.stream.rest)) }
-    ensures leaves { IsFresh s.old → IfOk result (λ op. LeavesMarked T.IrText.reading
-        (attr_at A.IrText.reading) op s.old s.new) }
     ensures accepted { (id : Id) → IsAccepted s.old.state.ctx.now.dialects id }
     ensures older { AllOlder s.old.state.ctx.now.graph.made s.old.state.ctx.now.graph }
     ensures moves { OnOk result (Moves s.old.stream s.new.stream) }
-    ensures at_fault { IsFresh s.old →
-        IfErr result (UnlessMemory (HasFault {T = T} T.IrText.reading (attr_at A.IrText.reading)
-        s.old.state.ctx.now.dialects
-        (whole s.old.stream) s.old.stream.rest)) }
     ensures noted { (more : List (ℕ × Item)) × (marks_of s.new.state ≡ marks_of s.old.state ++ more) }
     ensures kept { KeepsOlder s.old.state.ctx.now.graph.made s.old.state.ctx.now s.new.state.ctx.now }
 {

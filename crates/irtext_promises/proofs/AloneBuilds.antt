@@ -1,6 +1,6 @@
 -- The contents of a region that was parsed alone are what its blocks build: names, graph and structure agree with the state of the machine
 -- of names and with the result of the parse, and nothing is open.
-use Rattle.std.proofs.Common.{◌≡◌, ◌∙◌, ◌⊎◌, ℕ, Bool, true, List, [], ◌∷◌, Option, Some, None, append-nil, refl, sym, ap, subst, inl, inr}
+use Rattle.std.proofs.Common.{◌≡◌, ◌∙◌, ◌⊎◌, ℕ, Bool, true, List, [], ◌∷◌, Option, Some, None, append-nil, refl, sym, ap, subst}
 use Rattle.std.specs.Prelude.{⊤}
 use Rattle.irtext_base.specs.Format as format
 use Rattle.irtext_base.specs.Format.{Id}
@@ -49,18 +49,13 @@ use Rattle.irtext_names.proofs.Linked.Passes.{ran_through}
 use Rattle.irtext_promises.specs.Alone.{pointers_in, held_region}
 use Rattle.irtext_promises.specs.Held.{placed_regions}
 use Rattle.irtext_promises.specs.Placed.{RegionsAre}
+use Rattle.irtext_promises.proofs.Builds.{in_among}
 use Rattle.irtext_promises.proofs.Depths.{region_is}
 use Rattle.irtext_promises.proofs.Equal.{Keeps, regions_same}
 use Rattle.irtext_promises.proofs.Given.{region_has}
 use Rattle.irtext_promises.proofs.Located.{IsPlaced, located_in, bound_uses, operand_uses, successor_uses}
 use Rattle.irtext_promises.proofs.Occurs.{region_whole_occurs}
 use Rattle.irtext_promises.proofs.Paths.{once_regions}
-
--- what is in a list is among its items
-in_among : {X : Type 0} (x : X) (xs : List X) → In x xs → Among x xs
-in_among x [] i = absurd i
-in_among x (y ∷ ys) (inl e) = inl e
-in_among x (y ∷ ys) (inr i) = inr (in_among x ys i)
 
 -- ---- the blocks alone
 module _ {T A : Type 0} (first : ℕ → Written A) (isolated : Id → Bool) (id : Id) (closed : isolated id ≡ true) (place : ℕ) (bs : Blocks (Op ℕ T A) (Head ℕ T A) (Brace ℕ)) (formed : FormedBlocks bs) (st : State)

@@ -47,7 +47,7 @@ use Rattle.irtext_promises.proofs.Occurs.{item_occurs}
 use Rattle.irtext_promises.proofs.Paths.{once_under}
 
 -- what is in a list is among its items
-in_among : {X : Type 0} (x : X) (xs : List X) → In x xs → Among x xs
+pub in_among : {X : Type 0} (x : X) (xs : List X) → In x xs → Among x xs
 in_among x [] i = absurd i
 in_among x (y ∷ ys) (inl e) = inl e
 in_among x (y ∷ ys) (inr i) = inr (in_among x ys i)

@@ -1,5 +1,6 @@
--- The promise of an operation that was parsed with all that nests in it, with no section, from what its parser leaves.
-use Rattle.std.proofs.Common.{◌≡◌, ◌∙◌, ℕ, List, [], Option, Some, None, sym, ap, subst}
+-- An operation that was parsed with all that nests in it, with no section, where marks may have been recorded before: the text parses as a
+-- tree, which resolves by itself; what it builds is under the pointer, and only that is new; and its marks are recorded after the others.
+use Rattle.std.proofs.Common.{◌≡◌, ◌∙◌, ℕ, List, [], ◌++◌, Option, Some, None, sym, ap, subst, append-nil}
 use Rattle.std.specs.Prelude.{IfSome}
 use Rattle.irtext_base.specs.Text.{Text}
 use Rattle.irtext_base.specs.Format.{Format, Id, Accepted}
@@ -10,22 +11,30 @@ use Rattle.irtext_base.specs.declared.location.Location.{Location}
 use Rattle.irtext_context.specs.Context.{ContextView}
 use Rattle.irtext_context.specs.Dialects.{Table}
 use Rattle.irtext_graph.specs.declared.arena.Ptr.{Ptr}
+use Rattle.irtext_graph.specs.declared.object.BasicBlock.{BasicBlock}
 use Rattle.irtext_graph.specs.declared.object.Operation.{Operation}
+use Rattle.irtext_graph.specs.declared.object.Value.{Value}
+use Rattle.irtext_graph.specs.Graph.{GraphView}
 use Rattle.irtext_tokens.specs.AttrTexts.{attr_at}
-use Rattle.irtext_parse_state.specs.States.{marks_of}
-use Rattle.irtext_parse_state.specs.declared.parsable.state.StateStream.{StateStream}
 use Rattle.irtext_grammar.specs.Contexts.Formats.{format_of, isolated, IsAccepted}
-use Rattle.irtext_grammar.specs.Contexts.Held.{location_over, whole}
+use Rattle.irtext_grammar.specs.Contexts.Held.{location_over}
+use Rattle.irtext_grammar.specs.Contexts.Nested.{pointers}
+use Rattle.irtext_grammar.specs.Grammar.Forest.{operation, no_operations}
 use Rattle.irtext_grammar.specs.Grammar.Reads as grammar
+use Rattle.irtext_grammar.specs.Grammar.Section.{Entry}
 use Rattle.irtext_grammar.specs.Grammar.Tree.{Tree}
 use Rattle.irtext_grammar.specs.Graphs.Build.{build}
+use Rattle.irtext_grammar.specs.Graphs.Links.{links}
 use Rattle.irtext_grammar.specs.Names.Acts.{tree_script, failures_of}
 use Rattle.irtext_grammar.specs.Names.History as history
-use Rattle.irtext_grammar.specs.Names.History.{going, start, run, events}
+use Rattle.irtext_grammar.specs.Names.History.{going, start, run, events, after}
 use Rattle.irtext_grammar.specs.Names.Script.{Path, done}
+use Rattle.irtext_grammar.specs.Names.TextScopes.{Script, facts}
 use Rattle.irtext_grammar.proofs.Grammar.PartsOfFormats.{Formed, each_accepted, formed_read}
-use Rattle.irtext_parse_spec.specs.Promises.Root.{location_of}
-use Rattle.irtext_parse_spec.specs.Promises.Section.{Moves, indices_of}
+use Rattle.irtext_grammar.proofs.Grammar.WholeTree as trees
+use Rattle.irtext_grammar.proofs.Names.InScripts.{WholeOperations}
+use Rattle.irtext_grammar.proofs.Names.TreeClaims.{root_entryless}
+use Rattle.irtext_scopes.specs.declared.tracker.NameTracker.{NameTracker}
 use Rattle.irtext_parse_spec.proofs.Joins.Answers.{Splits}
 use Rattle.irtext_parse_spec.specs.Exact.{NeedsWord}
 use Rattle.irtext_parse_spec.specs.Naming.{naming, Names}
@@ -37,15 +46,21 @@ use Rattle.irtext_parse_spec.proofs.Naming.Shorter.{Shortens}
 use Rattle.irtext_parse_spec.specs.Building.{Building, building, nothing_open, finished}
 use Rattle.irtext_parse_spec.proofs.Built.{tree_finished}
 use Rattle.irtext_parse_spec.proofs.Whole.{whole_read}
+use Rattle.irtext_names.specs.Linked.{Known, StandsAt}
 use Rattle.irtext_names.proofs.Linked.Passes.{ran_through}
-use Rattle.irtext_promises.specs.Held.{held_root}
-use Rattle.irtext_promises.specs.Leaves.{StandsBehind, LeavesTree, LeavesClosed}
+use Rattle.irtext_promises.specs.Held.{held_root, placed_under}
+use Rattle.irtext_promises.specs.Leaves.{StandsFrom, LeavesTree, LeavesClosed}
 use Rattle.irtext_promises.specs.OnlyNew.{OnlyNew}
-use Rattle.irtext_promises.specs.Promises.{BuildsTree, tree_marks}
+use Rattle.irtext_promises.specs.Placed.{RootIs}
+use Rattle.irtext_promises.specs.Promises.{start_with, tree_marks}
+use Rattle.irtext_promises.proofs.Behind.{values_shut, labels_shut}
 use Rattle.irtext_promises.proofs.Builds as builds
+use Rattle.irtext_promises.proofs.Equal.{Keeps}
+use Rattle.irtext_promises.proofs.FewerMarks.{ran_without}
 use Rattle.irtext_promises.proofs.News.{only_new}
 
-came_same : {X S : Type 0} (x y : X) (s t : S) (a b : Text) → Advanced x s a ≡ Advanced y t b → s ≡ t
+-- where two texts were processed alike, the states after them are the same
+pub came_same : {X S : Type 0} (x y : X) (s t : S) (a b : Text) → Advanced x s a ≡ Advanced y t b → s ≡ t
 came_same x y s t a b e = cc
 
 pub finished_same : {T A : Type 0} (x y : Tree ℕ T A) → finished x ≡ finished y → x ≡ y
@@ -54,13 +69,26 @@ finished_same x y e = let f = ap (λ (b : Building _ _). b.tree) e in some_same 
     some_same : {X : Type 0} (x y : X) → Some x ≡ Some y → x ≡ y
     some_same x y f = cc
 
-accepts : (o : Option Format) (f : Format) → IfSome o Accepted → o ≡ Some f → Accepted f
+-- a format that is known is accepted
+pub accepts : (o : Option Format) (f : Format) → IfSome o Accepted → o ≡ Some f → Accepted f
 accepts None f h e = absurd (cc)
 accepts (Some g) f h e = let same : g ≡ f = cc in subst Accepted same h
 
+-- names and graph that agree with a state of the machine agree with the state that has other marks, too
+other_marks : {O B T : Type 0} (names : NameTracker Value (Ptr BasicBlock)) (g : GraphView (Option O) B T) (known : Known) (st : history.State) (marks : List ℕ) → StandsAt names g known [] (record st { marks = marks }) → StandsAt names g known [] st
+other_marks names g known st marks s = record {
+  distinct = s.distinct;
+  tied = s.tied;
+  value_links = s.value_links;
+  label_links = s.label_links;
+  values_made = s.values_made;
+  blocks_made = s.blocks_made;
+  bound = s.bound;
+}
+
 module _ {T A : Type 0} (types_at : Text → Outcome T) (types_written : T → Text) (reading : Text → Outcome A) (written : A → Text) (dialects : List (Text × Table)) (types_split : Splits types_at) (splits : Splits reading) (words : NeedsWord reading)
     (short_types : Shortens (texts_of types_at types_written)) (short_owns : Shortens (texts_of reading written)) (accepted : (id : Id) → IsAccepted dialects id)
-    (L : ℕ → Location A → Type 0) (op : Ptr Operation) (marks : List ℕ) (old new : ContextView T A) (text rest : Text) (leaves : LeavesTree types_at (attr_at reading) dialects L op marks old new text rest) where
+    (L : ℕ → Location A → Type 0) (op : Ptr Operation) (earlier marks : List ℕ) (old new : ContextView T A) (text rest : Text) (leaves : LeavesTree types_at (attr_at reading) dialects earlier L op marks old new text rest) where
   -- the text parses as the tree
   pub reads_tree : grammar.reads (knot.L types_at types_written reading written dialects) leaves.tree text rest
   reads_tree =
@@ -77,52 +105,64 @@ module _ {T A : Type 0} (types_at : Text → Outcome T) (types_written : T → T
   pub named : (path : ℕ → Path) × Names path leaves.tree
   named = names_exist (texts_of types_at types_written) (texts_of reading written) (format_of dialects) short_types short_owns leaves.tree text rest reads_tree
 
-  pub behind : StandsBehind types_at (attr_at reading) dialects leaves.items marks new text rest named.0
+  pub whole_tree : WholeOperations (operation leaves.tree.own leaves.tree.regions no_operations)
+  whole_tree = trees.whole (knot.L types_at types_written reading written dialects) (λ p q h. h) leaves.tree text rest reads_tree
+
+  -- what it does with names
+  abbrev script : Script
+  script = tree_script (isolated dialects) leaves.tree done
+
+  abbrev pub behind : StandsFrom types_at (attr_at reading) dialects earlier leaves.items marks new text rest named.0
   behind = leaves.machine named.0
 
   -- the machine ran the tree's script without failure
-  pub ran : run (going start) (events (tree_script (isolated dialects) leaves.tree done)) ≡ going behind.state
+  ran : run (going (start_with earlier)) (events script) ≡ going behind.state
   ran =
-      let found = knot.tree_found types_at types_written reading written dialects types_split splits (naming (format_of dialects) named.0) words leaves.tree text rest (going start) reads_tree in
-      let runs = read_runs (texts_of types_at types_written) (texts_of reading written) (format_of dialects) named.0 (isolated dialects) leaves.tree text rest named.1 reads_tree (going start) in
+      let found = knot.tree_found types_at types_written reading written dialects types_split splits (naming (format_of dialects) named.0) words leaves.tree text rest (going (start_with earlier)) reads_tree in
+      let runs = read_runs (texts_of types_at types_written) (texts_of reading written) (format_of dialects) named.0 (isolated dialects) leaves.tree text rest named.1 reads_tree (going (start_with earlier)) in
       sym runs ∙ came_same tt tt _ _ rest rest (sym found ∙ behind.came)
+
+  -- so it does where nothing was marked
+  alone : (st : history.State) × (run (going start) (events script) ≡ going st) × (behind.state ≡ record st { marks = earlier ++ st.marks })
+  alone = ran_without earlier script start behind.state (root_entryless (isolated dialects) leaves.tree whole_tree) (ap (λ ms. run (going (start_with ms)) (events script)) (append-nil earlier) ∙ ran)
+
+  stopped : alone.0 ≡ after start (facts script)
+  stopped = (ran_through script alone.0 alone.1).1
+
+  stands : StandsAt behind.names new.graph behind.known [] alone.0
+  stands = other_marks behind.names new.graph behind.known alone.0 (earlier ++ alone.0.marks) (subst (λ z. StandsAt behind.names new.graph behind.known [] z) alone.2 behind.stands)
 
   -- it resolves
   pub tree_resolves : failures_of {X = Written A} (isolated dialects) leaves.tree [] ≡ []
-  tree_resolves = (ran_through (tree_script (isolated dialects) leaves.tree done) behind.state ran).0
+  tree_resolves = (ran_through script alone.0 alone.1).0
 
-  -- its marks are recorded
-  pub marks_are : marks ≡ tree_marks dialects leaves.tree
-  marks_are = sym behind.marked ∙ ap (λ (z : history.State). z.marks) (ran_through (tree_script (isolated dialects) leaves.tree done) behind.state ran).1
+  -- no scope is open
+  pub no_values : behind.names.values ≡ []
+  no_values = values_shut behind.names new.graph behind.known [] alone.0 stands (ap (λ (z : history.State). z.values) stopped)
 
-  module _ (closed : LeavesClosed old new) (first : ℕ → Written A) (tells : (n : ℕ) (l : Location A) → L n l → location_over new.paths l ≡ first n) where
-    -- what it builds is under the pointer
-    pub tree_builds : held_root new op ≡ Some (build (isolated dialects) first [] leaves.tree)
-    tree_builds = builds.builds L old new leaves.items leaves.whole op leaves.tree leaves.held closed.nest named.0 named.1 first (isolated dialects) formed behind.names behind.known behind.are behind.state behind.stands ran tells
+  pub no_labels : behind.names.labels ≡ []
+  no_labels = labels_shut behind.names new.graph behind.known [] alone.0 stands (ap (λ (z : history.State). z.labels) stopped)
 
-    -- and only that is new
-    pub tree_only : OnlyNew op old new
-    tree_only = only_new L old new leaves.items leaves.whole op leaves.tree leaves.held closed.nest
-        (builds.is_tree L old new leaves.items leaves.whole op leaves.tree leaves.held closed.nest named.0 named.1 first (isolated dialects) formed behind.names behind.known behind.are behind.state behind.stands ran)
-        (build (isolated dialects) first [] leaves.tree) tree_builds
-        (builds.linked L old new leaves.items leaves.whole op leaves.tree leaves.held closed.nest named.0 named.1 first (isolated dialects) formed behind.names behind.known behind.are behind.state behind.stands ran)
-        closed.mark closed.older closed.kept closed.none closed.blanks closed.holders named.0 named.1
+  -- its marks are recorded after the earlier ones
+  pub marks_are : marks ≡ earlier ++ tree_marks dialects leaves.tree
+  marks_are = sym behind.marked ∙ ap (λ (z : history.State). z.marks) alone.2 ∙ ap (λ (z : history.State). earlier ++ z.marks) stopped
 
--- an operation that was parsed with all that nests in it keeps the promise
-pub builds_tree : {T A U : Type 0} (types_at : Text → Outcome T) (types_written : T → Text) (reading : Text → Outcome A) (written : A → Text) → Splits types_at → Splits reading → NeedsWord reading → Shortens (texts_of types_at types_written) → Shortens (texts_of reading written)
-    → (L : ℕ → Location A → Type 0) (op : Ptr Operation) (old new : StateStream T A U) → ((id : Id) → IsAccepted old.state.ctx.now.dialects id)
-    → LeavesTree types_at (attr_at reading) old.state.ctx.now.dialects L op (indices_of (marks_of new.state)) old.state.ctx.now new.state.ctx.now old.stream.rest new.stream.rest → LeavesClosed old.state.ctx.now new.state.ctx.now
-    → ((n : ℕ) (l : Location A) → L n l → location_over new.state.ctx.now.paths l ≡ location_of new.state.ctx.now.paths old.state.src (whole old.stream) n) → Moves old.stream new.stream
-    → BuildsTree (texts_of types_at types_written) (texts_of reading written) (attr_at reading) op old new
-builds_tree types_at types_written reading written types_split splits words short_types short_owns L op old new accepted leaves closed tells moves =
-    let ds = old.state.ctx.now.dialects in
-    let ms = indices_of (marks_of new.state) in
-    let first = location_of new.state.ctx.now.paths old.state.src (whole old.stream) in record {
-      tree = leaves.tree;
-      reads = reads_tree types_at types_written reading written ds types_split splits words short_types short_owns accepted L op ms old.state.ctx.now new.state.ctx.now old.stream.rest new.stream.rest leaves;
-      resolves = tree_resolves types_at types_written reading written ds types_split splits words short_types short_owns accepted L op ms old.state.ctx.now new.state.ctx.now old.stream.rest new.stream.rest leaves;
-      moves = moves;
-      builds = tree_builds types_at types_written reading written ds types_split splits words short_types short_owns accepted L op ms old.state.ctx.now new.state.ctx.now old.stream.rest new.stream.rest leaves closed first tells;
-      marks = marks_are types_at types_written reading written ds types_split splits words short_types short_owns accepted L op ms old.state.ctx.now new.state.ctx.now old.stream.rest new.stream.rest leaves;
-      only = tree_only types_at types_written reading written ds types_split splits words short_types short_owns accepted L op ms old.state.ctx.now new.state.ctx.now old.stream.rest new.stream.rest leaves closed first tells;
-    }
+  module _ (closed : LeavesClosed old new) (first : ℕ → Written A) where
+    -- the forest of pointers is the tree's
+    pub is_tree : RootIs L new leaves.items (pointers new.graph op) leaves.tree
+    is_tree = builds.is_tree L old new leaves.items leaves.whole op leaves.tree leaves.held closed.nest named.0 named.1 first (isolated dialects) formed behind.names behind.known behind.are alone.0 stands alone.1
+
+    -- each of the links that it builds is in the context
+    pub keeps : (es : List (Entry ℕ A (Written A))) → Keeps new first es (isolated dialects) (placed_under (pointers new.graph op)) (links (build (isolated dialects) first es leaves.tree))
+    keeps = builds.keeps L old new leaves.items leaves.whole op leaves.tree leaves.held closed.nest named.0 named.1 first (isolated dialects) formed behind.names behind.known behind.are alone.0 stands alone.1
+
+    module _ (tells : (n : ℕ) (l : Location A) → L n l → location_over new.paths l ≡ first n) where
+      -- what it builds is under the pointer
+      pub tree_builds : held_root new op ≡ Some (build (isolated dialects) first [] leaves.tree)
+      tree_builds = builds.builds L old new leaves.items leaves.whole op leaves.tree leaves.held closed.nest named.0 named.1 first (isolated dialects) formed behind.names behind.known behind.are alone.0 stands alone.1 tells
+
+      -- and only that is new
+      pub tree_only : OnlyNew op old new
+      tree_only = only_new L old new leaves.items leaves.whole op leaves.tree leaves.held closed.nest is_tree (build (isolated dialects) first [] leaves.tree) tree_builds
+          (builds.linked L old new leaves.items leaves.whole op leaves.tree leaves.held closed.nest named.0 named.1 first (isolated dialects) formed behind.names behind.known behind.are alone.0 stands alone.1)
+          old.graph.made closed.older closed.kept closed.none closed.blanks closed.holders named.0 named.1

@@ -6,6 +6,7 @@ pub mod Behind
 pub mod Builds
 pub mod Depths
 pub mod Equal
+pub mod FewerMarks
 pub mod Given
 pub mod Kept
 pub mod LinksSame

@@ -31,7 +31,7 @@ use Rattle.irtext_parse_spec.proofs.Naming.Runs.{runs_before}
 use Rattle.irtext_parse_spec.proofs.Naming.Scripts.{formats_read}
 use Rattle.irtext_parse_spec.proofs.Naming.Shorter.{Shortens}
 use Rattle.irtext_names.proofs.Linked.Passes.{ran_into}
-use Rattle.irtext_promises.specs.Promises.{IsOf, IsFirst, HasFault, at_text, by_names, RefusesTree}
+use Rattle.irtext_promises.specs.Promises.{IsOf, IsFirst, FailsFirst, HasFault, at_text, by_names, RefusesTree}
 
 -- where nothing is done any more, what failed stays failed
 stays_failed : (f : Failure Text ℕ) (es : List history.Event) → run (failed f) es ≡ failed f
@@ -39,18 +39,18 @@ stays_failed f [] = refl
 stays_failed f (e ∷ es) = stays_failed f es
 
 -- the first of failures that begin so
-first_is : {A : Type 0} (text : Text) (f : Failure Text ℕ) (fs gs : List (Failure Text ℕ)) (fault : ParseFault A) → fs ≡ f ∷ gs → IsOf text f fault → IsFirst text fs fault
+pub first_is : {A : Type 0} (text : Text) (f : Failure Text ℕ) (fs gs : List (Failure Text ℕ)) (fault : ParseFault A) → fs ≡ f ∷ gs → IsOf text f fault → IsFirst text fs fault
 first_is text f fs gs fault e h = subst (λ z. IsFirst text z fault) (sym e) h
 
 module _ {T A : Type 0} (types_at : Text → Outcome T) (types_written : T → Text) (reading : Text → Outcome A) (written : A → Text) (dialects : List (Text × Table)) (types_split : Splits types_at) (splits : Splits reading) (words : NeedsWord reading)
     (short_types : Shortens (texts_of types_at types_written)) (short_owns : Shortens (texts_of reading written)) where
   -- a fault of the text, or of a name, is the first failure of each tree that the text parses as, whatever script follows
-  pub refuses_first : (text rest : Text) (fault : ParseFault A) → HasFault {T = T} types_at (attr_at reading) dialects text rest fault → (x : Tree ℕ T A) (left : Text) → grammar.reads (knot.L types_at types_written reading written dialects) x rest left → (then : Script)
-      → IsFirst text (failures no_scope (tree_script (isolated dialects) x then)) fault
-  refuses_first text rest fault (at_text cause place because at stuck) x left r then =
+  pub refuses_first : (text rest : Text) (fault : ParseFault A) → HasFault {T = T} types_at (attr_at reading) dialects [] text rest fault → (x : Tree ℕ T A) (left : Text) → grammar.reads (knot.L types_at types_written reading written dialects) x rest left → (then : Script)
+      → FailsFirst text (failures no_scope (tree_script (isolated dialects) x then)) fault
+  refuses_first text rest fault (at_text cause place because at flag stuck) x left r then =
       let k = stuck (λ n. []) in
       absurd (knot.stuck_unread types_at types_written reading written dialects types_split splits (naming (format_of dialects) (λ n. [])) words rest (going start) (going k.0) cause place k.1 x left r)
-  refuses_first text rest fault (by_names f is ends) x left r then =
+  refuses_first text rest fault (by_names f is flag ends) x left r then =
       let types = texts_of types_at types_written in
       let owns = texts_of reading written in
       let p = names_exist types owns (format_of dialects) short_types short_owns x rest left r in
@@ -60,13 +60,13 @@ module _ {T A : Type 0} (types_at : Text → Outcome T) (types_written : T → T
       let ran : run (going start) (events (tree_script (isolated dialects) x then)) ≡ failed f =
       runs_before (format_of dialects) p.0 (isolated dialects) x p.1 formed then (going start) ∙ (ap (λ z. run z (events then)) does ∙ stays_failed f (events then)) in
       let all = ran_into (tree_script (isolated dialects) x then) f ran in
-      first_is text f (failures no_scope (tree_script (isolated dialects) x then)) all.0 fault all.1 is
+      record { first = first_is text f (failures no_scope (tree_script (isolated dialects) x then)) all.0 fault all.1 is; flag = flag }
 
   -- so the promise of an error is kept, with no section
-  pub refuses_tree : (old : StreamView) (fault : ParseFault A) → HasFault {T = T} types_at (attr_at reading) dialects (whole old) old.rest fault → RefusesTree (texts_of types_at types_written) (texts_of reading written) types_at (attr_at reading) dialects old fault
+  pub refuses_tree : (old : StreamView) (fault : ParseFault A) → HasFault {T = T} types_at (attr_at reading) dialects [] (whole old) old.rest fault → RefusesTree (texts_of types_at types_written) (texts_of reading written) types_at (attr_at reading) dialects old fault
   refuses_tree old fault h = record { first = λ tree rest r. refuses_first (whole old) old.rest fault h tree rest r done; at_fault = h }
 
   -- and with one, if the operation itself is an error
-  pub refuses_root : (old : StreamView) (fault : ParseFault A) → HasFault {T = T} types_at (attr_at reading) dialects (whole old) old.rest fault → (tree : Tree ℕ T A) (entries : List (Entry ℕ A (Written A))) (mid : Text)
+  pub refuses_root : (old : StreamView) (fault : ParseFault A) → HasFault {T = T} types_at (attr_at reading) dialects [] (whole old) old.rest fault → (tree : Tree ℕ T A) (entries : List (Entry ℕ A (Written A))) (mid : Text)
       → grammar.reads (knot.L types_at types_written reading written dialects) tree old.rest mid → IsFirst (whole old) (failures_of (isolated dialects) tree entries) fault
-  refuses_root old fault h tree entries mid r = refuses_first (whole old) old.rest fault h tree mid r (does_all (section_acts (rule_of tree) entries) done)
+  refuses_root old fault h tree entries mid r = (refuses_first (whole old) old.rest fault h tree mid r (does_all (section_acts (rule_of tree) entries) done)).first

@@ -46,7 +46,7 @@ use Rattle.irtext_parse_spec.specs.Promises.Section.{Moves, indices_of}
 use Rattle.irtext_parse_spec.specs.Promises.Supported.{supported}
 use Rattle.irtext_parse_spec.specs.Heads.{head_at}
 use Rattle.irtext_promises.specs.Held.{PtrRegions, placed_regions, held_regions}
-use Rattle.irtext_promises.specs.Promises.{IsFirst}
+use Rattle.irtext_promises.specs.Promises.{outside_with, FailsFirst}
 
 -- ---- a region
 -- the forest of pointers under a region
@@ -93,17 +93,29 @@ abbrev pub IsOutermost : {A : Type 0} → Location A → SourcePosition → Type
 IsOutermost (SrcPos source at) pos = pos ≡ at
 IsOutermost _ pos = IsAt pos.line pos.column []
 
+-- the operation with this location is not isolated from above, and the fault says so, committed, at the operation's position
+pub record IsUnisolated {A : Type 0} (iso : Option (Location A)) (fault : ParseFault A) : Type 0 where
+  pub loc : Location A
+  pub is : iso ≡ Some loc
+  pub because : fault_of fault.cause ≡ causes.NotIsolated
+  pub flag : fault.committed ≡ true
+  pub at : IsOutermost loc fault.pos
+
 module _ {T A : Type 0} (types : Texts T) (owns : Texts A) (dialects : List (Text × Table)) where
-  -- The operation isn't isolated, and the fault says so, at the operation's position; or it is, and the fault is the first failure of
-  -- whatever blocks in braces the text parses as.
+  -- The operation isn't isolated, and the fault says so; or it is, and the fault is the first failure of whatever blocks in braces the
+  -- text parses as, committed.
   pub data RefusesRegion (iso : Option (Location A)) (old : StreamView) (fault : ParseFault A) : Type 0 where
-    not_isolated : (loc : Location A) → iso ≡ Some loc → fault_of fault.cause ≡ causes.NotIsolated → IsOutermost loc fault.pos → RefusesRegion iso old fault
+    not_isolated : IsUnisolated iso fault → RefusesRegion iso old fault
     first : iso ≡ None → ((blocks : Blocks (Op ℕ T A) (Head ℕ T A) (Brace ℕ)) (rest : Text)
         → grammar.region_read (supported dialects types owns) (shown (length old.rest)) (grammar.block_readings (supported dialects types owns) blocks) old.rest rest
-        → IsFirst (whole old) (failures same_text no_scope (region_alone dialects (length old.rest) blocks)) fault) → RefusesRegion iso old fault
+        → FailsFirst (whole old) (failures same_text no_scope (region_alone dialects (length old.rest) blocks)) fault) → RefusesRegion iso old fault
 
 -- ---- a block
+-- the fault is the first failure of the header when no scope is open and these indices are marked, committed
+abbrev pub FailsOutside : {T A : Type 0} → List ℕ → Text → Head ℕ T A → ParseFault A → Type 0
+FailsOutside marks text head = FailsFirst text (failures same_text (outside_with marks) (does_all (header_acts [] head) done))
+
 module _ {T A : Type 0} (types_at : Text → Outcome T) (attr : Text → Outcome (AttrView A)) where
-  -- Outside of every region a block is rejected: the fault is the first failure of whatever header the text parses as.
+  -- Outside of every region a block is rejected: the fault is committed, and the first failure of whatever header the text parses as.
   pub record RefusesBlock (old : StreamView) (fault : ParseFault A) : Type 0 where
-    pub first : (head : Head ℕ T A) (taken rest : Text) → head_at types_at attr old.rest ≡ Read head taken rest → IsFirst (whole old) (failures same_text no_scope (does_all (header_acts [] head) done)) fault
+    pub fails : (head : Head ℕ T A) (taken rest : Text) → head_at types_at attr old.rest ≡ Read head taken rest → FailsOutside [] (whole old) head fault

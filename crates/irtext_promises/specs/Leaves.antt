@@ -1,5 +1,5 @@
--- Between functions: the state after an operation was parsed with everything nested in it, from which its promise is derived. An item is
--- here an operation or a block with its place in the text.
+-- For callers: what parsing an operation with everything nested in it leaves, from which its promise is derived. Marks of earlier roots may
+-- be recorded. An item is here an operation or a block with its place in the text.
 use Rattle.std.specs.Prelude.{◌≡◌, ℕ, true, List, [], Some}
 use Rattle.irtext_base.specs.Text.{Text}
 use Rattle.irtext_base.specs.Answers.{Outcome}
@@ -19,7 +19,7 @@ use Rattle.irtext_scopes.specs.declared.tracker.NameTracker.{NameTracker}
 use Rattle.irtext_grammar.specs.Contexts.Formats.{format_of}
 use Rattle.irtext_grammar.specs.Grammar.Tree.{Tree}
 use Rattle.irtext_grammar.specs.Names.History as history
-use Rattle.irtext_grammar.specs.Names.History.{going, start}
+use Rattle.irtext_grammar.specs.Names.History.{going}
 use Rattle.irtext_grammar.specs.Names.Script.{Path}
 use Rattle.irtext_parse_spec.specs.Naming.{naming}
 use Rattle.irtext_parse_spec.specs.Reached.{Advanced, operation_at}
@@ -29,36 +29,36 @@ use Rattle.irtext_names.specs.Linked.{Known, StandsAt}
 use Rattle.irtext_names.specs.OfItems.{AreOf}
 use Rattle.irtext_names.specs.Tied.{NoneIsLeft}
 use Rattle.irtext_promises.specs.OnlyNew.{BlanksDefine}
+use Rattle.irtext_promises.specs.Promises.{start_with}
 
-module _ {T A : Type 0} (types_at : Text → Outcome T) (attr : Text → Outcome (AttrView A)) (dialects : List (Text × Table)) where
-  -- The machine of names has processed the text, with the items of these places named by these paths. What was created for these items
-  -- agrees with the state of the machine, with nothing in hand; these indices are marked.
-  pub record StandsBehind (items : Made) (marks : List ℕ) (c : ContextView T A) (text rest : Text) (path : ℕ → Path) : Type 0 where
+module _ {T A : Type 0} (types_at : Text → Outcome T) (attr : Text → Outcome (AttrView A)) (dialects : List (Text × Table)) (earlier : List ℕ) where
+  -- The machine of names starts with the earlier indices marked, and gets through the text; each item has the path of its place. The
+  -- names and the graph that were made for these items agree with the machine's final state, and nothing is in hand. These indices are
+  -- marked then.
+  pub record StandsFrom (items : Made) (marks : List ℕ) (c : ContextView T A) (text rest : Text) (path : ℕ → Path) : Type 0 where
     pub names : NameTracker Value (Ptr BasicBlock)
     pub known : Known
     pub are : AreOf path items known
     pub state : history.State
     pub stands : StandsAt names c.graph known [] state
     pub marked : state.marks ≡ marks
-    pub came : operation_at dialects types_at attr (naming (format_of dialects) path) true text (going start) ≡ Advanced tt (going state) rest
+    pub came : operation_at dialects types_at attr (naming (format_of dialects) path) true text (going (start_with earlier)) ≡ Advanced tt (going state) rest
 
-  -- A tree was built of the text. It is under the pointer, with each item at its place; nothing is open, and nothing else was created.
-  -- Whatever paths name the items, the machine of names has processed the text.
+  -- A tree was built from the text and is held under the pointer, with each item at its place; no frame is open, and nothing else was
+  -- created. Whatever paths the items have, the machine of names gets through the text.
   pub record LeavesTree (IsLocation : ℕ → Location A → Type 0) (op : Ptr Operation) (marks : List ℕ) (old new : ContextView T A) (text rest : Text) : Type 0 where
     pub tree : Tree ℕ T A
     pub built : operation_at dialects types_at attr (building (format_of dialects)) true text nothing_open ≡ Advanced tt (finished tree) rest
     pub items : Made
     pub whole : List Object
     pub held : HoldsMade IsLocation old new items whole [] (Some op) (finished tree)
-    pub machine : (path : ℕ → Path) → StandsBehind items marks new text rest path
+    pub machine : (path : ℕ → Path) → StandsFrom items marks new text rest path
 
--- What was created since is closed: objects that are older than the mark are unchanged, all earlier objects are older than it, no
--- placeholder is left, and both graphs are forests.
+-- What was created since is closed: all earlier objects are unchanged, no placeholder is left, and both graphs are forests.
 pub record LeavesClosed {T A : Type 0} (old new : ContextView T A) : Type 0 where
-  pub mark : ℕ
-  pub older : AllOlder mark old.graph
-  pub kept : KeepsOlder mark old new
-  pub none : NoneIsLeft mark [] new.graph
-  pub blanks : BlanksDefine mark new
+  pub older : AllOlder old.graph.made old.graph
+  pub kept : KeepsOlder old.graph.made old new
+  pub none : NoneIsLeft old.graph.made [] new.graph
+  pub blanks : BlanksDefine old.graph.made new
   pub nest : Nested (children new.graph) (parent new.graph)
   pub holders : (c k : Object) → parent old.graph c ≡ Some k → IsLive old.graph k

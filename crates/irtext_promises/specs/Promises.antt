@@ -23,16 +23,27 @@ use Rattle.irtext_grammar.specs.Graphs.Build.{build}
 use Rattle.irtext_grammar.specs.Names.Acts.{failures_of, tree_script}
 use Rattle.irtext_grammar.specs.Names.History.{going, failed, start}
 use Rattle.irtext_grammar.specs.Names.History as history
+use Rattle.irtext_grammar.specs.Names.Scopes.{Scopes, no_scope}
 use Rattle.irtext_grammar.specs.Names.Script.{Failure, Path, done}
 use Rattle.irtext_grammar.specs.Names.TextScopes.{facts}
 use Rattle.irtext_parse_spec.specs.Promises.Root.{location_of, IsCause, IsPlace}
 use Rattle.irtext_parse_spec.specs.Promises.Section.{Moves, indices_of}
-use Rattle.irtext_parse_spec.specs.Promises.Supported.{supported, location_standing}
+use Rattle.irtext_parse_spec.specs.Promises.Supported.{supported, location_standing, is_committed}
+use Rattle.irtext_parse_spec.specs.Heads.{led_at}
 use Rattle.irtext_parse_spec.specs.Naming.{naming}
 use Rattle.irtext_parse_spec.specs.Reached.{Stopped, operation_at}
 use Rattle.irtext_parse_spec.specs.Resume.{EndsIn}
 use Rattle.irtext_promises.specs.Held.{held_root, IsWhole}
 use Rattle.irtext_promises.specs.OnlyNew.{OnlyNew}
+
+-- ---- marks that were recorded earlier
+-- the machine of names and marks before any name, with these indices marked
+abbrev pub start_with : List ℕ → history.State
+start_with marks = record start { marks = marks }
+
+-- no scope is open, and these indices are marked
+abbrev pub outside_with : List ℕ → Scopes Text
+outside_with marks = record no_scope { marks = marks }
 
 -- ---- faults
 module _ {A : Type 0} where
@@ -45,20 +56,27 @@ module _ {A : Type 0} where
   IsFirst text [] fault = ⊥
   IsFirst text (f ∷ fs) fault = IsOf text f fault
 
-module _ {T A : Type 0} (types_at : Text → Outcome T) (attr : Text → Outcome (AttrView A)) (dialects : List (Text × Table)) where
-  -- The fault of a text in whose rest an operation is required: a fault of the text, and no name had failed before it; or the failure of
-  -- a name or a mark, whatever text follows. So the text determines which of the two comes first, even if it parses as no tree.
+  -- the fault is the first of these failures, and committed
+  pub record FailsFirst (text : Text) (fs : List (Failure Text ℕ)) (fault : ParseFault A) : Type 0 where
+    pub first : IsFirst text fs fault
+    pub flag : fault.committed ≡ true
+
+module _ {T A : Type 0} (types_at : Text → Outcome T) (attr : Text → Outcome (AttrView A)) (dialects : List (Text × Table)) (earlier : List ℕ) where
+  -- The fault of a text whose end is `rest`, at which an operation is expected, where the earlier indices are marked. Either it is a fault
+  -- of the text, and no name had failed before it; it is committed unless no operation comes next. Or it is the failure of a name or a
+  -- mark, committed, whatever follows in the text. So the text determines which of the two comes first, even if it parses as no tree.
   pub data HasFault (text rest : Text) (fault : ParseFault A) : Type 0 where
-    at_text : (cause : Fault) (place : ℕ) → fault_of fault.cause ≡ cause → StandsAt text place fault.pos
-        → ((path : ℕ → Path) → (st : history.State) × (operation_at dialects types_at attr (naming (format_of dialects) path) true rest (going start) ≡ Stopped (going st) cause place)) → HasFault text rest fault
-    by_names : (f : Failure Text ℕ) → IsOf text f fault → ((path : ℕ → Path) → EndsIn (failed f) (operation_at dialects types_at attr (naming (format_of dialects) path) true rest (going start))) → HasFault text rest fault
+    at_text : (cause : Fault) (place : ℕ) → fault_of fault.cause ≡ cause → StandsAt text place fault.pos → fault.committed ≡ is_committed (led_at dialects rest)
+        → ((path : ℕ → Path) → (st : history.State) × (operation_at dialects types_at attr (naming (format_of dialects) path) true rest (going (start_with earlier)) ≡ Stopped (going st) cause place)) → HasFault text rest fault
+    by_names : (f : Failure Text ℕ) → IsOf text f fault → fault.committed ≡ true
+        → ((path : ℕ → Path) → EndsIn (failed f) (operation_at dialects types_at attr (naming (format_of dialects) path) true rest (going (start_with earlier)))) → HasFault text rest fault
 
 module _ {T A : Type 0} (types : Texts T) (owns : Texts A) (types_at : Text → Outcome T) (attr : Text → Outcome (AttrView A)) (dialects : List (Text × Table)) where
-  -- Whatever the text parses as with these dialects, without a section after it, does not resolve, and the fault is its first failure;
-  -- and it is the fault of the text, even if nothing parses.
+  -- Whatever the text parses as with these dialects, without a section after it, does not resolve, and the fault is its first failure,
+  -- committed; and it is the fault of the text, even if nothing parses.
   pub record RefusesTree (old : StreamView) (fault : ParseFault A) : Type 0 where
-    pub first : (tree : Tree ℕ T A) (rest : Text) → grammar.reads (supported dialects types owns) tree old.rest rest → IsFirst (whole old) (failures_of {X = Written A} (isolated dialects) tree []) fault
-    pub at_fault : HasFault {T = T} types_at attr dialects (whole old) old.rest fault
+    pub first : (tree : Tree ℕ T A) (rest : Text) → grammar.reads (supported dialects types owns) tree old.rest rest → FailsFirst (whole old) (failures_of {X = Written A} (isolated dialects) tree []) fault
+    pub at_fault : HasFault {T = T} types_at attr dialects [] (whole old) old.rest fault
 
   -- Whatever the text parses as with these dialects, with its section, does not resolve, and the fault is its first failure.
   pub record RefusesRoot (old : StreamView) (fault : ParseFault A) : Type 0 where

@@ -1,5 +1,5 @@
 -- Between functions: what the section after a root adds: its own failures, and a context in which only data of objects changed.
-use Rattle.std.specs.Prelude.{◌≡◌, ℕ, List, [], None, length}
+use Rattle.std.specs.Prelude.{◌≡◌, ℕ, List, length}
 use Rattle.irtext_base.specs.Text.{Text}
 use Rattle.irtext_base.specs.Format.{same_text}
 use Rattle.irtext_graph.specs.declared.arena.Ptr.{Ptr}
@@ -13,16 +13,13 @@ use Rattle.irtext_graph.specs.Parts.{regions, blocks, operations_in}
 use Rattle.irtext_graph.specs.Used.{used_at}
 use Rattle.irtext_grammar.specs.Grammar.Section.{Entry}
 use Rattle.irtext_grammar.specs.Names.Acts.{Rule, section_acts}
-use Rattle.irtext_grammar.specs.Names.Scopes.{Scopes, failures}
+use Rattle.irtext_grammar.specs.Names.Scopes.{failures}
 use Rattle.irtext_grammar.specs.Names.Script.{Failure, does_all, done}
-
--- the scopes after a root: no scope is open, and these indices are marked
-abbrev pub behind : List ℕ → Scopes Text
-behind marks = record { values = None; labels = None; marks = marks; entries = [] }
+use Rattle.irtext_promises.specs.Promises.{outside_with}
 
 -- the failures of a section after these marks, by these rules
 abbrev pub refused : {P A X : Type 0} → List ℕ → (ℕ → Rule A) → List (Entry P A X) → List (Failure Text P)
-refused marks rules es = failures same_text (behind marks) (does_all (section_acts rules es) done)
+refused marks rules es = failures same_text (outside_with marks) (does_all (section_acts rules es) done)
 
 -- Only data of objects changed: there are as many places for operations, the nesting is the same, and so are the uses.
 pub record SameShape {O B T : Type 0} (g k : GraphView O B T) : Type 0 where

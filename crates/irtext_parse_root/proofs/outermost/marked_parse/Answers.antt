@@ -20,7 +20,7 @@ pub returns-in_err-op-clause-undone : goal.returns-in_err-op-clause-undone
 returns-in_err-op-clause-undone g c = rw (handed_on c.from_residual.result c.from_residual.ensures.1) c.in_err-op.ensures.undone
 
 pub returns-in_err-op-clause-answers : goal.returns-in_err-op-clause-answers
-returns-in_err-op-clause-answers g c = rw (handed_on c.from_residual.result c.from_residual.ensures.1) (operation_missed (laws g) c.args.s.now c.tree_parse.new.s _ c.in_err-op.ensures.accepted c.in_err-op.ensures.missed c.in_err-op.ensures.at_fault c.args.look)
+returns-in_err-op-clause-answers g c = rw (handed_on c.from_residual.result c.from_residual.ensures.1) (operation_missed (laws g) c.args.s.now c.tree_parse.new.s _ c.in_err-op.ensures.accepted c.in_err-op.ensures.missed c.args.look)
 
 pub returns-in_err-op-clause-closed : goal.returns-in_err-op-clause-closed
 returns-in_err-op-clause-closed g c = λ h. kept_closed h c.in_err-op.ensures.kept
@@ -41,7 +41,7 @@ returns-then-not-look-clause-answers g c =
       | then-not-look-via-then-not-look w ↦ inl w.if-not-look.true
       | then-not-look-via-else-not-look+then-not-has_marks w ↦ inr (marks_none marks w.has_marks.result w.has_marks.ensures w.if-not-has_marks.true)
     ] in
-    operation_alone (laws g) c.in_ok-op.op c.args.s.now c.tree_parse.new.s c.in_ok-op.ensures.read c.in_ok-op.ensures.leaves look bare none
+    operation_alone (laws g) c.in_ok-op.op c.args.s.now c.tree_parse.new.s c.in_ok-op.ensures.read look bare none
 
 pub returns-then-not-look-clause-closed : goal.returns-then-not-look-clause-closed
 returns-then-not-look-clause-closed g c = λ h. kept_closed h c.in_ok-op.ensures.kept
@@ -49,7 +49,7 @@ returns-then-not-look-clause-closed g c = λ h. kept_closed h c.in_ok-op.ensures
 -- ---- the section was not parsed
 pub returns-in_err-section_parse-clause-undone : goal.returns-in_err-section_parse-clause-undone
 returns-in_err-section_parse-clause-undone g c = rw (handed_on c.from_residual-in_err-section_parse.result c.from_residual-in_err-section_parse.ensures.1)
-    (rest_undoable (laws g) c.in_ok-op.op c.args.s.now c.tree_parse.new.s c.in_ok-op.ensures.read c.in_ok-op.ensures.leaves c.requires.fine c.has_marks-earlier.result c.has_marks-earlier.ensures c.section_parse.new.s _ c.in_ok-op.ensures.undone.rest c.in_err-section_parse.ensures.rest c.in_err-section_parse.ensures.refused c.in_err-section_parse.ensures.marks c.in_ok-op.ensures.kept c.in_err-section_parse.ensures.unchanged)
+    (rest_undoable (laws g) c.in_ok-op.op c.args.s.now c.tree_parse.new.s c.in_ok-op.ensures.read c.requires.fine c.has_marks-earlier.result c.has_marks-earlier.ensures c.section_parse.new.s _ c.in_ok-op.ensures.undone.rest c.in_err-section_parse.ensures.rest c.in_err-section_parse.ensures.refused c.in_err-section_parse.ensures.marks c.in_ok-op.ensures.kept c.in_err-section_parse.ensures.unchanged)
 
 pub returns-in_err-section_parse-clause-answers : goal.returns-in_err-section_parse-clause-answers
 returns-in_err-section_parse-clause-answers g c =
@@ -57,7 +57,7 @@ returns-in_err-section_parse-clause-answers g c =
     let e = c.in_ok-op.ensures in
     let there = c.if-not-has_marks.false in
     rw (handed_on c.from_residual-in_err-section_parse.result c.from_residual-in_err-section_parse.ensures.1)
-    (section_missed (laws g) c.in_ok-op.op c.args.s.now c.tree_parse.new.s e.read e.leaves c.args.look c.if-not-look.false (noted_there marks c.has_marks.result c.has_marks.ensures there) (marks_there marks c.has_marks.result c.has_marks.ensures there)
+    (section_missed (laws g) c.in_ok-op.op c.args.s.now c.tree_parse.new.s e.read c.args.look c.if-not-look.false (noted_there marks c.has_marks.result c.has_marks.ensures there) (marks_there marks c.has_marks.result c.has_marks.ensures there)
     c.section_parse.new.s _ (c.in_err-section_parse.ensures.missed (ap (λ v. v.failed) e.moves.takes.is ∙ c.requires.fine)))
 
 pub returns-in_err-section_parse-clause-closed : goal.returns-in_err-section_parse-clause-closed
@@ -66,7 +66,7 @@ returns-in_err-section_parse-clause-closed g c = λ h. c.in_err-section_parse.en
 pub returns-in_err-section_parse-clause-kept : goal.returns-in_err-section_parse-clause-kept
 returns-in_err-section_parse-clause-kept g c = λ fresh.
     let old = c.args.s.now in
-    kept_trans c.in_ok-op.ensures.kept (c.in_err-section_parse.ensures.kept old.state.ctx.now.graph.made (marks_newer (laws g) c.in_ok-op.op old c.tree_parse.new.s (c.in_ok-op.ensures.leaves fresh)))
+    kept_trans c.in_ok-op.ensures.kept (c.in_err-section_parse.ensures.kept old.state.ctx.now.graph.made (marks_newer (laws g) c.in_ok-op.op old c.tree_parse.new.s c.in_ok-op.ensures.read fresh.marks))
 
 pub returns-in_err-section_parse-clause-kept_alone : goal.returns-in_err-section_parse-clause-kept_alone
 returns-in_err-section_parse-clause-kept_alone g c = λ e. absurd (true≢false (sym c.if-not-look.false ∙ e))
@@ -82,8 +82,8 @@ returns-clause-answers g c =
     let e = c.in_ok-op.ensures in
     let f = c.in_ok-section_parse.ensures in
     let there = c.if-not-has_marks.false in
-    section_read (laws g) c.in_ok-op.op old c.tree_parse.new.s e.read e.leaves c.args.look c.if-not-look.false (noted_there marks c.has_marks.result c.has_marks.ensures there) (marks_there marks c.has_marks.result c.has_marks.ensures there)
-    c.section_parse.new.s f.read (λ fresh. f.kept old.state.ctx.now.graph.made (marks_newer (laws g) c.in_ok-op.op old c.tree_parse.new.s (e.leaves fresh)))
+    section_read (laws g) c.in_ok-op.op old c.tree_parse.new.s e.read c.args.look c.if-not-look.false (noted_there marks c.has_marks.result c.has_marks.ensures there) (marks_there marks c.has_marks.result c.has_marks.ensures there)
+    c.section_parse.new.s f.read (λ fresh. f.kept old.state.ctx.now.graph.made (marks_newer (laws g) c.in_ok-op.op old c.tree_parse.new.s e.read fresh.marks))
 
 pub returns-clause-closed : goal.returns-clause-closed
 returns-clause-closed g c = λ h. c.in_ok-section_parse.ensures.closed c.args.s.now.state.ctx.now.graph.made (kept_closed h c.in_ok-op.ensures.kept)
@@ -91,7 +91,7 @@ returns-clause-closed g c = λ h. c.in_ok-section_parse.ensures.closed c.args.s.
 pub returns-clause-kept : goal.returns-clause-kept
 returns-clause-kept g c = λ fresh.
     let old = c.args.s.now in
-    kept_trans c.in_ok-op.ensures.kept (c.in_ok-section_parse.ensures.kept old.state.ctx.now.graph.made (marks_newer (laws g) c.in_ok-op.op old c.tree_parse.new.s (c.in_ok-op.ensures.leaves fresh)))
+    kept_trans c.in_ok-op.ensures.kept (c.in_ok-section_parse.ensures.kept old.state.ctx.now.graph.made (marks_newer (laws g) c.in_ok-op.op old c.tree_parse.new.s c.in_ok-op.ensures.read fresh.marks))
 
 pub returns-clause-kept_alone : goal.returns-clause-kept_alone
 returns-clause-kept_alone g c = λ e. absurd (true≢false (sym c.if-not-look.false ∙ e))

@@ -1,15 +1,15 @@
-use Rattle.std.proofs.Common.{refl, sym, ap, subst, le_refl}
+use Rattle.std.proofs.Common.{refl, sym, ap, subst, le_refl, inr}
 use Rattle.irtext_graph.proofs.Made.{same_keeps}
-use Rattle.irtext_promises.specs.Alone.{IsOutermost}
+use Rattle.irtext_promises.specs.Alone as alone
 use Rattle.irtext_tokens.specs.AttrTexts.{attr_at}
 use Rattle.irtext_parse_spec.specs.Readers.Refusals.{Refusal}
 use Rattle.irtext_parse_nested.proofs.Marking.{gains_nothing}
+use Rattle.irtext_parse_root.specs.AnyRegion as any
 use Rattle.irtext_parse_root.proofs.Laws.{Laws, laws_of}
 use Rattle.irtext_parse_root.proofs.Fresh.{fresh_sound}
 use Rattle.irtext_parse_root.proofs.Refused.{refusal_by}
-use Rattle.irtext_parse_root.proofs.RegionGains.{there_in, gains_region}
 use Rattle.irtext_parse_root.proofs.RegionReads.{builds_region}
-use Rattle.irtext_parse_root.proofs.RegionRefused.{reported, unreported, refused_unisolated, unisolated_missed, unisolated_refused, closed_as, closed_id, says_region, region_read, misses_region, refuses_region}
+use Rattle.irtext_parse_root.proofs.RegionRefused.{reported, unreported, refused_unisolated, closed_as, closed_id, says_region, region_read, misses_region, refuses_region}
 use Rattle.irtext_parse_root.proofs.region.alone_parse.Given as given
 use Rattle.irtext_parse_root.proofs.region.alone_parse.Goals as goal
 
@@ -31,14 +31,8 @@ returns-in-Some-clause-undone g c =
 pub returns-in-Some-clause-answers : goal.returns-in-Some-clause-answers
 returns-in-Some-clause-answers g c =
     let e = c.not_isolated.ensures in
-    let r = reported _ c.in-Some.at c.in-Some.ensures in
-    let at = subst (IsOutermost r.0) (sym e.place) r.2 in
-    record {
-      read = tt;
-      missed = λ fine. unisolated_missed r.0 r.1 c.not_isolated.result e.cause e.committed at;
-      builds = λ fresh. tt;
-      unresolved = λ fresh. unisolated_refused r.0 r.1 c.not_isolated.result e.cause at;
-    }
+    let said = reported _ c.in-Some.at c.in-Some.ensures c.not_isolated.result e.cause e.committed e.place in
+    record { read = tt; missed = λ fine. inr (any.not_isolated said); builds = λ fresh. tt; unresolved = λ fresh. inr (alone.not_isolated said) }
 
 -- ---- it is
 pub region_parse-requires-clause-sound : goal.region_parse-requires-clause-sound
@@ -61,12 +55,12 @@ pub returns-clause-answers : goal.returns-clause-answers
 returns-clause-answers g c =
     let e = c.new-names.ensures in
     let l = laws g in
+    let missed = misses_region g.T.IrText.reading (attr_at g.A.IrText.reading) c.new-names.result c.args.s.now e.names e.values e.labels c.args.parent c.requires.stands (unreported _ c.in_default.ensures) c.in-Err.fault c.in-Err.ensures.refused in
     record {
       read = tt;
-      missed = λ fine. misses_region g.T.IrText.reading (attr_at g.A.IrText.reading) c.new-names.result c.args.s.now e.names e.values e.labels c.args.parent c.requires.stands (unreported _ c.in_default.ensures) c.in-Err.fault c.in-Err.ensures.refused;
+      missed = λ fine. missed;
       builds = λ fresh. tt;
-      unresolved = λ fresh. refuses_region g.T.IrText.reading g.T.IrText.written g.A.IrText.reading g.A.IrText.written l.types_split l.splits l.words l.short_types l.short_owns
-          c.new-names.result c.args.s.now e.names e.values e.labels fresh c.args.parent c.requires.stands (unreported _ c.in_default.ensures) c.in-Err.fault c.in-Err.ensures.refused;
+      unresolved = λ fresh. refuses_region g.T.IrText.reading g.T.IrText.written g.A.IrText.reading g.A.IrText.written l.types_split l.splits l.words l.short_types l.short_owns c.args.parent c.args.s.now fresh c.in-Err.fault missed;
     }
 
 pub returns-in-Ok-clause-undone : goal.returns-in-Ok-clause-undone
@@ -89,7 +83,6 @@ returns-in-Ok-clause-answers g c =
       missed = λ fine. tt;
       builds = λ fresh. builds_region g.T.IrText.reading g.T.IrText.written g.A.IrText.reading g.A.IrText.written l.types_split l.splits l.words l.short_types l.short_owns
           c.new-names.result c.region_parse.new.names old new e.names e.values e.labels fresh c.args.parent c.in-Ok.region u before.accepted (closed_as old.state.ctx.now c.args.parent c.requires.stands (unreported _ c.in_default.ensures) u.iso u.isolation)
-          id.0 id.1 c.requires.stands before.older kept (u.sound m (le_refl m) begun) c.context_keeps-in-Ok.ensures.nest before.holders
-          (gains_region m old.state.ctx.now u.mid.state.ctx.now new.state.ctx.now c.args.parent c.in-Ok.region before.older kept u.places u.with_it (there_in old.state.ctx.now c.args.parent c.requires.stands));
+          id.0 id.1 c.requires.stands before.older kept (u.sound m (le_refl m) begun) c.context_keeps-in-Ok.ensures.nest before.holders;
       unresolved = λ fresh. tt;
     }

@@ -1,14 +1,10 @@
-use Rattle.std.proofs.Common.{ap, sym, subst, le_refl}
-use Rattle.irtext_grammar.specs.Contexts.Held.{whole}
-use Rattle.irtext_parse_spec.specs.Promises.Section.{indices_of}
+use Rattle.std.proofs.Common.{sym, subst, le_refl}
 use Rattle.irtext_parse_spec.specs.Readers.Refusals.{Refusal}
 use Rattle.irtext_tokens.specs.AttrTexts.{attr_at}
-use Rattle.irtext_parse_state.specs.States.{marks_of}
 use Rattle.irtext_parse_root.proofs.Laws.{laws_of}
 use Rattle.irtext_parse_root.proofs.Closed.{reads_tree}
 use Rattle.irtext_parse_root.proofs.Fresh.{fresh_sound, fresh_once}
 use Rattle.irtext_parse_root.proofs.NestedWhole.{has_fault}
-use Rattle.irtext_parse_root.proofs.NoMarks.{marked_alone, fault_alone}
 use Rattle.irtext_parse_root.proofs.Refused.{says_text, refusal_by}
 use Rattle.irtext_parse_root.proofs.tree.tree_parse.Goals as goal
 
@@ -30,10 +26,6 @@ returns-in-Ok-clause-read g c =
     c.new-names.result c.nested_parse.new.names c.args.s.now c.nested_parse.new.s e.names e.values e.labels c.in-Ok.op c.in-Ok.ensures.read
     before.accepted before.older (returns-in-Ok-clause-kept g c) c.in-Ok.ensures.carries c.context_keeps-in-Ok.ensures.nest before.holders
 
-pub returns-in-Ok-clause-leaves : goal.returns-in-Ok-clause-leaves
-returns-in-Ok-clause-leaves g c = λ fresh.
-    marked_alone g.T.IrText.reading (attr_at g.A.IrText.reading) c.in-Ok.op c.args.s.now c.nested_parse.new.s fresh.marks c.context_keeps.ensures.older (returns-in-Ok-clause-kept g c) (returns-in-Ok-clause-read g c)
-
 pub returns-in-Ok-clause-undone : goal.returns-in-Ok-clause-undone
 returns-in-Ok-clause-undone g c = record { rest = c.in-Ok.ensures.rest; refused = tt; noted = tt; kept = tt }
 
@@ -44,11 +36,6 @@ pub returns-clause-missed : goal.returns-clause-missed
 returns-clause-missed g c =
     let e = c.new-names.ensures in
     has_fault g.T.IrText.reading (attr_at g.A.IrText.reading) c.new-names.result c.args.s.now e.names e.values e.labels c.in-Err.fault c.in-Err.ensures.refused
-
-pub returns-clause-at_fault : goal.returns-clause-at_fault
-returns-clause-at_fault g c = λ fresh.
-    let old = c.args.s.now in
-    fault_alone g.T.IrText.reading (attr_at g.A.IrText.reading) old.state.ctx.now.dialects (indices_of (marks_of old.state)) (ap indices_of fresh.marks) (whole old.stream) old.stream.rest c.in-Err.fault (returns-clause-missed g c)
 
 pub returns-clause-kept : goal.returns-clause-kept
 returns-clause-kept g c =
